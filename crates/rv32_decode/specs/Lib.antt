@@ -1,0 +1,3 @@
+pub mod Word
+pub mod Table
+pub mod Refused

@@ -1,0 +1,17 @@
+pub mod Bytes
+pub mod Image
+pub mod LoadedCode
+pub mod Decoded
+pub mod Hart
+pub mod Execute
+pub mod NextEvent
+pub mod Sequential
+pub mod Arrival
+pub mod Outcome
+pub mod ImageText
+pub mod Reading
+pub mod Cutting
+pub mod Drafts
+pub mod DraftView
+pub mod WordsOf
+pub mod Input

@@ -1,0 +1,105 @@
+ghost use Rattle.std.specs.Prelude.{◌≡◌, ◌<◌, ◌≤◌, ◌+◌, ◌^◌};
+ghost use Rattle.rv32_exec.specs.Arrival as spec;
+ghost use Rattle.rv32_exec.specs.NextEvent.{next_event};
+ghost use Rattle.rv32_exec.specs.Hart.{stepped};
+ghost use Rattle.rv32_exec.specs.Execute.{IsStopOf};
+
+use crate::hart::Hart;
+use crate::image::Image;
+use crate::stop::Stop;
+use std::marker::Model;
+
+/// How far a hart has come without an access to data: the hart that was handed in, the hart before the
+/// instruction at which it stopped, and the stop. Contracts see these three.
+///
+/// At a load or a store the access has width 1, 2 or 4, and the hart has executed fewer than 1,000,000 instructions.
+#[derive(Clone, Copy, Debug, PartialEq, Eq)]
+pub struct Arrived {
+    base: Hart,
+    now: Hart,
+    at: Stop,
+}
+
+impl Model for Arrived {
+    ghost use Rattle.rv32_exec.specs.Arrival.{Arrival};
+
+    ghost Value = { Arrival };
+
+    ghost use Rattle.rv32_exec.specs.Arrival.{HasRoom};
+
+    ghost view = { λ a. record { base = a.base; now = a.now; at = a.at } };
+
+    ghost invariant = { λ a. HasRoom a.now a.at };
+
+    ghost inverse = { λ v. record { base = v.base; now = v.now; at = v.at } };
+}
+
+impl Arrived {
+    /// The hart that was handed in.
+    pub fn base(&self) -> Hart
+        ensures { result ≡ self.entry.now.base }
+    {
+        self.base
+    }
+
+    /// The hart before the instruction at which it stopped.
+    pub fn now(&self) -> Hart
+        ensures { result ≡ self.entry.now.now }
+    {
+        self.now
+    }
+
+    /// Where it stopped.
+    pub fn at(&self) -> Stop
+        ensures at { result ≡ self.entry.now.at }
+        ensures room { spec.HasRoom self.entry.now.now self.entry.now.at }
+    {
+        self.at
+    }
+}
+
+/// Runs a hart to its next access to data, its end or its fault.
+pub fn advance(image: &Image, hart: Hart) -> Arrived
+    ensures base { result.base ≡ hart }
+    ensures now { result.now ≡ (next_event image.now hart).now }
+    ensures at { result.at ≡ (next_event image.now hart).at }
+    ensures stop { IsStopOf image.now result.now result.at }
+    ensures later { hart.done ≤ result.now.done }
+{
+    let base = hart;
+    let mut now = hart;
+    loop {
+        if let Some(at) = now.step(image) {
+            return Arrived { base, now, at };
+        }
+    }
+}
+
+/// The hart after the load at which it stopped. `word` holds the bytes that were loaded, little endian; its
+/// upper bytes are 0.
+pub fn loaded(arrived: &Arrived, word: u32) -> Hart
+    requires { spec.IsAtLoad arrived.now.at word }
+    ensures { result ≡ spec.after_loading arrived.entry.now word }
+{
+    let mut hart = arrived.now;
+    if let Stop::Load {
+        width,
+        signed,
+        rd,
+        ..
+    } = arrived.at
+    {
+        hart.complete_load(width, signed, rd, word);
+    }
+    hart
+}
+
+/// The hart after the store at which it stopped.
+pub fn stored(arrived: &Arrived) -> Hart
+    requires { spec.IsAtStore arrived.now.at }
+    ensures { result ≡ stepped arrived.entry.now.now }
+{
+    let mut hart = arrived.now;
+    hart.go_on();
+    hart
+}

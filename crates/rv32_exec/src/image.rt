@@ -1,0 +1,157 @@
+ghost use Rattle.std.specs.Prelude.{◌≡◌, ◌<◌, ◌≤◌, ◌+◌, ◌%◌, IfOk, codes, length, slice_index};
+ghost use Rattle.rv32_decode.specs.Table.{meaning_of};
+ghost use Rattle.rv32_exec.specs.Image.{IsImage, loaded_image};
+ghost use Rattle.rv32_exec.specs.Decoded.{IsDecoded};
+ghost use Rattle.rv32_exec.specs.Bytes.{number_at};
+
+use crate::memory::read_number;
+use rv32_decode::{Instr, Refused, decode};
+use std::alloc::{AllocError, Global};
+use std::marker::Model;
+use thiserror::Error;
+
+/// Memory ran out.
+#[derive(Clone, Copy, Debug, PartialEq, Eq, Error)]
+#[error("NoMemory")]
+pub struct NoMemory;
+
+impl NoMemory {
+    /// The printed name, `NoMemory`.
+    pub fn name(self) -> &'static str
+        ensures { result.now ≡ codes "NoMemory" }
+    {
+        "NoMemory"
+    }
+}
+
+/// A loop as it was loaded: its memory, with the code from address 0 on, how many epochs it has, how many
+/// instructions each may execute, and the registers at their start.
+///
+/// Memory has 16 to 65,536 bytes, a multiple of 16; the code 4 bytes to all of memory, a multiple of 4; there
+/// are 0 to 65,535 epochs; the limit is 1 to 1,000,000. Contracts see these values.
+#[derive(Drop)]
+pub struct Image {
+    size: u32,
+    code: u32,
+    epochs: u32,
+    limit: u32,
+    registers: [u32; 32],
+    bytes: Vec<u8>,
+    program: Vec<Result<Instr, Refused>>,
+}
+
+impl Model for Image {
+    ghost use Rattle.rv32_exec.specs.Image.{LoadedImage};
+
+    ghost Value = { LoadedImage };
+
+    ghost use Rattle.rv32_exec.specs.LoadedCode.{view_of, IsLoaded};
+
+    ghost view = { view_of };
+
+    ghost invariant = { IsLoaded };
+}
+
+impl Image {
+    /// The image of these parts, with its code decoded.
+    ///
+    /// `NoMemory`: there was no memory for the decoded code.
+    pub(crate) fn new(
+        alloc: Global,
+        size: u32,
+        code: u32,
+        epochs: u32,
+        limit: u32,
+        registers: [u32; 32],
+        bytes: Vec<u8>,
+    ) -> Result<Image, NoMemory>
+        requires { IsImage (loaded_image size code epochs limit registers bytes.items) }
+        ensures { IfOk result (λ image. image ≡ loaded_image size code epochs limit registers bytes.items) }
+    {
+        let program = decoded(alloc, code, bytes.as_slice()).map_err(|_| NoMemory)?;
+        Ok(Image {
+            size,
+            code,
+            epochs,
+            limit,
+            registers,
+            bytes,
+            program,
+        })
+    }
+
+    /// Bytes of memory: 16 to 65,536, a multiple of 16.
+    pub fn size(&self) -> u32
+        ensures size { result ≡ self.now.size }
+        ensures limits { IsImage self.now }
+    {
+        self.size
+    }
+
+    /// Bytes of code: 4 to the size, a multiple of 4.
+    pub fn code(&self) -> u32
+        ensures code { result ≡ self.now.code }
+        ensures limits { IsImage self.now }
+    {
+        self.code
+    }
+
+    /// How many epochs the loop has: 0 to 65,535.
+    pub fn epochs(&self) -> u32
+        ensures epochs { result ≡ self.now.epochs }
+        ensures limits { IsImage self.now }
+    {
+        self.epochs
+    }
+
+    /// How many instructions an epoch may execute: 1 to 1,000,000.
+    pub fn limit(&self) -> u32
+        ensures limit { result ≡ self.now.limit }
+        ensures limits { IsImage self.now }
+    {
+        self.limit
+    }
+
+    /// The registers at an epoch's start, x0 first. Those that the start sets, and x0, are 0 here.
+    pub fn registers(&self) -> [u32; 32]
+        ensures registers { result ≡ self.now.registers }
+        ensures limits { IsImage self.now }
+    {
+        self.registers
+    }
+
+    /// Memory as it was loaded, from address 0 on.
+    pub fn bytes(&self) -> &[u8]
+        ensures bytes { result.now ≡ self.now.bytes }
+        ensures limits { IsImage self.now }
+    {
+        self.bytes.as_slice()
+    }
+
+    /// The instruction at a pc, which is in the code.
+    pub(crate) fn instruction_at(&self, pc: u32) -> Result<Instr, Refused>
+        requires aligned { pc % 4 ≡ 0 }
+        requires within { pc < self.now.code }
+        ensures { result ≡ meaning_of (number_at (λ a. slice_index self.now.bytes a) pc 4) }
+    {
+        self.program[(pc / 4) as usize]
+    }
+}
+
+/// The instructions of the code, in order.
+fn decoded(
+    alloc: Global,
+    code: u32,
+    bytes: &[u8],
+) -> Result<Vec<Result<Instr, Refused>>, AllocError>
+    requires words { code % 4 ≡ 0 }
+    requires within { code ≤ length bytes.now }
+    ensures { IfOk result (λ program. IsDecoded program.items code bytes.now) }
+{
+    let words = (code / 4) as usize;
+    let mut program = Vec::with_capacity(alloc, words)?;
+    for word in 0..words {
+        program.push(decode(read_number(bytes, 4 * word, 4)))?;
+    }
+    Ok(program)
+}

@@ -1,0 +1,105 @@
+ghost use Rattle.std.specs.Prelude.{◌≡◌, IfOk, length};
+ghost use Rattle.rv32_exec.specs.Sequential as spec;
+ghost use Rattle.rv32_exec.specs.Outcome.{progress_of};
+
+use crate::hart::start;
+use crate::image::{Image, NoMemory};
+use crate::memory::{read_number, write_number};
+use crate::stop::Stop;
+use std::alloc::Global;
+use std::marker::Model;
+
+/// How a run of the loop ended.
+#[derive(Clone, Copy, Debug, PartialEq, Eq)]
+pub enum End {
+    /// All of its epochs are done; there are so many.
+    Done(u32),
+    /// This epoch faulted, with this cause and pc.
+    Fault { epoch: u32, cause: u32, pc: u32 },
+}
+
+/// How the loop ended, and its memory then. Contracts see these two.
+#[derive(Drop)]
+pub struct SeqEnd {
+    end: End,
+    bytes: Vec<u8>,
+}
+
+impl Model for SeqEnd {
+    ghost use Rattle.rv32_exec.specs.Sequential.{SequentialResult};
+
+    ghost Value = { SequentialResult };
+
+    ghost view = { λ s. record { end = s.end; bytes = s.bytes.items } };
+}
+
+impl SeqEnd {
+    /// How the loop ended.
+    pub fn end(&self) -> End
+        ensures { result ≡ self.now.end }
+    {
+        self.end
+    }
+
+    /// Memory at the end, from address 0 on.
+    pub fn bytes(&self) -> &[u8]
+        ensures { result.now ≡ self.now.bytes }
+    {
+        self.bytes.as_slice()
+    }
+}
+
+/// Runs the loop's epochs in order, each over the memory that the one before it left, up to the first that faults.
+///
+/// `NoMemory`: there was no memory for a copy of the image's bytes.
+pub fn run_in_order(alloc: Global, image: &Image) -> Result<SeqEnd, NoMemory>
+    ensures { IfOk result (λ r. r ≡ spec.sequential_result image.now) }
+{
+    let mut bytes = Vec::from_slice(alloc, image.bytes()).map_err(|_| NoMemory)?;
+    let end = run_epochs(image, bytes.as_mut_slice());
+    Ok(SeqEnd { end, bytes })
+}
+
+/// Runs the epochs over memory, in order, up to the first that faults.
+fn run_epochs(image: &Image, bytes: &mut [u8]) -> End
+    requires { bytes.old ≡ image.now.bytes }
+    ensures end { result ≡ (spec.sequential_result image.now).end }
+    ensures bytes { bytes.new ≡ (spec.sequential_result image.now).bytes }
+{
+    for epoch in 0..image.epochs() {
+        if let Some((cause, pc)) = run_epoch(image, epoch, bytes) {
+            return End::Fault { epoch, cause, pc };
+        }
+    }
+    End::Done(image.epochs())
+}
+
+/// Runs one epoch over memory, and answers the cause and the pc of its fault, if it has one.
+fn run_epoch(image: &Image, epoch: u32, bytes: &mut [u8]) -> Option<(u32, u32)>
+    requires { length bytes.old ≡ image.now.size }
+    ensures { progress_of result bytes.new ≡ spec.epoch_outcome image.now epoch bytes.old }
+{
+    let mut hart = start(image, epoch);
+    loop {
+        let Some(at) = hart.step(image) else {
+            continue;
+        };
+        match at {
+            Stop::Load {
+                addr,
+                width,
+                signed,
+                rd,
+            } => {
+                let number = read_number(bytes, addr as usize, width);
+                hart.complete_load(width, signed, rd, number);
+            }
+            Stop::Store { addr, width, value } => {
+                write_number(bytes, addr as usize, width, value);
+                hart.go_on();
+            }
+            Stop::Ended => return None,
+            Stop::Fault { cause, pc } => return Some((cause, pc)),
+        }
+    }
+}
