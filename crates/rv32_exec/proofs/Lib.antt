@@ -6,3 +6,4 @@ pub mod Cuts
 pub mod Pieces
 pub mod Lines
 pub mod Inputs
+pub mod LawsOfRuns

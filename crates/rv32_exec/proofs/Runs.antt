@@ -8,7 +8,7 @@ use Rattle.rv32_exec.specs.NextEvent.{event_within, next_event}
 use Rattle.rv32_exec.specs.Sequential.{Progress, Runs, execute, after_steps, after_stop, epoch_outcome, go_on}
 use Rattle.rv32_exec.proofs.Steps.{executes_counts, executes_below}
 
-event_within_executes : (image : LoadedImage) (n : ℕ) (h after : HartState) → hart_effect image h ≡ Executes after
+pub event_within_executes : (image : LoadedImage) (n : ℕ) (h after : HartState) → hart_effect image h ≡ Executes after
     → event_within image (suc n) h ≡ event_within image n after
 unfolding event_within
 event_within_executes image n h after is = rw is refl
@@ -23,7 +23,7 @@ next_event-executes image h after is =
     let left : image.limit - h.done + 1 ≡ suc (image.limit - after.done + 1) = omega arith in
     ap (λ n. event_within image n h) left ∙ event_within_executes image (image.limit - after.done + 1) h after is
 
-event_within_stops : (image : LoadedImage) (n : ℕ) (h : HartState) (at : Stop) → hart_effect image h ≡ Stops at
+pub event_within_stops : (image : LoadedImage) (n : ℕ) (h : HartState) (at : Stop) → hart_effect image h ≡ Stops at
     → event_within image (suc n) h ≡ record { now = h; at = at }
 unfolding event_within
 event_within_stops image n h at is = rw is refl

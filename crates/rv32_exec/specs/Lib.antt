@@ -15,3 +15,4 @@ pub mod Drafts
 pub mod DraftView
 pub mod WordsOf
 pub mod Input
+pub mod Laws

@@ -80,6 +80,25 @@ impl Image {
         })
     }
 
+    /// A copy of the image.
+    ///
+    /// `NoMemory`: there was no memory for it, and nothing was made.
+    pub fn copy(&self, alloc: Global) -> Result<Image, NoMemory>
+        ensures { IfOk result (λ image. image ≡ self.now) }
+    {
+        let bytes = Vec::from_slice(alloc, self.bytes.as_slice()).map_err(|_| NoMemory)?;
+        let program = Vec::from_slice(alloc, self.program.as_slice()).map_err(|_| NoMemory)?;
+        Ok(Image {
+            size: self.size,
+            code: self.code,
+            epochs: self.epochs,
+            limit: self.limit,
+            registers: self.registers,
+            bytes,
+            program,
+        })
+    }
+
     /// Bytes of memory: 16 to 65,536, a multiple of 16.
     pub fn size(&self) -> u32
         ensures size { result ≡ self.now.size }

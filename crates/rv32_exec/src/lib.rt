@@ -7,6 +7,7 @@ mod fault;
 mod hart;
 mod image;
 mod input;
+pub mod laws;
 mod memory;
 mod sequential;
 mod step;

@@ -1,0 +1,24 @@
+//! Laws of the definitions: each function does nothing, and its contract is the law.
+
+ghost use Rattle.std.specs.Prelude.{◌≡◌, ℕ, ◌+◌, List};
+ghost use Rattle.rv32_exec.specs.Image.{LoadedImage};
+ghost use Rattle.rv32_exec.specs.Hart.{HartState};
+ghost use Rattle.rv32_exec.specs.NextEvent.{next_event};
+ghost use Rattle.rv32_exec.specs.Sequential.{after_steps, epoch_outcome, go_on};
+ghost use Rattle.rv32_exec.specs.Laws.{HasStopped, Reaches};
+
+/// An epoch ends or faults within its limit, over any memory.
+pub fn an_epoch_stops()
+    ensures { (image : LoadedImage) (epoch : ℕ) (memory : List ℕ) → HasStopped (epoch_outcome image epoch memory) }
+{}
+
+/// A run of m + n instructions is one of m, and one of n from there.
+pub fn runs_add()
+    ensures { (image : LoadedImage) (m n : ℕ) (h : HartState) (memory : List ℕ) →
+        after_steps image (m + n) h memory ≡ go_on (after_steps image m h memory) (after_steps image n) }
+{}
+
+/// Whole instructions lead to a hart's next event, leave memory as it is on the way, and do there what the event says.
+pub fn whole_instructions_reach_the_next_event()
+    ensures { (image : LoadedImage) (h : HartState) (memory : List ℕ) → Reaches image h memory (next_event image h) }
+{}
