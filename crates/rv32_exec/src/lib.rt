@@ -23,3 +23,6 @@ pub use input::{InputFault, read_input};
 pub use sequential::{End, SeqEnd, run_in_order};
 pub use stop::Stop;
 pub use text::{image_of, read_image};
+
+#[cfg(test)]
+mod tests;

@@ -1,0 +1,90 @@
+-- What a command comes to: its status, its line on the error stream, and what it wrote.
+use Rattle.std.specs.Prelude.{◌≡◌, ◌⊎◌, ℕ, ◌++◌, List, [], codes, take, Option, Result, MatchResult, Err, IfSome}
+use Rattle.std.specs.Fmt.{decimal}
+use Rattle.std.specs.Io.KnownBytes.{Appends, Keeps}
+use Rattle.rv32_exec.specs.declared.fault.ImageFault.{ImageFault}
+use Rattle.rv32_exec.specs.declared.fault.ImageFaultKind.{ImageFaultKind}
+use Rattle.rv32_exec.specs.declared.fault.ImageFaultKind.TheVariants as kind
+use Rattle.rv32_exec.specs.declared.sequential.End.{End}
+use Rattle.rv32_exec.specs.declared.sequential.End.TheVariants as end
+use Rattle.rv32_exec.specs.Image.{LoadedImage}
+use Rattle.rv32_exec.specs.ImageText.{image_text}
+use Rattle.rv32_exec.specs.Reading.{name_of, IsReadFaultOf}
+use Rattle.rv32_exec.specs.Sequential.{sequential_result}
+use Rattle.trace_cli.specs.declared.outcome.Outcome.{Outcome}
+use Rattle.trace_cli.specs.declared.outcome.Outcome.TheVariants.{Reported, Usage, BadImage, Stopped}
+use Rattle.trace_cli.specs.declared.outcome.StopCause.{StopCause}
+use Rattle.trace_cli.specs.declared.outcome.StopCause.TheVariants.{Write, NoMemory}
+use Rattle.trace_cli.specs.Report.{report_of}
+
+abbrev pub cause_name : StopCause → List ℕ
+cause_name Write = codes "Write"
+cause_name NoMemory = codes "NoMemory"
+
+abbrev pub status_of_end : End → ℕ
+status_of_end (end.Done epochs) = 0
+status_of_end (end.Fault epoch cause pc) = 1
+
+abbrev pub status_of : Outcome → ℕ
+status_of (Reported end) = status_of_end end
+status_of Usage = 2
+status_of (BadImage fault) = 2
+status_of (Stopped cause) = 3
+
+abbrev pub image_line : ImageFault → List ℕ
+image_line fault = codes "image " ++ decimal fault.line ++ codes " " ++ name_of fault.kind ++ codes "\n"
+
+abbrev pub stopped_line : StopCause → List ℕ
+stopped_line cause = codes "stopped " ++ cause_name cause ++ codes "\n"
+
+-- the line on the error stream, or nothing
+abbrev pub error_line : Outcome → List ℕ
+error_line (Reported end) = []
+error_line Usage = codes "usage\n"
+error_line (BadImage fault) = image_line fault
+error_line (Stopped cause) = stopped_line cause
+
+-- known bytes grow by some of the first of these
+abbrev pub AppendsPrefix : Option (List ℕ) → Option (List ℕ) → List ℕ → Type 0
+AppendsPrefix old new bytes = (n : ℕ) × Appends old new (take n bytes)
+
+-- what `seq` came to is right for this input, and this was written
+abbrev pub IsSeqOutcome : List ℕ → Option (List ℕ) → Option (List ℕ) → Outcome → Type 0
+IsSeqOutcome text old new (Reported end) =
+    MatchResult (image_text text)
+    (λ image. (end ≡ (sequential_result image).end) × Appends old new (report_of image (sequential_result image)))
+    (λ fault. ⊥)
+IsSeqOutcome text old new Usage = ⊥
+IsSeqOutcome text old new (BadImage fault) = IsReadFaultOf fault.kind fault (image_text text) × Keeps old new
+IsSeqOutcome text old new (Stopped NoMemory) = Keeps old new
+IsSeqOutcome text old new (Stopped Write) =
+    MatchResult (image_text text) (λ image. AppendsPrefix old new (report_of image (sequential_result image))) (λ fault. ⊥)
+
+-- what a fault of the image comes to
+abbrev pub outcome_of_fault : ImageFaultKind → ImageFault → Outcome
+outcome_of_fault kind.NoMemory fault = Stopped NoMemory
+outcome_of_fault other fault = BadImage fault
+
+-- what running this image came to is right, and this was written
+abbrev pub IsImageOutcome : LoadedImage → Option (List ℕ) → Option (List ℕ) → Outcome → Type 0
+IsImageOutcome image old new (Reported end) =
+    (end ≡ (sequential_result image).end) × Appends old new (report_of image (sequential_result image))
+IsImageOutcome image old new (Stopped Write) = AppendsPrefix old new (report_of image (sequential_result image))
+IsImageOutcome image old new (Stopped NoMemory) = Keeps old new
+IsImageOutcome image old new Usage = ⊥
+IsImageOutcome image old new (BadImage fault) = ⊥
+
+-- what `seq` answers for an input: an outcome that is right, with its status, and its line or a prefix on the error stream
+abbrev pub SeqAnswers : List ℕ → Option (List ℕ) → Option (List ℕ) → Option (List ℕ) → Option (List ℕ) → ℕ → Type 0
+SeqAnswers text old new errors errors' status =
+    (outcome : Outcome) × IsSeqOutcome text old new outcome × (status ≡ status_of outcome) × AppendsPrefix errors errors' (error_line outcome)
+
+-- no command was run: the words are none, or memory ran out
+abbrev pub IsNoCommand : Option (List ℕ) → Option (List ℕ) → Outcome → Type 0
+IsNoCommand old new outcome = ((outcome ≡ Usage) ⊎ (outcome ≡ Stopped NoMemory)) × Keeps old new
+
+-- what the program answers: what `seq` does, or that no command was run
+abbrev pub WorkAnswers : List ℕ → Option (List ℕ) → Option (List ℕ) → Option (List ℕ) → Option (List ℕ) → ℕ → Type 0
+WorkAnswers text old new errors errors' status =
+    (outcome : Outcome) × (IsSeqOutcome text old new outcome ⊎ IsNoCommand old new outcome) × (status ≡ status_of outcome)
+    × AppendsPrefix errors errors' (error_line outcome)

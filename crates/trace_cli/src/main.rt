@@ -1,0 +1,46 @@
+//! Runs the iterations of a loop as epochs over RV32I: `trace_cli seq` runs the image on standard input in order.
+#![tactic(auto)]
+
+use outcome::{Outcome, StopCause};
+use std::alloc::Global;
+use std::process::ExitCode;
+use std::{env, io};
+use work::work;
+
+mod outcome;
+mod report;
+mod seq;
+#[cfg(test)]
+mod tests;
+mod words;
+mod work;
+mod write;
+
+fn main(rt: HostRuntime) -> ExitCode {
+    let status = match words_given(&rt) {
+        Ok(words) => work(
+            rt.alloc(),
+            words.as_slice(),
+            &mut rt.stdin(),
+            &mut rt.stdout(),
+            &mut rt.stderr(),
+        ),
+        Err(outcome) => outcome.conclude(&mut rt.stderr()),
+    };
+    ExitCode::from(status)
+}
+
+/// The words of the command line, the program's name first. One that is no UTF-8 is no word of a command.
+fn words_given(rt: &HostRuntime) -> Result<Vec<String>, Outcome> {
+    let args = env::args(rt).map_err(|error| match error.kind() {
+        io::ErrorKind::OutOfMemory => Outcome::Stopped(StopCause::NoMemory),
+        _ => Outcome::Usage,
+    })?;
+    let mut words = Vec::new(rt.alloc());
+    for word in args {
+        words
+            .push(word)
+            .map_err(|_| Outcome::Stopped(StopCause::NoMemory))?;
+    }
+    Ok(words)
+}

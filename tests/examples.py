@@ -1,0 +1,141 @@
+#!/usr/bin/env python3
+"""Runs the examples and compares each report with the one in its remarks.
+
+Usage: tests/examples.py [COMMAND ..]
+
+COMMAND reads an image on standard input and ends with the word `seq`; without
+it `./trace_cli seq` of this repository is tested. An example gives its report
+in the lines that begin with `#> `, and its assembly, where it was written in
+assembly, in those that begin with `#: `. Where the cross compiler of Debian's
+gcc-riscv64-unknown-elf is installed, the assembly is compared with the code,
+and the examples in C are compiled again: twice to the same image, with the
+report that the source gives. Where it isn't, these checks are skipped, and a
+line says so. Exits with 1 where a check failed.
+"""
+
+import shutil
+import subprocess
+import sys
+import tempfile
+from pathlib import Path
+
+ROOT = Path(__file__).resolve().parent.parent
+EXAMPLES = ROOT / "examples"
+IMAGE_OF_C = EXAMPLES / "c" / "image_of_c.py"
+TOOL = "riscv64-unknown-elf-"
+FEWEST = 10
+
+
+def cut_out(text, mark):
+    """The lines of a text that begin with a mark, without it."""
+    return "".join(line[len(mark):] + "\n" for line in text.splitlines() if line.startswith(mark))
+
+
+def differences(command, text, expected):
+    """What is wrong with the output for an image text, or None."""
+    status = 0 if expected.startswith("end done ") else 1
+    result = subprocess.run(command, input=text.encode(), capture_output=True, check=False)
+    got = result.stdout.decode("latin-1")
+    if (got, result.stderr, result.returncode) == (expected, b"", status):
+        return None
+    return f"expected {expected!r} and status {status}\n  got {got!r}, {result.stderr!r}, {result.returncode}"
+
+
+def reports(command):
+    """Each example image against its own report."""
+    for path in sorted(EXAMPLES.glob("*.image")):
+        text = path.read_text()
+        expected = cut_out(text, "#> ")
+        wrong = differences(command, text, expected) if expected else "no report in its remarks"
+        yield f"report of {path.name}", wrong
+
+
+def assembled(listing):
+    """The code that the assembler makes of a listing, in hexadecimal digits."""
+    with tempfile.TemporaryDirectory() as directory:
+        source, made, linked, raw = (Path(directory, name) for name in ("l.s", "l.o", "l.elf", "l.bin"))
+        source.write_text(listing)
+        for words in (["as", "-march=rv32i", "-mabi=ilp32", "-mno-relax", "-o", made, source],
+                      ["ld", "-m", "elf32lriscv", "-Ttext=0", "-e", "0", "-o", linked, made],
+                      ["objcopy", "-O", "binary", "-j", ".text", linked, raw]):
+            subprocess.run([TOOL + words[0], *map(str, words[1:])], check=True)
+        return raw.read_bytes().hex()
+
+
+def listings():
+    """The assembly in remarks against the code."""
+    for path in sorted(EXAMPLES.glob("*.image")):
+        text = path.read_text()
+        listing = cut_out(text, "#: ")
+        if listing:
+            code = cut_out(text, "code ").strip()
+            wrong = None if assembled(listing) == code else "the code isn't that of the listing"
+            yield f"listing of {path.name}", wrong
+
+
+def image_of(source):
+    done = subprocess.run([sys.executable, str(IMAGE_OF_C), str(source)], capture_output=True, check=False)
+    return done.stdout.decode(), done.stderr.decode()
+
+
+def compiled(command):
+    """The C sources, compiled twice and run."""
+    for source in sorted((EXAMPLES / "c").glob("*.c")):
+        text, errors = image_of(source)
+        if errors or not text:
+            yield f"image of {source.name}", errors or "nothing was printed"
+            continue
+        yield f"second image of {source.name}", None if image_of(source)[0] == text else "another image"
+        if text != (EXAMPLES / f"{source.stem}.image").read_text():
+            print(f"NOTE: {source.stem}.image was made by another compiler or from another source")
+        expected = cut_out(source.read_text(), "//> ")
+        yield f"report of {source.name}", differences(command, text, expected)
+
+
+REFUSED = [
+    ("unsigned a[4]; void body(unsigned e) { a[e] = e * e; }", [], "undefined: __mulsi3;"),
+    ("unsigned a[4]; void loop(unsigned e) { a[e] = e; }", [], "undefined: body;"),
+    ("unsigned a[4], g(unsigned); void body(unsigned e) { a[e] = g(e); }", ["--stack", "64"], "undefined: g"),
+    ("unsigned a[4], g(unsigned); void body(unsigned e) { a[e] = g(e) + g(1); }\n"
+     "__attribute__((noinline)) unsigned g(unsigned e) { return e + a[e]; }", [], "the code needs a stack;"),
+    ("unsigned a[9999]; void body(unsigned e) { a[e] = e; }", ["--size", "1024"], "more than the 1024 bytes"),
+    ("unsigned a[99999]; void body(unsigned e) { a[e] = e; }", [], "more than 65536 bytes"),
+    ("unsigned a[4]; void body(unsigned e) { a[e] = e; }", ["--stack", "24"], "--stack takes powers of two"),
+    ("unsigned a[4]; void body(unsigned e) { volatile unsigned b[99]; b[e] = e; a[e] = b[1]; }",
+     ["--stack", "64"], "the compiler refuses the source"),
+    ("unsigned a[4]; __attribute__((constructor)) void before(void) { a[0] = 1; }\n"
+     "void body(unsigned e) { a[e] = e; }", [], "no place for the sections"),
+    ("unsigned a[4]; void body(unsigned e) { a[e] = e }", [], "the compiler refuses the source"),
+]
+
+
+def refusals():
+    """Sources that can't be an image, each with the reason that is told."""
+    for source, options, reason in REFUSED:
+        with tempfile.TemporaryDirectory() as directory:
+            path = Path(directory, "refused.c")
+            path.write_text(source + "\n")
+            words = [sys.executable, str(IMAGE_OF_C), "--epochs", "4", *options, str(path)]
+            done = subprocess.run(words, capture_output=True, text=True, check=False)
+        right = done.returncode == 1 and done.stdout == "" and reason in done.stderr
+        yield f"refusal: {reason}", None if right else f"got {done.stdout!r}, {done.stderr!r}"
+
+
+def main():
+    command = sys.argv[1:] or [str(ROOT / "trace_cli"), "seq"]
+    checks = list(reports(command))
+    if len(checks) < FEWEST:
+        checks.append(("number of examples", f"{len(checks)}, fewer than {FEWEST}"))
+    if all(shutil.which(TOOL + name) for name in ("gcc", "as", "ld", "objcopy")):
+        checks += [*listings(), *compiled(command), *refusals()]
+    else:
+        print(f"SKIPPED: listings and C sources, since {TOOL}gcc isn't installed")
+    failed = [(name, wrong) for name, wrong in checks if wrong]
+    for name, wrong in failed:
+        print(f"FAILED {name}\n  {wrong}")
+    print(f"{len(checks) - len(failed)} checks passed, {len(failed)} failed")
+    return 1 if failed else 0
+
+
+if __name__ == "__main__":
+    sys.exit(main())

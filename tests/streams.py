@@ -1,0 +1,78 @@
+#!/usr/bin/env python3
+"""What `trace_cli seq` does where a stream is slow or fails.
+
+Usage: tests/streams.py [COMMAND ..]
+
+COMMAND reads an image on standard input and ends with the word `seq`; without
+it `./trace_cli seq` of this repository is tested. Needs Linux: /dev/full, on
+which each write fails, and /proc/self/mem, whose first read fails. Exits with 1
+where an outcome differs.
+"""
+
+import os
+import subprocess
+import sys
+import time
+from pathlib import Path
+
+ROOT = Path(__file__).resolve().parent.parent
+COUNTER = b"size 256\nepochs 4\nlimit 100\ncode 83220004b382a2002320500467800000\n"
+FAULT = b"size 256\nepochs 1\nlimit 100\ncode 00000000\n"
+REPORT = b"end done 4\nat 00000040 06000000000000000000000000000000\n"
+
+
+def outcome(command, text, **streams):
+    """Standard output, standard error and status; a stream that is given is not read back."""
+    places = {"stdout": subprocess.PIPE, "stderr": subprocess.PIPE, **streams}
+    done = subprocess.run(command, input=text, check=False, **places)
+    return done.stdout, done.stderr, done.returncode
+
+
+def piecewise(command, text, length):
+    """The outcome where the text comes in pieces of this length."""
+    with subprocess.Popen(command, stdin=subprocess.PIPE, stdout=subprocess.PIPE, stderr=subprocess.PIPE) as child:
+        for place in range(0, len(text), length):
+            child.stdin.write(text[place:place + length])
+            child.stdin.flush()
+            time.sleep(0.002)
+        out, err = child.communicate()
+    return out, err, child.returncode
+
+
+def failing_read(command):
+    """The outcome where each read fails: address 0 of this process has no memory."""
+    descriptor = os.open("/proc/self/mem", os.O_RDONLY)
+    try:
+        done = subprocess.run(command, stdin=descriptor, capture_output=True, check=False)
+    finally:
+        os.close(descriptor)
+    return done.stdout, done.stderr, done.returncode
+
+
+def checks(command):
+    """(what it shows, outcome, expected outcome)"""
+    yield "text byte by byte", piecewise(command, COUNTER, 1), (REPORT, b"", 0)
+    yield "text in pieces of 7", piecewise(command, COUNTER, 7), (REPORT, b"", 0)
+    yield "failed read", failing_read(command), (b"", b"image 0 Read\n", 2)
+    with open("/dev/full", "wb", buffering=0) as full:
+        yield "failed write", outcome(command, COUNTER, stdout=full), (None, b"stopped Write\n", 3)
+        yield "failed write after a fault", outcome(command, FAULT, stdout=full), (None, b"stopped Write\n", 3)
+        yield "failed write of both", outcome(command, COUNTER, stdout=full, stderr=full), (None, None, 3)
+        yield "failed write of a refusal", outcome(command, b"", stderr=full), (b"", None, 2)
+        yield "no write to the error stream", outcome(command, COUNTER, stderr=full), (REPORT, None, 0)
+        words = command[:-1] + ["x"]
+        yield "failed write of usage", outcome(words, COUNTER, stderr=full), (b"", None, 2)
+
+
+def main():
+    command = sys.argv[1:] or [str(ROOT / "trace_cli"), "seq"]
+    results = list(checks(command))
+    failed = [row for row in results if row[1] != row[2]]
+    for name, got, expected in failed:
+        print(f"FAILED {name}\n  expected {expected}\n  got      {got}")
+    print(f"{len(results) - len(failed)} checks passed, {len(failed)} failed")
+    return 1 if failed else 0
+
+
+if __name__ == "__main__":
+    sys.exit(main())
