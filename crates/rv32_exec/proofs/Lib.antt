@@ -7,3 +7,4 @@ pub mod Pieces
 pub mod Lines
 pub mod Inputs
 pub mod LawsOfRuns
+pub mod Printed

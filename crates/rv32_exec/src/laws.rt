@@ -1,6 +1,10 @@
 //! Laws of the definitions: each function does nothing, and its contract is the law.
 
-ghost use Rattle.std.specs.Prelude.{◌≡◌, ℕ, ◌+◌, List};
+ghost use Rattle.std.specs.Prelude.{◌≡◌, ℕ, ◌+◌, ◌^◌, ◌<◌, List, Ok};
+ghost use Rattle.std.specs.Fmt.{decimal};
+ghost use Rattle.std.specs.Int.{w32, to_be_bytes};
+ghost use Rattle.hex.specs.Hex.{encode_lower};
+ghost use Rattle.rv32_exec.specs.ImageText.{number_in, word_in};
 ghost use Rattle.rv32_exec.specs.Image.{LoadedImage};
 ghost use Rattle.rv32_exec.specs.Hart.{HartState};
 ghost use Rattle.rv32_exec.specs.NextEvent.{next_event};
@@ -21,4 +25,14 @@ pub fn runs_add()
 /// Whole instructions lead to a hart's next event, leave memory as it is on the way, and do there what the event says.
 pub fn whole_instructions_reach_the_next_event()
     ensures { (image : LoadedImage) (h : HartState) (memory : List ℕ) → Reaches image h memory (next_event image h) }
+{}
+
+/// A decimal number that is printed is read back as it was.
+pub fn a_printed_number_reads_back()
+    ensures { (n : ℕ) → n < 10 ^ 10 → number_in (decimal n) ≡ Ok n }
+{}
+
+/// So is a number that is printed as eight hexadecimal digits.
+pub fn a_printed_word_reads_back()
+    ensures { (n : ℕ) → n < 2 ^ 32 → word_in (encode_lower (to_be_bytes w32 n)) ≡ Ok n }
 {}
