@@ -383,7 +383,8 @@ fn keeps_its_status_without_an_error_stream(rt: HostRuntime) -> Result<(), Fail>
         let ran = refuse_into(rt.alloc(), refused, room)?;
         assert_eq!(rt; ran.status, 2);
         assert_eq!(rt; ran.output.as_slice(), b"".as_slice());
-        assert_eq!(rt; Some(ran.errors.as_slice()), line.as_bytes().get(..room));
+        assert_eq!(rt; ran.errors.len(), room);
+        assert!(rt; line.as_bytes().starts_with(ran.errors.as_slice()));
     }
     Ok(())
 }

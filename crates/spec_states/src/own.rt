@@ -1,0 +1,155 @@
+ghost use Rattle.std.specs.Prelude.{◌≡◌, ℕ, ◌<◌, ◌⊎◌, ◌%◌, ◌||◌, true, false};
+ghost use Rattle.spec_states.specs.declared.line.TheConstants.{LINE_BYTES};
+ghost use Rattle.spec_states.specs.Copies.{KeepsUpToDate, FilledIsUpToDate, KeepsUpToDateAtStore, StoredIsUpToDate, Publishes};
+ghost use Rattle.spec_states.specs.Mask.{has, same_word, with_word};
+ghost use Rattle.spec_states.specs.Rows.{EntersAsRequired, GuardsRest, IsExclusiveOnlyAlone, IsCarriedOn, WritesBackModified};
+ghost use Rattle.spec_states.specs.States.{is_speculative, is_valid};
+ghost use Rattle.spec_states.specs.Tables.{next, own_load, own_load_table, own_store, own_store_table, violation, settlement, marked_by_load, marked_by_store, marks_of};
+
+use crate::line::{LINE_BYTES, LineState, Marks, WORD_BYTES};
+use crate::next::Next;
+
+impl Marks {
+    /// The marks that a copy carries: SpS and SpE alone have any.
+    fn carried(self, state: LineState) -> Marks
+        ensures { result ≡ marks_of state self }
+    {
+        if state.is_speculative() {
+            self
+        } else {
+            Marks::NONE
+        }
+    }
+
+    /// The marks after a load of a byte at `offset`.
+    fn with_load(self, offset: u32) -> Marks
+        requires { offset < LINE_BYTES }
+        ensures { result ≡ marked_by_load self offset }
+    {
+        Marks {
+            loaded: self.loaded || !self.has(offset),
+            words: self.words,
+        }
+    }
+
+    /// The marks after a store of `width` bytes at `offset`.
+    fn with_store(self, offset: u32, width: u32) -> Marks
+        requires { offset < LINE_BYTES }
+        ensures { result ≡ marked_by_store self offset width }
+    {
+        Marks {
+            loaded: self.loaded || (width < WORD_BYTES && !self.has(offset)),
+            words: self.with_word(offset),
+        }
+    }
+
+    /// The mask, and the word of the byte at `offset` with it.
+    fn with_word(self, offset: u32) -> u8
+        requires { offset < LINE_BYTES }
+        ensures { result ≡ with_word self.words offset }
+    {
+        self.words | 1 << (offset / WORD_BYTES)
+    }
+}
+
+/// What the owner's speculative load of `width` bytes at `offset` makes of its copy. `alone` says that no other core
+/// holds the line after the transaction. An aligned access lies in one word, so the width decides nothing else.
+pub fn after_own_load(state: LineState, marks: Marks, offset: u32, width: u32, alone: bool) -> Next
+    requires in_line { offset < LINE_BYTES }
+    requires width { (width ≡ 1) ⊎ (width ≡ 2) ⊎ (width ≡ 4) }
+    requires aligned { offset % width ≡ 0 }
+    ensures table { result ≡ own_load state marks offset alone }
+    ensures hit { is_valid state ≡ true → KeepsUpToDate state marks result }
+    ensures miss { is_valid state ≡ false → FilledIsUpToDate result }
+    ensures marks { result.marks ≡ marked_by_load (marks_of state marks) offset }
+    ensures mask { result.marks.words ≡ (marks_of state marks).words }
+    ensures marked { is_speculative result.state ≡ true }
+    ensures exclusive { IsExclusiveOnlyAlone state alone result }
+    ensures writes_back { WritesBackModified state result }
+    ensures enters { EntersAsRequired state marks result }
+{
+    let after = marks.carried(state).with_load(offset);
+    own_load_row(state, alone, after)
+}
+
+/// The row of an own load, with the marks that it leaves.
+fn own_load_row(state: LineState, alone: bool, after: Marks) -> Next
+    ensures { result ≡ next (own_load_table state alone) after }
+{
+    match state {
+        LineState::I if alone => Next::to(LineState::SpE, after),
+        LineState::I | LineState::S | LineState::SpS => Next::to(LineState::SpS, after),
+        LineState::E | LineState::SpE => Next::to(LineState::SpE, after),
+        LineState::M => Next::to(LineState::SpE, after).written_back(),
+    }
+}
+
+/// What the owner's speculative store of `width` bytes at `offset` makes of its copy. `alone` says that no other core
+/// holds the line after the transaction.
+pub fn after_own_store(state: LineState, marks: Marks, offset: u32, width: u32, alone: bool) -> Next
+    requires in_line { offset < LINE_BYTES }
+    requires width { (width ≡ 1) ⊎ (width ≡ 2) ⊎ (width ≡ 4) }
+    requires aligned { offset % width ≡ 0 }
+    ensures table { result ≡ own_store state marks offset width alone }
+    ensures hit { is_valid state ≡ true → KeepsUpToDateAtStore state marks result }
+    ensures miss { is_valid state ≡ false → StoredIsUpToDate result }
+    ensures marks { result.marks ≡ marked_by_store (marks_of state marks) offset width }
+    ensures mask { (x : ℕ) → has result.marks.words x
+        ≡ (has (marks_of state marks).words x || same_word x offset) }
+    ensures guards { GuardsRest (marks_of state marks) offset width result }
+    ensures marked { is_speculative result.state ≡ true }
+    ensures exclusive { IsExclusiveOnlyAlone state alone result }
+    ensures writes_back { WritesBackModified state result }
+    ensures enters { EntersAsRequired state marks result }
+{
+    let before = marks.carried(state);
+    let after = before.with_store(offset, width);
+    own_store_row(state, before.words != 0, alone, after)
+}
+
+/// The row of an own store, with the marks that it leaves. `modified` says that the mask was not empty before.
+fn own_store_row(state: LineState, modified: bool, alone: bool, after: Marks) -> Next
+    ensures { result ≡ next (own_store_table state modified alone) after }
+{
+    match state {
+        LineState::SpE => Next::to(LineState::SpE, after),
+        LineState::SpS if modified => Next::to(LineState::SpS, after),
+        LineState::M if alone => Next::to(LineState::SpE, after).written_back(),
+        LineState::M => Next::to(LineState::SpS, after).entering().written_back(),
+        _ if alone => Next::to(LineState::SpE, after),
+        _ => Next::to(LineState::SpS, after).entering(),
+    }
+}
+
+/// What a violation of the owner's epoch makes of its copy.
+pub fn after_violation(state: LineState, marks: Marks) -> Next
+    ensures table { result ≡ violation state marks }
+    ensures up_to_date { KeepsUpToDate state marks result }
+    ensures unmarked { is_speculative result.state ≡ false }
+{
+    let after = match state {
+        LineState::SpS | LineState::SpE if marks.words != 0 => LineState::I,
+        LineState::SpS => LineState::S,
+        LineState::SpE => LineState::E,
+        _ => state,
+    };
+    Next::to(after, Marks::NONE)
+}
+
+/// What the owner's own publish makes of its copy. `alone` says that no other core holds the line after the publish.
+/// `write_back` says that memory is written.
+pub fn settled(state: LineState, marks: Marks, alone: bool) -> Next
+    ensures table { result ≡ settlement state marks alone }
+    ensures up_to_date { Publishes state marks result }
+    ensures unmarked { is_speculative result.state ≡ false }
+    ensures exclusive { IsExclusiveOnlyAlone state alone result }
+    ensures written { IsCarriedOn state marks result }
+{
+    match state {
+        LineState::SpS if marks.words == 0 => Next::to(LineState::S, Marks::NONE),
+        LineState::SpS if !alone => Next::to(LineState::S, Marks::NONE).written_back(),
+        LineState::SpE if marks.words == 0 => Next::to(LineState::E, Marks::NONE),
+        LineState::SpS | LineState::SpE => Next::to(LineState::M, Marks::NONE),
+        _ => Next::to(state, Marks::NONE),
+    }
+}

@@ -1,0 +1,5 @@
+pub mod Pasts
+pub mod Frames
+pub mod RuleKept
+pub mod Passes
+pub mod Turns

@@ -1,0 +1,20 @@
+use Rattle.std.proofs.Common.{rules, ◌∷◌, ap, ◌∙◌, sym, subst, Some}
+use Rattle.atomic_table.specs.Table.{rest}
+use Rattle.ticket_lock.specs.Known.{Known}
+use Rattle.ticket_lock.specs.Past.{GrowsBy}
+use Rattle.ticket_lock.proofs.RuleKept.{hands_back_at}
+use Rattle.ticket_lock.proofs.Passes.{fixed_is}
+use Rattle.ticket_lock.proofs.held.Held.release.Goals as goal
+
+pub fetch_add-requires : goal.fetch_add-requires
+fetch_add-requires g c =
+    let seat = c.self.inside.seat in
+    let is = ap (λ h. h.pass) c.self.view_is in
+    let value = ap (λ h. h.value) c.self.view_is in (
+      search rules,
+      search rules,
+      hands_back_at g.T.Kept.fixed g.T.Kept.past _ _ _ c.exchange.new.seat.me seat.me.0 c.self.invariant.ticket c.args.self.value
+          (c.exchange.ensures.3 ∙ (λ i. (seat.me.0, (0, Some (value i)) ∷ rest (c.self.invariant.empty i)))) c.self.invariant.live c.self.invariant.holds
+          (fixed_is seat c.args.self.pass _ is c.requires.fixed)
+          (subst (λ (k : Known _ _). GrowsBy k.lo k.seen (g.T.Kept.past c.args.self.value)) (sym is) c.requires.grown),
+    )

@@ -1,0 +1,62 @@
+//! The value while it is out of the lock.
+ghost use mir.Syntax.{named};
+ghost use Rattle.std.specs.Prelude.{◌≡◌, []};
+ghost use Rattle.std.specs.Borrow.{Lends, sem};
+ghost use Rattle.ticket_lock.specs.Past.{GrowsBy};
+
+use crate::kept::Kept;
+use crate::pass::Pass;
+use crate::plays::HandBack;
+use crate::rule::{HOME, Place, SERVING, Words};
+use std::marker::Model;
+
+/// The value, with the pass that took it. It can't be dropped: it has to be released.
+pub struct Held<'a, T: Kept> {
+    pub(crate) words: &'a Words<T>,
+    pub(crate) lo: u64,
+    pub(crate) seat: Place<T>,
+    pub(crate) value: T,
+}
+
+impl<'a, T: Kept> Model for Held<'a, T> {
+    ghost use Rattle.ticket_lock.specs.Known.{Hold, known_of, IsServed};
+
+    ghost Value = { Hold T.Fixed T.What T };
+
+    ghost view = { λ h. record { pass = known_of h.seat; value = h.value } };
+
+    ghost invariant = { λ h. IsServed h.words.now.table_id h.seat h.lo };
+}
+
+impl<'a, T: Kept> Held<'a, T> {
+    ghost use Rattle.ticket_lock.specs.contracts.held.Held.{the_row};
+    ghost use Rattle.ticket_lock.specs.Known.{IsFixedOf, with_value};
+
+    /// The value, to read and to write. What is written through the borrow is the value afterwards.
+    pub fn value(&mut self) -> &mut T
+        ensures* writes_back { sem 𝓛 (Lends
+            (the_row (record { mir = named 1; lft = [] }) T.row T.Fixed.row T.What.row T.Kept)
+            T.row self.entry result (with_value self.old)) }
+        ensures shows { result.now ≡ self.old.value }
+    {
+        &mut self.value
+    }
+
+    /// Gives the value back to the lock, and serves the next ticket. The fixed part is to be as it was, and the past to have
+    /// grown at its end, by entries of the pass's own number alone. The pass has then seen the whole past.
+    pub fn release(self) -> Pass<T>
+        requires fixed { IsFixedOf self.pass (T.fixed self.value) }
+        requires grown { GrowsBy self.pass.lo self.pass.seen (T.past self.value) }
+        ensures { result ≡ record self.entry.pass { seen = T.past self.entry.value } }
+    {
+        let Held {
+            words,
+            lo,
+            mut seat,
+            value,
+        } = self;
+        words.exchange(&mut seat, HOME, Some(value));
+        words.fetch_add::<HandBack>(&mut seat, SERVING, 1);
+        Pass { lo, seat }
+    }
+}

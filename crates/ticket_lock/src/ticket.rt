@@ -1,0 +1,51 @@
+//! The two loops of a thread that takes the lock.
+ghost use Rattle.std.specs.Prelude.{◌≡◌, true, [], MatchOption};
+ghost use Rattle.ticket_lock.specs.declared.rule.Turn.TheVariants.{Waiting};
+ghost use Rattle.ticket_lock.specs.Steps.{IsHanded, Becomes, IsIdle, IsWaiting};
+
+use crate::kept::Kept;
+use crate::plays::{Draw, Look, LookNext, Serve};
+use crate::rule::{END, NEXT, Place, SERVING, Words};
+use crossbeam_utils::Backoff;
+use std::sync::Wait;
+
+/// Draws the next ticket. None: they are all drawn.
+pub(crate) fn draw<T: Kept, R: Wait>(rt: &R, words: &Words<T>, seat: &mut Place<T>) -> Option<u64>
+    requires table { (seat.old.table_id ≡ words.now.table_id) × (words.now.table_id.words ≡ 2) }
+    requires idle { IsIdle seat.old }
+    ensures { MatchOption result
+        (Becomes seat.old seat.new (record seat.old.me.0 { out = true }, []))
+        (λ t. Becomes seat.old seat.new (record seat.old.me.0 { turn = Waiting t }, [])) }
+{
+    let backoff = Backoff::new();
+    for _ in rt.forever() {
+        let next = words.load::<LookNext>(seat, NEXT);
+        if next == END {
+            return None;
+        }
+        if words.compare_exchange::<Draw>(seat, NEXT, next, next + 1) == next {
+            return Some(next);
+        }
+        backoff.spin();
+    }
+    unreachable!()
+}
+
+/// Waits until the ticket is served, and takes the value, which is then in the slot that the seat has.
+pub(crate) fn wait<T: Kept, R: Wait>(rt: &R, words: &Words<T>, seat: &mut Place<T>, ticket: u64)
+    requires table { (seat.old.table_id ≡ words.now.table_id) × (words.now.table_id.words ≡ 2) }
+    requires waiting { IsWaiting seat.old ticket }
+    ensures same { (seat.new.table_id ≡ seat.old.table_id) × (seat.new.id ≡ seat.old.id) }
+    ensures handed { (x : T) × IsHanded T.fixed T.past seat.old.me.0 ticket x seat.new.me }
+{
+    let backoff = Backoff::new();
+    for _ in rt.forever() {
+        if words.load::<Look>(seat, SERVING) == ticket
+            && words.compare_exchange::<Serve>(seat, SERVING, ticket, ticket) == ticket
+        {
+            return;
+        }
+        backoff.snooze();
+    }
+    unreachable!()
+}
