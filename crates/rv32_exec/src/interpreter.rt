@@ -1,4 +1,4 @@
-ghost use Rattle.std.specs.Prelude.{◌≡◌, ◌≤◌, ℕ, List, length, slice_index};
+ghost use Rattle.std.specs.Prelude.{◌≡◌, ◌<◌, ◌≤◌, ◌*◌, ◌^◌, ℕ, List, length, slice_index};
 ghost use Rattle.rv32_exec.specs.Interpreter as spec;
 ghost use Rattle.rv32_exec.specs.Image.{IsImage};
 ghost use Rattle.rv32_exec.specs.Hart.{with_register};
@@ -22,6 +22,7 @@ pub(crate) enum Next {
 }
 
 /// Runs a hart over memory, loads and stores too, up to an instruction that faults, outside the code or past the limit.
+#[inline(never)]
 pub(crate) fn run(image: &Image, hart: &mut Hart, bytes: &mut [u8])
     requires size { length bytes.old ≡ image.now.size }
     requires within { hart.old.done ≤ image.now.limit }
@@ -37,7 +38,7 @@ pub(crate) fn run(image: &Image, hart: &mut Hart, bytes: &mut [u8])
     let mut last = word + limit - hart.done() as usize;
     let mut stop = last.min(program.len());
     while word < stop {
-        match execute(&program[word], 4 * word as u32, image, &mut x, bytes) {
+        match execute(&program[word], word, image, &mut x, bytes) {
             Next::Following => word += 1,
             Next::Jump(target) => {
                 last -= word + 1;
@@ -48,28 +49,35 @@ pub(crate) fn run(image: &Image, hart: &mut Hart, bytes: &mut [u8])
             Next::Fault => break,
         }
     }
-    *hart = Hart::new(x.into_array(), 4 * word as u32, (word + limit - last) as u64);
+    *hart = Hart::new(x.into_array(), address(word), (word + limit - last) as u64);
 }
 
 /// Executes the instruction at the pc, a load or a store too.
 #[inline(always)]
 #[tactic(auto, unfolding(crate::specs::Execute::instruction_effect))]
-fn execute(instr: &Instr, pc: u32, image: &Image, x: &mut Registers, bytes: &mut [u8]) -> Next
+fn execute(
+    instr: &Instr,
+    word: usize,
+    image: &Image,
+    x: &mut Registers,
+    bytes: &mut [u8],
+) -> Next
+    requires address { 4 * word < 2 ^ 32 }
     requires image { IsImage image.now }
     requires size { length bytes.old ≡ image.now.size }
-    ensures { (done : ℕ) → spec.Leads (spec.hart x.old pc done) bytes.old (instruction_effect image.now (spec.hart x.old pc done) (λ r. slice_index x.old r) instr.now) result x.new bytes.new }
+    ensures { (done : ℕ) → spec.Leads (spec.hart x.old (4 * word) done) bytes.old (instruction_effect image.now (spec.hart x.old (4 * word) done) (λ r. slice_index x.old r) instr.now) result x.new bytes.new }
 {
     match *instr {
         Instr::Lui { rd, imm } => write(x, rd, imm),
-        Instr::Auipc { rd, imm } => write(x, rd, pc.wrapping_add(imm)),
-        Instr::Jal { rd, offset } => jump(x, pc, rd, pc.wrapping_add(offset)),
-        Instr::Jalr { rd, rs1, imm } => jump(x, pc, rd, x.get(rs1).wrapping_add(imm) / 2 * 2),
-        Instr::Beq { rs1, rs2, offset } => branch(pc, x.get(rs1) == x.get(rs2), offset),
-        Instr::Bne { rs1, rs2, offset } => branch(pc, x.get(rs1) != x.get(rs2), offset),
-        Instr::Blt { rs1, rs2, offset } => branch(pc, x.is_less_signed(rs1, rs2), offset),
-        Instr::Bge { rs1, rs2, offset } => branch(pc, !x.is_less_signed(rs1, rs2), offset),
-        Instr::Bltu { rs1, rs2, offset } => branch(pc, x.is_less(rs1, rs2), offset),
-        Instr::Bgeu { rs1, rs2, offset } => branch(pc, !x.is_less(rs1, rs2), offset),
+        Instr::Auipc { rd, imm } => write(x, rd, address(word).wrapping_add(imm)),
+        Instr::Jal { rd, offset } => jump(x, word, rd, address(word).wrapping_add(offset)),
+        Instr::Jalr { rd, rs1, imm } => jump(x, word, rd, x.get(rs1).wrapping_add(imm) / 2 * 2),
+        Instr::Beq { rs1, rs2, offset } => branch(word, x.get(rs1) == x.get(rs2), offset),
+        Instr::Bne { rs1, rs2, offset } => branch(word, x.get(rs1) != x.get(rs2), offset),
+        Instr::Blt { rs1, rs2, offset } => branch(word, x.is_less_signed(rs1, rs2), offset),
+        Instr::Bge { rs1, rs2, offset } => branch(word, !x.is_less_signed(rs1, rs2), offset),
+        Instr::Bltu { rs1, rs2, offset } => branch(word, x.is_less(rs1, rs2), offset),
+        Instr::Bgeu { rs1, rs2, offset } => branch(word, !x.is_less(rs1, rs2), offset),
         Instr::Lb { rd, rs1, imm } => load(image, bytes, x, 1, true, rd, x.get(rs1).wrapping_add(imm)),
         Instr::Lh { rd, rs1, imm } => load(image, bytes, x, 2, true, rd, x.get(rs1).wrapping_add(imm)),
         Instr::Lw { rd, rs1, imm } => load(image, bytes, x, 4, false, rd, x.get(rs1).wrapping_add(imm)),
@@ -101,6 +109,15 @@ fn execute(instr: &Instr, pc: u32, image: &Image, x: &mut Registers, bytes: &mut
     }
 }
 
+/// The address of a word of this number.
+#[inline(always)]
+fn address(word: usize) -> u32
+    requires { 4 * word < 2 ^ 32 }
+    ensures { result ≡ 4 * word }
+{
+    4 * word as u32
+}
+
 /// Writes an instruction's result.
 #[inline(always)]
 fn write(x: &mut Registers, rd: Register, value: u32) -> Next
@@ -113,24 +130,26 @@ fn write(x: &mut Registers, rd: Register, value: u32) -> Next
 
 /// Jumps to the target and writes the link, unless the target is misaligned.
 #[inline(always)]
-fn jump(x: &mut Registers, pc: u32, rd: Register, target: u32) -> Next
-    ensures { (done : ℕ) (memory : List ℕ) → spec.Leads (spec.hart x.old pc done) memory (jump_effect (spec.hart x.old pc done) rd target) result x.new memory }
+fn jump(x: &mut Registers, word: usize, rd: Register, target: u32) -> Next
+    requires { 4 * word < 2 ^ 32 }
+    ensures { (done : ℕ) (memory : List ℕ) → spec.Leads (spec.hart x.old (4 * word) done) memory (jump_effect (spec.hart x.old (4 * word) done) rd target) result x.new memory }
 {
     if target % 4 != 0 {
         return Next::Fault;
     }
-    x.set(rd, pc.wrapping_add(4));
+    x.set(rd, address(word).wrapping_add(4));
     Next::Jump(target)
 }
 
 #[inline(always)]
-fn branch(pc: u32, taken: bool, offset: u32) -> Next
-    ensures { (done : ℕ) (x memory : List ℕ) → spec.Leads (spec.hart x pc done) memory (branch_effect (spec.hart x pc done) taken offset) result x memory }
+fn branch(word: usize, taken: bool, offset: u32) -> Next
+    requires { 4 * word < 2 ^ 32 }
+    ensures { (done : ℕ) (x memory : List ℕ) → spec.Leads (spec.hart x (4 * word) done) memory (branch_effect (spec.hart x (4 * word) done) taken offset) result x memory }
 {
     if !taken {
         return Next::Following;
     }
-    let target = pc.wrapping_add(offset);
+    let target = address(word).wrapping_add(offset);
     if target % 4 != 0 {
         return Next::Fault;
     }
