@@ -1,6 +1,7 @@
 pub mod Steps
 pub mod Runs
 pub mod Arrivals
+pub mod Interpreting
 pub mod Epochs
 pub mod Cuts
 pub mod Pieces

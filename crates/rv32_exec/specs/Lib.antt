@@ -6,6 +6,7 @@ pub mod Hart
 pub mod Execute
 pub mod NextEvent
 pub mod Sequential
+pub mod Interpreter
 pub mod Arrival
 pub mod Outcome
 pub mod ImageText

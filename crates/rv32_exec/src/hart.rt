@@ -1,6 +1,6 @@
 ghost use Rattle.std.specs.Prelude.{◌≡◌, ◌<◌, ◌+◌, ◌%◌, ◌^◌, slice_index};
 ghost use Rattle.rv32_exec.specs.Hart as spec;
-ghost use Rattle.rv32_exec.specs.Execute.{IsWidth, after_load};
+ghost use Rattle.rv32_exec.specs.Execute.{IsWidth, after_load, extended};
 
 use crate::image::Image;
 use rv32_decode::Register;
@@ -36,6 +36,23 @@ impl Model for Hart {
 }
 
 impl Hart {
+    /// The hart with these registers, at this pc, with so many instructions executed.
+    pub(crate) fn new(x: [u32; 32], pc: u32, done: u64) -> Hart
+        requires aligned { pc % 4 ≡ 0 }
+        requires x0 { slice_index x 0 ≡ 0 }
+        ensures { result ≡ record { x = x; pc = pc; done = done } }
+    {
+        Hart { x, pc, done }
+    }
+
+    /// What its registers hold.
+    pub(crate) fn registers(&self) -> [u32; 32]
+        ensures x { result ≡ self.now.x }
+        ensures x0 { slice_index result 0 ≡ 0 }
+    {
+        self.x
+    }
+
     /// What a register holds.
     #[inline]
     pub fn x(&self, register: Register) -> u32
@@ -100,12 +117,7 @@ impl Hart {
         requires room { self.old.done < 2 ^ 63 }
         ensures { self.new ≡ after_load self.old width signed rd number }
     {
-        let value = match width {
-            1 if signed => i32::from((number as u8).cast_signed()).cast_unsigned(),
-            2 if signed => i32::from((number as u16).cast_signed()).cast_unsigned(),
-            _ => number,
-        };
-        self.write(rd, value);
+        self.write(rd, extend(width, signed, number));
     }
 
     /// Sets a register; x0 stays 0.
@@ -115,6 +127,20 @@ impl Hart {
     {
         self.x[usize::from(rd.number())] = value;
         self.x[0] = 0;
+    }
+}
+
+/// The value that a load of this number writes.
+#[inline(always)]
+pub(crate) fn extend(width: u32, signed: bool, number: u32) -> u32
+    requires wide { IsWidth width }
+    requires number { number < 256 ^ width }
+    ensures { result ≡ extended width signed number }
+{
+    match width {
+        1 if signed => i32::from((number as u8).cast_signed()).cast_unsigned(),
+        2 if signed => i32::from((number as u16).cast_signed()).cast_unsigned(),
+        _ => number,
     }
 }
 

@@ -1,11 +1,11 @@
 ghost use Rattle.std.specs.Prelude.{◌≡◌, ◌<◌, ◌≤◌, ◌+◌, ◌%◌, IfOk, codes, length, slice_index};
 ghost use Rattle.rv32_decode.specs.Table.{meaning_of};
 ghost use Rattle.rv32_exec.specs.Image.{IsImage, loaded_image};
-ghost use Rattle.rv32_exec.specs.Decoded.{IsDecoded};
+ghost use Rattle.rv32_exec.specs.Decoded.{IsDecoded, kept_of};
 ghost use Rattle.rv32_exec.specs.Bytes.{number_at};
 
 use crate::memory::read_number;
-use rv32_decode::{Instr, Refused, decode};
+use rv32_decode::{Instr, Refused, Register, decode};
 use std::alloc::{AllocError, Global};
 use std::marker::Model;
 use thiserror::Error;
@@ -37,7 +37,7 @@ pub struct Image {
     limit: u32,
     registers: [u32; 32],
     bytes: Vec<u8>,
-    program: Vec<Result<Instr, Refused>>,
+    program: Vec<Instr>,
 }
 
 impl Model for Image {
@@ -147,22 +147,25 @@ impl Image {
         self.bytes.as_slice()
     }
 
+    /// The code decoded: each word's instruction, and a jump that faults in place of a word that is refused.
+    pub(crate) fn program(&self) -> &[Instr]
+        ensures program { IsDecoded result.now self.now.code self.now.bytes }
+        ensures limits { IsImage self.now }
+    {
+        self.program.as_slice()
+    }
+
     /// The instruction at a pc, which is in the code.
     pub(crate) fn instruction_at(&self, pc: u32) -> Result<Instr, Refused>
-        requires aligned { pc % 4 ≡ 0 }
-        requires within { pc < self.now.code }
+        requires { pc + 4 ≤ self.now.code }
         ensures { result ≡ meaning_of (number_at (λ a. slice_index self.now.bytes a) pc 4) }
     {
-        self.program[(pc / 4) as usize]
+        decode(read_number(self.bytes.as_slice(), pc as usize, 4))
     }
 }
 
 /// The instructions of the code, in order.
-fn decoded(
-    alloc: Global,
-    code: u32,
-    bytes: &[u8],
-) -> Result<Vec<Result<Instr, Refused>>, AllocError>
+fn decoded(alloc: Global, code: u32, bytes: &[u8]) -> Result<Vec<Instr>, AllocError>
     requires words { code % 4 ≡ 0 }
     requires within { code ≤ length bytes.now }
     ensures { IfOk result (λ program. IsDecoded program.items code bytes.now) }
@@ -170,7 +173,22 @@ fn decoded(
     let words = (code / 4) as usize;
     let mut program = Vec::with_capacity(alloc, words)?;
     for word in 0..words {
-        program.push(decode(read_number(bytes, 4 * word, 4)))?;
+        program.push(kept(read_number(bytes, 4 * word, 4)))?;
     }
     Ok(program)
+}
+
+/// What is kept of a word: its instruction, or where it is refused, a jump that faults wherever it stands, since
+/// its target is misaligned.
+#[tactic(auto, unfolding(crate::specs::Decoded::kept_of))]
+fn kept(word: u32) -> Instr
+    ensures { result ≡ kept_of (meaning_of word) }
+{
+    match decode(word) {
+        Ok(instr) => instr,
+        Err(_) => Instr::Jal {
+            rd: Register::new(0),
+            offset: 2,
+        },
+    }
 }

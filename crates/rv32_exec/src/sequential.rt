@@ -4,6 +4,7 @@ ghost use Rattle.rv32_exec.specs.Outcome.{progress_of};
 
 use crate::hart::start;
 use crate::image::{Image, NoMemory};
+use crate::interpreter::run;
 use crate::memory::{read_number, write_number};
 use crate::stop::Stop;
 use std::alloc::Global;
@@ -82,6 +83,7 @@ fn run_epoch(image: &Image, epoch: u32, bytes: &mut [u8]) -> Option<(u32, u32)>
 {
     let mut hart = start(image, epoch);
     loop {
+        run(image, &mut hart, bytes);
         let Some(at) = hart.step(image) else {
             continue;
         };

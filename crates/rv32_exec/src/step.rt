@@ -260,7 +260,7 @@ impl Hart {
 
 /// The low `width` bytes of a value.
 #[inline]
-fn low_bytes(width: u32, value: u32) -> u32
+pub(crate) fn low_bytes(width: u32, value: u32) -> u32
     requires { spec.IsWidth width }
     ensures { result ≡ value % 256 ^ width }
 {

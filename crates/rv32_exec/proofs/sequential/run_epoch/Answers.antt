@@ -17,50 +17,50 @@ loop-at-init c = record {
 pub loop-at-smaller-in_default : goal.loop-at-smaller-in_default
 loop-at-smaller-in_default c =
     let is = sym c.in_default.ensures.effect in
-    omega (arith, executes_counts c.args.image.now c.loop-at.hart c.step.new.self is, executes_below c.args.image.now c.loop-at.hart c.step.new.self is)
+    omega (arith, executes_counts c.args.image.now c.run.new.hart c.step.new.self is, executes_below c.args.image.now c.run.new.hart c.step.new.self is)
 
 pub loop-at-preserved-in_default : goal.loop-at-preserved-in_default
 loop-at-preserved-in_default c =
     let is = sym c.in_default.ensures.effect in record {
-      outcome = outcome-executes c.args.image.now c.loop-at.hart c.step.new.self c.loop-at.bytes _ is c.loop-at.invariant.outcome;
-      within = omega (arith, executes_counts c.args.image.now c.loop-at.hart c.step.new.self is, executes_below c.args.image.now c.loop-at.hart c.step.new.self is);
+      outcome = outcome-executes c.args.image.now c.run.new.hart c.step.new.self c.run.new.bytes _ is (c.run.ensures.rest ∙ c.loop-at.invariant.outcome);
+      within = omega (arith, executes_counts c.args.image.now c.run.new.hart c.step.new.self is, executes_below c.args.image.now c.run.new.hart c.step.new.self is);
     }
 
 pub loop-at-preserved-in-Load : goal.loop-at-preserved-in-Load
 loop-at-preserved-in-Load c =
-    let h = c.loop-at.hart in
+    let h = c.run.new.hart in
     let at = Load c.in-Load.addr c.in-Load.width c.in-Load.signed c.in-Load.rd in
     let is : hart_effect c.args.image.now h ≡ Stops at = sym c.in-Some.ensures.effect ∙ ap Stops c.in-Load.is in
     let stop = rw c.in-Load.is at c.in-Some.ensures.stop in
-    let number = number_at (λ a. slice_index c.loop-at.bytes a) c.in-Load.addr c.in-Load.width in
+    let number = number_at (λ a. slice_index c.run.new.bytes a) c.in-Load.addr c.in-Load.width in
     let after : after_load h c.in-Load.width c.in-Load.signed c.in-Load.rd number ≡ c.complete_load.new.self =
     cc (c.complete_load.ensures, c.in-Some.ensures.stopped, c.read_number-number.ensures.number) in
     let counted : c.complete_load.new.self.done ≡ h.done + 1 = sym (ap (λ (s : HartState). s.done) after) in record {
-      outcome = outcome-access c.args.image.now h c.complete_load.new.self at c.loop-at.bytes c.loop-at.bytes _ is stop.room counted
-          (ap (λ s. Runs s c.loop-at.bytes) after) c.loop-at.invariant.outcome;
+      outcome = outcome-access c.args.image.now h c.complete_load.new.self at c.run.new.bytes c.run.new.bytes _ is stop.room counted
+          (ap (λ s. Runs s c.run.new.bytes) after) (c.run.ensures.rest ∙ c.loop-at.invariant.outcome);
       within = omega (arith, counted, stop.room);
     }
 
 pub loop-at-preserved : goal.loop-at-preserved
 loop-at-preserved c =
-    let h = c.loop-at.hart in
+    let h = c.run.new.hart in
     let at = Store c.in-Store.addr c.in-Store.width c.in-Store.value in
     let is : hart_effect c.args.image.now h ≡ Stops at = sym c.in-Some.ensures.effect ∙ ap Stops c.in-Store.is in
     let stop = rw c.in-Store.is at c.in-Some.ensures.stop in
     let after : stepped h ≡ c.go_on.new.self = cc (c.go_on.ensures, c.in-Some.ensures.stopped) in
     let counted : c.go_on.new.self.done ≡ h.done + 1 = sym (ap (λ (s : HartState). s.done) after) in
-    let made : Runs (stepped h) (with_number c.loop-at.bytes c.in-Store.addr c.in-Store.width c.in-Store.value) ≡ Runs c.go_on.new.self c.write_number.new.bytes = cc (after, c.write_number.ensures) in
+    let made : Runs (stepped h) (with_number c.run.new.bytes c.in-Store.addr c.in-Store.width c.in-Store.value) ≡ Runs c.go_on.new.self c.write_number.new.bytes = cc (after, c.write_number.ensures) in
     record {
-      outcome = outcome-access c.args.image.now h c.go_on.new.self at c.loop-at.bytes c.write_number.new.bytes _ is stop.access.room counted made c.loop-at.invariant.outcome;
+      outcome = outcome-access c.args.image.now h c.go_on.new.self at c.run.new.bytes c.write_number.new.bytes _ is stop.access.room counted made (c.run.ensures.rest ∙ c.loop-at.invariant.outcome);
       within = omega (arith, counted, stop.access.room);
     }
 
 pub returns-in-Ended : goal.returns-in-Ended
 returns-in-Ended c =
     let is = sym c.in-Some.ensures.effect ∙ ap Stops c.in-Ended.is in
-    outcome-stops c.args.image.now c.loop-at.hart Ended c.loop-at.bytes _ _ is c.loop-at.invariant.within refl c.loop-at.invariant.outcome
+    outcome-stops c.args.image.now c.run.new.hart Ended c.run.new.bytes _ _ is c.run.ensures.within refl (c.run.ensures.rest ∙ c.loop-at.invariant.outcome)
 
 pub returns-in-Fault : goal.returns-in-Fault
 returns-in-Fault c =
     let is = sym c.in-Some.ensures.effect ∙ ap Stops c.in-Fault.is in
-    outcome-stops c.args.image.now c.loop-at.hart (Fault c.in-Fault.cause c.in-Fault.pc) c.loop-at.bytes _ _ is c.loop-at.invariant.within refl c.loop-at.invariant.outcome
+    outcome-stops c.args.image.now c.run.new.hart (Fault c.in-Fault.cause c.in-Fault.pc) c.run.new.bytes _ _ is c.run.ensures.within refl (c.run.ensures.rest ∙ c.loop-at.invariant.outcome)

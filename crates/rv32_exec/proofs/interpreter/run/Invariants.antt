@@ -1,0 +1,19 @@
+use Rattle.std.proofs.Common.{◌≡◌, ℕ, ◌-◌, ◌+◌, ◌*◌, ◌^◌, ◌<◌, ◌≤◌, length}
+use Rattle.rv32_exec.specs.Sequential.{after_steps}
+use Rattle.rv32_exec.specs.Interpreter.{hart, rest}
+use Rattle.rv32_exec.proofs.interpreter.run.Given as goal
+
+-- what is left of the epoch, from here on, is what was left at the start
+abbrev pub invariant-loop-word : goal.invariant-loop-word
+invariant-loop-word l = record {
+  rest : after_steps l.image (l.last + 1 - l.word) (hart l.x (4 * l.word) (l.word + l.limit - l.last)) l.bytes ≡ rest l.image l.fn.hart l.fn.bytes;
+  address : 4 * l.word < 2 ^ 32;
+  before_last : l.word ≤ l.last;
+  within : l.last ≤ l.word + l.limit;
+  later : l.fn.hart.done + l.last ≤ l.word + l.limit;
+  in_code : l.stop ≤ length l.program;
+  in_limit : l.stop ≤ l.last;
+}
+
+abbrev pub decreases-loop-word : goal.decreases-loop-word
+decreases-loop-word l = l.last - l.word
