@@ -42,7 +42,8 @@ pub returns-clause-rest : goal.returns-clause-rest
 returns-clause-rest c =
     let left : c.args.image.now.limit + 1 - (c.loop-word.word + c.limit-limit.result - c.loop-word.last) ≡ c.loop-word.last + 1 - c.loop-word.word = omega arith in
     elim c.loop-word-test.branch [
-      else-loop-word-test w ↦ rw (c.new.ensures, c.address.ensures, c.into_array.ensures.same, w.x-is, w.bytes-is, left) c.loop-word.invariant.rest
-    | then-loop-word-test+in-Fault w ↦
-        let stays = w.in-Fault.ensures 0 in
-        rw (c.new.ensures, c.address.ensures, c.into_array.ensures.same, w.x-is, w.bytes-is, stays.0, stays.1, left) c.loop-word.invariant.rest ]
+      | else-loop-word-test w ↦ rw (c.new.ensures, c.address.ensures, c.into_array.ensures.same, w.x-is, w.bytes-is, left) c.loop-word.invariant.rest
+      | then-loop-word-test+in-Fault w ↦
+          let stays = w.in-Fault.ensures 0 in
+          rw (c.new.ensures, c.address.ensures, c.into_array.ensures.same, w.x-is, w.bytes-is, stays.0, stays.1, left) c.loop-word.invariant.rest
+    ]
