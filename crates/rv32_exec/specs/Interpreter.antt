@@ -1,10 +1,14 @@
 -- What the interpreter's loop does with one instruction.
-use Rattle.std.specs.Prelude.{◌≡◌, ℕ, ◌+◌, ◌-◌, ◌%◌, ◌^◌, List}
+use Rattle.std.specs.Prelude.{◌≡◌, ℕ, ◌+◌, ◌-◌, ◌%◌, ◌^◌, List, length}
+use Rattle.rv32_decode.specs.declared.instr.Instr.{Instr}
+use Rattle.rv32_decode.specs.declared.instr.Instr.TheVariants.{Lb, Lh, Lw, Lbu, Lhu, Sb, Sh, Sw}
+use Rattle.rv32_exec.specs.declared.stop.TheConstants.{MISALIGNED_TARGET}
+use Rattle.rv32_exec.specs.declared.stop.Stop.TheVariants.{Fault}
 use Rattle.rv32_exec.specs.declared.interpreter.Next.{Next}
-use Rattle.rv32_exec.specs.declared.interpreter.Next.TheVariants.{Following, Jump, Fault}
+use Rattle.rv32_exec.specs.declared.interpreter.Next.TheVariants.{Following, Jump, Stop}
 use Rattle.rv32_exec.specs.Image.{LoadedImage}
 use Rattle.rv32_exec.specs.Hart.{HartState}
-use Rattle.rv32_exec.specs.Execute.{Effect, match_effect}
+use Rattle.rv32_exec.specs.Execute.{Effect, Executes, Stops, match_effect}
 use Rattle.rv32_exec.specs.Sequential.{Progress, Runs, after_steps, after_stop}
 
 abbrev pub hart : List ℕ → ℕ → ℕ → HartState
@@ -14,13 +18,28 @@ hart x pc done = record { x = x; pc = pc; done = done }
 abbrev pub after_effect : HartState → List ℕ → Effect → Progress
 after_effect h memory effect = match_effect effect (λ after. Runs after memory) (after_stop h memory)
 
--- the effect leads to these registers and this memory, and to the place that the answer says
-abbrev pub Leads : HartState → List ℕ → Effect → Next → List ℕ → List ℕ → Type 0
-Leads h memory effect Following x memory' =
-    after_effect h memory effect ≡ Runs (hart x ((h.pc + 4) % 2 ^ 32) (h.done + 1)) memory'
-Leads h memory effect (Jump target) x memory' =
-    (after_effect h memory effect ≡ Runs (hart x target (h.done + 1)) memory') × (target % 4 ≡ 0)
-Leads h memory effect Fault x memory' = (x ≡ h.x) × (memory' ≡ memory)
+-- it is no load or store
+abbrev pub AccessesNoData : Instr → Type 0
+AccessesNoData (Lb rd rs1 imm) = ⊥
+AccessesNoData (Lh rd rs1 imm) = ⊥
+AccessesNoData (Lw rd rs1 imm) = ⊥
+AccessesNoData (Lbu rd rs1 imm) = ⊥
+AccessesNoData (Lhu rd rs1 imm) = ⊥
+AccessesNoData (Sb rs1 rs2 imm) = ⊥
+AccessesNoData (Sh rs1 rs2 imm) = ⊥
+AccessesNoData (Sw rs1 rs2 imm) = ⊥
+AccessesNoData instr = Unit {0}
+
+-- an instruction with this effect leads to these registers and this memory, and to the place that the answer says;
+-- where there is no memory, no load or store is made
+abbrev pub Leads : HartState → List ℕ → Instr → Effect → Next → List ℕ → List ℕ → Type 0
+Leads h memory instr effect Following x memory' =
+    (after_effect h memory effect ≡ Runs (hart x ((h.pc + 4) % 2 ^ 32) (h.done + 1)) memory')
+    × (length memory ≡ 0 → effect ≡ Executes (hart x ((h.pc + 4) % 2 ^ 32) (h.done + 1)))
+Leads h memory instr effect (Jump target) x memory' =
+    (effect ≡ Executes (hart x target (h.done + 1))) × (memory' ≡ memory) × (target % 4 ≡ 0)
+Leads h memory instr effect Stop x memory' =
+    (x ≡ h.x) × (memory' ≡ memory) × (AccessesNoData instr → effect ≡ Stops (Fault MISALIGNED_TARGET h.pc))
 
 -- what comes of the rest of the epoch, from this hart on
 abbrev pub rest : LoadedImage → HartState → List ℕ → Progress

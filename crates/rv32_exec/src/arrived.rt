@@ -6,6 +6,7 @@ ghost use Rattle.rv32_exec.specs.Execute.{IsStopOf};
 
 use crate::hart::Hart;
 use crate::image::Image;
+use crate::interpreter::run;
 use crate::stop::Stop;
 use std::marker::Model;
 
@@ -69,6 +70,8 @@ pub fn advance(image: &Image, hart: Hart) -> Arrived
     let base = hart;
     let mut now = hart;
     loop {
+        // With no memory at hand it stops at an access to data.
+        run(image, &mut now, &mut []);
         if let Some(at) = now.step(image) {
             return Arrived { base, now, at };
         }

@@ -98,17 +98,6 @@ impl Hart {
         self.done += 1;
     }
 
-    /// Goes to the target, which is a multiple of 4.
-    #[inline]
-    pub(crate) fn go_to(&mut self, target: u32)
-        requires room { self.old.done < 2 ^ 63 }
-        requires aligned { target % 4 ≡ 0 }
-        ensures { self.new ≡ record { x = self.old.x; pc = target; done = self.old.done + 1 } }
-    {
-        self.pc = target;
-        self.done += 1;
-    }
-
     /// Completes a load of this number.
     #[inline]
     pub(crate) fn complete_load(&mut self, width: u32, signed: bool, rd: Register, number: u32)

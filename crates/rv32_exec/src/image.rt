@@ -157,10 +157,15 @@ impl Image {
 
     /// The instruction at a pc, which is in the code.
     pub(crate) fn instruction_at(&self, pc: u32) -> Result<Instr, Refused>
-        requires { pc + 4 ≤ self.now.code }
+        requires aligned { pc % 4 ≡ 0 }
+        requires within { pc < self.now.code }
         ensures { result ≡ meaning_of (number_at (λ a. slice_index self.now.bytes a) pc 4) }
     {
-        decode(read_number(self.bytes.as_slice(), pc as usize, 4))
+        match self.program[(pc / 4) as usize] {
+            // It may stand for a word that is refused.
+            Instr::Jal { .. } => decode(read_number(self.bytes.as_slice(), pc as usize, 4)),
+            instr => Ok(instr),
+        }
     }
 }
 

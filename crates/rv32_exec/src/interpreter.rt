@@ -1,7 +1,9 @@
-ghost use Rattle.std.specs.Prelude.{◌≡◌, ◌<◌, ◌≤◌, ◌*◌, ◌^◌, ℕ, List, length, slice_index};
+ghost use Rattle.std.specs.Prelude.{◌≡◌, ◌<◌, ◌≤◌, ◌*◌, ◌%◌, ◌^◌, ℕ, List, length, slice_index};
 ghost use Rattle.rv32_exec.specs.Interpreter as spec;
 ghost use Rattle.rv32_exec.specs.Image.{IsImage};
+ghost use Rattle.rv32_decode.specs.declared.instr.Instr.{Instr};
 ghost use Rattle.rv32_exec.specs.Hart.{with_register};
+ghost use Rattle.rv32_exec.specs.NextEvent.{next_event};
 ghost use Rattle.rv32_exec.specs.Execute.{IsWidth, instruction_effect, jump as jump_effect, branch as branch_effect, load as load_effect, store as store_effect};
 
 use crate::hart::{Hart, extend};
@@ -17,25 +19,30 @@ pub(crate) enum Next {
     Following,
     /// To this address, a multiple of 4.
     Jump(u32),
-    /// Nowhere: the instruction faults, and nothing has changed.
-    Fault,
+    /// Nowhere: the instruction is not executed, and nothing has changed.
+    Stop,
 }
 
 /// Runs a hart over memory, loads and stores too, up to an instruction that faults, outside the code or past the limit.
 #[inline(never)]
 pub(crate) fn run(image: &Image, hart: &mut Hart, bytes: &mut [u8])
-    requires size { length bytes.old ≡ image.now.size }
-    requires within { hart.old.done ≤ image.now.limit }
+    requires size { length bytes.old ≤ image.now.size }
+    requires words { length bytes.old % 4 ≡ 0 }
     ensures rest { spec.rest image.now hart.new bytes.new ≡ spec.rest image.now hart.old bytes.old }
-    ensures within { hart.new.done ≤ image.now.limit }
+    ensures within { hart.old.done ≤ image.now.limit → hart.new.done ≤ image.now.limit }
+    ensures event { length bytes.old ≡ 0 → next_event image.now hart.new ≡ next_event image.now hart.old }
     ensures later { hart.old.done ≤ hart.new.done }
 {
     let limit = image.limit() as usize;
+    let done = hart.done() as usize;
+    if done > limit {
+        return;
+    }
     let program = image.program();
     let mut x = Registers::new(hart.registers());
     let mut word = (hart.pc() / 4) as usize;
     // Where it would meet the limit, and where it has to stop before that, if nothing jumps.
-    let mut last = word + limit - hart.done() as usize;
+    let mut last = word + limit - done;
     let mut stop = last.min(program.len());
     while word < stop {
         match execute(&program[word], word, image, &mut x, bytes) {
@@ -46,7 +53,7 @@ pub(crate) fn run(image: &Image, hart: &mut Hart, bytes: &mut [u8])
                 last += word;
                 stop = last.min(program.len());
             }
-            Next::Fault => break,
+            Next::Stop => break,
         }
     }
     *hart = Hart::new(x.into_array(), address(word), (word + limit - last) as u64);
@@ -55,11 +62,18 @@ pub(crate) fn run(image: &Image, hart: &mut Hart, bytes: &mut [u8])
 /// Executes the instruction at the pc, a load or a store too.
 #[inline(always)]
 #[tactic(auto, unfolding(crate::specs::Execute::instruction_effect))]
-fn execute(instr: &Instr, word: usize, image: &Image, x: &mut Registers, bytes: &mut [u8]) -> Next
+pub(crate) fn execute(
+    instr: &Instr,
+    word: usize,
+    image: &Image,
+    x: &mut Registers,
+    bytes: &mut [u8],
+) -> Next
     requires address { 4 * word < 2 ^ 32 }
     requires image { IsImage image.now }
-    requires size { length bytes.old ≡ image.now.size }
-    ensures { (done : ℕ) → spec.Leads (spec.hart x.old (4 * word) done) bytes.old (instruction_effect image.now (spec.hart x.old (4 * word) done) (λ r. slice_index x.old r) instr.now) result x.new bytes.new }
+    requires size { length bytes.old ≤ image.now.size }
+    requires words { length bytes.old % 4 ≡ 0 }
+    ensures { (done : ℕ) → spec.Leads (spec.hart x.old (4 * word) done) bytes.old instr.now (instruction_effect image.now (spec.hart x.old (4 * word) done) (λ r. slice_index x.old r) instr.now) result x.new bytes.new }
 {
     match *instr {
         Instr::Lui { rd, imm } => write(x, rd, imm),
@@ -200,10 +214,10 @@ fn write(x: &mut Registers, rd: Register, value: u32) -> Next
 #[inline(always)]
 fn jump(x: &mut Registers, word: usize, rd: Register, target: u32) -> Next
     requires { 4 * word < 2 ^ 32 }
-    ensures { (done : ℕ) (memory : List ℕ) → spec.Leads (spec.hart x.old (4 * word) done) memory (jump_effect (spec.hart x.old (4 * word) done) rd target) result x.new memory }
+    ensures { (instr : Instr) (done : ℕ) (memory : List ℕ) → spec.Leads (spec.hart x.old (4 * word) done) memory instr (jump_effect (spec.hart x.old (4 * word) done) rd target) result x.new memory }
 {
     if target % 4 != 0 {
-        return Next::Fault;
+        return Next::Stop;
     }
     x.set(rd, address(word).wrapping_add(4));
     Next::Jump(target)
@@ -212,14 +226,14 @@ fn jump(x: &mut Registers, word: usize, rd: Register, target: u32) -> Next
 #[inline(always)]
 fn branch(word: usize, taken: bool, offset: u32) -> Next
     requires { 4 * word < 2 ^ 32 }
-    ensures { (done : ℕ) (x memory : List ℕ) → spec.Leads (spec.hart x (4 * word) done) memory (branch_effect (spec.hart x (4 * word) done) taken offset) result x memory }
+    ensures { (instr : Instr) (done : ℕ) (x memory : List ℕ) → spec.Leads (spec.hart x (4 * word) done) memory instr (branch_effect (spec.hart x (4 * word) done) taken offset) result x memory }
 {
     if !taken {
         return Next::Following;
     }
     let target = address(word).wrapping_add(offset);
     if target % 4 != 0 {
-        return Next::Fault;
+        return Next::Stop;
     }
     Next::Jump(target)
 }
@@ -237,12 +251,13 @@ fn load(
 ) -> Next
     requires width { IsWidth width }
     requires image { IsImage image.now }
-    requires size { length bytes.now ≡ image.now.size }
-    ensures { (pc done : ℕ) → spec.Leads (spec.hart x.old pc done) bytes.now (load_effect image.now (spec.hart x.old pc done) width signed rd addr) result x.new bytes.now }
+    requires size { length bytes.now ≤ image.now.size }
+    requires words { length bytes.now % 4 ≡ 0 }
+    ensures { (instr : Instr) (pc done : ℕ) → ¬ spec.AccessesNoData instr → spec.Leads (spec.hart x.old pc done) bytes.now instr (load_effect image.now (spec.hart x.old pc done) width signed rd addr) result x.new bytes.now }
 {
     let place = addr as usize;
     if place % width as usize != 0 || place >= bytes.len() {
-        return Next::Fault;
+        return Next::Stop;
     }
     let number = read_number(bytes, place, width);
     x.set(rd, extend(width, signed, number));
@@ -254,12 +269,13 @@ fn load(
 fn store(image: &Image, bytes: &mut [u8], width: u32, addr: u32, value: u32) -> Next
     requires width { IsWidth width }
     requires image { IsImage image.now }
-    requires size { length bytes.old ≡ image.now.size }
-    ensures { (pc done : ℕ) (x : List ℕ) → spec.Leads (spec.hart x pc done) bytes.old (store_effect image.now (spec.hart x pc done) width addr value) result x bytes.new }
+    requires size { length bytes.old ≤ image.now.size }
+    requires words { length bytes.old % 4 ≡ 0 }
+    ensures { (instr : Instr) (pc done : ℕ) (x : List ℕ) → ¬ spec.AccessesNoData instr → spec.Leads (spec.hart x pc done) bytes.old instr (store_effect image.now (spec.hart x pc done) width addr value) result x bytes.new }
 {
     let place = addr as usize;
     if place % width as usize != 0 || place >= bytes.len() || place < image.code() as usize {
-        return Next::Fault;
+        return Next::Stop;
     }
     write_number(bytes, place, width, low_bytes(width, value));
     Next::Following

@@ -6,6 +6,7 @@ use rv32_decode::Register;
 use std::marker::Model;
 
 /// The integer registers of a hart that runs. Contracts see what they hold, x0 first; x0 is 0.
+#[derive(Drop)]
 pub(crate) struct Registers {
     x: [u32; 32],
 }

@@ -1,5 +1,6 @@
 ghost use Rattle.std.specs.Prelude.{◌≡◌, IfOk, length};
 ghost use Rattle.rv32_exec.specs.Sequential as spec;
+ghost use Rattle.rv32_exec.specs.Image.{IsImage};
 ghost use Rattle.rv32_exec.specs.Outcome.{progress_of};
 
 use crate::hart::start;
@@ -78,7 +79,8 @@ fn run_epochs(image: &Image, bytes: &mut [u8]) -> End
 
 /// Runs one epoch over memory, and answers the cause and the pc of its fault, if it has one.
 fn run_epoch(image: &Image, epoch: u32, bytes: &mut [u8]) -> Option<(u32, u32)>
-    requires { length bytes.old ≡ image.now.size }
+    requires limits { IsImage image.now }
+    requires size { length bytes.old ≡ image.now.size }
     ensures { progress_of result bytes.new ≡ spec.epoch_outcome image.now epoch bytes.old }
 {
     let mut hart = start(image, epoch);

@@ -1,10 +1,12 @@
 ghost use Rattle.std.specs.Prelude.{◌≡◌, ◌<◌, ◌≤◌, ◌+◌, ◌%◌, ◌^◌, OnSome, IfSome, IsSome, None, Some, slice_index};
-ghost use Rattle.std.specs.Int.{cast_signed, w32};
 ghost use Rattle.rv32_exec.specs.Execute as spec;
-ghost use Rattle.rv32_exec.specs.Hart.{wrote};
+ghost use Rattle.rv32_exec.specs.Image.{IsImage};
+ghost use Rattle.rv32_exec.specs.Interpreter.{AccessesNoData};
 
 use crate::hart::{EPOCH_END, Hart};
 use crate::image::Image;
+use crate::interpreter::{Next, execute};
+use crate::registers::Registers;
 use crate::stop::*;
 use rv32_decode::{Instr, Refused, Register};
 
@@ -37,31 +39,40 @@ impl Hart {
     }
 
     #[inline]
-    #[tactic(auto, unfolding(crate::specs::Execute::instruction_effect))]
     fn execute(&mut self, image: &Image, instr: Instr) -> Option<Stop>
         requires room { self.old.done < image.now.limit }
-        requires limit { image.now.limit ≤ 1000000 }
+        requires limits { IsImage image.now }
         ensures effect { spec.effect_of result self.new ≡ spec.instruction_effect image.now self.old (λ r. slice_index self.old.x r) instr }
         ensures stopped { OnSome result (self.new ≡ self.old) }
         ensures stop { IfSome result (spec.IsStopOf image.now self.old) }
     {
+        let pc = self.pc();
+        let done = self.done();
+        let mut x = Registers::new(self.registers());
+        match execute(&instr, (pc / 4) as usize, image, &mut x, &mut []) {
+            Next::Following => {
+                *self = Hart::new(x.into_array(), pc.wrapping_add(4), done + 1);
+                None
+            }
+            Next::Jump(target) => {
+                *self = Hart::new(x.into_array(), target, done + 1);
+                None
+            }
+            Next::Stop => self.stop(image, instr),
+        }
+    }
+
+    /// Where an instruction that is not executed stops: a load or a store at its access, and others at their target.
+    #[inline]
+    #[tactic(auto, unfolding(crate::specs::Execute::instruction_effect))]
+    fn stop(&self, image: &Image, instr: Instr) -> Option<Stop>
+        requires room { self.now.done < image.now.limit }
+        requires target { AccessesNoData instr → spec.instruction_effect image.now self.now (λ r. slice_index self.now.x r) instr ≡ spec.Stops (Stop.Fault MISALIGNED_TARGET self.now.pc) }
+        ensures effect { spec.effect_of result self.now ≡ spec.instruction_effect image.now self.now (λ r. slice_index self.now.x r) instr }
+        ensures some { IsSome result }
+        ensures stop { IfSome result (spec.IsStopOf image.now self.now) }
+    {
         match instr {
-            Instr::Lui { rd, imm } => self.finish(rd, imm),
-            Instr::Auipc { rd, imm } => self.finish(rd, self.pc().wrapping_add(imm)),
-            Instr::Jal { rd, offset } => self.jump(rd, self.pc().wrapping_add(offset)),
-            Instr::Jalr { rd, rs1, imm } => self.jump(rd, self.x(rs1).wrapping_add(imm) / 2 * 2),
-            Instr::Beq { rs1, rs2, offset } => self.branch(self.x(rs1) == self.x(rs2), offset),
-            Instr::Bne { rs1, rs2, offset } => self.branch(self.x(rs1) != self.x(rs2), offset),
-            Instr::Blt { rs1, rs2, offset } => self.branch(
-                self.signed(rs1) < self.signed(rs2),
-                offset,
-            ),
-            Instr::Bge { rs1, rs2, offset } => self.branch(
-                self.signed(rs1) >= self.signed(rs2),
-                offset,
-            ),
-            Instr::Bltu { rs1, rs2, offset } => self.branch(self.x(rs1) < self.x(rs2), offset),
-            Instr::Bgeu { rs1, rs2, offset } => self.branch(self.x(rs1) >= self.x(rs2), offset),
             Instr::Lb { rd, rs1, imm } => self.load(
                 image,
                 1,
@@ -115,89 +126,8 @@ impl Hart {
                 self.x(rs1).wrapping_add(imm),
                 self.x(rs2),
             ),
-            Instr::Addi { rd, rs1, imm } => self.finish(rd, self.x(rs1).wrapping_add(imm)),
-            Instr::Slti { rd, rs1, imm } => self.finish(
-                rd,
-                u32::from(self.signed(rs1) < imm.cast_signed()),
-            ),
-            Instr::Sltiu { rd, rs1, imm } => self.finish(rd, u32::from(self.x(rs1) < imm)),
-            Instr::Xori { rd, rs1, imm } => self.finish(rd, self.x(rs1) ^ imm),
-            Instr::Ori { rd, rs1, imm } => self.finish(rd, self.x(rs1) | imm),
-            Instr::Andi { rd, rs1, imm } => self.finish(rd, self.x(rs1) & imm),
-            Instr::Slli { rd, rs1, amount } => self.finish(
-                rd,
-                self.x(rs1).wrapping_shl(u32::from(amount.bits())),
-            ),
-            Instr::Srli { rd, rs1, amount } => self.finish(
-                rd,
-                self.x(rs1).wrapping_shr(u32::from(amount.bits())),
-            ),
-            Instr::Srai { rd, rs1, amount } => self.finish(
-                rd,
-                self.shifted_signed(rs1, u32::from(amount.bits())),
-            ),
-            Instr::Add { rd, rs1, rs2 } => self.finish(rd, self.x(rs1).wrapping_add(self.x(rs2))),
-            Instr::Sub { rd, rs1, rs2 } => self.finish(rd, self.x(rs1).wrapping_sub(self.x(rs2))),
-            Instr::Sll { rd, rs1, rs2 } => self.finish(rd, self.x(rs1).wrapping_shl(self.x(rs2))),
-            Instr::Slt { rd, rs1, rs2 } => self.finish(
-                rd,
-                u32::from(self.signed(rs1) < self.signed(rs2)),
-            ),
-            Instr::Sltu { rd, rs1, rs2 } => self.finish(rd, u32::from(self.x(rs1) < self.x(rs2))),
-            Instr::Xor { rd, rs1, rs2 } => self.finish(rd, self.x(rs1) ^ self.x(rs2)),
-            Instr::Srl { rd, rs1, rs2 } => self.finish(rd, self.x(rs1).wrapping_shr(self.x(rs2))),
-            Instr::Sra { rd, rs1, rs2 } => self.finish(rd, self.shifted_signed(rs1, self.x(rs2))),
-            Instr::Or { rd, rs1, rs2 } => self.finish(rd, self.x(rs1) | self.x(rs2)),
-            Instr::And { rd, rs1, rs2 } => self.finish(rd, self.x(rs1) & self.x(rs2)),
-            Instr::Fence => {
-                self.go_on();
-                None
-            }
+            _ => fault(MISALIGNED_TARGET, self.pc()),
         }
-    }
-
-    /// Writes an instruction's result: it does not stop.
-    #[inline]
-    fn finish(&mut self, rd: Register, value: u32) -> Option<Stop>
-        requires { self.old.done < 2 ^ 63 }
-        ensures wrote { self.new ≡ wrote self.old rd value }
-        ensures none { result ≡ None }
-    {
-        self.write(rd, value);
-        None
-    }
-
-    /// Jumps to the target and writes the link, unless the target is misaligned.
-    #[inline]
-    fn jump(&mut self, rd: Register, target: u32) -> Option<Stop>
-        requires { self.old.done < 2 ^ 63 }
-        ensures effect { spec.effect_of result self.new ≡ spec.jump self.old rd target }
-        ensures stopped { OnSome result (self.new ≡ self.old) }
-    {
-        if target % 4 != 0 {
-            return fault(MISALIGNED_TARGET, self.pc());
-        }
-        self.set(rd, self.pc().wrapping_add(4));
-        self.go_to(target);
-        None
-    }
-
-    #[inline]
-    fn branch(&mut self, taken: bool, offset: u32) -> Option<Stop>
-        requires { self.old.done < 2 ^ 63 }
-        ensures effect { spec.effect_of result self.new ≡ spec.branch self.old taken offset }
-        ensures stopped { OnSome result (self.new ≡ self.old) }
-    {
-        if !taken {
-            self.go_on();
-            return None;
-        }
-        let target = self.pc().wrapping_add(offset);
-        if target % 4 != 0 {
-            return fault(MISALIGNED_TARGET, self.pc());
-        }
-        self.go_to(target);
-        None
     }
 
     #[inline]
@@ -241,20 +171,6 @@ impl Hart {
             width,
             value: low_bytes(width, value),
         })
-    }
-
-    #[inline]
-    fn signed(&self, register: Register) -> i32
-        ensures { result ≡ cast_signed w32 (slice_index self.now.x register) }
-    {
-        self.x(register).cast_signed()
-    }
-
-    #[inline]
-    fn shifted_signed(&self, register: Register, amount: u32) -> u32
-        ensures { result ≡ spec.shift_right_arithmetic (slice_index self.now.x register) amount }
-    {
-        self.signed(register).wrapping_shr(amount).cast_unsigned()
     }
 }
 

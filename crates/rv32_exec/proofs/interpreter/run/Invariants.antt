@@ -1,5 +1,6 @@
 use Rattle.std.proofs.Common.{◌≡◌, ℕ, ◌-◌, ◌+◌, ◌*◌, ◌^◌, ◌<◌, ◌≤◌, length}
 use Rattle.rv32_exec.specs.Sequential.{after_steps}
+use Rattle.rv32_exec.specs.NextEvent.{next_event}
 use Rattle.rv32_exec.specs.Interpreter.{hart, rest}
 use Rattle.rv32_exec.proofs.interpreter.run.Given as goal
 
@@ -7,6 +8,7 @@ use Rattle.rv32_exec.proofs.interpreter.run.Given as goal
 abbrev pub invariant-loop-word : goal.invariant-loop-word
 invariant-loop-word l = record {
   rest : after_steps l.image (l.last + 1 - l.word) (hart l.x (4 * l.word) (l.word + l.limit - l.last)) l.bytes ≡ rest l.image l.fn.hart l.fn.bytes;
+  event : length l.fn.bytes ≡ 0 → next_event l.image (hart l.x (4 * l.word) (l.word + l.limit - l.last)) ≡ next_event l.image l.fn.hart;
   address : 4 * l.word < 2 ^ 32;
   before_last : l.word ≤ l.last;
   within : l.last ≤ l.word + l.limit;

@@ -58,9 +58,9 @@ loop-at-preserved c =
 pub returns-in-Ended : goal.returns-in-Ended
 returns-in-Ended c =
     let is = sym c.in-Some.ensures.effect ∙ ap Stops c.in-Ended.is in
-    outcome-stops c.args.image.now c.run.new.hart Ended c.run.new.bytes _ _ is c.run.ensures.within refl (c.run.ensures.rest ∙ c.loop-at.invariant.outcome)
+    outcome-stops c.args.image.now c.run.new.hart Ended c.run.new.bytes _ _ is (c.run.ensures.within c.loop-at.invariant.within) refl (c.run.ensures.rest ∙ c.loop-at.invariant.outcome)
 
 pub returns-in-Fault : goal.returns-in-Fault
 returns-in-Fault c =
     let is = sym c.in-Some.ensures.effect ∙ ap Stops c.in-Fault.is in
-    outcome-stops c.args.image.now c.run.new.hart (Fault c.in-Fault.cause c.in-Fault.pc) c.run.new.bytes _ _ is c.run.ensures.within refl (c.run.ensures.rest ∙ c.loop-at.invariant.outcome)
+    outcome-stops c.args.image.now c.run.new.hart (Fault c.in-Fault.cause c.in-Fault.pc) c.run.new.bytes _ _ is (c.run.ensures.within c.loop-at.invariant.within) refl (c.run.ensures.rest ∙ c.loop-at.invariant.outcome)
