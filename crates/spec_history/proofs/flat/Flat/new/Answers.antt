@@ -1,0 +1,9 @@
+use Rattle.spec_history.proofs.Reaching.{reached_first}
+use Rattle.spec_history.proofs.flat.Flat.new.Goals as goal
+
+pub invariant_of-result : goal.invariant_of-result
+invariant_of-result c = record {
+  reached = rw (c.in_ok-image.ensures, c.in_ok-machine.ensures.state) (reached_first c.args.image.now _);
+  image = rw c.in_ok-image.ensures c.in_ok-machine.ensures.image;
+  fit = rw c.in_ok-image.ensures c.in_ok-machine.ensures.fit;
+}

@@ -1,0 +1,12 @@
+pub mod Names
+pub mod FlatState
+pub mod Effect
+pub mod Refusal
+pub mod Replay
+pub mod Shadow
+pub mod Lane
+pub mod Event
+pub mod Machine
+pub mod View
+pub mod FlatInside
+pub mod Laws

@@ -1,0 +1,23 @@
+-- Some of memory's bytes, kept beside it.
+use Rattle.std.specs.Prelude.{◌≡◌, ℕ, ◌<◌, ◌^◌, List, length, Option, Some, None, slice_index, slice_index_or}
+
+-- a byte or none at each address of memory, and for how many more there is room without taking memory
+pub record ShadowView : Type 0 where
+  pub cells : List (Option ℕ)
+  pub room : ℕ
+
+-- the byte at an address, if there is one
+abbrev pub byte_in : List (Option ℕ) → ℕ → Option ℕ
+byte_in cells a = slice_index_or cells a None
+
+-- the address stands in the list
+pub record IsAmong (a : ℕ) (addresses : List ℕ) : Type 0 where
+  pub place : ℕ
+  pub within : place < length addresses
+  pub is : slice_index addresses place ≡ a
+
+-- the list has each address at which there is a byte, and no address outside memory
+pub record Covers (cells : List (Option ℕ)) (addresses : List ℕ) : Type 0 where
+  pub small : length cells < 2 ^ 32
+  pub within : (place : ℕ) → place < length addresses → slice_index addresses place < length cells
+  pub each : (a byte : ℕ) → byte_in cells a ≡ Some byte → IsAmong a addresses

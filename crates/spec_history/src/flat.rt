@@ -1,0 +1,125 @@
+ghost use Rattle.std.specs.Prelude.{◌≡◌, ◌<◌, IfOk, MatchResult, Some, None, if◌then◌else◌, nat_lt};
+ghost use Rattle.spec_history.specs.FlatState.{first_state};
+ghost use Rattle.spec_history.specs.Replay.{replay};
+ghost use Rattle.spec_history.specs.View as spec;
+
+use crate::entry::Entry;
+use crate::illegal::Illegal;
+use crate::machine::Machine;
+use rv32_exec::{End, Image, NoMemory};
+use std::alloc::Global;
+use std::marker::Model;
+
+/// The flat machine: one thread's reading of a history of speculative epochs. It keeps committed memory, the homefree
+/// epoch and, for each core, its epoch, its hart, the bytes that it has stored and those that it has read.
+///
+/// Contracts see the image, how many cores there are, and the state. Some history always leads to it.
+#[derive(Drop)]
+pub struct Flat {
+    image: Image,
+    machine: Machine,
+}
+
+impl Model for Flat {
+    ghost use Rattle.spec_history.specs.View.{FlatView};
+
+    ghost Value = { FlatView };
+
+    ghost use Rattle.spec_history.specs.FlatInside.{view_of, IsFlat};
+
+    ghost view = { view_of };
+
+    ghost invariant = { IsFlat };
+}
+
+impl Flat {
+    /// The machine before anything has happened, with a copy of the image.
+    ///
+    /// `NoMemory`: there was no memory for it, and nothing was made.
+    pub fn new(alloc: Global, image: &Image, cores: u32) -> Result<Flat, NoMemory>
+        ensures image { IfOk result (λ flat. flat.image ≡ image.now) }
+        ensures cores { IfOk result (λ flat. spec.cores_in flat ≡ cores) }
+        ensures state { IfOk result (λ flat. spec.state_in flat ≡ first_state image.now) }
+    {
+        let machine = Machine::new(alloc, image, cores)?;
+        let image = image.copy(alloc)?;
+        Ok(Flat { image, machine })
+    }
+
+    /// Applies the next entry of the history.
+    ///
+    /// The refusals are tried in the order `Over`, `NotThere`, `NotNext`, `NotHomefree`, `WrongValue`, `HurtMissing`,
+    /// `NoMemory`. After an Err the machine is unchanged.
+    pub fn apply(&mut self, entry: Entry) -> Result<(), Illegal>
+        ensures same { spec.IsSameMachine self.old self.new }
+        ensures answer { MatchResult result (λ _. spec.IsApplied self.old self.new entry) (spec.IsRefused self.old self.new entry) }
+    {
+        let arrived = self.machine.next_event(&self.image, entry);
+        if let Some(refusal) = self.machine.refusal(&self.image, entry, arrived.as_ref()) {
+            return Err(refusal);
+        }
+        if self.machine.prepare(entry.by).is_err() {
+            return Err(Illegal::NoMemory);
+        }
+        self.machine.perform(&self.image, entry, arrived.as_ref());
+        Ok(())
+    }
+
+    /// The committed byte at an address, if it lies in memory.
+    pub fn committed(&self, addr: u32) -> Option<u8>
+        ensures { result ≡ (if nat_lt addr self.now.image.size then Some ((spec.state_in self.now).committed addr) else None) }
+    {
+        if addr < self.image.size() {
+            Some(self.machine.committed[addr as usize])
+        } else {
+            None
+        }
+    }
+
+    /// The homefree epoch: the first that has not committed.
+    pub fn homefree(&self) -> u32
+        ensures { result ≡ (spec.state_in self.now).homefree }
+    {
+        self.machine.homefree
+    }
+
+    /// How many instructions of the homefree epoch are published.
+    pub fn published(&self) -> u64
+        ensures { result ≡ (spec.state_in self.now).published }
+    {
+        self.machine.published
+    }
+
+    /// How the loop ended, where it is over.
+    pub fn ended(&self) -> Option<End>
+        ensures { result ≡ (spec.state_in self.now).end }
+    {
+        self.machine.end
+    }
+}
+
+/// Replays a history on a machine of so many cores, and answers the machine after it.
+///
+/// An Err has the place, counted from 0, of the first entry that is refused, and its refusal. `NoMemory` has the place at
+/// which memory was refused, and the number of entries where there was none for the machine itself.
+pub fn audit(
+    alloc: Global,
+    image: &Image,
+    cores: u32,
+    entries: &[Entry],
+) -> Result<Flat, (usize, Illegal)>
+    ensures image { IfOk result (λ flat. flat.image ≡ image.now) }
+    ensures cores { IfOk result (λ flat. spec.cores_in flat ≡ cores) }
+    ensures replay { MatchResult result (λ flat. replay image.now cores entries.now ≡ Some (spec.state_in flat))
+        (λ fault. spec.IsAuditFault image.now cores entries.now fault.0 fault.1) }
+{
+    let Ok(mut flat) = Flat::new(alloc, image, cores) else {
+        return Err((entries.len(), Illegal::NoMemory));
+    };
+    for (place, entry) in entries.iter().enumerate() {
+        if let Err(illegal) = flat.apply(*entry) {
+            return Err((place, illegal));
+        }
+    }
+    Ok(flat)
+}
