@@ -9,3 +9,4 @@ pub mod Lines
 pub mod Inputs
 pub mod LawsOfRuns
 pub mod Printed
+pub mod Accesses

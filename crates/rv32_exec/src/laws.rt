@@ -7,6 +7,7 @@ ghost use Rattle.hex.specs.Hex.{encode_lower};
 ghost use Rattle.rv32_exec.specs.ImageText.{number_in, word_in};
 ghost use Rattle.rv32_exec.specs.Image.{LoadedImage};
 ghost use Rattle.rv32_exec.specs.Hart.{HartState};
+ghost use Rattle.rv32_exec.specs.Execute.{IsStopOf};
 ghost use Rattle.rv32_exec.specs.NextEvent.{next_event};
 ghost use Rattle.rv32_exec.specs.Sequential.{after_steps, epoch_outcome, go_on};
 ghost use Rattle.rv32_exec.specs.Laws.{HasStopped, Reaches};
@@ -25,6 +26,12 @@ pub fn runs_add()
 /// Whole instructions lead to a hart's next event, leave memory as it is on the way, and do there what the event says.
 pub fn whole_instructions_reach_the_next_event()
     ensures { (image : LoadedImage) (h : HartState) (memory : List ℕ) → Reaches image h memory (next_event image h) }
+{}
+
+/// An access that is the next event is 1, 2 or 4 bytes wide, aligned, in memory and below the limit of instructions. A
+/// store lies outside the code, and its value has no bytes but its own.
+pub fn the_next_access_is_in_memory()
+    ensures { (image : LoadedImage) (h : HartState) → IsStopOf image (next_event image h).now (next_event image h).at }
 {}
 
 /// A decimal number that is printed is read back as it was.

@@ -4,14 +4,14 @@ use Rattle.rv32_exec.specs.declared.stop.Stop.TheVariants as stop
 use Rattle.rv32_exec.specs.Bytes.{number_at, with_number}
 use Rattle.rv32_exec.specs.Image.{LoadedImage}
 use Rattle.rv32_exec.specs.Hart.{HartState, start_of, stepped}
-use Rattle.rv32_exec.specs.Execute.{after_load}
+use Rattle.rv32_exec.specs.Execute.{after_load, IsAccess, IsStore}
 use Rattle.rv32_exec.specs.NextEvent.{next_event}
 use Rattle.rv32_exec.specs.Arrival.{after_number}
 use Rattle.rv32_exec.specs.Sequential.{Runs, after_stop}
 use Rattle.spec_history.specs.FlatState.{CoreState, first_of, joined, over, stored, read_outside}
 use Rattle.spec_history.specs.Laws.{Holds, HasBytes, IsKeptCore}
 use Rattle.spec_history.proofs.Bytes.{over-joined, number_at_same, length-with_number, with_number_bytes}
-use Rattle.spec_history.proofs.Stops.{next_event_within}
+use Rattle.rv32_exec.proofs.Accesses.{stop_of_event}
 use Rattle.spec_history.proofs.Progress.{comes_past_access}
 use Rattle.spec_history.proofs.Keeping.{read_now, read_before, was_read, noted, noted_within}
 
@@ -34,11 +34,13 @@ store_goes_on image h address width value memory at = rw at refl
 
 pub load_within : (image : LoadedImage) (h : HartState) (address width : ℕ) (signed : Bool) (rd : ℕ) → (next_event image h).at ≡ stop.Load address width signed rd
     → address + width ≤ image.size
-load_within image h address width signed rd at = (rw at at (next_event_within image h)).1
+load_within image h address width signed rd at =
+    let access : IsAccess image (next_event image h).now address width = rw at at (stop_of_event image h) in access.within
 
 pub store_within : (image : LoadedImage) (h : HartState) (address width value : ℕ) → (next_event image h).at ≡ stop.Store address width value
     → address + width ≤ image.size
-store_within image h address width value at = (rw at at (next_event_within image h)).1
+store_within image h address width value at =
+    let store : IsStore image (next_event image h).now address width value = rw at at (stop_of_event image h) in store.access.within
 
 -- bytes over memory, where they are over what the memory holds
 pub holds_stored : (image : LoadedImage) (committed : ℕ → ℕ) (address width value : ℕ) (memory : List ℕ) → address + width ≤ image.size

@@ -7,10 +7,11 @@ use Rattle.rv32_exec.specs.Image.{LoadedImage}
 use Rattle.spec_history.specs.declared.entry.Entry.{Entry}
 use Rattle.spec_history.specs.declared.entry.What.{What}
 use Rattle.spec_history.specs.declared.entry.What.TheVariants.{Start, Load, Store, Hurt, Restart, Publish, Commit, Fault}
+use Rattle.rv32_exec.specs.Execute.{IsAccess, IsStore}
 use Rattle.rv32_exec.specs.NextEvent.{next_event}
 use Rattle.spec_history.specs.declared.illegal.Illegal.{Illegal}
 use Rattle.spec_history.specs.Machine.{IsInMemory}
-use Rattle.spec_history.proofs.Stops.{next_event_within}
+use Rattle.rv32_exec.proofs.Accesses.{stop_of_event}
 use Rattle.spec_history.specs.FlatState.{CoreState, FlatState}
 use Rattle.spec_history.specs.Effect.{by_core, effect}
 use Rattle.spec_history.specs.Refusal.{any_below, is_there, is_next, is_homefree, is_value, misses_a_hurt, has_read, other_has_read, refusal_of, is_that_load, is_that_store, is_the_end, is_that_fault}
@@ -166,11 +167,11 @@ next_by image s by (Start epoch) core at is = tt
 next_by image s by (Load address width value) None at is = absurd (true≢false (sym is ∙ ap (λ o. by_core o false (λ c. is_that_load address width (next_event image c.hart).at)) at))
 next_by image s by (Load address width value) (Some c) at is =
     let next = that_load address width _ (sym (ap (λ o. by_core o false (λ x. is_that_load address width (next_event image x.hart).at)) at) ∙ is) in
-    rw next.2 at (next_event_within image c.hart)
+    let access : IsAccess image (next_event image c.hart).now address width = rw next.2 at (stop_of_event image c.hart) in (access.wide, access.within)
 next_by image s by (Store address width value) None at is = absurd (true≢false (sym is ∙ ap (λ o. by_core o false (λ c. is_that_store address width value (next_event image c.hart).at)) at))
 next_by image s by (Store address width value) (Some c) at is =
     let next = that_store address width value _ (sym (ap (λ o. by_core o false (λ x. is_that_store address width value (next_event image x.hart).at)) at) ∙ is) in
-    rw next at (next_event_within image c.hart)
+    let store : IsStore image (next_event image c.hart).now address width value = rw next at (stop_of_event image c.hart) in (store.access.wide, store.access.within)
 next_by image s by (Hurt epoch) core at is = tt
 next_by image s by Restart core at is = tt
 next_by image s by Publish core at is = tt

@@ -1,5 +1,4 @@
 pub mod Bytes
-pub mod Stops
 pub mod Progress
 pub mod Legal
 pub mod Keeping
@@ -16,3 +15,5 @@ pub mod Parts
 pub mod Performed
 pub mod Hurting
 pub mod Reaching
+pub mod Faults
+pub mod Counting

@@ -64,7 +64,7 @@ runs_so : (core : Option CoreState) (c : CoreState) (test : CoreState → Bool) 
 runs_so core c test at is =
     let both = and_true (not c.hurt) (test c) (sym (ap (λ o. runs_and o test) at) ∙ is) in record { unhurt = not_true c.hurt both.0; passes = both.1 }
 
-on_core : (core : Option CoreState) (c : CoreState) (test : CoreState → Bool) → core ≡ Some c → by_core core false test ≡ true → test c ≡ true
+pub on_core : (core : Option CoreState) (c : CoreState) (test : CoreState → Bool) → core ≡ Some c → by_core core false test ≡ true → test c ≡ true
 on_core core c test at is = sym (ap (λ o. by_core o false test) at) ∙ is
 
 abbrev Steps : LoadedImage → ℕ → FlatState → ℕ → What → Type 0
@@ -129,7 +129,7 @@ started image count s by epoch c at legal =
     let there = and_true (nat_lt by count) _ legal.there in
     true≢false (sym there.1 ∙ ap (λ (o : Option CoreState). not (is_some o)) at)
 
-not_running : (core : Option CoreState) (test : CoreState → Bool) → core ≡ None → runs_and core test ≡ true → ⊥
+pub not_running : (core : Option CoreState) (test : CoreState → Bool) → core ≡ None → runs_and core test ≡ true → ⊥
 not_running core test at is = true≢false (sym is ∙ ap (λ o. runs_and o test) at)
 
 step_on : (image : LoadedImage) (count : ℕ) (s : FlatState) (by : ℕ) (what : What) (c : CoreState) → s.cores by ≡ Some c → Steps image count s by what
@@ -188,14 +188,15 @@ step_by image count s by what (Some c) at = step_on image count s by what c at
 
 -- ---- all entries
 
-one_entry : (image : LoadedImage) (count : ℕ) (s : FlatState) (entry : Entry) → refusal_of image count s entry ≡ None → Whole image count s → Whole image count (effect image s entry)
+pub one_entry : (image : LoadedImage) (count : ℕ) (s : FlatState) (entry : Entry) → refusal_of image count s entry ≡ None → Whole image count s → Whole image count (effect image s entry)
 one_entry image count s entry is whole =
     let legal = legal_entry image count s entry is in
     step_by image count s entry.by entry.what (s.cores entry.by) refl legal (whole.going legal.going)
 
-legal_by : (image : LoadedImage) (count : ℕ) (s : FlatState) (entry : Entry) (entries : List Entry) (last : FlatState) (refusal : Option Illegal) → refusal_of image count s entry ≡ refusal
-    → where_legal refusal (replay_from image count (effect image s entry) entries) ≡ Some last
-    → (refusal_of image count s entry ≡ None → replay_from image count (effect image s entry) entries ≡ Some last → Whole image count last) → Whole image count last
+-- where the rest replays, the entry was legal
+pub legal_by : {P : Type 0} → (image : LoadedImage) (count : ℕ) (s : FlatState) (entry : Entry) (entries : List Entry) (last : FlatState) (refusal : Option Illegal)
+    → refusal_of image count s entry ≡ refusal → where_legal refusal (replay_from image count (effect image s entry) entries) ≡ Some last
+    → (refusal_of image count s entry ≡ None → replay_from image count (effect image s entry) entries ≡ Some last → P) → P
 legal_by image count s entry entries last None is replays later = later is replays
 legal_by image count s entry entries last (Some refusal) is replays later = absurd cc
 
@@ -233,7 +234,7 @@ first_going image count is = record {
   };
 }
 
-first_whole : (image : LoadedImage) (count : ℕ) → IsImage image → Whole image count (first_state image)
+pub first_whole : (image : LoadedImage) (count : ℕ) → IsImage image → Whole image count (first_state image)
 first_whole image count is =
     let going = first_going image count is in record {
       published = published_is image count (first_state image) going;

@@ -1,10 +1,11 @@
 -- What the laws of replay say.
-use Rattle.std.specs.Prelude.{◌≡◌, ℕ, ◌<◌, ◌≤◌, true, false, List, length, Option, Some, None, slice_index}
+use Rattle.std.specs.Prelude.{◌≡◌, ℕ, ◌<◌, ◌≤◌, true, false, List, [], length, Option, Some, None, slice_index}
 use Rattle.rv32_exec.specs.declared.sequential.End.{End}
 use Rattle.rv32_exec.specs.declared.sequential.End.TheVariants.{Done, Fault}
 use Rattle.rv32_exec.specs.Image.{LoadedImage}
 use Rattle.rv32_exec.specs.Hart.{start_of}
 use Rattle.rv32_exec.specs.Sequential.{Runs, after_steps, published_memory, sequential_result}
+use Rattle.spec_history.specs.declared.entry.Entry.{Entry}
 use Rattle.spec_history.specs.FlatState.{CoreState, FlatState, over}
 
 -- committed memory is this list, byte for byte
@@ -29,6 +30,11 @@ pub record EndsInOrder (image : LoadedImage) (s : FlatState) (end : End) : Type 
   pub end_is : end ≡ (sequential_result image).end
   pub at_homefree : IsAtHomefree image s.homefree end
   pub holds : Holds image s.committed (sequential_result image).bytes
+
+-- a fault of a history: no entry is later, and it is that of the sequential loop, at the homefree epoch
+pub record FaultsInOrder (image : LoadedImage) (s : FlatState) (cause pc : ℕ) (later : List Entry) : Type 0 where
+  pub last : later ≡ []
+  pub end_is : (sequential_result image).end ≡ Fault s.homefree cause pc
 
 -- where the core's epoch has come from its start, over this memory
 pub record LeadsTo (image : LoadedImage) (core : CoreState) (memory : List ℕ) : Type 0 where

@@ -1,0 +1,5 @@
+use Rattle.spec_history.proofs.Counting as counting
+use Rattle.spec_history.proofs.laws.counts_add.Goals as goal
+
+pub returns : goal.returns
+returns c first later = counting.counts_add first later
