@@ -1,0 +1,56 @@
+//! The audit of a long history: `audit_bench TIMES` reads it from standard input, audits it so many times, and prints how
+//! many entries it has and the homefree epoch after it. The processor time of the audits goes to the error stream.
+#![tactic(auto)]
+
+mod history;
+#[cfg(test)]
+mod tests;
+
+use history::{entries_of, homefree_after};
+use rv32_exec::{Image, image_of, read_input};
+use spec_history::Entry;
+use std::time::CpuClock;
+use std::{env, io};
+
+/// A histogram loop: each epoch counts eight words of the table at 1024. Which ones follows from its number.
+///
+/// `addi x5,x10,1; addi x8,x0,8;`
+/// `slli x6,x5,13; xor x5,x5,x6; srli x6,x5,17; xor x5,x5,x6; slli x6,x5,5; xor x5,x5,x6;`
+/// `andi x6,x5,1020; lw x7,1024(x6); addi x7,x7,1; sw x7,1024(x6);`
+/// `addi x8,x8,-1; bne x8,x0,-44; jalr x0,0(x1)`
+const IMAGE: &str =
+    "size 4096\nepochs 65535\nlimit 200\ncode 93021500130480001393d200b3c2620013d31201b3c2620013935200b3c2620013f3c23f8323034093831300232073401304f4ffe31a04fc67800000\n";
+
+/// Cores of each history.
+const CORES: u32 = 4;
+
+/// The longest input that is read, in bytes.
+const LONGEST: usize = 1 << 30;
+
+fn main(rt: HostRuntime) -> io::Result<()> {
+    let word = env::args(&rt)?.nth(1);
+    let Some(times) = word.and_then(|word| word.as_str().parse::<u32>().ok()) else {
+        return eprintln!(rt; "usage: audit_bench TIMES");
+    };
+    let Ok(bytes) = read_input(rt.alloc(), &mut rt.stdin(), LONGEST) else {
+        return eprintln!(rt; "no input");
+    };
+    let Some(entries) = entries_of(rt.alloc(), bytes.as_slice()) else {
+        return eprintln!(rt; "no history");
+    };
+    let Ok(image) = image_of(rt.alloc(), IMAGE.as_bytes()) else {
+        return eprintln!(rt; "no image");
+    };
+    let count = entries.len();
+    println!(rt; "{count} entries")?;
+    let begun = rt.thread_cpu_time()?;
+    let mut homefree = None;
+    for _ in 0..times {
+        homefree = homefree_after(rt.alloc(), &image, CORES, entries.as_slice());
+    }
+    let taken = rt.thread_cpu_time()?.saturating_sub(begun).as_nanos();
+    if let Some(homefree) = homefree {
+        println!(rt; "homefree {homefree}")?;
+    }
+    eprintln!(rt; "{taken} ns")
+}
