@@ -20,6 +20,11 @@ pub enum WordsFault {
 }
 
 impl From<AllocError> for WordsFault {
+    ghost use Rattle.std.specs.Prelude.{◌≡◌};
+    ghost use Rattle.trace_cli.specs.declared.words.WordsFault.TheVariants as fault;
+
+    ghost from_gives = { λ _ given. given ≡ fault.NoMemory };
+
     fn from(_: AllocError) -> WordsFault {
         WordsFault::NoMemory
     }
