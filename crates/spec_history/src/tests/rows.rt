@@ -3,7 +3,6 @@
 use crate::{Entry, Illegal, What};
 use rv32_exec::End;
 use std::alloc::Global;
-use std::str::SplitWhitespace;
 use std::test::Fail;
 
 /// A history that is legal, and the state after it.
@@ -43,12 +42,13 @@ const SUM: &str = "size 256\nepochs 3\nlimit 100\ncode 83220004b382a200232050046
 /// Each of three epochs adds its number and 1 to the word at 64.
 ///
 /// `lw x5,64(x0); addi x6,x10,1; add x5,x5,x6; sw x5,64(x0); jalr x0,0(x1)`
-const ADD: &str = "size 256\nepochs 3\nlimit 50\ncode 8322000413031500b38262002320500467800000\n";
+pub const ADD: &str =
+    "size 256\nepochs 3\nlimit 50\ncode 8322000413031500b38262002320500467800000\n";
 
 /// Each of two epochs counts the byte at 64, stores its number to the half word at 66, and loads the word between.
 ///
 /// `lbu x5,64(x0); sh x10,66(x0); lw x6,64(x0); addi x6,x6,1; sb x6,64(x0); jalr x0,0(x1)`
-const WIDTHS: &str =
+pub const WIDTHS: &str =
     "size 256\nepochs 2\nlimit 50\ncode 834200042311a00403230004130313002300600467800000\n";
 
 /// One epoch loads negative numbers of 2 bytes and of 1.
@@ -641,17 +641,18 @@ pub const REFUSED: [Refused; 38] = [
 /// The entries of a history.
 pub fn entries_of(alloc: Global, text: &str) -> Result<Vec<Entry>, Fail> {
     let mut entries = Vec::new(alloc);
-    for line in text.split(';') {
-        let mut words = line.split_whitespace();
-        if let Some(by) = words.next() {
-            entries.push(entry_of(by, words).ok_or("no entry")?)?;
+    for words in text.split(';') {
+        if !words.trim().is_empty() {
+            entries.push(entry_of(words).ok_or("no entry")?)?;
         }
     }
     Ok(entries)
 }
 
-/// The entry of a core, from the words after it.
-fn entry_of(by: &str, mut words: SplitWhitespace) -> Option<Entry> {
+/// The entry that these words say.
+pub fn entry_of(words: &str) -> Option<Entry> {
+    let mut words = words.split_whitespace();
+    let by = words.next()?.parse().ok()?;
     let what = words.next()?;
     let mut numbers = words.map(|word| word.parse::<u32>().ok());
     let mut number = || numbers.next()?;
@@ -677,8 +678,5 @@ fn entry_of(by: &str, mut words: SplitWhitespace) -> Option<Entry> {
         },
         _ => return None,
     };
-    Some(Entry {
-        by: by.parse().ok()?,
-        what,
-    })
+    Some(Entry { by, what })
 }
