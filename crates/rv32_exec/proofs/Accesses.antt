@@ -1,5 +1,5 @@
 -- An access at which a hart stops is aligned, and in memory.
-use Rattle.std.proofs.Common.{◌≡◌, ℕ, zero, suc, ◌+◌, ◌%◌, ◌^◌, ◌<◌, ◌≤◌, Bool, true, false, cond, not, ◌==◌, ◌||◌, nat_lt, nat_le, Result, Ok, Err, slice_index, inl, inr, refl, arith}
+use Rattle.std.proofs.Common.{◌≡◌, ℕ, zero, suc, ◌+◌, ◌%◌, ◌^◌, ◌<◌, Bool, true, false, cond, not, ◌==◌, ◌||◌, nat_lt, nat_le, Result, Ok, Err, slice_index, inl, inr, refl, arith}
 use Rattle.std.proofs.lemmas.Bool.Decides.{nat_tests}
 use Rattle.rv32_decode.specs.declared.instr.Instr.{Instr}
 use Rattle.rv32_decode.specs.declared.instr.Instr.TheVariants.{Jal, Jalr, Beq, Bne, Blt, Bge, Bltu, Bgeu, Lb, Lh, Lw, Lbu, Lhu, Sb, Sh, Sw}
@@ -7,7 +7,6 @@ use Rattle.rv32_decode.specs.declared.refused.Refused.{Refused}
 use Rattle.rv32_decode.specs.declared.refused.Refused.TheVariants.{Illegal, System}
 use Rattle.rv32_decode.specs.Table.{meaning_of}
 use Rattle.rv32_exec.specs.declared.hart.TheConstants.{EPOCH_END}
-use Rattle.rv32_exec.specs.declared.stop.Stop.{Stop}
 use Rattle.rv32_exec.specs.declared.stop.Stop.TheVariants.{Load, Store, Ended, Fault}
 use Rattle.rv32_exec.specs.declared.stop.TheConstants.{MISALIGNED_DATA, FETCH_OUTSIDE_CODE, INSTRUCTION_LIMIT, LOAD_OUTSIDE_MEMORY, STORE_OUTSIDE_DATA}
 use Rattle.rv32_exec.specs.Bytes.{number_at}

@@ -1,5 +1,5 @@
 -- One instruction of the interpreter's loop is one of the epoch.
-use Rattle.std.proofs.Common.{◌≡◌, ℕ, suc, ◌+◌, ◌*◌, ◌%◌, ◌^◌, ◌<◌, ◌==◌, nat_le, Bool, false, List, length, Some, Result, Ok, Err, slice_get, slice_index, refl, ap, sym, ◌∙◌, arith}
+use Rattle.std.proofs.Common.{◌≡◌, ℕ, suc, ◌+◌, ◌*◌, ◌%◌, ◌<◌, ◌==◌, nat_le, false, List, length, Some, Result, Ok, Err, slice_get, slice_index, refl, ap, sym, ◌∙◌, arith}
 use Rattle.std.proofs.lemmas.Bool.Decides.{nat_tests}
 use Rattle.rv32_decode.specs.declared.instr.Instr.{Instr}
 use Rattle.rv32_decode.specs.declared.instr.Instr.TheVariants.{Jal, Lb, Lh, Lw, Lbu, Lhu, Sb, Sh, Sw}
