@@ -1,9 +1,10 @@
 //! Histories as bytes, and what their audit says.
-ghost use Rattle.std.specs.Prelude.{◌≡◌, ◌<◌, IfSome};
+ghost use Rattle.std.specs.Prelude.{◌≡◌, ◌<◌, IfSome, MatchResult};
+ghost use Rattle.spec_history.specs.View.{IsAuditFault};
 ghost use Rattle.audit_bench.specs.Records as spec;
 
 use rv32_exec::Image;
-use spec_history::{Entry, What, audit};
+use spec_history::{Entry, Illegal, What, audit};
 use std::alloc::Global;
 
 /// The entries of a history: five numbers of four bytes for each, least significant byte first. They are the core, the kind,
@@ -61,10 +62,16 @@ fn number(bytes: &[u8; 20], place: usize) -> u32
     u32::from_le_bytes([bytes[at], bytes[at + 1], bytes[at + 2], bytes[at + 3]])
 }
 
-/// The homefree epoch after a history. None: the history is refused, or there is no memory.
-pub fn homefree_after(alloc: Global, image: &Image, cores: u32, entries: &[Entry]) -> Option<u32>
-    ensures { IfSome result (spec.IsHomefreeAfter image.now cores entries.now) }
+/// The homefree epoch after a history, or the place of the entry that the audit refuses, and its refusal.
+pub fn homefree_after(
+    alloc: Global,
+    image: &Image,
+    cores: u32,
+    entries: &[Entry],
+) -> Result<u32, (usize, Illegal)>
+    ensures { MatchResult result (spec.IsHomefreeAfter image.now cores entries.now)
+        (λ fault. IsAuditFault image.now cores entries.now fault.0 fault.1) }
 {
-    let flat = audit(alloc, image, cores, entries).ok()?;
-    Some(flat.homefree())
+    let flat = audit(alloc, image, cores, entries)?;
+    Ok(flat.homefree())
 }

@@ -44,13 +44,15 @@ fn main(rt: HostRuntime) -> io::Result<()> {
     let count = entries.len();
     println!(rt; "{count} entries")?;
     let begun = rt.thread_cpu_time()?;
-    let mut homefree = None;
+    let mut answer = None;
     for _ in 0..times {
-        homefree = homefree_after(rt.alloc(), &image, CORES, entries.as_slice());
+        answer = Some(homefree_after(rt.alloc(), &image, CORES, entries.as_slice()));
     }
     let taken = rt.thread_cpu_time()?.saturating_sub(begun).as_nanos();
-    if let Some(homefree) = homefree {
-        println!(rt; "homefree {homefree}")?;
+    match answer {
+        Some(Ok(homefree)) => println!(rt; "homefree {homefree}")?,
+        Some(Err((place, illegal))) => println!(rt; "refused {place} {illegal}")?,
+        None => {}
     }
     eprintln!(rt; "{taken} ns")
 }
