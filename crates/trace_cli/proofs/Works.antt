@@ -1,7 +1,6 @@
 -- What the program answers where no command was run.
-use Rattle.std.proofs.Common.{◌≡◌, ℕ, List, Option, Some, None, IfSome, refl, inl, inr}
+use Rattle.std.proofs.Common.{◌≡◌, ℕ, List, Option, Some, None, IfSome, refl, inr}
 use Rattle.std.specs.Io.KnownBytes.{Keeps}
-use Rattle.trace_cli.specs.declared.outcome.Outcome.{Outcome}
 use Rattle.trace_cli.specs.declared.outcome.Outcome.TheVariants.{Stopped}
 use Rattle.trace_cli.specs.declared.outcome.StopCause.TheVariants.{NoMemory}
 use Rattle.trace_cli.specs.Outcome.{AppendsPrefix, WorkAnswers, error_line, status_of}

@@ -1,5 +1,5 @@
-use Rattle.std.proofs.Common.{◌≡◌, ◌+◌, ◌*◌, ◌++◌, ap, sym, ◌∙◌, append_assoc}
-use Rattle.trace_cli.specs.Report.{row_line, row_lines}
+use Rattle.std.proofs.Common.{◌*◌, ◌++◌, ap, ◌∙◌}
+use Rattle.trace_cli.specs.Report.{row_line}
 use Rattle.trace_cli.proofs.Rows.{row_lines-none, row_lines-more}
 use Rattle.trace_cli.proofs.report.push_rows.Goals as goal
 
