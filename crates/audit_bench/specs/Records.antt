@@ -1,8 +1,8 @@
 -- A history as bytes: for each entry five numbers of four bytes, little endian. They are the core, the kind, and three numbers.
 use Rattle.std.specs.Prelude.{◌≡◌, ℕ, ◌*◌, ◌==◌, List, length, map, Option, Some, None, option_map, slice_index, if◌then◌else◌}
 use Rattle.std.specs.Simd.{first_chunks}
-use Rattle.rv32_exec.specs.Bytes.{number_at}
-use Rattle.rv32_exec.specs.Image.{LoadedImage}
+use Rattle.memory_bytes.specs.Bytes.{number_at}
+use Rattle.rv32_image.specs.Image.{LoadedImage}
 use Rattle.spec_history.specs.declared.entry.Entry.{Entry}
 use Rattle.spec_history.specs.declared.entry.What.{What}
 use Rattle.spec_history.specs.declared.entry.What.TheVariants.{Start, Load, Store, Hurt, Restart, Publish, Commit}

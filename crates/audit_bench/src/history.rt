@@ -53,7 +53,7 @@ fn entry_of(bytes: &[u8; 20]) -> Option<Entry>
 }
 
 /// The number in this place of a record.
-#[tactic(auto, unfolding(rv32_exec::specs::Bytes::number_at))]
+#[tactic(auto, unfolding(memory_bytes::specs::Bytes::number_at))]
 fn number(bytes: &[u8; 20], place: usize) -> u32
     requires { place < 5 }
     ensures { result ≡ spec.number_in bytes.now place }

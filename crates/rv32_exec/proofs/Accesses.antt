@@ -9,10 +9,11 @@ use Rattle.rv32_decode.specs.Table.{meaning_of}
 use Rattle.rv32_exec.specs.declared.hart.TheConstants.{EPOCH_END}
 use Rattle.rv32_exec.specs.declared.stop.Stop.TheVariants.{Load, Store, Ended, Fault}
 use Rattle.rv32_exec.specs.declared.stop.TheConstants.{MISALIGNED_DATA, FETCH_OUTSIDE_CODE, INSTRUCTION_LIMIT, LOAD_OUTSIDE_MEMORY, STORE_OUTSIDE_DATA}
-use Rattle.rv32_exec.specs.Bytes.{number_at}
-use Rattle.rv32_exec.specs.Image.{LoadedImage}
+use Rattle.memory_bytes.specs.Bytes.{number_at}
+use Rattle.rv32_image.specs.Image.{LoadedImage}
 use Rattle.rv32_exec.specs.Hart.{HartState}
-use Rattle.rv32_exec.specs.Execute.{Effect, Executes, Stops, jump, branch, load, store, instruction_effect, word_effect, hart_effect, IsWidth, IsStopOf}
+use Rattle.rv32_exec.specs.Execute.{Effect, Executes, Stops, jump, branch, load, store, instruction_effect, word_effect, hart_effect, IsStopOf}
+use Rattle.memory_bytes.specs.Bytes.{IsWidth}
 use Rattle.rv32_exec.specs.NextEvent.{Event, event_within, next_event}
 use Rattle.rv32_exec.proofs.Runs.{event_within_executes, event_within_stops}
 

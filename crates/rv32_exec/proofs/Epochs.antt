@@ -1,7 +1,7 @@
 -- How the loop's result goes on over one epoch.
 use Rattle.std.proofs.Common.{◌≡◌, ℕ, zero, suc, ◌+◌, ◌-◌, ◌<◌, List, refl, ap, ◌∙◌, arith, add-one}
 use Rattle.rv32_exec.specs.declared.sequential.End.TheVariants.{Done, Fault}
-use Rattle.rv32_exec.specs.Image.{LoadedImage}
+use Rattle.rv32_image.specs.Image.{LoadedImage}
 use Rattle.rv32_exec.specs.Sequential.{Ends, Faults, epoch_outcome, first_epochs, result_of, sequential_result}
 
 pub first_epochs-none : (image : LoadedImage) → first_epochs image 0 ≡ record { end = Done 0; bytes = image.bytes }

@@ -6,13 +6,14 @@ use Rattle.rv32_decode.specs.declared.instr.Instr.TheVariants.{Jal, Lb, Lh, Lw, 
 use Rattle.rv32_decode.specs.declared.refused.Refused.{Refused}
 use Rattle.rv32_decode.specs.Table.{meaning_of}
 use Rattle.rv32_exec.specs.declared.hart.TheConstants.{EPOCH_END}
-use Rattle.rv32_exec.specs.Bytes.{number_at}
-use Rattle.rv32_exec.specs.Decoded.{IsDecoded, kept_of}
-use Rattle.rv32_exec.specs.Image.{LoadedImage, IsImage}
+use Rattle.memory_bytes.specs.Bytes.{number_at}
+use Rattle.rv32_image.specs.Decoded.{IsDecoded, kept_of}
+use Rattle.rv32_image.specs.Image.{LoadedImage, IsImage}
 use Rattle.rv32_exec.specs.Hart.{HartState}
 use Rattle.rv32_exec.specs.Execute.{Effect, Executes, add, instruction_effect, word_effect, hart_effect}
 use Rattle.rv32_exec.specs.Sequential.{Progress, Runs, execute, after_steps}
 use Rattle.rv32_exec.specs.NextEvent.{Event, next_event}
+use Rattle.rv32_image.proofs.Kept.{kept_at}
 use Rattle.rv32_exec.proofs.Runs.{next_event-executes}
 use Rattle.rv32_exec.specs.Interpreter.{AccessesNoData, hart, after_effect}
 
@@ -52,17 +53,6 @@ execute-kept : (image : LoadedImage) (h after : HartState) (memory memory' : Lis
 unfolding execute
 execute-kept image h after memory memory' instr ok aligned inside room kept is =
     rw (fetched image h ok inside room) (kept_runs image h after memory memory' _ aligned (rw kept at is))
-
--- what is kept, but a jump, is the word's own instruction
-pub kept-ok : (means : Result Instr Refused) (instr : Instr) → instr ≡ kept_of means → ((rd offset : ℕ) → instr ≡ Jal rd offset → ⊥) → Ok instr ≡ means
-unfolding kept_of
-kept-ok (Ok kept) instr is other = ap Ok is
-kept-ok (Err refused) instr is other = absurd (other 0 2 is)
-
--- what stands at a word of the decoded code
-pub kept_at : (program : List Instr) (image : LoadedImage) (word : ℕ) (instr : Instr) → IsDecoded program image.code image.bytes → word < length program
-    → slice_get program word ≡ Some instr → instr ≡ kept_of (meaning_of (number_at (λ a. slice_index image.bytes a) (4 * word) 4))
-kept_at program image word instr decoded inside at = let each = decoded.each word inside in cc
 
 after_steps-one : (image : LoadedImage) (h after : HartState) (memory memory' : List ℕ) (n n' : ℕ) (outcome : Progress)
     → n ≡ suc n' → execute image h memory ≡ Runs after memory' → after_steps image n h memory ≡ outcome → after_steps image n' after memory' ≡ outcome

@@ -4,7 +4,7 @@ use Rattle.std.proofs.lemmas.Bool.Decides.{nat_tests}
 use Rattle.rv32_exec.specs.declared.hart.TheConstants.{EPOCH_END}
 use Rattle.rv32_exec.specs.declared.stop.Stop.{Stop}
 use Rattle.rv32_exec.specs.declared.stop.Stop.TheVariants.{Load, Store, Ended, Fault}
-use Rattle.rv32_exec.specs.Image.{LoadedImage}
+use Rattle.rv32_image.specs.Image.{LoadedImage}
 use Rattle.rv32_exec.specs.Hart.{HartState, start_of}
 use Rattle.rv32_exec.specs.Execute.{Effect, Executes, Stops, hart_effect}
 use Rattle.rv32_exec.specs.NextEvent.{event_within, next_event}

@@ -3,10 +3,5 @@ pub mod Runs
 pub mod Arrivals
 pub mod Interpreting
 pub mod Epochs
-pub mod Cuts
-pub mod Pieces
-pub mod Lines
-pub mod Inputs
 pub mod LawsOfRuns
-pub mod Printed
 pub mod Accesses

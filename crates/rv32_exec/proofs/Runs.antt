@@ -1,7 +1,7 @@
 -- How the next event and an epoch's outcome go on over one step.
 use Rattle.std.proofs.Common.{◌≡◌, ℕ, suc, ◌+◌, ◌-◌, ◌<◌, ◌≤◌, List, refl, sym, ap, ◌∙◌, arith}
 use Rattle.rv32_exec.specs.declared.stop.Stop.{Stop}
-use Rattle.rv32_exec.specs.Image.{LoadedImage}
+use Rattle.rv32_image.specs.Image.{LoadedImage}
 use Rattle.rv32_exec.specs.Hart.{HartState, start_of}
 use Rattle.rv32_exec.specs.Execute.{Executes, Stops, hart_effect}
 use Rattle.rv32_exec.specs.NextEvent.{event_within, next_event}

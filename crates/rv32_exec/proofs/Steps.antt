@@ -10,8 +10,8 @@ use Rattle.rv32_exec.specs.declared.hart.TheConstants.{EPOCH_END}
 use Rattle.rv32_exec.specs.declared.stop.Stop.{Stop}
 use Rattle.rv32_exec.specs.declared.stop.Stop.TheVariants.{Ended, Fault}
 use Rattle.rv32_exec.specs.declared.stop.TheConstants.{FETCH_OUTSIDE_CODE, INSTRUCTION_LIMIT}
-use Rattle.rv32_exec.specs.Bytes.{number_at}
-use Rattle.rv32_exec.specs.Image.{LoadedImage}
+use Rattle.memory_bytes.specs.Bytes.{number_at}
+use Rattle.rv32_image.specs.Image.{LoadedImage}
 use Rattle.rv32_exec.specs.Hart.{HartState}
 use Rattle.rv32_exec.specs.Execute.{Effect, Executes, Stops, jump, branch, load, store, instruction_effect, word_effect, hart_effect}
 

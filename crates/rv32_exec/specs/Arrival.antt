@@ -3,7 +3,8 @@ use Rattle.std.specs.Prelude.{ℕ, ◌<◌, ◌^◌}
 use Rattle.rv32_exec.specs.declared.stop.Stop.{Stop}
 use Rattle.rv32_exec.specs.declared.stop.Stop.TheVariants.{Load, Store, Ended, Fault}
 use Rattle.rv32_exec.specs.Hart.{HartState}
-use Rattle.rv32_exec.specs.Execute.{IsWidth, after_load}
+use Rattle.rv32_exec.specs.Execute.{after_load}
+use Rattle.memory_bytes.specs.Bytes.{IsWidth}
 
 -- the hart that was handed in, the hart at the stop, and the stop
 pub record Arrival : Type 0 where

@@ -13,8 +13,8 @@ use Rattle.rv32_exec.specs.declared.hart.TheConstants.{EPOCH_END}
 use Rattle.rv32_exec.specs.declared.stop.TheConstants.{ILLEGAL_WORD, SYSTEM_INSTRUCTION, FETCH_OUTSIDE_CODE, MISALIGNED_TARGET, MISALIGNED_DATA, LOAD_OUTSIDE_MEMORY, STORE_OUTSIDE_DATA, INSTRUCTION_LIMIT}
 use Rattle.rv32_exec.specs.declared.stop.Stop.{Stop}
 use Rattle.rv32_exec.specs.declared.stop.Stop.TheVariants.{Load, Store, Ended, Fault}
-use Rattle.rv32_exec.specs.Bytes.{number_at}
-use Rattle.rv32_exec.specs.Image.{LoadedImage}
+use Rattle.memory_bytes.specs.Bytes.{IsWidth, number_at}
+use Rattle.rv32_image.specs.Image.{LoadedImage}
 use Rattle.rv32_exec.specs.Hart.{HartState, with_register, stepped, wrote}
 
 -- What happens at a hart before any data is accessed: the instruction is executed, or the hart stops at an
@@ -146,10 +146,6 @@ after_load h width signed rd number = wrote h rd (extended width signed number)
 abbrev pub match_effect : {A : Type 0} → Effect → (HartState → A) → (Stop → A) → A
 match_effect (Executes after) executes stops = executes after
 match_effect (Stops at) executes stops = stops at
-
--- how wide an access may be, in bytes
-abbrev pub IsWidth : ℕ → Type 0
-IsWidth width = (width ≡ 1) ⊎ (width ≡ 2) ⊎ (width ≡ 4)
 
 -- what is known of an access at which a hart is stopped
 pub record IsAccess (image : LoadedImage) (h : HartState) (address width : ℕ) : Type 0 where

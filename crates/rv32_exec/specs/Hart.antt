@@ -2,7 +2,7 @@
 -- Source: RISC-V Unprivileged ISA, "Programmers' Model for Base Integer ISA"; the start and the end of an
 -- epoch are this project's.
 use Rattle.std.specs.Prelude.{◌≡◌, ℕ, ◌+◌, ◌%◌, ◌^◌, List, length, slice_index, slice_set, ◌==◌, if◌then◌else◌}
-use Rattle.rv32_exec.specs.Image.{LoadedImage}
+use Rattle.rv32_image.specs.Image.{LoadedImage}
 use Rattle.rv32_exec.specs.declared.hart.TheConstants.{EPOCH_END}
 
 pub record HartState : Type 0 where

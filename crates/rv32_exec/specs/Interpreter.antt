@@ -6,7 +6,7 @@ use Rattle.rv32_exec.specs.declared.stop.TheConstants.{MISALIGNED_TARGET}
 use Rattle.rv32_exec.specs.declared.stop.Stop.TheVariants.{Fault}
 use Rattle.rv32_exec.specs.declared.interpreter.Next.{Next}
 use Rattle.rv32_exec.specs.declared.interpreter.Next.TheVariants.{Following, Jump, Stop}
-use Rattle.rv32_exec.specs.Image.{LoadedImage}
+use Rattle.rv32_image.specs.Image.{LoadedImage}
 use Rattle.rv32_exec.specs.Hart.{HartState}
 use Rattle.rv32_exec.specs.Execute.{Effect, Executes, Stops, match_effect}
 use Rattle.rv32_exec.specs.Sequential.{Progress, Runs, after_steps, after_stop}

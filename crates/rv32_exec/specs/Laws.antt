@@ -1,6 +1,6 @@
 -- What the laws say.
 use Rattle.std.specs.Prelude.{◌≡◌, ℕ, ◌+◌, List}
-use Rattle.rv32_exec.specs.Image.{LoadedImage}
+use Rattle.rv32_image.specs.Image.{LoadedImage}
 use Rattle.rv32_exec.specs.Hart.{HartState}
 use Rattle.rv32_exec.specs.NextEvent.{Event}
 use Rattle.rv32_exec.specs.Sequential.{Progress, Runs, Ends, Faults, execute, after_steps, after_stop}

@@ -1,7 +1,3 @@
-pub mod Bytes
-pub mod Image
-pub mod LoadedCode
-pub mod Decoded
 pub mod Hart
 pub mod Execute
 pub mod NextEvent
@@ -9,11 +5,4 @@ pub mod Sequential
 pub mod Interpreter
 pub mod Arrival
 pub mod Outcome
-pub mod ImageText
-pub mod Reading
-pub mod Cutting
-pub mod Drafts
-pub mod DraftView
-pub mod WordsOf
-pub mod Input
 pub mod Laws

@@ -5,8 +5,8 @@ use Rattle.rv32_exec.specs.declared.stop.Stop.{Stop}
 use Rattle.rv32_exec.specs.declared.stop.Stop.TheVariants as stop
 use Rattle.rv32_exec.specs.declared.sequential.End.{End}
 use Rattle.rv32_exec.specs.declared.sequential.End.TheVariants.{Done, Fault}
-use Rattle.rv32_exec.specs.Bytes.{number_at, with_number}
-use Rattle.rv32_exec.specs.Image.{LoadedImage}
+use Rattle.memory_bytes.specs.Bytes.{number_at, with_number}
+use Rattle.rv32_image.specs.Image.{LoadedImage}
 use Rattle.rv32_exec.specs.Hart.{HartState, start_of, stepped}
 use Rattle.rv32_exec.specs.Execute.{hart_effect, match_effect, after_load}
 

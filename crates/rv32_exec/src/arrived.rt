@@ -5,9 +5,9 @@ ghost use Rattle.rv32_exec.specs.Hart.{stepped};
 ghost use Rattle.rv32_exec.specs.Execute.{IsStopOf};
 
 use crate::hart::Hart;
-use crate::image::Image;
 use crate::interpreter::run;
 use crate::stop::Stop;
+use rv32_image::Image;
 use std::marker::Model;
 
 /// How far a hart has come without an access to data: the hart that was handed in, the hart before the

@@ -1,9 +1,10 @@
 ghost use Rattle.std.specs.Prelude.{◌≡◌, ◌<◌, ◌+◌, ◌%◌, ◌^◌, slice_index};
 ghost use Rattle.rv32_exec.specs.Hart as spec;
-ghost use Rattle.rv32_exec.specs.Execute.{IsWidth, after_load, extended};
+ghost use Rattle.rv32_exec.specs.Execute.{after_load, extended};
+ghost use Rattle.memory_bytes.specs.Bytes.{IsWidth};
 
-use crate::image::Image;
 use rv32_decode::Register;
+use rv32_image::Image;
 use std::marker::Model;
 
 /// The address that ends an epoch: x1 holds it at the start, and a jump there is the epoch's return.

@@ -1,17 +1,18 @@
 ghost use Rattle.std.specs.Prelude.{◌≡◌, ◌<◌, ◌≤◌, ◌*◌, ◌%◌, ◌^◌, ℕ, List, length, slice_index};
 ghost use Rattle.rv32_exec.specs.Interpreter as spec;
-ghost use Rattle.rv32_exec.specs.Image.{IsImage};
+ghost use Rattle.rv32_image.specs.Image.{IsImage};
 ghost use Rattle.rv32_decode.specs.declared.instr.Instr.{Instr};
 ghost use Rattle.rv32_exec.specs.Hart.{with_register};
 ghost use Rattle.rv32_exec.specs.NextEvent.{next_event};
-ghost use Rattle.rv32_exec.specs.Execute.{IsWidth, instruction_effect, jump as jump_effect, branch as branch_effect, load as load_effect, store as store_effect};
+ghost use Rattle.rv32_exec.specs.Execute.{instruction_effect, jump as jump_effect, branch as branch_effect, load as load_effect, store as store_effect};
+ghost use Rattle.memory_bytes.specs.Bytes.{IsWidth};
 
 use crate::hart::{Hart, extend};
-use crate::image::Image;
-use crate::memory::{read_number, write_number};
 use crate::registers::Registers;
 use crate::step::low_bytes;
+use memory_bytes::{read_number, write_number};
 use rv32_decode::{Instr, Register};
+use rv32_image::Image;
 
 /// Where a hart goes after an instruction.
 pub(crate) enum Next {

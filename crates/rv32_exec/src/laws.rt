@@ -1,11 +1,7 @@
 //! Laws of the definitions: each function does nothing, and its contract is the law.
 
-ghost use Rattle.std.specs.Prelude.{◌≡◌, ℕ, ◌+◌, ◌^◌, ◌<◌, List, Ok};
-ghost use Rattle.std.specs.Fmt.{decimal};
-ghost use Rattle.std.specs.Int.{w32, to_be_bytes};
-ghost use Rattle.hex.specs.Hex.{encode_lower};
-ghost use Rattle.rv32_exec.specs.ImageText.{number_in, word_in};
-ghost use Rattle.rv32_exec.specs.Image.{LoadedImage};
+ghost use Rattle.std.specs.Prelude.{◌≡◌, ℕ, ◌+◌, List};
+ghost use Rattle.rv32_image.specs.Image.{LoadedImage};
 ghost use Rattle.rv32_exec.specs.Hart.{HartState};
 ghost use Rattle.rv32_exec.specs.Execute.{IsStopOf};
 ghost use Rattle.rv32_exec.specs.NextEvent.{next_event};
@@ -32,14 +28,4 @@ pub fn whole_instructions_reach_the_next_event()
 /// store lies outside the code, and its value has no bytes but its own.
 pub fn the_next_access_is_in_memory()
     ensures { (image : LoadedImage) (h : HartState) → IsStopOf image (next_event image h).now (next_event image h).at }
-{}
-
-/// A decimal number that is printed is read back as it was.
-pub fn a_printed_number_reads_back()
-    ensures { (n : ℕ) → n < 10 ^ 10 → number_in (decimal n) ≡ Ok n }
-{}
-
-/// So is a number that is printed as eight hexadecimal digits.
-pub fn a_printed_word_reads_back()
-    ensures { (n : ℕ) → n < 2 ^ 32 → word_in (encode_lower (to_be_bytes w32 n)) ≡ Ok n }
 {}

@@ -1,13 +1,13 @@
 ghost use Rattle.std.specs.Prelude.{◌≡◌, IfOk, length};
 ghost use Rattle.rv32_exec.specs.Sequential as spec;
-ghost use Rattle.rv32_exec.specs.Image.{IsImage};
+ghost use Rattle.rv32_image.specs.Image.{IsImage};
 ghost use Rattle.rv32_exec.specs.Outcome.{progress_of};
 
 use crate::hart::start;
-use crate::image::{Image, NoMemory};
 use crate::interpreter::run;
-use crate::memory::{read_number, write_number};
 use crate::stop::Stop;
+use memory_bytes::{read_number, write_number};
+use rv32_image::{Image, NoMemory};
 use std::alloc::Global;
 use std::marker::Model;
 

@@ -1,14 +1,15 @@
 ghost use Rattle.std.specs.Prelude.{◌≡◌, ◌<◌, ◌≤◌, ◌+◌, ◌%◌, ◌^◌, OnSome, IfSome, IsSome, None, Some, slice_index};
+ghost use Rattle.memory_bytes.specs.Bytes.{IsWidth};
 ghost use Rattle.rv32_exec.specs.Execute as spec;
-ghost use Rattle.rv32_exec.specs.Image.{IsImage};
+ghost use Rattle.rv32_image.specs.Image.{IsImage};
 ghost use Rattle.rv32_exec.specs.Interpreter.{AccessesNoData};
 
 use crate::hart::{EPOCH_END, Hart};
-use crate::image::Image;
 use crate::interpreter::{Next, execute};
 use crate::registers::Registers;
 use crate::stop::*;
 use rv32_decode::{Instr, Refused, Register};
+use rv32_image::Image;
 
 impl Hart {
     /// Executes the instruction at the pc, or says where it stops, and then changes nothing.
@@ -132,7 +133,7 @@ impl Hart {
 
     #[inline]
     fn load(&self, image: &Image, width: u32, signed: bool, rd: Register, addr: u32) -> Option<Stop>
-        requires width { spec.IsWidth width }
+        requires width { IsWidth width }
         requires room { self.now.done < image.now.limit }
         ensures effect { spec.effect_of result self.now ≡ spec.load image.now self.now width signed rd addr }
         ensures some { IsSome result }
@@ -154,7 +155,7 @@ impl Hart {
 
     #[inline]
     fn store(&self, image: &Image, width: u32, addr: u32, value: u32) -> Option<Stop>
-        requires width { spec.IsWidth width }
+        requires width { IsWidth width }
         requires room { self.now.done < image.now.limit }
         ensures effect { spec.effect_of result self.now ≡ spec.store image.now self.now width addr value }
         ensures some { IsSome result }
@@ -177,7 +178,7 @@ impl Hart {
 /// The low `width` bytes of a value.
 #[inline]
 pub(crate) fn low_bytes(width: u32, value: u32) -> u32
-    requires { spec.IsWidth width }
+    requires { IsWidth width }
     ensures { result ≡ value % 256 ^ width }
 {
     match width {

@@ -1,16 +1,17 @@
 -- What a legal load or store keeps of its core.
 use Rattle.std.proofs.Common.{◌≡◌, ℕ, ◌+◌, ◌<◌, ◌≤◌, Bool, false, List, slice_index, Option, Some, None, unwrap_or, refl, sym, ap, ◌∙◌, true≢false, arith}
 use Rattle.rv32_exec.specs.declared.stop.Stop.TheVariants as stop
-use Rattle.rv32_exec.specs.Bytes.{number_at, with_number}
-use Rattle.rv32_exec.specs.Image.{LoadedImage}
+use Rattle.memory_bytes.specs.Bytes.{number_at, with_number}
+use Rattle.rv32_image.specs.Image.{LoadedImage}
 use Rattle.rv32_exec.specs.Hart.{HartState, start_of, stepped}
 use Rattle.rv32_exec.specs.Execute.{after_load, IsAccess, IsStore}
 use Rattle.rv32_exec.specs.NextEvent.{next_event}
 use Rattle.rv32_exec.specs.Arrival.{after_number}
 use Rattle.rv32_exec.specs.Sequential.{Runs, after_stop}
-use Rattle.spec_history.specs.FlatState.{CoreState, first_of, joined, over, stored, read_outside}
+use Rattle.memory_bytes.specs.Maps.{first_of, joined, over, stored, read_outside}
+use Rattle.spec_history.specs.FlatState.{CoreState}
 use Rattle.spec_history.specs.Laws.{Holds, HasBytes, IsKeptCore}
-use Rattle.spec_history.proofs.Bytes.{over-joined, number_at_same, length-with_number, with_number_bytes}
+use Rattle.memory_bytes.proofs.Bytes.{over-joined, number_at_same, length-with_number, with_number_bytes}
 use Rattle.rv32_exec.proofs.Accesses.{stop_of_event}
 use Rattle.spec_history.proofs.Progress.{comes_past_access}
 use Rattle.spec_history.proofs.Keeping.{read_now, read_before, was_read, noted, noted_within}

@@ -4,18 +4,19 @@ use Rattle.std.proofs.lemmas.Bool.{cases_Bool}
 use Rattle.rv32_exec.specs.declared.stop.Stop.TheVariants as stop
 use Rattle.rv32_exec.specs.declared.sequential.End.{End}
 use Rattle.rv32_exec.specs.declared.sequential.End.TheVariants as end
-use Rattle.rv32_exec.specs.Bytes.{number_at, with_number}
-use Rattle.rv32_exec.specs.Image.{LoadedImage}
+use Rattle.memory_bytes.specs.Bytes.{number_at, with_number}
+use Rattle.rv32_image.specs.Image.{LoadedImage}
 use Rattle.rv32_exec.specs.Hart.{start_of, stepped}
 use Rattle.rv32_exec.specs.NextEvent.{next_event}
 use Rattle.rv32_exec.specs.Arrival.{after_number}
 use Rattle.rv32_exec.specs.Sequential.{Runs, Ends, Faults, SequentialResult, after_steps, epoch_outcome, first_epochs}
 use Rattle.rv32_exec.proofs.Epochs.{first_epochs-ends, sequential_result-fault, sequential_result-done}
 use Rattle.spec_history.specs.declared.entry.What.TheVariants.{Start, Load, Store, Hurt, Restart, Publish, Commit, Fault}
-use Rattle.spec_history.specs.FlatState.{CoreState, FlatState, nothing, joined, over, stored, read_outside, begun, end_at}
+use Rattle.memory_bytes.specs.Maps.{nothing, joined, over, stored, read_outside}
+use Rattle.spec_history.specs.FlatState.{CoreState, FlatState, begun, end_at}
 use Rattle.spec_history.specs.Effect.{with_core, hurt_at, effect_on, effect_idle}
 use Rattle.spec_history.specs.Laws.{Holds, IsKeptCore, IsKept, IsPublished, EndsInOrder}
-use Rattle.spec_history.proofs.Bytes.{number_at_same}
+use Rattle.memory_bytes.proofs.Bytes.{number_at_same}
 use Rattle.spec_history.proofs.Progress.{comes_to_event, comes_past_access, outcome_there, published_memory-is}
 use Rattle.spec_history.proofs.Keeping.{at_core, same_core, apart_with, apart_changed, keeps_with, moves_on, begun_kept}
 use Rattle.spec_history.proofs.Accesses.{load_goes_on, load_counts, store_goes_on, store_within, holds_stored, load_kept, store_kept}

@@ -2,7 +2,7 @@
 use Rattle.std.proofs.Common.{◌≡◌, ℕ, ◌++◌, List, [], ◌∷◌, Option, Some, None, refl, sym, ap, subst, eqb-true}
 use Rattle.rv32_exec.specs.declared.sequential.End.{End}
 use Rattle.rv32_exec.specs.declared.sequential.End.TheVariants as end
-use Rattle.rv32_exec.specs.Image.{LoadedImage, IsImage}
+use Rattle.rv32_image.specs.Image.{LoadedImage, IsImage}
 use Rattle.spec_history.specs.declared.entry.Entry.{Entry}
 use Rattle.spec_history.specs.declared.entry.What.TheVariants.{Fault}
 use Rattle.spec_history.specs.declared.illegal.Illegal.{Illegal}

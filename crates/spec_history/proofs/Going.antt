@@ -2,10 +2,11 @@
 use Rattle.std.proofs.Common.{◌≡◌, ◌≢◌, ℕ, ◌≤◌, true, false, List, length, slice_index, Option, Some, unwrap_or, refl, sym, ap, subst, ◌∙◌, inl, inr, true≢false, arith}
 use Rattle.std.proofs.lemmas.Bool.{cases_eq, cases_Bool}
 use Rattle.rv32_exec.specs.declared.sequential.End.TheVariants as end
-use Rattle.rv32_exec.specs.Image.{LoadedImage}
+use Rattle.rv32_image.specs.Image.{LoadedImage}
 use Rattle.rv32_exec.specs.Hart.{HartState, start_of}
 use Rattle.rv32_exec.specs.Sequential.{Runs, after_steps, first_epochs}
-use Rattle.spec_history.specs.FlatState.{CoreState, FlatState, over}
+use Rattle.memory_bytes.specs.Maps.{over}
+use Rattle.spec_history.specs.FlatState.{CoreState, FlatState}
 use Rattle.spec_history.specs.Effect.{with_core}
 use Rattle.spec_history.specs.Laws.{Holds, IsKeptCore, IsKept}
 use Rattle.spec_history.proofs.Keeping.{at_core, with_core_other, with_core_same, same_core, Keeps, keeps_with, moves_on}

@@ -2,7 +2,7 @@
 use Rattle.std.proofs.Common.{◌≡◌, ◌≢◌, ◌⊎◌, ℕ, ◌+◌, ◌<◌, ◌≤◌, List, length, set, get_or, slice_get, slice_index, Some, refl, sym, ap, ◌∙◌, inl, inr, arith, length-set, option_and_then}
 use Rattle.std.proofs.lemmas.Bool.{cases_eq}
 use Rattle.std.proofs.lemmas.Option.{slice_get_past}
-use Rattle.rv32_exec.specs.Image.{LoadedImage}
+use Rattle.rv32_image.specs.Image.{LoadedImage}
 use Rattle.spec_history.specs.declared.entry.What.TheVariants.{Hurt}
 use Rattle.spec_history.specs.declared.lane.Lane.{Lane}
 use Rattle.spec_history.specs.declared.machine.Machine.{Machine}

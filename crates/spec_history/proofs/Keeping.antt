@@ -2,10 +2,11 @@
 use Rattle.std.proofs.Common.{◌≡◌, ◌≢◌, ◌⊎◌, ℕ, ◌+◌, ◌<◌, ◌≤◌, ◌&&◌, Bool, true, false, cond, is_none, nat_lt, nat_le, List, Option, Some, None, refl, sym, ap, ◌∙◌, inl, inr, true≢false, arith, eq-eqb, ne_eqb}
 use Rattle.std.proofs.lemmas.Bool.{cases_eq}
 use Rattle.std.proofs.lemmas.Bool.Decides.{nat_tests}
-use Rattle.rv32_exec.specs.Image.{LoadedImage}
+use Rattle.rv32_image.specs.Image.{LoadedImage}
 use Rattle.rv32_exec.specs.Hart.{start_of}
 use Rattle.rv32_exec.specs.Sequential.{Runs, after_steps}
-use Rattle.spec_history.specs.FlatState.{CoreState, first_of, read_outside, begun}
+use Rattle.memory_bytes.specs.Maps.{first_of, read_outside}
+use Rattle.spec_history.specs.FlatState.{CoreState, begun}
 use Rattle.spec_history.specs.Effect.{with_core}
 use Rattle.spec_history.specs.Laws.{IsKeptCore}
 

@@ -5,7 +5,7 @@ use Rattle.std.proofs.lemmas.Option.{slice_get_read}
 use Rattle.spec_history.specs.declared.lane.Lane.{Lane}
 use Rattle.spec_history.specs.FlatState.{CoreState}
 use Rattle.spec_history.specs.declared.lane.Attempt.{Attempt}
-use Rattle.spec_history.specs.Shadow.{byte_in}
+use Rattle.memory_bytes.specs.Shadow.{byte_in}
 use Rattle.spec_history.specs.Lane.{core_of, core_with}
 use Rattle.spec_history.specs.Machine.{cores_of}
 

@@ -1,4 +1,3 @@
-pub mod Bytes
 pub mod Progress
 pub mod Legal
 pub mod Keeping
@@ -6,8 +5,6 @@ pub mod Accesses
 pub mod Going
 pub mod Entries
 pub mod Replays
-pub mod Shadows
-pub mod Stores
 pub mod Searches
 pub mod Lanes
 pub mod Missing

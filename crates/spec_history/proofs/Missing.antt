@@ -1,19 +1,20 @@
 -- Whether a byte would change that another core has read, from what a loop has found.
 use Rattle.std.proofs.Common.{◌≡◌, ◌⊎◌, ℕ, ◌+◌, ◌%◌, ◌<◌, ◌≤◌, ◌==◌, ◌&&◌, not, Bool, true, false, cond, List, length, slice_index, Option, Some, None, unwrap_or, refl, sym, ap, ◌∙◌, inl, inr, arith, eq-eqb}
 use Rattle.std.proofs.lemmas.Bool.{cases_eq}
-use Rattle.rv32_exec.specs.Image.{LoadedImage}
+use Rattle.rv32_image.specs.Image.{LoadedImage}
 use Rattle.spec_history.specs.declared.entry.What.{What}
 use Rattle.spec_history.specs.declared.entry.What.TheVariants.{Start, Load, Store, Hurt, Restart, Publish, Commit, Fault}
-use Rattle.spec_history.specs.FlatState.{CoreState, FlatState, over, stored}
+use Rattle.memory_bytes.specs.Maps.{over, stored}
+use Rattle.spec_history.specs.FlatState.{CoreState, FlatState}
 use Rattle.spec_history.specs.Effect.{effect_on, effect_idle}
 use Rattle.spec_history.specs.Refusal.{other_has_read, changes_unseen, misses_a_hurt}
-use Rattle.spec_history.specs.Shadow.{byte_in, IsAmong, Covers}
+use Rattle.memory_bytes.specs.Shadow.{byte_in, IsAmong, Covers}
 use Rattle.spec_history.specs.declared.lane.Lane.{Lane}
 use Rattle.spec_history.specs.Lane.{core_of}
 use Rattle.spec_history.proofs.Lanes.{lane_own}
-use Rattle.spec_history.proofs.Bytes.{stored_below}
+use Rattle.memory_bytes.proofs.Bytes.{stored_below}
 use Rattle.spec_history.proofs.Searches.{all_fail}
-use Rattle.spec_history.proofs.Stores.{Storing, storing_byte, storing_end}
+use Rattle.memory_bytes.proofs.Stores.{Storing, storing_byte, storing_end}
 use Rattle.spec_history.proofs.Replays.{effect-on, effect-idle}
 
 -- the test of one byte

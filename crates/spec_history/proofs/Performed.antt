@@ -1,8 +1,8 @@
 -- What a legal entry finds, and what is shown of its effect.
 use Rattle.std.proofs.Common.{◌≡◌, ℕ, ◌<◌, ◌≤◌, nat_lt, Bool, true, false, cond, List, length, set, slice_get, slice_index, Option, Some, None, option_map, option_and_then, refl, sym, ap, ◌∙◌, inl, inr, true≢false, arith, length-set}
 use Rattle.std.proofs.lemmas.Option.{slice_get_within}
-use Rattle.rv32_exec.specs.Image.{LoadedImage}
-use Rattle.rv32_exec.specs.Execute.{IsWidth}
+use Rattle.rv32_image.specs.Image.{LoadedImage}
+use Rattle.memory_bytes.specs.Bytes.{IsWidth}
 use Rattle.rv32_exec.specs.NextEvent.{Event, next_event}
 use Rattle.rv32_exec.specs.Arrival.{Arrival}
 use Rattle.spec_history.specs.declared.entry.What.{What}
@@ -11,7 +11,8 @@ use Rattle.spec_history.specs.declared.lane.Lane.{Lane}
 use Rattle.spec_history.specs.declared.machine.Machine.{Machine}
 use Rattle.rv32_exec.specs.Hart.{HartState, stepped}
 use Rattle.rv32_exec.specs.Arrival.{after_number}
-use Rattle.spec_history.specs.FlatState.{CoreState, FlatState, over, stored}
+use Rattle.memory_bytes.specs.Maps.{over, stored}
+use Rattle.spec_history.specs.FlatState.{CoreState, FlatState}
 use Rattle.spec_history.specs.Effect.{by_core, with_core, effect, effect_on}
 use Rattle.spec_history.specs.Refusal.{runs_and, is_there}
 use Rattle.spec_history.specs.Event.{event_of, NextIs}

@@ -1,7 +1,7 @@
 -- How far an epoch has come, and what comes of its next event.
 use Rattle.std.proofs.Common.{◌≡◌, ℕ, zero, suc, ◌+◌, ◌-◌, ◌≤◌, List, Some, refl, sym, ap, ◌∙◌, arith}
 use Rattle.rv32_exec.specs.declared.sequential.End.TheVariants.{Done}
-use Rattle.rv32_exec.specs.Image.{LoadedImage}
+use Rattle.rv32_image.specs.Image.{LoadedImage}
 use Rattle.rv32_exec.specs.Hart.{HartState, start_of}
 use Rattle.rv32_exec.specs.NextEvent.{next_event}
 use Rattle.rv32_exec.specs.Sequential.{Progress, Runs, Ends, Faults, execute, after_steps, after_stop, epoch_outcome, go_on, first_epochs, sequential_memory, published_memory}

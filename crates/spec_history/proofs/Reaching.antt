@@ -1,7 +1,7 @@
 -- Histories that grow by one entry, and lanes at the start.
 use Rattle.std.proofs.Common.{◌≡◌, ℕ, zero, suc, ◌+◌, ◌<◌, ◌≤◌, List, [], ◌∷◌, ◌++◌, length, slice_get, Option, Some, None, refl, sym, ap, subst, ◌∙◌, arith, take, get_or, add-one, option_and_then, option_map}
 use Rattle.std.proofs.lemmas.Option.{slice_get-get_or}
-use Rattle.rv32_exec.specs.Image.{LoadedImage, IsImage}
+use Rattle.rv32_image.specs.Image.{LoadedImage, IsImage}
 use Rattle.spec_history.specs.declared.entry.Entry.{Entry}
 use Rattle.spec_history.specs.declared.illegal.Illegal.{Illegal}
 use Rattle.spec_history.specs.declared.lane.Lane.{Lane}

@@ -2,8 +2,8 @@
 use Rattle.std.proofs.Common.{◌≡◌, ℕ, ◌==◌, not, nat_lt, Bool, true, false, cond, List, [], ◌∷◌, Option, Some, None, is_some, refl, sym, ap, subst, ◌∙◌, true≢false, arith, eqb-true, ltb-true}
 use Rattle.rv32_exec.specs.declared.stop.Stop.TheVariants as stop
 use Rattle.rv32_exec.specs.declared.sequential.End.{End}
-use Rattle.rv32_exec.specs.Bytes.{number_at}
-use Rattle.rv32_exec.specs.Image.{LoadedImage, IsImage}
+use Rattle.memory_bytes.specs.Bytes.{number_at}
+use Rattle.rv32_image.specs.Image.{LoadedImage, IsImage}
 use Rattle.rv32_exec.specs.Hart.{start_of}
 use Rattle.rv32_exec.specs.NextEvent.{next_event}
 use Rattle.rv32_exec.specs.Hart.{HartState}
@@ -13,7 +13,8 @@ use Rattle.spec_history.specs.declared.entry.Entry.{Entry}
 use Rattle.spec_history.specs.declared.entry.What.{What}
 use Rattle.spec_history.specs.declared.entry.What.TheVariants.{Start, Load, Store, Hurt, Restart, Publish, Commit, Fault}
 use Rattle.spec_history.specs.declared.illegal.Illegal.{Illegal}
-use Rattle.spec_history.specs.FlatState.{CoreState, FlatState, over, stored, first_state}
+use Rattle.memory_bytes.specs.Maps.{over, stored}
+use Rattle.spec_history.specs.FlatState.{CoreState, FlatState, first_state}
 use Rattle.spec_history.specs.Effect.{by_core, effect, effect_on, effect_idle}
 use Rattle.spec_history.specs.Refusal.{refusal_of, runs, runs_and}
 use Rattle.spec_history.specs.Replay.{where_legal, replay_from, replay}

@@ -1,14 +1,15 @@
 -- What an entry does to the state. It is total: what an entry that is refused would do is read by nothing.
 use Rattle.std.specs.Prelude.{ℕ, ◌+◌, ◌==◌, ◌||◌, true, Option, Some, None, if◌then◌else◌}
 use Rattle.rv32_exec.specs.declared.sequential.End.TheVariants as end
-use Rattle.rv32_exec.specs.Image.{LoadedImage}
+use Rattle.rv32_image.specs.Image.{LoadedImage}
 use Rattle.rv32_exec.specs.Hart.{stepped}
 use Rattle.rv32_exec.specs.NextEvent.{next_event}
 use Rattle.rv32_exec.specs.Arrival.{after_number}
 use Rattle.spec_history.specs.declared.entry.Entry.{Entry}
 use Rattle.spec_history.specs.declared.entry.What.{What}
 use Rattle.spec_history.specs.declared.entry.What.TheVariants.{Start, Load, Store, Hurt, Restart, Publish, Commit, Fault}
-use Rattle.spec_history.specs.FlatState.{CoreState, FlatState, nothing, joined, over, stored, read_outside, begun, end_at}
+use Rattle.memory_bytes.specs.Maps.{nothing, joined, over, stored, read_outside}
+use Rattle.spec_history.specs.FlatState.{CoreState, FlatState, begun, end_at}
 
 -- a value by what a core runs
 abbrev pub by_core : {A : Type 0} → Option CoreState → A → (CoreState → A) → A

@@ -1,6 +1,6 @@
 -- The next event of a core, as `advance` gives it.
 use Rattle.std.specs.Prelude.{◌≡◌, Option, option_map}
-use Rattle.rv32_exec.specs.Image.{LoadedImage}
+use Rattle.rv32_image.specs.Image.{LoadedImage}
 use Rattle.rv32_exec.specs.NextEvent.{Event, next_event}
 use Rattle.rv32_exec.specs.Arrival.{Arrival}
 use Rattle.spec_history.specs.FlatState.{CoreState}

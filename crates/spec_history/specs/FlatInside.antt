@@ -1,5 +1,5 @@
 -- What the flat machine keeps.
-use Rattle.rv32_exec.specs.Image.{IsImage}
+use Rattle.rv32_image.specs.Image.{IsImage}
 use Rattle.spec_history.specs.declared.flat.Flat.TheInside.{Inside}
 use Rattle.spec_history.specs.View.{FlatView, state_in, cores_in, IsReached}
 use Rattle.spec_history.specs.Machine.{IsFit}

@@ -1,11 +1,12 @@
 -- The state of the flat machine: committed memory, the homefree epoch, and what each core runs.
 -- Source: ordered epochs, one of them homefree, and violation are those of Steffan, Colohan, Zhai and Mowry, "A
 -- Scalable Approach to Thread-Level Speculation", ISCA 2000. There are no caches here, and no messages.
-use Rattle.std.specs.Prelude.{ℕ, suc, zero, ◌+◌, ◌/◌, ◌%◌, ◌==◌, ◌&&◌, Bool, false, Option, Some, None, unwrap_or, is_none, nat_le, nat_lt, slice_index, if◌then◌else◌}
+use Rattle.std.specs.Prelude.{ℕ, ◌==◌, Bool, false, Option, Some, None, slice_index, if◌then◌else◌}
 use Rattle.rv32_exec.specs.declared.sequential.End.{End}
 use Rattle.rv32_exec.specs.declared.sequential.End.TheVariants.{Done}
-use Rattle.rv32_exec.specs.Image.{LoadedImage}
+use Rattle.rv32_image.specs.Image.{LoadedImage}
 use Rattle.rv32_exec.specs.Hart.{HartState, start_of}
+use Rattle.memory_bytes.specs.Maps.{nothing}
 
 -- what a core runs
 pub record CoreState : Type 0 where
@@ -33,33 +34,6 @@ pub record FlatState : Type 0 where
   pub end : Option End
   -- what each core runs; an idle one runs nothing
   pub cores : ℕ → Option CoreState
-
--- no bytes
-abbrev pub nothing : ℕ → Option ℕ
-nothing a = None
-
--- the first bytes, and the second where the first has none
-abbrev pub first_of : Option ℕ → Option ℕ → Option ℕ
-first_of None second = second
-first_of (Some byte) second = Some byte
-
-abbrev pub joined : (ℕ → Option ℕ) → (ℕ → Option ℕ) → ℕ → Option ℕ
-joined first second a = first_of (first a) (second a)
-
--- memory with these bytes over it
-abbrev pub over : (ℕ → Option ℕ) → (ℕ → ℕ) → ℕ → ℕ
-over bytes memory a = unwrap_or (bytes a) (memory a)
-
--- the bytes of a store: the low `width` bytes of the value, little endian, from the address on
-unfoldable pub stored : ℕ → ℕ → ℕ → ℕ → Option ℕ
-stored address zero value a = None
-stored address (suc width) value a =
-    if a == address then Some (value % 256) else stored (address + 1) width (value / 256) a
-
--- the bytes that a load reads from outside: those that it loads and that aren't its own
-abbrev pub read_outside : ℕ → ℕ → (ℕ → Option ℕ) → (ℕ → ℕ) → ℕ → Option ℕ
-read_outside address width own committed a =
-    if (nat_le address a && nat_lt a (address + width)) && is_none (own a) then Some (committed a) else None
 
 -- a core at the start of an epoch
 abbrev pub begun : LoadedImage → ℕ → CoreState

@@ -3,8 +3,9 @@ use Rattle.std.specs.Prelude.{◌≡◌, ℕ, List, length, slice_get, Option, S
 use Rattle.rv32_exec.specs.Hart.{HartState}
 use Rattle.spec_history.specs.declared.lane.Attempt.{Attempt}
 use Rattle.spec_history.specs.declared.lane.Lane.{Lane}
-use Rattle.spec_history.specs.FlatState.{CoreState, nothing, joined, stored, read_outside}
-use Rattle.spec_history.specs.Shadow.{byte_in}
+use Rattle.memory_bytes.specs.Maps.{nothing, joined, stored, read_outside}
+use Rattle.spec_history.specs.FlatState.{CoreState}
+use Rattle.memory_bytes.specs.Shadow.{byte_in}
 
 abbrev pub core_with : List (Option ℕ) → List (Option ℕ) → Attempt → CoreState
 core_with own outside t = record {

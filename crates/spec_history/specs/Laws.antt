@@ -2,11 +2,12 @@
 use Rattle.std.specs.Prelude.{◌≡◌, ℕ, ◌<◌, ◌≤◌, true, false, List, [], length, Option, Some, None, slice_index}
 use Rattle.rv32_exec.specs.declared.sequential.End.{End}
 use Rattle.rv32_exec.specs.declared.sequential.End.TheVariants.{Done, Fault}
-use Rattle.rv32_exec.specs.Image.{LoadedImage}
+use Rattle.rv32_image.specs.Image.{LoadedImage}
 use Rattle.rv32_exec.specs.Hart.{start_of}
 use Rattle.rv32_exec.specs.Sequential.{Runs, after_steps, published_memory, sequential_result}
 use Rattle.spec_history.specs.declared.entry.Entry.{Entry}
-use Rattle.spec_history.specs.FlatState.{CoreState, FlatState, over}
+use Rattle.memory_bytes.specs.Maps.{over}
+use Rattle.spec_history.specs.FlatState.{CoreState, FlatState}
 
 -- committed memory is this list, byte for byte
 pub record Holds (image : LoadedImage) (committed : ℕ → ℕ) (memory : List ℕ) : Type 0 where

@@ -3,7 +3,6 @@ pub mod FlatState
 pub mod Effect
 pub mod Refusal
 pub mod Replay
-pub mod Shadow
 pub mod Lane
 pub mod Event
 pub mod Machine

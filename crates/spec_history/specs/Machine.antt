@@ -1,7 +1,7 @@
 -- What the code keeps of the machine, and the state that it stands for.
 use Rattle.std.specs.Prelude.{◌≡◌, ℕ, ◌+◌, ◌≤◌, List, length, Option, Some, None, slice_get, slice_index, option_and_then}
-use Rattle.rv32_exec.specs.Image.{LoadedImage}
-use Rattle.rv32_exec.specs.Execute.{IsWidth}
+use Rattle.rv32_image.specs.Image.{LoadedImage}
+use Rattle.memory_bytes.specs.Bytes.{IsWidth}
 use Rattle.rv32_exec.specs.Arrival.{Arrival}
 use Rattle.spec_history.specs.declared.entry.What.{What}
 use Rattle.spec_history.specs.declared.entry.What.TheVariants.{Start, Load, Store, Hurt, Restart, Publish, Commit, Fault}
@@ -62,6 +62,17 @@ IsInMemory size (Fault cause pc) = Unit {0}
 -- the core can note four more bytes of each kind without taking memory
 pub record HasRoom (m : Machine) (by : ℕ) : Type 0 where
   pub room : (lane : Lane) → slice_get m.lanes.items by ≡ Some lane → (4 ≤ lane.own.room) × (4 ≤ lane.outside.room)
+
+-- where the entry notes bytes
+abbrev pub HasRoomFor : Machine → ℕ → What → Type 0
+HasRoomFor m by (Start epoch) = Unit {0}
+HasRoomFor m by (Load address width value) = HasRoom m by
+HasRoomFor m by (Store address width value) = HasRoom m by
+HasRoomFor m by (Hurt epoch) = Unit {0}
+HasRoomFor m by Restart = Unit {0}
+HasRoomFor m by Publish = Unit {0}
+HasRoomFor m by Commit = Unit {0}
+HasRoomFor m by (Fault cause pc) = Unit {0}
 
 -- the machine has done what the entry does
 pub record Becomes (image : LoadedImage) (old new : Machine) (entry : Entry) : Type 0 where

@@ -1,8 +1,10 @@
 -- What contracts see of the flat machine.
-use Rattle.std.specs.Prelude.{◌≡◌, ◌⊎◌, ℕ, List, length, take, Option, Some, None, slice_get, slice_index}
+use Rattle.std.specs.Prelude.{◌≡◌, ◌⊎◌, ℕ, Bool, true, false, List, length, take, Option, Some, None, slice_get, slice_index}
 use Rattle.rv32_exec.specs.declared.sequential.End.{End}
-use Rattle.rv32_exec.specs.Image.{LoadedImage}
+use Rattle.rv32_image.specs.Image.{LoadedImage}
 use Rattle.spec_history.specs.declared.entry.Entry.{Entry}
+use Rattle.spec_history.specs.declared.entry.What.{What}
+use Rattle.spec_history.specs.declared.entry.What.TheVariants.{Start, Load, Store, Hurt, Restart, Publish, Commit, Fault}
 use Rattle.spec_history.specs.declared.illegal.Illegal.{Illegal}
 use Rattle.spec_history.specs.declared.illegal.Illegal.TheVariants.{NoMemory}
 use Rattle.spec_history.specs.declared.lane.Lane.{Lane}
@@ -52,13 +54,24 @@ pub record IsApplied (old new : FlatView) (entry : Entry) : Type 0 where
   pub legal : refusal_of old.image (cores_in old) (state_in old) entry ≡ None
   pub effect_is : state_in new ≡ effect old.image (state_in old) entry
 
--- it is the refusal of the entry; or the entry was legal, and memory ran out
-abbrev pub IsAnswer : Option Illegal → Illegal → Type 0
-IsAnswer refusal illegal = (refusal ≡ Some illegal) ⊎ ((refusal ≡ None) × (illegal ≡ NoMemory))
+-- a load or a store
+abbrev pub is_access : What → Bool
+is_access (Start epoch) = false
+is_access (Load address width value) = true
+is_access (Store address width value) = true
+is_access (Hurt epoch) = false
+is_access Restart = false
+is_access Publish = false
+is_access Commit = false
+is_access (Fault cause pc) = false
+
+-- it is the refusal of the entry; or the entry was a legal access, and memory ran out
+abbrev pub IsAnswer : Option Illegal → What → Illegal → Type 0
+IsAnswer refusal what illegal = (refusal ≡ Some illegal) ⊎ ((refusal ≡ None) × (illegal ≡ NoMemory) × (is_access what ≡ true))
 
 -- nothing has changed
 pub record IsRefused (old new : FlatView) (entry : Entry) (illegal : Illegal) : Type 0 where
-  pub answer : IsAnswer (refusal_of old.image (cores_in old) (state_in old) entry) illegal
+  pub answer : IsAnswer (refusal_of old.image (cores_in old) (state_in old) entry) entry.what illegal
   pub unchanged : state_in new ≡ state_in old
 
 -- the entries before this place replay, and the one there is refused so
@@ -67,7 +80,7 @@ pub record IsRefusedAt (image : LoadedImage) (cores : ℕ) (entries : List Entry
   pub replays : replay image cores (take place entries) ≡ Some before
   pub entry : Entry
   pub there : slice_get entries place ≡ Some entry
-  pub answer : IsAnswer (refusal_of image cores before entry) illegal
+  pub answer : IsAnswer (refusal_of image cores before entry) entry.what illegal
 
 -- or there was no memory for the machine itself
 abbrev pub IsAuditFault : LoadedImage → ℕ → List Entry → ℕ → Illegal → Type 0

@@ -49,7 +49,7 @@ impl Flat {
     /// Applies the next entry of the history.
     ///
     /// The refusals are tried in the order `Over`, `NotThere`, `NotNext`, `NotHomefree`, `WrongValue`, `HurtMissing`,
-    /// `NoMemory`. After an Err the machine is unchanged.
+    /// `NoMemory`, which only a load and a store can answer. After an Err the machine is unchanged.
     pub fn apply(&mut self, entry: Entry) -> Result<(), Illegal>
         ensures same { spec.IsSameMachine self.old self.new }
         ensures answer { MatchResult result (λ _. spec.IsApplied self.old self.new entry) (spec.IsRefused self.old self.new entry) }
@@ -58,7 +58,7 @@ impl Flat {
         if let Some(refusal) = self.machine.refusal(&self.image, entry, arrived.as_ref()) {
             return Err(refusal);
         }
-        if self.machine.prepare(entry.by).is_err() {
+        if self.machine.prepare(entry).is_err() {
             return Err(Illegal::NoMemory);
         }
         self.machine.perform(&self.image, entry, arrived.as_ref());

@@ -1,15 +1,16 @@
 ghost use Rattle.std.specs.Prelude.{◌≡◌, ◌<◌, ◌≤◌, ◌+◌, ◌^◌, ℕ, IfOk, OnOk, Some, None, length, slice_index, option_map, nat_lt, not, is_some, false, ◌==◌};
-ghost use Rattle.spec_history.specs.FlatState.{begun, joined, over, read_outside, stored};
+ghost use Rattle.memory_bytes.specs.Maps.{joined, over, read_outside, stored};
+ghost use Rattle.spec_history.specs.FlatState.{begun};
 ghost use Rattle.spec_history.specs.Effect as effect;
 ghost use Rattle.spec_history.specs.Refusal as refusal;
-ghost use Rattle.spec_history.specs.Shadow.{byte_in};
+ghost use Rattle.memory_bytes.specs.Shadow.{byte_in};
 ghost use Rattle.spec_history.specs.Lane as spec;
 ghost use Rattle.spec_history.specs.Event.{NextIs};
-ghost use Rattle.rv32_exec.specs.Bytes.{number_at};
-ghost use Rattle.rv32_exec.specs.Execute.{IsWidth};
+ghost use Rattle.memory_bytes.specs.Bytes.{number_at};
+ghost use Rattle.memory_bytes.specs.Bytes.{IsWidth};
 
-use crate::shadow::ShadowBytes;
 use rv32_exec::{Arrived, Hart, Image, NoMemory, advance, start};
+use memory_bytes::ShadowBytes;
 use std::alloc::Global;
 
 /// What a core runs: an epoch, its hart at its last event, whether it has published, and whether it was violated.
@@ -36,8 +37,8 @@ impl Lane {
         ensures idle { IfOk result (λ lane. lane.attempt ≡ None) }
         ensures sized { IfOk result (spec.IsSized size) }
     {
-        let own = ShadowBytes::new(alloc, size)?;
-        let outside = ShadowBytes::new(alloc, size)?;
+        let own = ShadowBytes::new(alloc, size).map_err(|_| NoMemory)?;
+        let outside = ShadowBytes::new(alloc, size).map_err(|_| NoMemory)?;
         Ok(Lane {
             attempt: None,
             own,
@@ -53,8 +54,8 @@ impl Lane {
         ensures own_room { OnOk result (4 ≤ self.new.own.room) }
         ensures outside_room { OnOk result (4 ≤ self.new.outside.room) }
     {
-        self.own.reserve(4)?;
-        self.outside.reserve(4)
+        self.own.reserve(4).map_err(|_| NoMemory)?;
+        self.outside.reserve(4).map_err(|_| NoMemory)
     }
 
     /// Begins an epoch.
@@ -182,17 +183,7 @@ impl Lane {
         }
     }
 
-    /// The byte that its epoch sees.
-    pub fn seen(&self, committed: &[u8], addr: u32) -> u8
-        requires own { addr < length self.now.own.cells }
-        requires committed { addr < length committed.now }
-        ensures { result ≡ over (byte_in self.now.own.cells) (λ a. slice_index committed.now a) addr }
-    {
-        self.own.get(addr).unwrap_or(committed[addr as usize])
-    }
-
     /// The number in `width` bytes that its epoch sees, little endian.
-    #[tactic(auto, unfolding(rv32_exec::specs::Bytes::number_at))]
     pub fn number(&self, committed: &[u8], addr: u32, width: u32) -> u32
         requires width { IsWidth width }
         requires small { addr + width < 2 ^ 32 }
@@ -201,56 +192,7 @@ impl Lane {
         ensures number { result ≡ number_at (over (byte_in self.now.own.cells) (λ a. slice_index committed.now a)) addr width }
         ensures below { result < 256 ^ width }
     {
-        match width {
-            1 => u32::from(self.seen(committed, addr)),
-            2 => u32::from(u16::from_le_bytes([
-                self.seen(committed, addr),
-                self.seen(committed, addr + 1),
-            ])),
-            _ => u32::from_le_bytes([
-                self.seen(committed, addr),
-                self.seen(committed, addr + 1),
-                self.seen(committed, addr + 2),
-                self.seen(committed, addr + 3),
-            ]),
-        }
-    }
-
-    /// Notes the bytes of a load that it reads from outside.
-    pub fn note(&mut self, committed: &[u8], addr: u32, width: u32)
-        requires small { addr + width < 2 ^ 32 }
-        requires own { addr + width ≤ length self.old.own.cells }
-        requires outside { addr + width ≤ length self.old.outside.cells }
-        requires committed { addr + width ≤ length committed.now }
-        requires room { width ≤ self.old.outside.room }
-        ensures attempt { self.new.attempt ≡ self.old.attempt }
-        ensures own { self.new.own ≡ self.old.own }
-        ensures long { length self.new.outside.cells ≡ length self.old.outside.cells }
-        ensures read { (a : ℕ) → byte_in self.new.outside.cells a ≡
-            joined (read_outside addr width (byte_in self.old.own.cells) (λ b. slice_index committed.now b)) (byte_in self.old.outside.cells) a }
-    {
-        for i in 0..width {
-            if self.own.get(addr + i).is_none() {
-                self.outside.set(addr + i, committed[(addr + i) as usize]);
-            }
-        }
-    }
-
-    /// Keeps the bytes of a store as its own.
-    pub fn keep(&mut self, addr: u32, width: u32, value: u32)
-        requires small { addr + width < 2 ^ 32 }
-        requires own { addr + width ≤ length self.old.own.cells }
-        requires room { width ≤ self.old.own.room }
-        ensures attempt { self.new.attempt ≡ self.old.attempt }
-        ensures outside { self.new.outside ≡ self.old.outside }
-        ensures long { length self.new.own.cells ≡ length self.old.own.cells }
-        ensures kept { (a : ℕ) → byte_in self.new.own.cells a ≡ joined (stored addr width value) (byte_in self.old.own.cells) a }
-    {
-        let mut rest = value;
-        for i in 0..width {
-            self.own.set(addr + i, (rest % 256) as u8);
-            rest /= 256;
-        }
+        self.own.number(committed, addr, width)
     }
 
     /// Goes on with this hart after a load.
@@ -268,7 +210,7 @@ impl Lane {
             return;
         };
         if !attempt.straight {
-            self.note(committed, addr, width);
+            self.outside.note(&self.own, committed, addr, width);
         }
         self.attempt = Some(Attempt { hart, ..attempt });
     }
@@ -286,7 +228,7 @@ impl Lane {
             return;
         };
         if !attempt.straight {
-            self.keep(addr, width, value);
+            self.own.keep(addr, width, value);
         }
         self.attempt = Some(Attempt { hart, ..attempt });
     }
@@ -323,10 +265,6 @@ impl Lane {
         ensures long { length committed.new.items ≡ length committed.old.items }
         ensures bytes { (a : ℕ) → slice_index committed.new.items a ≡ over (byte_in self.now.own.cells) (λ b. slice_index committed.old.items b) a }
     {
-        for addr in self.own.touched() {
-            if let Some(byte) = self.own.get(*addr) {
-                committed[*addr as usize] = byte;
-            }
-        }
+        self.own.commit(committed);
     }
 }

@@ -1,7 +1,7 @@
 //! Laws of replay, over the definitions alone: each function does nothing, and its contract is the law.
 
 ghost use Rattle.std.specs.Prelude.{◌≡◌, ℕ, ◌++◌, ◌∷◌, [], List, Some, None};
-ghost use Rattle.rv32_exec.specs.Image.{LoadedImage, IsImage};
+ghost use Rattle.rv32_image.specs.Image.{LoadedImage, IsImage};
 ghost use Rattle.rv32_exec.specs.declared.sequential.End.{End};
 ghost use Rattle.spec_history.specs.declared.entry.Entry.{Entry};
 ghost use Rattle.spec_history.specs.declared.entry.What.TheVariants.{Fault};

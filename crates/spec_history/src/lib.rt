@@ -8,7 +8,6 @@ mod illegal;
 mod lane;
 pub mod laws;
 mod machine;
-mod shadow;
 
 pub use entry::{Entry, What};
 pub use flat::{Flat, audit};

@@ -1,15 +1,18 @@
-ghost use Rattle.std.specs.Prelude.{◌≡◌, ◌<◌, ◌≤◌, ◌+◌, ◌^◌, ℕ, IfOk, OnOk, Some, None, length, slice_index, slice_get, option_copied, not, ◌&&◌, ◌==◌};
-ghost use Rattle.spec_history.specs.FlatState.{first_state, over, stored};
-ghost use Rattle.spec_history.specs.Shadow.{byte_in};
-ghost use Rattle.rv32_exec.specs.Image.{IsImage};
+ghost use Rattle.std.specs.Prelude.{◌≡◌, ◌<◌, ◌≤◌, ◌+◌, ◌^◌, ℕ, IfOk, OnOk, OnErr, true, Some, None, length, slice_index, slice_get, option_copied, not, ◌&&◌, ◌==◌};
+ghost use Rattle.memory_bytes.specs.Maps.{over, stored};
+ghost use Rattle.spec_history.specs.FlatState.{first_state};
+ghost use Rattle.memory_bytes.specs.Shadow.{byte_in};
+ghost use Rattle.rv32_image.specs.Image.{IsImage};
 ghost use Rattle.spec_history.specs.Lane.{AreIdle};
 ghost use Rattle.spec_history.specs.Effect.{effect};
 ghost use Rattle.spec_history.specs.Refusal as refusal;
+ghost use Rattle.spec_history.specs.View.{is_access};
 
 use crate::entry::{Entry, What};
 use crate::illegal::Illegal;
 use crate::lane::Lane;
 use rv32_exec::{Arrived, End, Image, NoMemory, Stop, loaded, stored};
+use memory_bytes::put_number;
 use std::alloc::Global;
 
 /// What is kept of the flat machine, the image aside.
@@ -262,8 +265,23 @@ impl Machine {
         None
     }
 
-    /// Makes room for what an entry of this core may note.
-    pub fn prepare(&mut self, by: u32) -> Result<(), NoMemory>
+    /// Makes room for what the entry notes. Only a load and a store note anything.
+    pub fn prepare(&mut self, entry: Entry) -> Result<(), NoMemory>
+        ensures same { spec.state_of self.new ≡ spec.state_of self.old }
+        ensures count { spec.count_of_cores self.new ≡ spec.count_of_cores self.old }
+        ensures fit { (size : ℕ) → spec.IsFit size self.old → spec.IsFit size self.new }
+        ensures room { OnOk result (spec.HasRoomFor self.new entry.by entry.what) }
+        ensures accesses { OnErr result (is_access entry.what ≡ true) }
+    {
+        match entry.what {
+            What::Load { .. } | What::Store { .. } => self.reserve(entry.by),
+            What::Start(_) | What::Hurt(_) | What::Restart => Ok(()),
+            What::Publish | What::Commit | What::Fault { .. } => Ok(()),
+        }
+    }
+
+    /// Makes room for the bytes of an access of this core.
+    fn reserve(&mut self, by: u32) -> Result<(), NoMemory>
         ensures same { spec.state_of self.new ≡ spec.state_of self.old }
         ensures count { spec.count_of_cores self.new ≡ spec.count_of_cores self.old }
         ensures fit { (size : ℕ) → spec.IsFit size self.old → spec.IsFit size self.new }
@@ -281,7 +299,7 @@ impl Machine {
         requires image { IsImage image.now }
         requires fit { spec.IsFit image.now.size self.old }
         requires homefree { self.old.homefree ≤ 65535 }
-        requires room { spec.HasRoom self.old entry.by }
+        requires room { spec.HasRoomFor self.old entry.by entry.what }
         requires next { spec.IsAtHand image.now ((spec.state_of self.old).cores entry.by) entry.what (option_copied arrived) }
         requires legal { spec.IsLegal image.now self.old entry }
         ensures { spec.Becomes image.now self.old self.new entry }
@@ -452,20 +470,6 @@ impl Machine {
                 pc,
             });
         }
-    }
-}
-
-/// Puts the low `width` bytes of a value into memory, little endian, from an address on.
-fn put_number(committed: &mut Vec<u8>, addr: u32, width: u32, value: u32)
-    requires small { addr + width < 2 ^ 32 }
-    requires within { addr + width ≤ length committed.old.items }
-    ensures long { length committed.new.items ≡ length committed.old.items }
-    ensures bytes { (a : ℕ) → slice_index committed.new.items a ≡ over (stored addr width value) (λ b. slice_index committed.old.items b) a }
-{
-    let mut rest = value;
-    for i in 0..width {
-        committed[(addr + i) as usize] = (rest % 256) as u8;
-        rest /= 256;
     }
 }
 

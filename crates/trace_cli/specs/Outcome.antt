@@ -2,14 +2,14 @@
 use Rattle.std.specs.Prelude.{◌≡◌, ◌⊎◌, ℕ, ◌++◌, List, [], codes, take, Option, MatchResult}
 use Rattle.std.specs.Fmt.{decimal}
 use Rattle.std.specs.Io.KnownBytes.{Appends, Keeps}
-use Rattle.rv32_exec.specs.declared.fault.ImageFault.{ImageFault}
-use Rattle.rv32_exec.specs.declared.fault.ImageFaultKind.{ImageFaultKind}
-use Rattle.rv32_exec.specs.declared.fault.ImageFaultKind.TheVariants as kind
+use Rattle.rv32_image.specs.declared.fault.ImageFault.{ImageFault}
+use Rattle.rv32_image.specs.declared.fault.ImageFaultKind.{ImageFaultKind}
+use Rattle.rv32_image.specs.declared.fault.ImageFaultKind.TheVariants as kind
 use Rattle.rv32_exec.specs.declared.sequential.End.{End}
 use Rattle.rv32_exec.specs.declared.sequential.End.TheVariants as end
-use Rattle.rv32_exec.specs.Image.{LoadedImage}
-use Rattle.rv32_exec.specs.ImageText.{image_text}
-use Rattle.rv32_exec.specs.Reading.{name_of, IsReadFaultOf}
+use Rattle.rv32_image.specs.Image.{LoadedImage}
+use Rattle.rv32_image.specs.ImageText.{image_text}
+use Rattle.rv32_image.specs.Reading.{name_of, IsReadFaultOf}
 use Rattle.rv32_exec.specs.Sequential.{sequential_result}
 use Rattle.trace_cli.specs.declared.outcome.Outcome.{Outcome}
 use Rattle.trace_cli.specs.declared.outcome.Outcome.TheVariants.{Reported, Usage, BadImage, Stopped}

@@ -1,6 +1,6 @@
 ghost use Rattle.std.specs.Prelude.{◌≡◌, ◌+◌, IfSome, IfOk};
-ghost use Rattle.rv32_exec.specs.declared.fault.TheConstants.{LONGEST_IMAGE_TEXT};
-ghost use Rattle.rv32_exec.specs.Input.{TakesAtMost};
+ghost use Rattle.rv32_image.specs.declared.fault.TheConstants.{LONGEST_IMAGE_TEXT};
+ghost use Rattle.rv32_image.specs.Input.{TakesAtMost};
 ghost use Rattle.rv32_exec.specs.Sequential.{sequential_result};
 ghost use Rattle.trace_cli.specs.Report.{report_of};
 ghost use Rattle.trace_cli.specs.Outcome as spec;

@@ -1,6 +1,6 @@
 use Rattle.std.proofs.Common.{◌≡◌, ◌+◌, refl, ap, sym, ◌∙◌, slice_index, arith}
 use Rattle.rv32_exec.specs.declared.stop.Stop.TheVariants.{Load, Store, Ended, Fault}
-use Rattle.rv32_exec.specs.Bytes.{number_at, with_number}
+use Rattle.memory_bytes.specs.Bytes.{number_at, with_number}
 use Rattle.rv32_exec.specs.Hart.{HartState, stepped}
 use Rattle.rv32_exec.specs.Execute.{Stops, hart_effect, after_load}
 use Rattle.rv32_exec.specs.Sequential.{Runs}

@@ -1,5 +1,6 @@
-use Rattle.std.proofs.Common.{ℕ, ◌≡◌, None, refl, sym, ap, subst, ◌∙◌, inl, inr, arith}
-use Rattle.rv32_exec.specs.Image.{LoadedImage}
+use Rattle.std.specs.Result.{is_err}
+use Rattle.std.proofs.Common.{ℕ, ◌≡◌, true, Result, Ok, Err, OnErr, None, refl, sym, ap, subst, ◌∙◌, inl, inr, arith}
+use Rattle.rv32_image.specs.Image.{LoadedImage}
 use Rattle.spec_history.specs.declared.entry.Entry.{Entry}
 use Rattle.spec_history.specs.Effect.{effect}
 use Rattle.spec_history.specs.FlatState.{FlatState}
@@ -19,9 +20,13 @@ invariant_of-self c = record {
   fit = c.prepare.ensures.fit c.self.inside.image.size c.self.invariant.fit;
 }
 
+failed : {A B : Type 0} (r : Result A B) (P : Type 0) → is_err r ≡ true → OnErr r P → P
+failed (Ok x) P is on = absurd cc
+failed (Err e) P is on = on
+
 pub returns-then-is_err-clause-answer : goal.returns-then-is_err-clause-answer
 returns-then-is_err-clause-answer c =
-    rw (← c.self.view_is) (record { answer = inr (sym c.refusal.ensures ∙ c.in_default.is, refl); unchanged = c.prepare.ensures.same })
+    rw (← c.self.view_is) (record { answer = inr (sym c.refusal.ensures ∙ c.in_default.is, refl, failed c.prepare.result _ (sym c.is_err.ensures.value ∙ c.if-is_err.true) c.prepare.ensures.accesses); unchanged = c.prepare.ensures.same })
 
 pub perform-requires-clause-image : goal.perform-requires-clause-image
 perform-requires-clause-image c = c.self.invariant.image

@@ -2,7 +2,7 @@ use Rattle.std.proofs.Common.{rules, ◌<◌, ◌+◌, cond, length, Some, None,
 use Rattle.spec_history.specs.declared.entry.What.TheVariants.{Commit}
 use Rattle.rv32_exec.specs.declared.sequential.End.TheVariants.{Done}
 use Rattle.spec_history.specs.Effect.{effect_on}
-use Rattle.spec_history.specs.FlatState.{over}
+use Rattle.memory_bytes.specs.Maps.{over}
 use Rattle.spec_history.specs.Machine.{state_of}
 use Rattle.spec_history.proofs.Lanes.{lane_there, lane_own}
 use Rattle.spec_history.proofs.Performed.{finds, lane_runs, becomes}

@@ -1,6 +1,6 @@
 use Rattle.std.proofs.Common.{◌≡◌, ◌<◌, length, slice_index, sym, ◌∙◌, arith}
-use Rattle.spec_history.specs.FlatState.{over}
-use Rattle.spec_history.specs.Shadow.{byte_in}
+use Rattle.memory_bytes.specs.Maps.{over}
+use Rattle.memory_bytes.specs.Shadow.{byte_in}
 use Rattle.spec_history.specs.Machine.{count_of_cores, state_of}
 use Rattle.spec_history.proofs.Searches.{one_passes}
 use Rattle.spec_history.proofs.Missing.{is_unseen, byte_is, passed_all}

@@ -1,4 +1,4 @@
-use Rattle.spec_history.specs.Shadow.{byte_in}
+use Rattle.memory_bytes.specs.Shadow.{byte_in}
 use Rattle.spec_history.specs.Machine.{count_of_cores, state_of}
 use Rattle.spec_history.proofs.Missing.{Passed}
 use Rattle.spec_history.proofs.machine.Machine.commit_misses.Given as goal

@@ -5,7 +5,8 @@ use Rattle.rv32_exec.specs.Hart.{HartState}
 use Rattle.rv32_exec.specs.NextEvent.{Event, next_event}
 use Rattle.spec_history.specs.Event.{event_of}
 use Rattle.spec_history.specs.Effect.{effect_on}
-use Rattle.spec_history.specs.FlatState.{CoreState, over}
+use Rattle.memory_bytes.specs.Maps.{over}
+use Rattle.spec_history.specs.FlatState.{CoreState}
 use Rattle.spec_history.specs.Machine.{state_of}
 use Rattle.spec_history.proofs.Lanes.{lane_there, lane_own, attempt_core, no_attempt}
 use Rattle.spec_history.proofs.Performed.{finds, lane_runs, becomes_still, no_arrival, arrival_is}

@@ -1,15 +1,15 @@
 use Rattle.std.proofs.Common.{rules, ◌≡◌, ◌<◌, ◌==◌, true, false, length, Some, option_map, refl, sym, ap, ◌∙◌, arith, eqb-true, slice_index}
 use Rattle.spec_history.specs.declared.entry.What.TheVariants.{Load}
-use Rattle.rv32_exec.specs.Bytes.{number_at}
+use Rattle.memory_bytes.specs.Bytes.{number_at}
 use Rattle.rv32_exec.specs.Arrival.{after_number}
 use Rattle.rv32_exec.specs.declared.stop.Stop.TheVariants as stop
 use Rattle.rv32_exec.specs.NextEvent.{Event, next_event}
 use Rattle.spec_history.specs.Event.{event_of}
 use Rattle.spec_history.specs.Refusal.{is_that_load}
 use Rattle.spec_history.specs.Effect.{by_core, with_core}
-use Rattle.spec_history.specs.FlatState.{over}
+use Rattle.memory_bytes.specs.Maps.{over}
 use Rattle.spec_history.specs.Lane.{core_of, after_load}
-use Rattle.spec_history.specs.Shadow.{byte_in}
+use Rattle.memory_bytes.specs.Shadow.{byte_in}
 use Rattle.spec_history.specs.Machine.{state_of}
 use Rattle.spec_history.proofs.Legal.{that_load, next_in_memory}
 use Rattle.spec_history.proofs.Lanes.{lane_there, lane_own}

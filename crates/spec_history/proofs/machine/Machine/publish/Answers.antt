@@ -1,7 +1,8 @@
 use Rattle.std.proofs.Common.{rules, ◌<◌, length, Some, option_map, refl, sym, ap, ◌∙◌, arith}
 use Rattle.spec_history.specs.declared.entry.What.TheVariants.{Publish}
 use Rattle.spec_history.specs.Effect.{effect_on}
-use Rattle.spec_history.specs.FlatState.{CoreState, over}
+use Rattle.memory_bytes.specs.Maps.{over}
+use Rattle.spec_history.specs.FlatState.{CoreState}
 use Rattle.spec_history.specs.Lane.{after_publish}
 use Rattle.spec_history.specs.Machine.{state_of}
 use Rattle.spec_history.proofs.Lanes.{lane_there, lane_own, attempt_core, no_attempt}

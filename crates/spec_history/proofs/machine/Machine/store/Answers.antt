@@ -6,7 +6,7 @@ use Rattle.rv32_exec.specs.NextEvent.{Event, next_event}
 use Rattle.spec_history.specs.Event.{event_of}
 use Rattle.spec_history.specs.Refusal.{is_that_store}
 use Rattle.spec_history.specs.Effect.{by_core, with_core}
-use Rattle.spec_history.specs.FlatState.{over, stored}
+use Rattle.memory_bytes.specs.Maps.{over, stored}
 use Rattle.spec_history.specs.Lane.{after_store}
 use Rattle.spec_history.specs.Machine.{state_of}
 use Rattle.spec_history.proofs.Legal.{that_store, next_in_memory}

@@ -1,5 +1,5 @@
 use Rattle.spec_history.specs.Machine.{count_of_cores, state_of}
-use Rattle.spec_history.proofs.Stores.{Storing}
+use Rattle.memory_bytes.proofs.Stores.{Storing}
 use Rattle.spec_history.proofs.Missing.{Below}
 use Rattle.spec_history.proofs.machine.Machine.store_misses.Given as goal
 

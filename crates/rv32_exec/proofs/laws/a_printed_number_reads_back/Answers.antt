@@ -1,5 +1,0 @@
-use Rattle.rv32_exec.proofs.Printed.{number_in-decimal}
-use Rattle.rv32_exec.proofs.laws.a_printed_number_reads_back.Goals as goal
-
-pub returns : goal.returns
-returns c = number_in-decimal

@@ -1,0 +1,6 @@
+pub mod Kept
+pub mod Cuts
+pub mod Pieces
+pub mod Lines
+pub mod Inputs
+pub mod Printed

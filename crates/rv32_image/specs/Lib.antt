@@ -1,0 +1,10 @@
+pub mod Image
+pub mod LoadedCode
+pub mod Decoded
+pub mod ImageText
+pub mod Reading
+pub mod Cutting
+pub mod Drafts
+pub mod DraftView
+pub mod WordsOf
+pub mod Input

@@ -1,0 +1,15 @@
+//! Images of loops: their parts, and their text.
+#![tactic(auto)]
+
+mod draft;
+mod fault;
+mod image;
+mod input;
+pub mod laws;
+mod text;
+mod words;
+
+pub use fault::{ImageFault, ImageFaultKind, LONGEST_IMAGE_TEXT};
+pub use image::{Image, NoMemory};
+pub use input::{InputFault, read_input};
+pub use text::{image_of, read_image};
