@@ -1,5 +1,5 @@
 -- What the reader of the image text answers, where memory may run out and a read may fail.
-use Rattle.std.specs.Prelude.{◌≡◌, ℕ, List, Result, Ok, Err, codes}
+use Rattle.std.specs.Prelude.{◌≡◌, ℕ, List, Option, Some, None, Result, Ok, Err, codes}
 use Rattle.rv32_image.specs.declared.fault.ImageFault.{ImageFault}
 use Rattle.rv32_image.specs.declared.fault.ImageFaultKind.{ImageFaultKind}
 use Rattle.rv32_image.specs.declared.input.InputFault.{InputFault}
@@ -55,3 +55,8 @@ IsReadFaultOf kind fault read = read ≡ Err fault
 abbrev pub AnswersRead : {A : Type 0} → Result A ImageFault → Result A ImageFault → Type 0
 AnswersRead (Ok x) read = read ≡ Ok x
 AnswersRead (Err fault) read = IsReadFaultOf fault.kind fault read
+
+-- it holds for the text that is read, and where the reader doesn't tell it, for some text
+abbrev pub ForText : Option (List ℕ) → (List ℕ → Type 0) → Type 0
+ForText None P = (text : List ℕ) × P text
+ForText (Some text) P = P text

@@ -1,4 +1,4 @@
-ghost use Rattle.std.specs.Prelude.{◌≡◌};
+ghost use Rattle.std.specs.Prelude.{◌≡◌, ◌≤◌, length};
 ghost use Rattle.rv32_image.specs.Reading.{name_of};
 
 use crate::image::NoMemory;
@@ -49,7 +49,8 @@ impl From<InputFault> for ImageFault {
 impl ImageFault {
     /// The printed name of its kind.
     pub fn name(self) -> &'static str
-        ensures { result.now ≡ name_of self.kind }
+        ensures name { result.now ≡ name_of self.kind }
+        ensures short { length result.now ≤ 17 }
     {
         self.kind.name()
     }
@@ -87,7 +88,8 @@ pub enum ImageFaultKind {
 impl ImageFaultKind {
     /// The printed name, which is the variant's.
     pub fn name(self) -> &'static str
-        ensures { result.now ≡ name_of self }
+        ensures name { result.now ≡ name_of self }
+        ensures short { length result.now ≤ 17 }
     {
         match self {
             ImageFaultKind::Line => "Line",

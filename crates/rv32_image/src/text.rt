@@ -1,6 +1,6 @@
-ghost use Rattle.std.specs.Prelude.{◌≡◌, ◌≤◌, ◌+◌, IfSome, length, Ok};
+ghost use Rattle.std.specs.Prelude.{◌≡◌, ◌≤◌, ◌+◌, length, Ok};
 ghost use Rattle.rv32_image.specs.ImageText as spec;
-ghost use Rattle.rv32_image.specs.Reading.{Answers, AnswersRead};
+ghost use Rattle.rv32_image.specs.Reading.{Answers, AnswersRead, ForText};
 ghost use Rattle.rv32_image.specs.Input.{TakesAtMost};
 
 use crate::draft::Draft;
@@ -34,7 +34,7 @@ pub fn image_of(alloc: Global, text: &[u8]) -> Result<Image, ImageFault>
 /// The faults are those of `image_of`, and `Read`, on line 0, where a read failed or was interrupted. It takes at
 /// most 1,048,577 bytes.
 pub fn read_image<R: Read>(alloc: Global, reader: &mut R) -> Result<Image, ImageFault>
-    ensures text { IfSome (R.remaining reader.old) (λ text. AnswersRead result (spec.image_text text)) }
+    ensures text { ForText (R.remaining reader.old) (λ text. AnswersRead result (spec.image_text text)) }
     ensures taken { TakesAtMost (R.remaining reader.old) (R.remaining reader.new) (spec.longest_image_text + 1) }
 {
     let text = read_input(alloc, reader, LONGEST_IMAGE_TEXT)?;

@@ -1,16 +1,23 @@
 -- What the program answers where no command was run.
-use Rattle.std.proofs.Common.{◌≡◌, ℕ, List, Option, Some, None, IfSome, refl, inr}
+use Rattle.std.proofs.Common.{◌≡◌, ◌⊎◌, ℕ, List, [], Option, Some, None, refl, inr}
 use Rattle.std.specs.Io.KnownBytes.{Keeps}
-use Rattle.trace_cli.specs.declared.outcome.Outcome.TheVariants.{Stopped}
-use Rattle.trace_cli.specs.declared.outcome.StopCause.TheVariants.{NoMemory}
-use Rattle.trace_cli.specs.Outcome.{AppendsPrefix, WorkAnswers, error_line, status_of}
+use Rattle.rv32_image.specs.Reading.{ForText}
+use Rattle.trace_commands.specs.declared.outcome.Outcome.{Outcome}
+use Rattle.trace_commands.specs.declared.outcome.Outcome.TheVariants.{Usage, Stopped}
+use Rattle.trace_commands.specs.declared.outcome.StopCause.TheVariants.{NoMemory}
+use Rattle.trace_commands.specs.Outcome.{AppendsPrefix, error_line, status_of}
+use Rattle.trace_cli.specs.Work.{Stream, WorkAnswers}
 
 keeps_itself : (known : Option (List ℕ)) → Keeps known known
 keeps_itself None = tt
 keeps_itself (Some bytes) = refl
 
--- want of memory before any command
-pub no_memory_answers : (input writer errors errors' : Option (List ℕ)) (status : ℕ) → status ≡ status_of (Stopped NoMemory)
-    → AppendsPrefix errors errors' (error_line (Stopped NoMemory)) → IfSome input (λ text. WorkAnswers text writer writer errors errors' status)
-no_memory_answers None writer errors errors' status is line = tt
-no_memory_answers (Some text) writer errors errors' status is line = (Stopped NoMemory, inr (inr refl, keeps_itself writer), is, line)
+abbrev kept : Option (List ℕ) → Stream
+kept known = record { old = known; new = known }
+
+-- no command was run
+pub no_command_answers : (input output : Option (List ℕ)) (errors : Stream) (outcome : Outcome) (status : ℕ)
+    → (outcome ≡ Usage) ⊎ (outcome ≡ Stopped NoMemory) → status ≡ status_of outcome → AppendsPrefix errors.old errors.new (error_line outcome)
+    → ForText input (λ text. WorkAnswers text (kept input) (kept output) errors status)
+no_command_answers None output errors outcome status which is line = ([], (outcome, inr (which, keeps_itself None, keeps_itself output), is, line))
+no_command_answers (Some text) output errors outcome status which is line = (outcome, inr (which, keeps_itself (Some text), keeps_itself output), is, line)

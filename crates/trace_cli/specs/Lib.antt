@@ -1,2 +1,2 @@
-pub mod Report
-pub mod Outcome
+-- Words of contracts.
+pub mod Work

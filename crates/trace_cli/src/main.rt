@@ -1,20 +1,14 @@
 //! Runs the iterations of a loop as epochs over RV32I: `trace_cli seq` runs the image on standard input in order.
 #![tactic(auto)]
 
-use outcome::{Outcome, StopCause};
 use std::alloc::Global;
 use std::process::ExitCode;
 use std::{env, io};
+use trace_commands::{Outcome, StopCause};
 use work::work;
 
-mod outcome;
-mod report;
-mod seq;
-#[cfg(test)]
-mod tests;
 mod words;
 mod work;
-mod write;
 
 fn main(rt: HostRuntime) -> ExitCode {
     let status = match words_given(&rt) {

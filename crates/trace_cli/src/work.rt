@@ -1,14 +1,14 @@
-ghost use Rattle.std.specs.Prelude.{◌≡◌, ◌+◌, IfSome};
-ghost use Rattle.rv32_image.specs.declared.fault.TheConstants.{LONGEST_IMAGE_TEXT};
+ghost use Rattle.std.specs.Prelude.{◌≡◌, ◌+◌};
+ghost use Rattle.rv32_image.specs.ImageText.{longest_image_text};
 ghost use Rattle.rv32_image.specs.Input.{TakesAtMost};
-ghost use Rattle.trace_cli.specs.Outcome as spec;
+ghost use Rattle.rv32_image.specs.Reading.{ForText};
+ghost use Rattle.trace_cli.specs.Work as spec;
 
-use crate::outcome::{Outcome, StopCause};
-use crate::seq::do_seq;
 use crate::words::{Request, WordsFault, request_of};
 use std::alloc::Global;
 use std::convert::AsStr;
 use std::io::{Read, Write};
+use trace_commands::{Outcome, StopCause, do_seq};
 
 /// The whole program: does what the words ask for, the first of which is the program's name, and answers its status.
 ///
@@ -20,9 +20,11 @@ pub fn work<'a, S: AsStr, R: Read, W: Write, E: Write>(
     writer: &mut W,
     errors: &mut E,
 ) -> u8
-    ensures outcome { IfSome (R.remaining reader.old) (λ text.
-        spec.WorkAnswers text (W.contents writer.old) (W.contents writer.new) (E.contents errors.old) (E.contents errors.new) result) }
-    ensures taken { TakesAtMost (R.remaining reader.old) (R.remaining reader.new) (LONGEST_IMAGE_TEXT + 1) }
+    ensures outcome { ForText (R.remaining reader.old) (λ text. spec.WorkAnswers text
+        (record { old = R.remaining reader.old; new = R.remaining reader.new })
+        (record { old = W.contents writer.old; new = W.contents writer.new })
+        (record { old = E.contents errors.old; new = E.contents errors.new }) result) }
+    ensures taken { TakesAtMost (R.remaining reader.old) (R.remaining reader.new) (longest_image_text + 1) }
 {
     match request_of(alloc, words) {
         Ok(Request::Seq) => do_seq(alloc, reader, writer, errors),

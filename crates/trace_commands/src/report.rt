@@ -1,6 +1,6 @@
 ghost use Rattle.std.specs.Prelude.{◌≡◌, ◌++◌, ◌+◌, ◌*◌, ◌≤◌, ◌/◌, ◌^◌, ◌<◌, IfOk, OnOk, decimal, length, slice_range};
 ghost use Rattle.hex.specs.Hex.{encode_lower};
-ghost use Rattle.trace_cli.specs.Report as spec;
+ghost use Rattle.trace_commands.specs.Report as spec;
 
 use itoa::Buffer;
 use rv32_exec::{End, Image, SeqEnd};
@@ -25,6 +25,12 @@ fn end_line(alloc: Global, end: End) -> Result<Vec<u8>, AllocError>
         End::Done(epochs) => {
             let mut line = Vec::from_slice(alloc, b"end done ")?;
             push_number(&mut line, epochs)?;
+            line.extend_from_slice(b"\n")?;
+            Ok(line)
+        }
+        End::Exit(epoch) => {
+            let mut line = Vec::from_slice(alloc, b"end exit ")?;
+            push_number(&mut line, epoch)?;
             line.extend_from_slice(b"\n")?;
             Ok(line)
         }

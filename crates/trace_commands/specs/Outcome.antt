@@ -1,5 +1,5 @@
 -- What a command comes to: its status, its line on the error stream, and what it wrote.
-use Rattle.std.specs.Prelude.{◌≡◌, ◌⊎◌, ℕ, ◌++◌, List, [], codes, take, Option, MatchResult}
+use Rattle.std.specs.Prelude.{◌≡◌, ℕ, ◌++◌, List, [], codes, take, Option, Result, MatchResult}
 use Rattle.std.specs.Fmt.{decimal}
 use Rattle.std.specs.Io.KnownBytes.{Appends, Keeps}
 use Rattle.rv32_image.specs.declared.fault.ImageFault.{ImageFault}
@@ -11,11 +11,11 @@ use Rattle.rv32_image.specs.Image.{LoadedImage}
 use Rattle.rv32_image.specs.ImageText.{image_text}
 use Rattle.rv32_image.specs.Reading.{name_of, IsReadFaultOf}
 use Rattle.rv32_exec.specs.Sequential.{sequential_result}
-use Rattle.trace_cli.specs.declared.outcome.Outcome.{Outcome}
-use Rattle.trace_cli.specs.declared.outcome.Outcome.TheVariants.{Reported, Usage, BadImage, Stopped}
-use Rattle.trace_cli.specs.declared.outcome.StopCause.{StopCause}
-use Rattle.trace_cli.specs.declared.outcome.StopCause.TheVariants.{Write, NoMemory}
-use Rattle.trace_cli.specs.Report.{report_of}
+use Rattle.trace_commands.specs.declared.outcome.Outcome.{Outcome}
+use Rattle.trace_commands.specs.declared.outcome.Outcome.TheVariants.{Reported, Usage, BadImage, Stopped}
+use Rattle.trace_commands.specs.declared.outcome.StopCause.{StopCause}
+use Rattle.trace_commands.specs.declared.outcome.StopCause.TheVariants.{Write, NoMemory}
+use Rattle.trace_commands.specs.Report.{report_of}
 
 abbrev pub cause_name : StopCause → List ℕ
 cause_name Write = codes "Write"
@@ -23,6 +23,7 @@ cause_name NoMemory = codes "NoMemory"
 
 abbrev pub status_of_end : End → ℕ
 status_of_end (end.Done epochs) = 0
+status_of_end (end.Exit epoch) = 0
 status_of_end (end.Fault epoch cause pc) = 1
 
 abbrev pub status_of : Outcome → ℕ
@@ -48,6 +49,11 @@ error_line (Stopped cause) = stopped_line cause
 abbrev pub AppendsPrefix : Option (List ℕ) → Option (List ℕ) → List ℕ → Type 0
 AppendsPrefix old new bytes = (n : ℕ) × Appends old new (take n bytes)
 
+-- the text has this fault, or its reading has; want of memory is no fault of a text
+abbrev pub IsRefusal : {A : Type 0} → ImageFaultKind → ImageFault → Result A ImageFault → Type 0
+IsRefusal kind.NoMemory fault read = ⊥
+IsRefusal kind fault read = IsReadFaultOf kind fault read
+
 -- what `seq` came to is right for this input, and this was written
 abbrev pub IsSeqOutcome : List ℕ → Option (List ℕ) → Option (List ℕ) → Outcome → Type 0
 IsSeqOutcome text old new (Reported end) =
@@ -55,7 +61,7 @@ IsSeqOutcome text old new (Reported end) =
     (λ image. (end ≡ (sequential_result image).end) × Appends old new (report_of image (sequential_result image)))
     (λ fault. ⊥)
 IsSeqOutcome text old new Usage = ⊥
-IsSeqOutcome text old new (BadImage fault) = IsReadFaultOf fault.kind fault (image_text text) × Keeps old new
+IsSeqOutcome text old new (BadImage fault) = IsRefusal fault.kind fault (image_text text) × Keeps old new
 IsSeqOutcome text old new (Stopped NoMemory) = Keeps old new
 IsSeqOutcome text old new (Stopped Write) =
     MatchResult (image_text text) (λ image. AppendsPrefix old new (report_of image (sequential_result image))) (λ fault. ⊥)
@@ -78,13 +84,3 @@ IsImageOutcome image old new (BadImage fault) = ⊥
 abbrev pub SeqAnswers : List ℕ → Option (List ℕ) → Option (List ℕ) → Option (List ℕ) → Option (List ℕ) → ℕ → Type 0
 SeqAnswers text old new errors errors' status =
     (outcome : Outcome) × IsSeqOutcome text old new outcome × (status ≡ status_of outcome) × AppendsPrefix errors errors' (error_line outcome)
-
--- no command was run: the words are none, or memory ran out
-abbrev pub IsNoCommand : Option (List ℕ) → Option (List ℕ) → Outcome → Type 0
-IsNoCommand old new outcome = ((outcome ≡ Usage) ⊎ (outcome ≡ Stopped NoMemory)) × Keeps old new
-
--- what the program answers: what `seq` does, or that no command was run
-abbrev pub WorkAnswers : List ℕ → Option (List ℕ) → Option (List ℕ) → Option (List ℕ) → Option (List ℕ) → ℕ → Type 0
-WorkAnswers text old new errors errors' status =
-    (outcome : Outcome) × (IsSeqOutcome text old new outcome ⊎ IsNoCommand old new outcome) × (status ≡ status_of outcome)
-    × AppendsPrefix errors errors' (error_line outcome)

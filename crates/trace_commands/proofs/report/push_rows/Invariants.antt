@@ -1,6 +1,6 @@
 use Rattle.std.proofs.Common.{◌≡◌, ◌++◌}
-use Rattle.trace_cli.specs.Report.{row_lines}
-use Rattle.trace_cli.proofs.report.push_rows.Given as goal
+use Rattle.trace_commands.specs.Report.{row_lines}
+use Rattle.trace_commands.proofs.report.push_rows.Given as goal
 
 -- the rows so far are written
 abbrev pub invariant-loop-row : goal.invariant-loop-row

@@ -1,7 +1,7 @@
 -- How the rows of the report go on.
 use Rattle.std.proofs.Common.{◌≡◌, ℕ, suc, ◌+◌, ◌*◌, ◌++◌, List, refl, ap, sym, ◌∙◌, add-one, append_assoc}
 use Rattle.std.proofs.lemmas.List.{append-nil}
-use Rattle.trace_cli.specs.Report.{row_line, row_lines}
+use Rattle.trace_commands.specs.Report.{row_line, row_lines}
 
 pub row_lines-none : (text loaded bytes : List ℕ) → text ≡ text ++ row_lines loaded bytes 0
 unfolding row_lines

@@ -1,5 +1,5 @@
-ghost use Rattle.std.specs.Prelude.{◌≡◌, IfSome, codes};
-ghost use Rattle.trace_cli.specs.Outcome as spec;
+ghost use Rattle.std.specs.Prelude.{◌≡◌, ◌≤◌, [], MatchOption, codes, length};
+ghost use Rattle.trace_commands.specs.Outcome as spec;
 
 use crate::write::write_whole;
 use arrayvec::ArrayString;
@@ -19,7 +19,8 @@ pub enum StopCause {
 impl StopCause {
     /// The printed name, which is the variant's.
     pub fn name(self) -> &'static str
-        ensures { result.now ≡ spec.cause_name self }
+        ensures name { result.now ≡ spec.cause_name self }
+        ensures short { length result.now ≤ 16 }
     {
         match self {
             StopCause::Write => "Write",
@@ -52,27 +53,27 @@ impl Outcome {
         }
     }
 
-    /// The status: 0 done, 1 an epoch faulted, 2 refused, 3 stopped.
+    /// The status: 0 done or exited, 1 an epoch faulted, 2 refused, 3 stopped.
     pub fn status(self) -> u8
         ensures { result ≡ spec.status_of self }
     {
         match self {
-            Outcome::Reported(End::Done(_)) => 0,
+            Outcome::Reported(End::Done(_) | End::Exit(_)) => 0,
             Outcome::Reported(End::Fault { .. }) => 1,
             Outcome::Usage | Outcome::BadImage(_) => 2,
             Outcome::Stopped(_) => 3,
         }
     }
 
-    /// The line on the error stream, or nothing. It takes no memory.
+    /// The line on the error stream, or nothing. It always fits, and takes no memory.
     fn error_line(self) -> Option<ArrayString<64>>
-        ensures { IfSome result (λ line. line.bytes ≡ spec.error_line self) }
+        ensures { MatchOption result (spec.error_line self ≡ []) (λ line. line.bytes ≡ spec.error_line self) }
     {
         match self {
             Outcome::Reported(_) => None,
-            Outcome::Usage => usage_line(),
-            Outcome::BadImage(fault) => image_line(fault),
-            Outcome::Stopped(cause) => stopped_line(cause),
+            Outcome::Usage => Some(usage_line()),
+            Outcome::BadImage(fault) => Some(image_line(fault)),
+            Outcome::Stopped(cause) => Some(stopped_line(cause)),
         }
     }
 
@@ -88,33 +89,33 @@ impl Outcome {
     }
 }
 
-fn usage_line() -> Option<ArrayString<64>>
-    ensures { IfSome result (λ line. line.bytes ≡ codes "usage\n") }
+fn usage_line() -> ArrayString<64>
+    ensures { result.bytes ≡ codes "usage\n" }
 {
     let mut line = ArrayString::new();
-    line.try_push_str("usage\n").ok()?;
-    Some(line)
+    line.push_str("usage\n");
+    line
 }
 
-fn image_line(fault: ImageFault) -> Option<ArrayString<64>>
-    ensures { IfSome result (λ line. line.bytes ≡ spec.image_line fault) }
+fn image_line(fault: ImageFault) -> ArrayString<64>
+    ensures { result.bytes ≡ spec.image_line fault }
 {
     let mut line = ArrayString::new();
     let mut number = Buffer::new();
-    line.try_push_str("image ").ok()?;
-    line.try_push_str(number.format(fault.line)).ok()?;
-    line.try_push_str(" ").ok()?;
-    line.try_push_str(fault.name()).ok()?;
-    line.try_push_str("\n").ok()?;
-    Some(line)
+    line.push_str("image ");
+    line.push_str(number.format(fault.line));
+    line.push_str(" ");
+    line.push_str(fault.name());
+    line.push_str("\n");
+    line
 }
 
-fn stopped_line(cause: StopCause) -> Option<ArrayString<64>>
-    ensures { IfSome result (λ line. line.bytes ≡ spec.stopped_line cause) }
+fn stopped_line(cause: StopCause) -> ArrayString<64>
+    ensures { result.bytes ≡ spec.stopped_line cause }
 {
     let mut line = ArrayString::new();
-    line.try_push_str("stopped ").ok()?;
-    line.try_push_str(cause.name()).ok()?;
-    line.try_push_str("\n").ok()?;
-    Some(line)
+    line.push_str("stopped ");
+    line.push_str(cause.name());
+    line.push_str("\n");
+    line
 }

@@ -6,7 +6,7 @@ use Rattle.std.specs.Int.{w32, to_be_bytes}
 use Rattle.std.specs.Str.{bytes_eq}
 use Rattle.hex.specs.Hex.{encode_lower}
 use Rattle.rv32_exec.specs.declared.sequential.End.{End}
-use Rattle.rv32_exec.specs.declared.sequential.End.TheVariants.{Done, Fault}
+use Rattle.rv32_exec.specs.declared.sequential.End.TheVariants.{Done, Exit, Fault}
 use Rattle.rv32_image.specs.Image.{LoadedImage}
 use Rattle.rv32_exec.specs.Sequential.{SequentialResult}
 
@@ -16,6 +16,7 @@ hex_word n = encode_lower (to_be_bytes w32 n)
 
 abbrev pub end_line : End → List ℕ
 end_line (Done epochs) = codes "end done " ++ decimal epochs ++ codes "\n"
+end_line (Exit epoch) = codes "end exit " ++ decimal epoch ++ codes "\n"
 end_line (Fault epoch cause pc) =
     codes "end fault " ++ decimal epoch ++ codes " " ++ decimal cause ++ codes " " ++ hex_word pc ++ codes "\n"
 

@@ -1,9 +1,10 @@
-ghost use Rattle.std.specs.Prelude.{◌≡◌, ◌+◌, IfSome, IfOk};
-ghost use Rattle.rv32_image.specs.declared.fault.TheConstants.{LONGEST_IMAGE_TEXT};
+ghost use Rattle.std.specs.Prelude.{◌≡◌, ◌+◌, IfOk};
+ghost use Rattle.rv32_image.specs.ImageText.{longest_image_text};
 ghost use Rattle.rv32_image.specs.Input.{TakesAtMost};
+ghost use Rattle.rv32_image.specs.Reading.{ForText};
 ghost use Rattle.rv32_exec.specs.Sequential.{sequential_result};
-ghost use Rattle.trace_cli.specs.Report.{report_of};
-ghost use Rattle.trace_cli.specs.Outcome as spec;
+ghost use Rattle.trace_commands.specs.Report.{report_of};
+ghost use Rattle.trace_commands.specs.Outcome as spec;
 
 use crate::outcome::{Outcome, StopCause};
 use crate::report::report;
@@ -14,7 +15,7 @@ use std::io::{Read, Write};
 
 /// `seq`: runs the image that the reader gives, its epochs in order, and writes the report.
 ///
-/// The status is 0 where the loop is done, 1 where an epoch faulted, 2 where the image is refused and 3 where memory
+/// The status is 0 where the loop is done or exited, 1 where an epoch faulted, 2 where the image is refused and 3 where memory
 /// ran out or a write failed. In the last three cases one line on the error stream says which. Where memory ran out,
 /// or the image is refused, nothing was written; after a failed write a prefix of the report was.
 pub fn do_seq<R: Read, W: Write, E: Write>(
@@ -23,17 +24,17 @@ pub fn do_seq<R: Read, W: Write, E: Write>(
     writer: &mut W,
     errors: &mut E,
 ) -> u8
-    ensures outcome { IfSome (R.remaining reader.old) (λ text.
+    ensures outcome { ForText (R.remaining reader.old) (λ text.
         spec.SeqAnswers text (W.contents writer.old) (W.contents writer.new) (E.contents errors.old) (E.contents errors.new) result) }
-    ensures taken { TakesAtMost (R.remaining reader.old) (R.remaining reader.new) (LONGEST_IMAGE_TEXT + 1) }
+    ensures taken { TakesAtMost (R.remaining reader.old) (R.remaining reader.new) (longest_image_text + 1) }
 {
     run_seq(alloc, reader, writer).conclude(errors)
 }
 
 /// Runs `seq`, all but its line on the error stream.
 pub fn run_seq<R: Read, W: Write>(alloc: Global, reader: &mut R, writer: &mut W) -> Outcome
-    ensures outcome { IfSome (R.remaining reader.old) (λ text. spec.IsSeqOutcome text (W.contents writer.old) (W.contents writer.new) result) }
-    ensures taken { TakesAtMost (R.remaining reader.old) (R.remaining reader.new) (LONGEST_IMAGE_TEXT + 1) }
+    ensures outcome { ForText (R.remaining reader.old) (λ text. spec.IsSeqOutcome text (W.contents writer.old) (W.contents writer.new) result) }
+    ensures taken { TakesAtMost (R.remaining reader.old) (R.remaining reader.new) (longest_image_text + 1) }
 {
     match read_image(alloc, reader) {
         Ok(image) => run_image(alloc, &image, writer),

@@ -1,7 +1,7 @@
 use Rattle.std.proofs.Common.{◌*◌, ◌++◌, ap, ◌∙◌}
-use Rattle.trace_cli.specs.Report.{row_line}
-use Rattle.trace_cli.proofs.Rows.{row_lines-none, row_lines-more}
-use Rattle.trace_cli.proofs.report.push_rows.Goals as goal
+use Rattle.trace_commands.specs.Report.{row_line}
+use Rattle.trace_commands.proofs.Rows.{row_lines-none, row_lines-more}
+use Rattle.trace_commands.proofs.report.push_rows.Goals as goal
 
 pub loop-row-init : goal.loop-row-init
 loop-row-init c = row_lines-none c.args.text.now.items c.args.loaded.now c.args.bytes.now

@@ -1,6 +1,6 @@
 ghost use Rattle.std.specs.Bool.{OnTrue};
 ghost use Rattle.std.specs.Io.KnownBytes.{Appends};
-ghost use Rattle.trace_cli.specs.Outcome.{AppendsPrefix};
+ghost use Rattle.trace_commands.specs.Outcome.{AppendsPrefix};
 
 use std::io::Write;
 
