@@ -19,6 +19,8 @@ ROOT = Path(__file__).resolve().parent.parent
 COUNTER = "83220004b382a2002320500467800000"
 STORE_X5_RETURN = "2320500467800000"
 RETURN = "67800000"
+# Stores the epoch's number to its own word, and leaves 1 in x10 in epoch 2 alone.
+SEARCH = "9312250023a0a204134525001335150067800000"
 
 
 def image(code, epochs=1, limit=100, size=256, more=""):
@@ -36,6 +38,10 @@ def at(address, digits):
 
 def done(epochs, *lines):
     return f"end done {epochs}\n" + "".join(lines), "", 0
+
+
+def exited(epoch, *lines):
+    return f"end exit {epoch}\n" + "".join(lines), "", 0
 
 
 def fault(epoch, cause, pc, *lines):
@@ -114,6 +120,24 @@ RUNS = [
     ("code is read as data", image("83220000" + STORE_X5_RETURN), done(1, at(0x40, "83220000"))),
     ("the second epoch faults, all stores before it stay",
      image("9302100023005504630405000000000067800000", epochs=2), fault(1, 1, 0x0C, at(0x40, "0101"))),
+    ("the third epoch exits", image(SEARCH, epochs=8, more="exit\n"),
+     exited(2, at(0x40, "000000000100000002"))),
+    ("no epoch exits without the line", image(SEARCH, epochs=8),
+     done(8, at(0x40, "00000000010000000200000003000000"), at(0x50, "04000000050000000600000007000000"))),
+    ("the last epoch exits", image(SEARCH, epochs=3, more="exit\n"), exited(2, at(0x40, "000000000100000002"))),
+    ("the first epoch exits", image("13051000" + RETURN, epochs=4, more="exit\n"), exited(0)),
+    ("x10 is 0 at epoch 0, which goes on; epoch 1 exits",
+     image("2320a004" + RETURN, epochs=4, more="exit\n"), exited(1, at(0x40, "01"))),
+    ("x11 doesn't exit", image("9305100013050000" + RETURN, epochs=4, more="exit\n"), done(4)),
+    ("a fault where x10 is not 0 is a fault", image("1305100000000000", epochs=4, more="exit\n"), fault(0, 1, 4)),
+    ("no epochs, none exits", image("13051000" + RETURN, epochs=0, more="exit\n"), done(0)),
+    ("version 2 of the first row", "version 2\n" + FOUR, done(4, at(0x40, "06"))),
+    ("version 1 of the first row", "version 1\n" + FOUR, done(4, at(0x40, "06"))),
+    ("the last word of the largest memory of version 2",
+     "version 2\n" + image("b702100023ae12fe" + RETURN, size=1_048_576), done(1, at(0xFFFF0, "0" * 24 + "fcffffff"))),
+    ("just past the largest memory of version 2", "version 2\n" + image("b702100003a30200", size=1_048_576), fault(0, 6, 4)),
+    ("a row of 16 bytes in version 2", "version 2\n" + image("2320a0042322a006" + RETURN, epochs=2),
+     done(2, at(0x40, "01"), at(0x60, "0000000001"))),
 ]
 
 REFUSALS = [
@@ -164,8 +188,29 @@ REFUSALS = [
     ("limit 0", "limit 0\n", refused(1, "Range")),
     ("limit too large", "limit 1000001\n", refused(1, "Range")),
     ("unknown word", "sizes 256\n", refused(1, "Line")),
-    ("a word for another version", "exit 00000040\n", refused(1, "Line")),
-    ("another word for another version", "version 2\n", refused(1, "Line")),
+    ("exit with a second word", "exit 00000040\n", refused(1, "Line")),
+    ("exit with a space at the end", "exit \n", refused(1, "Line")),
+    ("a second exit", "exit\nexit\n", refused(2, "MissingOrRepeated")),
+    ("version alone", "version\n", refused(1, "Line")),
+    ("version of three words", "version 2 2\n", refused(1, "Line")),
+    ("version spelled wrong", "version 02\n", refused(1, "Line")),
+    ("version 3", "version 3\n", refused(1, "Range")),
+    ("version 0", "version 0\n", refused(1, "Range")),
+    ("a version past 32 bits", "version 4294967298\n", refused(1, "Range")),
+    ("a second version", "version 2\nversion 2\n", refused(2, "MissingOrRepeated")),
+    ("version below size", "size 256\nversion 2\n", refused(2, "MissingOrRepeated")),
+    ("version below epochs", "epochs 4\nversion 1\n", refused(2, "MissingOrRepeated")),
+    ("version below limit", "limit 4\nversion 1\n", refused(2, "MissingOrRepeated")),
+    ("version below reg", "reg 5 00000000\nversion 1\n", refused(2, "MissingOrRepeated")),
+    ("version below exit", "exit\nversion 1\n", refused(2, "MissingOrRepeated")),
+    ("version below a remark", "# text\n\nversion 2\nsize 240\n", refused(4, "Range")),
+    ("another version below size is repeated first", "size 256\nversion 3\n", refused(2, "MissingOrRepeated")),
+    ("spelling of a version below size", "size 256\nversion x\n", refused(2, "Line")),
+    ("version 2, size not a multiple of 32", "version 2\nsize 240\n", refused(2, "Range")),
+    ("version 2, size 16", "version 2\nsize 16\n", refused(2, "Range")),
+    ("version 2, size too large", "version 2\nsize 1048608\n", refused(2, "Range")),
+    ("version 1, a size of version 2", "version 1\nsize 1048576\n", refused(2, "Range")),
+    ("a size of version 2 without a version", "size 131072\n", refused(1, "Range")),
     ("too many words", "size 256 256\n", refused(1, "Line")),
     ("a missing line is told last", "size 256\nepochs 4\nlimit 100\n", refused(0, "MissingOrRepeated")),
     ("a fault below a missing line", "size 256\nsize 256\n", refused(2, "MissingOrRepeated")),

@@ -85,8 +85,8 @@ class ProgramMaker:
         return self.rng.choice(self.values + [0, 1, 8, 10])
 
     def target(self):
-        if self.rng.random() < 0.02:
-            return self.rng.choice([0, 1, 8, 10, 13])
+        if self.rng.random() < 0.03:
+            return self.rng.choice([0, 1, 8, 10, 10, 13])
         return self.rng.choice(self.values)
 
     def immediate(self):
@@ -214,7 +214,10 @@ def data_lines(rng, size, code_length):
 
 def well_formed(rng):
     """The lines of an image text; a few have a fault by a range or a place."""
+    version = rng.choice([None, None, None, 1, 2])
     size = 16 * rng.choice([1, 2, 4, 8, 16, 16, 16, 64, 128, 256])
+    if version == 2:
+        size = 32 * rng.choice([1, 2, 4, 8, 8, 64, 2048, 32_768]) if rng.random() < 0.95 else size
     count = rng.randint(1, min(size // 4, rng.choice([3, 8, 20, 20, 40])))
     maker = ProgramMaker(rng, size, 4 * count)
     code = b"".join(word.to_bytes(4, "little") for word in maker.words(count))
@@ -228,9 +231,13 @@ def well_formed(rng):
             others.append(f"reg {register} {value:08x}")
     for line in others:
         lines.insert(rng.randint(0, len(lines)), line)
+    if rng.random() < 0.4:
+        lines.insert(rng.randint(0, len(lines)), "exit")
     for line in data_lines(rng, size, 4 * count):
         below = max(i for i, text in enumerate(lines) if text.startswith(("size", "code", "at")))
         lines.insert(rng.randint(below + 1, len(lines)), line)
+    if version is not None:
+        lines.insert(0 if rng.random() < 0.98 else rng.randint(0, len(lines)), f"version {version}")
     return lines
 
 
@@ -260,7 +267,8 @@ NASTY_LINES = ["size 16", "size 0", "size 65536", "size 65552", "size 24", "epoc
                "code ", "reg 0 00000000", "reg 1 00000000", "reg 10 00000000", "reg 31 00000001", "reg 32 00000000",
                "reg 40 zz", "reg 5 0000000", "reg 8 00000000", "at 00000000 00", "at 00000040 0", "at 00000040 zz",
                "at 000000ff 0000", "at 00000040 00", "at 40 00", " ", "  ", "\t", "\r", " # x", "size", "trace 1",
-               "version 2", "exit 00000000", "SIZE 16", "size  16", "size 16 ", " size 16", "size 16 16"]
+               "version 1", "version 2", "version 3", "version 0", "version 02", "version", "version 4294967298", "exit",
+               "exit", "exit 0", "exit ", " exit", "size 32", "size 48", "size 1048576", "size 1048608", "SIZE 16", "size  16", "size 16 ", " size 16", "size 16 16"]
 
 
 def damaged(rng, lines):
@@ -345,7 +353,7 @@ def kind(outcome):
     if err:
         return err.split()[-1]
     words = out.split("\n", 1)[0].split()
-    return "done" if words[1] == "done" else f"fault {words[3]}"
+    return f"fault {words[3]}" if words[1] == "fault" else words[1]
 
 
 def arguments():

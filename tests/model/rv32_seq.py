@@ -6,7 +6,7 @@ Usage: rv32_seq.py seq < IMAGE
 Reads an image text, runs its epochs in order and prints the report. Standard
 output, standard error and the exit status are those of `trace_cli seq`:
 
-  0  every epoch ended                      report on standard output
+  0  every epoch ended, or one exited       report on standard output
   1  an epoch faulted                       report on standard output
   2  the words or the image were refused    one line on standard error
   3  the report could not be written        one line on standard error
@@ -202,6 +202,8 @@ class Image:
     """Code, data and limits of one loop."""
 
     def __init__(self):
+        self.version = None
+        self.exit = False
         self.size = None
         self.epochs = None
         self.limit = None
@@ -235,8 +237,10 @@ def word32(word):
 
 
 ONCE = {b"size": "size", b"epochs": "epochs", b"limit": "limit", b"code": "code"}
-WORDS_IN_LINE = {b"size": 2, b"epochs": 2, b"limit": 2, b"code": 2, b"reg": 3, b"at": 3}
-NUMBER_IS_SECOND = (b"size", b"epochs", b"limit", b"reg")
+# The least and the most bytes of memory, and what the size is a multiple of, by version.
+SIZES = {1: (16, 65_536, 16), 2: (32, 1_048_576, 32)}
+WORDS_IN_LINE = {b"version": 2, b"exit": 1, b"size": 2, b"epochs": 2, b"limit": 2, b"code": 2, b"reg": 3, b"at": 3}
+NUMBER_IS_SECOND = (b"version", b"size", b"epochs", b"limit", b"reg")
 
 
 class Reader:
@@ -270,6 +274,13 @@ class Reader:
         self.refuse("Line", keyword in NUMBER_IS_SECOND and value is None)
 
         image = self.image
+        if keyword == b"version":
+            self.refuse("MissingOrRepeated", image.version is not None)
+            self.refuse("Range", value not in SIZES)
+            image.version = value
+            return
+        if image.version is None:
+            image.version = 1
         if keyword in ONCE:
             self.refuse("MissingOrRepeated", getattr(image, ONCE[keyword]) is not None)
         if keyword == b"code":
@@ -281,8 +292,12 @@ class Reader:
         elif keyword == b"reg":
             self.refuse("MissingOrRepeated", value in image.registers)
             self.read_register(value, words[2])
+        elif keyword == b"exit":
+            self.refuse("MissingOrRepeated", image.exit)
+            image.exit = True
         elif keyword == b"size":
-            self.refuse("Range", not 16 <= value <= 65_536 or value % 16 != 0)
+            least, most, multiple = SIZES[image.version]
+            self.refuse("Range", not least <= value <= most or value % multiple != 0)
             image.size = value
             image.memory = bytearray(value)
         elif keyword == b"epochs":
@@ -398,7 +413,7 @@ def step(hart, ins, memory, code):
 
 
 def run_epoch(image, epoch, memory):
-    """Runs one epoch to its end, or raises Fault."""
+    """Runs one epoch to its end, or raises Fault. True where it exits the loop."""
     hart = Hart(image, epoch)
     while hart.pc != END:
         if hart.done >= image.limit:
@@ -407,6 +422,7 @@ def run_epoch(image, epoch, memory):
             raise Fault(FETCH_OUTSIDE_CODE, hart.pc)
         word = int.from_bytes(image.memory[hart.pc:hart.pc + 4], "little")
         step(hart, decode(word, hart.pc), memory, image.code)
+    return image.exit and hart.x[10] != 0
 
 
 def run(image):
@@ -414,7 +430,8 @@ def run(image):
     memory = bytearray(image.memory)
     for epoch in range(image.epochs):
         try:
-            run_epoch(image, epoch, memory)
+            if run_epoch(image, epoch, memory):
+                return f"end exit {epoch}\n", memory, 0
         except Fault as fault:
             return f"end fault {epoch} {fault.cause} {fault.pc:08x}\n", memory, 1
     return f"end done {image.epochs}\n", memory, 0
