@@ -33,7 +33,7 @@ def cut_out(text, mark):
 
 def differences(command, text, expected):
     """What is wrong with the output for an image text, or None."""
-    status = 0 if expected.startswith("end done ") else 1
+    status = 1 if expected.startswith("end fault ") else 0
     result = subprocess.run(command, input=text.encode(), capture_output=True, check=False)
     got = result.stdout.decode("latin-1")
     if (got, result.stderr, result.returncode) == (expected, b"", status):

@@ -214,6 +214,15 @@ REFUSALS = [
     ("too many words", "size 256 256\n", refused(1, "Line")),
     ("a missing line is told last", "size 256\nepochs 4\nlimit 100\n", refused(0, "MissingOrRepeated")),
     ("a fault below a missing line", "size 256\nsize 256\n", refused(2, "MissingOrRepeated")),
+    ("code above size", "code 67800000\nsize 256\n", refused(1, "MissingOrRepeated")),
+    ("number that is 256 past 32 bits", "size 4294967552\n", refused(1, "Range")),
+    ("at of seven digits", FOUR + "at 0000004 00\n", refused(5, "Hex")),
+    ("at without bytes", FOUR + "at 00000040 \n", refused(5, "Line")),
+    ("at of one word", FOUR + "at 00000040\n", refused(5, "Line")),
+    ("at into the last byte of code", FOUR + "at 0000000f 00\n", refused(5, "Place")),
+    ("at just past memory", FOUR + "at 00000100 00\n", refused(5, "Place")),
+    ("x32 is no register", FOUR + "reg 32 00000000\n", refused(5, "Range")),
+    ("spelling of a register before its digits", FOUR + "reg 05 zz\n", refused(5, "Line")),
     ("text too long", "#" * 1_048_577, refused(0, "TooLong")),
     ("text just short enough", "#" * 1_048_576, refused(0, "MissingOrRepeated")),
 ]
@@ -228,7 +237,7 @@ ACCEPTED = [
     ("at up to the last byte", FOUR + "at 000000ff 01\n", done(4, at(0x40, "06"))),
 ]
 
-USAGE = [["x"], [], ["seq", "x"], ["SEQ"], ["--help"], ["--version"], ["run"], ["run", "--cores", "9"]]
+USAGE = [["x"], [], ["help"], ["audit"], ["seq", "--help"], ["seq", "x"], ["SEQ"], ["--help"], ["--version"], ["run"], ["run", "--cores", "9"]]
 
 
 def run(command, words, text):

@@ -9,3 +9,6 @@ mod write;
 pub use outcome::{Outcome, StopCause};
 pub use seq::do_seq;
 pub use write::write_whole;
+
+#[cfg(test)]
+mod tests;

@@ -1,0 +1,237 @@
+//! What no contract can say: that failed reads and writes end a command, tried once and not again.
+
+use super::*;
+use std::alloc::Global;
+use std::io;
+use std::io::{Error, ErrorKind, Read, Write};
+use std::test::Fail;
+
+/// The image whose epochs add their numbers to one word.
+const COUNTER: &str = "size 256\nepochs 4\nlimit 100\ncode 83220004b382a2002320500467800000\n";
+
+const COUNTED: &str = "end done 4\nat 00000040 06000000000000000000000000000000\n";
+
+/// What a run of the program left: its status, and the texts on standard output and standard error.
+#[derive(Drop)]
+struct Ran {
+    status: u8,
+    output: Vec<u8>,
+    errors: Vec<u8>,
+}
+
+#[test]
+fn runs_the_counter(rt: HostRuntime) {
+    let mut reader = COUNTER.as_bytes();
+    let mut output = Vec::new(rt.alloc());
+    let mut errors = Vec::new(rt.alloc());
+    let status = do_seq(rt.alloc(), &mut reader, &mut output, &mut errors);
+    assert_eq!(rt; status, 0);
+    assert_eq!(rt; output.as_slice(), COUNTED.as_bytes());
+    assert_eq!(rt; errors.as_slice(), b"".as_slice());
+}
+
+/// How often a stream fails where it does.
+#[derive(Clone, Copy, PartialEq, Eq)]
+enum Fails {
+    Once,
+    Always,
+}
+
+/// A reader that gives so many bytes of a text, three at a time, then fails, and goes on where it fails once.
+#[derive(Drop)]
+struct FailingReader<'a> {
+    rest: &'a [u8],
+    later: &'a [u8],
+    kind: ErrorKind,
+    fails: Fails,
+}
+
+impl Read for FailingReader<'_> {
+    fn read(&mut self, buf: &mut [u8]) -> io::Result<usize> {
+        if self.rest.is_empty() {
+            if self.fails == Fails::Once {
+                self.rest = self.later;
+                self.later = b"";
+            }
+            return Err(Error::from(self.kind));
+        }
+        let count = self.rest.len().min(buf.len()).min(3);
+        let (now, later) = self.rest.split_at(count);
+        buf[..count].copy_from_slice(now);
+        self.rest = later;
+        Ok(count)
+    }
+}
+
+/// A writer that takes so many bytes, at most 7 a call, and fails then, or where it is flushed; it goes on where it fails
+/// once.
+#[derive(Drop)]
+struct FailingWriter {
+    taken: Vec<u8>,
+    room: usize,
+    stops: Stops,
+    fails: Fails,
+}
+
+/// How a writer fails.
+#[derive(Clone, Copy, PartialEq, Eq)]
+enum Stops {
+    Errs,
+    Interrupted,
+    TakesNone,
+    Unflushed,
+}
+
+impl Write for FailingWriter {
+    fn write(&mut self, buf: &[u8]) -> io::Result<usize> {
+        let count = buf.len().min(7).min(self.room);
+        if count == 0 && !buf.is_empty() {
+            if self.fails == Fails::Once {
+                self.room = usize::MAX;
+            }
+            return match self.stops {
+                Stops::Errs => Err(Error::from(ErrorKind::BrokenPipe)),
+                Stops::Interrupted => Err(Error::from(ErrorKind::Interrupted)),
+                Stops::TakesNone | Stops::Unflushed => Ok(0),
+            };
+        }
+        self.taken.extend_from_slice(&buf[..count])?;
+        self.room -= count;
+        Ok(count)
+    }
+
+    fn flush(&mut self) -> io::Result<()> {
+        match self.stops {
+            Stops::Unflushed => Err(Error::from(ErrorKind::BrokenPipe)),
+            _ => Ok(()),
+        }
+    }
+}
+
+/// A read that fails ends the command, also where a second one would give the rest of a good text.
+#[test]
+fn stops_at_a_failed_read(rt: HostRuntime) {
+    let text = COUNTER.as_bytes();
+    for kind in [ErrorKind::BrokenPipe, ErrorKind::Interrupted] {
+        for fails in [Fails::Once, Fails::Always] {
+            for good in 0..=text.len() {
+                let (rest, later) = text.split_at(good);
+                let mut reader = FailingReader {
+                    rest,
+                    later,
+                    kind,
+                    fails,
+                };
+                let mut output = Vec::new(rt.alloc());
+                let mut errors = Vec::new(rt.alloc());
+                let status = do_seq(rt.alloc(), &mut reader, &mut output, &mut errors);
+                assert_eq!(rt; status, 2, "after {good} bytes");
+                assert_eq!(rt;
+                    errors.as_slice(),
+                    b"image 0 Read\n".as_slice(),
+                    "after {good} bytes"
+                );
+                assert_eq!(rt; output.as_slice(), b"".as_slice(), "after {good} bytes");
+            }
+        }
+    }
+}
+
+/// A write that fails ends the command, also where a second one would take the rest.
+#[test]
+fn stops_at_a_failed_write(rt: HostRuntime) -> Result<(), Fail> {
+    for stops in [Stops::Errs, Stops::Interrupted, Stops::TakesNone] {
+        for fails in [Fails::Once, Fails::Always] {
+            for room in 0..COUNTED.len() {
+                let ran = run_into(rt.alloc(), room, stops, fails)?;
+                assert_eq!(rt; ran.status, 3, "after {room} bytes");
+                assert_eq!(rt;
+                    ran.errors.as_slice(),
+                    b"stopped Write\n".as_slice(),
+                    "after {room} bytes"
+                );
+                assert_eq!(rt; Some(ran.output.as_slice()), COUNTED.as_bytes().get(..room));
+            }
+        }
+        let ran = run_into(rt.alloc(), COUNTED.len(), stops, Fails::Always)?;
+        assert_eq!(rt; ran.status, 0);
+        assert_eq!(rt; ran.output.as_slice(), COUNTED.as_bytes());
+    }
+    let ran = run_into(rt.alloc(), COUNTED.len(), Stops::Unflushed, Fails::Always)?;
+    assert_eq!(rt; ran.status, 3);
+    assert_eq!(rt; ran.errors.as_slice(), b"stopped Write\n".as_slice());
+    assert_eq!(rt; ran.output.as_slice(), COUNTED.as_bytes());
+    Ok(())
+}
+
+/// The counter's image into a writer with so much room.
+fn run_into(alloc: Global, room: usize, stops: Stops, fails: Fails) -> Result<Ran, Fail> {
+    let mut reader = COUNTER.as_bytes();
+    let mut writer = FailingWriter {
+        taken: Vec::new(alloc),
+        room,
+        stops,
+        fails,
+    };
+    let mut errors = Vec::new(alloc);
+    let status = do_seq(alloc, &mut reader, &mut writer, &mut errors);
+    Ok(Ran {
+        status,
+        output: writer.taken,
+        errors,
+    })
+}
+
+/// A failed write of the line on the error stream changes no status, and no output.
+#[test]
+fn keeps_its_status_without_an_error_stream(rt: HostRuntime) -> Result<(), Fail> {
+    let refused = "size 24\n";
+    let line = "image 1 Range\n";
+    for room in 0..line.len() {
+        let ran = refuse_into(rt.alloc(), refused, room)?;
+        assert_eq!(rt; ran.status, 2);
+        assert_eq!(rt; ran.output.as_slice(), b"".as_slice());
+        assert_eq!(rt; ran.errors.len(), room);
+        assert!(rt; line.as_bytes().starts_with(ran.errors.as_slice()));
+    }
+    Ok(())
+}
+
+/// An image into an error stream with so much room.
+fn refuse_into(alloc: Global, image: &str, room: usize) -> Result<Ran, Fail> {
+    let mut reader = image.as_bytes();
+    let mut output = Vec::new(alloc);
+    let mut errors = FailingWriter {
+        taken: Vec::new(alloc),
+        room,
+        stops: Stops::Errs,
+        fails: Fails::Once,
+    };
+    let status = do_seq(alloc, &mut reader, &mut output, &mut errors);
+    Ok(Ran {
+        status,
+        output,
+        errors: errors.taken,
+    })
+}
+
+/// At most one byte past the limit is read.
+#[test]
+fn reads_no_further_than_it_must(rt: HostRuntime) -> Result<(), Fail> {
+    let longest = 1_048_576usize;
+    for (length, line) in [
+        (longest, "image 1 Line\n"),
+        (longest + 1, "image 0 TooLong\n"),
+        (longest + 5000, "image 0 TooLong\n"),
+    ] {
+        let text = vec![in rt.alloc(); b'x'; length]?;
+        let mut reader = text.as_slice();
+        let mut output = Vec::new(rt.alloc());
+        let mut errors = Vec::new(rt.alloc());
+        let status = do_seq(rt.alloc(), &mut reader, &mut output, &mut errors);
+        assert_eq!(rt; status, 2, "{length}");
+        assert_eq!(rt; errors.as_slice(), line.as_bytes(), "{length}");
+        assert_eq!(rt; reader.len(), length - length.min(longest + 1), "{length}");
+    }
+    Ok(())
+}
