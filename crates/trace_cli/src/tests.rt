@@ -7,13 +7,18 @@ const COUNTER: &str = "size 256\nepochs 4\nlimit 100\ncode 83220004b382a20023205
 
 const COUNTED: &str = "end done 4\nat 00000040 06000000000000000000000000000000\n";
 
-
 #[test]
 fn seq_runs_the_image(rt: HostRuntime) {
     let mut reader = COUNTER.as_bytes();
     let mut output = Vec::new(rt.alloc());
     let mut errors = Vec::new(rt.alloc());
-    let status = work(rt.alloc(), &["trace_cli", "seq"], &mut reader, &mut output, &mut errors);
+    let status = work(
+        rt.alloc(),
+        &["trace_cli", "seq"],
+        &mut reader,
+        &mut output,
+        &mut errors,
+    );
     assert_eq!(rt; status, 0);
     assert_eq!(rt; output.as_slice(), COUNTED.as_bytes());
     assert_eq!(rt; errors.as_slice(), b"".as_slice());
@@ -25,7 +30,13 @@ fn other_words_are_usage(rt: HostRuntime) {
     let mut reader = COUNTER.as_bytes();
     let mut output = Vec::new(rt.alloc());
     let mut errors = Vec::new(rt.alloc());
-    let status = work(rt.alloc(), &["trace_cli", "seq", "x"], &mut reader, &mut output, &mut errors);
+    let status = work(
+        rt.alloc(),
+        &["trace_cli", "seq", "x"],
+        &mut reader,
+        &mut output,
+        &mut errors,
+    );
     assert_eq!(rt; status, 2);
     assert_eq!(rt; output.as_slice(), b"".as_slice());
     assert_eq!(rt; errors.as_slice(), b"usage\n".as_slice());
