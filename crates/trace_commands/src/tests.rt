@@ -37,11 +37,12 @@ enum Fails {
     Always,
 }
 
-/// A reader that gives so many bytes of a text, three at a time, then fails, and goes on where it fails once.
+/// A reader that gives so many bytes of a text, three at a time, and fails then. Where it fails once, it goes on with what is
+/// later, to its end.
 #[derive(Drop)]
 struct FailingReader<'a> {
     rest: &'a [u8],
-    later: &'a [u8],
+    later: Option<&'a [u8]>,
     kind: ErrorKind,
     fails: Fails,
 }
@@ -49,9 +50,13 @@ struct FailingReader<'a> {
 impl Read for FailingReader<'_> {
     fn read(&mut self, buf: &mut [u8]) -> io::Result<usize> {
         if self.rest.is_empty() {
-            if self.fails == Fails::Once {
-                self.rest = self.later;
-                self.later = b"";
+            match (self.fails, self.later) {
+                (Fails::Once, None) => return Ok(0),
+                (Fails::Once, Some(later)) => {
+                    self.rest = later;
+                    self.later = None;
+                }
+                (Fails::Always, _) => (),
             }
             return Err(Error::from(self.kind));
         }
@@ -118,7 +123,7 @@ fn stops_at_a_failed_read(rt: HostRuntime) {
                 let (rest, later) = text.split_at(good);
                 let mut reader = FailingReader {
                     rest,
-                    later,
+                    later: Some(later),
                     kind,
                     fails,
                 };

@@ -1,0 +1,111 @@
+#!/usr/bin/env python3
+"""Refuses each allocation of `trace_cli seq` in turn.
+
+Usage: tests/memory.py [COMMAND ..]
+
+COMMAND reads an image on standard input and ends with the word `seq`; without
+it `./trace_cli seq` of this repository is tested. Each row runs with its first,
+second and so on allocation refused, until a run meets none: a run that was
+refused one says `stopped NoMemory`, writes nothing on standard output and has
+status 3, and the last one answers as if nothing was refused. Where the C
+compiler `cc` isn't installed the test is skipped, and a line says so. Exits
+with 1 where a run differs.
+"""
+
+import os
+import shutil
+import subprocess
+import sys
+import tempfile
+from pathlib import Path
+
+from seq_rows import FOUR, SEARCH, at, done, exited, fault, image, refused
+
+ROOT = Path(__file__).resolve().parent.parent
+STOPPED = ("", "stopped NoMemory\n", 3)
+
+# Takes the place of malloc and realloc: the call of the number REFUSED gets nothing, and descriptor 9 is told so.
+SHIM = r"""
+#define _GNU_SOURCE
+#include <dlfcn.h>
+#include <stdlib.h>
+#include <unistd.h>
+static long asked, refused;
+static void *(*allocate)(size_t), *(*resize)(void *, size_t);
+__attribute__((constructor)) static void begin(void) {
+    allocate = dlsym(RTLD_NEXT, "malloc");
+    resize = dlsym(RTLD_NEXT, "realloc");
+    refused = atol(getenv("REFUSED"));
+    asked = 0;
+}
+static int is_refused(void) {
+    if (!refused || ++asked != refused) return 0;
+    if (write(9, "r", 1) != 1) abort();
+    return 1;
+}
+void *malloc(size_t size) {
+    if (!allocate) allocate = dlsym(RTLD_NEXT, "malloc");
+    return is_refused() ? NULL : allocate(size);
+}
+void *realloc(void *old, size_t size) {
+    if (!resize) resize = dlsym(RTLD_NEXT, "realloc");
+    return is_refused() ? NULL : resize(old, size);
+}
+"""
+
+# (what it shows, image text, (standard output, standard error, status))
+ROWS = [
+    ("four epochs", FOUR, done(4, at(0x40, "06"))),
+    ("an exit", image(SEARCH, epochs=8, more="exit\n"), exited(2, at(0x40, "000000000100000002"))),
+    ("a fault", image("00000000"), fault(0, 1, 0)),
+    ("registers and data", FOUR + "reg 5 00000001\nat 00000040 0a0b\n", done(4, at(0x40, "100b"))),
+    ("a larger memory", "version 2\n" + image("b702100023ae12fe67800000", size=1_048_576),
+     done(1, at(0xFFFF0, "0" * 24 + "fcffffff"))),
+    ("a refused image", FOUR + "at 00000000 00\n", refused(5, "Place")),
+]
+
+
+def run(command, shim, text, number):
+    """The outcome with this allocation refused, and whether there was such a one."""
+    reader, writer = os.pipe()
+    os.dup2(writer, 9)
+    os.close(writer)
+    environment = {**os.environ, "LD_PRELOAD": str(shim), "REFUSED": str(number)}
+    result = subprocess.run(command, input=text.encode(), capture_output=True, check=False, env=environment, pass_fds=[9])
+    os.close(9)
+    with os.fdopen(reader, "rb") as told:
+        met = told.read() != b""
+    return (result.stdout.decode("latin-1"), result.stderr.decode("latin-1"), result.returncode), met
+
+
+def differences(command, shim, name, text, expected):
+    """What is wrong with the runs of a row, and how many there were."""
+    for number in range(1, 1000):
+        got, met = run(command, shim, text, number)
+        wanted = STOPPED if met else expected
+        if got != wanted:
+            return f"{name}, allocation {number}\n  expected {wanted}\n  got      {got}", number
+        if not met:
+            return None, number
+    return f"{name}: still an allocation after 1000", 1000
+
+
+def main():
+    command = sys.argv[1:] or [str(ROOT / "trace_cli"), "seq"]
+    if shutil.which("cc") is None:
+        print("SKIPPED: refused allocations, since cc isn't installed")
+        return 0
+    with tempfile.TemporaryDirectory() as directory:
+        source, shim = Path(directory, "shim.c"), Path(directory, "shim.so")
+        source.write_text(SHIM)
+        subprocess.run(["cc", "-shared", "-fPIC", "-O1", "-o", shim, source, "-ldl"], check=True)
+        results = [differences(command, shim, *row) for row in ROWS]
+    wrong = [text for text, _ in results if text]
+    for text in wrong:
+        print(f"FAILED {text}")
+    print(f"{sum(number for _, number in results)} runs of {len(ROWS)} rows, {len(wrong)} failed")
+    return 1 if wrong else 0
+
+
+if __name__ == "__main__":
+    sys.exit(main())
