@@ -46,13 +46,6 @@ impl List {
         self.entries.len()
     }
 
-    /// The entries.
-    pub fn as_slice(&self) -> &[(u64, u64)]
-        ensures { result.now ≡ self.now }
-    {
-        self.entries.as_slice()
-    }
-
     /// Adds an entry at the end, and says whether there was memory for it.
     pub fn add(&mut self, who: u64, turn: u64) -> bool
         ensures added { OnTrue result (self.new ≡ self.old ++ (who, turn) ∷ []) }
