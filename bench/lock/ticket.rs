@@ -6,7 +6,7 @@ use std::ops::{Deref, DerefMut};
 use std::sync::atomic::{AtomicU64, Ordering::SeqCst};
 
 /// How often a thread looks, with pauses between, before it sleeps between two looks.
-const LOOKS: u32 = 200;
+const LOOKS: u32 = 100;
 
 /// A thread with more tickets than these before its own sleeps at once.
 const NEAR: u64 = 3;

@@ -10,7 +10,7 @@ use crossbeam_utils::Backoff;
 use std::sync::Wait;
 
 /// How often a thread looks, with pauses between, before it sleeps between two looks.
-const LOOKS: u32 = 200;
+const LOOKS: u32 = 100;
 
 /// A thread with more tickets than these before its own sleeps at once.
 const NEAR: u64 = 3;
