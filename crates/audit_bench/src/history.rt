@@ -9,7 +9,7 @@ use std::alloc::Global;
 
 /// The entries of a history: five numbers of four bytes for each, least significant byte first. They are the core, the kind,
 /// and three numbers. None: there is no such kind, a record is not whole, or there is no memory.
-pub fn entries_of(alloc: Global, bytes: &[u8]) -> Option<Vec<Entry>>
+pub(crate) fn entries_of(alloc: Global, bytes: &[u8]) -> Option<Vec<Entry>>
     ensures { IfSome result (λ entries. spec.IsHistoryIn bytes.now entries.items) }
 {
     let (records, rest) = bytes.as_chunks::<20>();
@@ -63,7 +63,7 @@ fn number(bytes: &[u8; 20], place: usize) -> u32
 }
 
 /// The homefree epoch after a history, or the place of the entry that the audit refuses, and its refusal.
-pub fn homefree_after(
+pub(crate) fn homefree_after(
     alloc: Global,
     image: &Image,
     cores: u32,

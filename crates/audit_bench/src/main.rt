@@ -3,8 +3,6 @@
 #![tactic(auto)]
 
 mod history;
-#[cfg(test)]
-mod tests;
 
 use history::{entries_of, homefree_after};
 use rv32_exec::{Image, image_of, read_input};

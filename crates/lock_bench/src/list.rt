@@ -9,7 +9,7 @@ use ticket_lock::Kept;
 
 /// A list of entries, each with the number of the pass that made it and the turn in which it did.
 #[derive(Drop)]
-pub struct List {
+pub(crate) struct List {
     pub(crate) entries: Vec<(u64, u64)>,
 }
 
@@ -33,28 +33,21 @@ impl Kept for List {
 
 impl List {
     /// An empty list with room for so many entries. None: there is no memory.
-    pub fn with_room(alloc: Global, entries: usize) -> Option<List>
+    pub(crate) fn with_room(alloc: Global, entries: usize) -> Option<List>
         ensures { IfSome result (λ l. l ≡ []) }
     {
         let entries = Vec::with_capacity(alloc, entries).ok()?;
         Some(List { entries })
     }
 
-    pub fn len(&self) -> usize
+    pub(crate) fn len(&self) -> usize
         ensures { result ≡ length self.now }
     {
         self.entries.len()
     }
 
-    /// The entries.
-    pub fn as_slice(&self) -> &[(u64, u64)]
-        ensures { result.now ≡ self.now }
-    {
-        self.entries.as_slice()
-    }
-
     /// Adds an entry at the end, and says whether there was memory for it.
-    pub fn add(&mut self, who: u64, turn: u64) -> bool
+    pub(crate) fn add(&mut self, who: u64, turn: u64) -> bool
         ensures added { OnTrue result (self.new ≡ self.old ++ (who, turn) ∷ []) }
         ensures unchanged { OnFalse result (self.new ≡ self.old) }
         ensures grows { GrowsBy who self.old self.new }

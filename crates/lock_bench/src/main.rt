@@ -3,8 +3,6 @@
 #![tactic(auto)]
 
 mod list;
-#[cfg(test)]
-mod tests;
 mod turns;
 
 use std::{env, io};

@@ -34,7 +34,7 @@ fn take_turn<R: Wait>(
 }
 
 /// So many turns, one after another.
-pub fn take_turns<R: Wait>(
+pub(crate) fn take_turns<R: Wait>(
     rt: &R,
     lock: &TicketLock<List>,
     pass: Pass<List>,
@@ -52,7 +52,7 @@ pub fn take_turns<R: Wait>(
 }
 
 /// The same for each number of the pass, in a thread of its own.
-pub fn split_turns<R: Threads + Wait + Sync>(
+pub(crate) fn split_turns<R: Threads + Wait + Sync>(
     rt: &R,
     lock: &TicketLock<List>,
     pass: Pass<List>,
@@ -87,7 +87,7 @@ pub fn split_turns<R: Threads + Wait + Sync>(
 }
 
 /// So many threads take so many turns each at one list. The list has the entries of each thread, each once and in their order.
-pub fn by_threads<R: Threads + Wait + Sync>(
+pub(crate) fn by_threads<R: Threads + Wait + Sync>(
     rt: &R,
     alloc: Global,
     threads: u64,

@@ -7,7 +7,7 @@ ghost use Rattle.ticket_lock.specs.Past.{GrowsBy};
 use crate::kept::Kept;
 use crate::pass::Pass;
 use crate::plays::HandBack;
-use crate::rule::{HOME, Place, SERVING, Words};
+use crate::rule::{HOME, NEXT, Place, SERVING, Words};
 use std::marker::Model;
 
 /// The value, with the pass that took it. It can't be dropped: it has to be released.
@@ -56,7 +56,11 @@ impl<'a, T: Kept> Held<'a, T> {
             value,
         } = self;
         words.exchange(&mut seat, HOME, Some(value));
-        words.fetch_add::<HandBack>(&mut seat, SERVING, 1);
+        let served = words.fetch_add::<HandBack>(&mut seat, SERVING, 1);
+        // Somebody waits who may sleep. One wake alone could reach another than the next, and then all would sleep.
+        if words.peek(NEXT) != served.wrapping_add(1) {
+            words.wake_all(SERVING);
+        }
         Pass { lo, seat }
     }
 }

@@ -4,10 +4,16 @@ ghost use Rattle.ticket_lock.specs.declared.rule.Turn.TheVariants.{Waiting};
 ghost use Rattle.ticket_lock.specs.Steps.{IsHanded, Becomes, IsIdle, IsWaiting};
 
 use crate::kept::Kept;
-use crate::plays::{Draw, Look, LookNext, Serve};
+use crate::plays::{Draw, LookNext, Serve};
 use crate::rule::{END, NEXT, Place, SERVING, Words};
 use crossbeam_utils::Backoff;
 use std::sync::Wait;
+
+/// How often a thread looks, with pauses between, before it sleeps between two looks.
+const LOOKS: u32 = 100;
+
+/// A thread with more tickets than these before its own sleeps at once.
+const NEAR: u64 = 3;
 
 /// Draws the next ticket. None: they are all drawn.
 pub(crate) fn draw<T: Kept, R: Wait>(rt: &R, words: &Words<T>, seat: &mut Place<T>) -> Option<u64>
@@ -32,6 +38,9 @@ pub(crate) fn draw<T: Kept, R: Wait>(rt: &R, words: &Words<T>, seat: &mut Place<
 }
 
 /// Waits until the ticket is served, and takes the value, which is then in the slot that the seat has.
+///
+/// It looks at first, and then sleeps. A thread that only looked, or that gave up its processor between two looks, would hold up the
+/// queue where more threads run than there are processors: each hand-over would wait until the scheduler comes round to the next.
 pub(crate) fn wait<T: Kept, R: Wait>(rt: &R, words: &Words<T>, seat: &mut Place<T>, ticket: u64)
     requires table { (seat.old.table_id ≡ words.now.table_id) × (words.now.table_id.words ≡ 2) }
     requires waiting { IsWaiting seat.old ticket }
@@ -39,13 +48,19 @@ pub(crate) fn wait<T: Kept, R: Wait>(rt: &R, words: &Words<T>, seat: &mut Place<
     ensures handed { (x : T) × IsHanded T.fixed T.past seat.old.me.0 ticket x seat.new.me }
 {
     let backoff = Backoff::new();
+    let mut looks = 0u32;
     for _ in rt.forever() {
-        if words.load::<Look>(seat, SERVING) == ticket
-            && words.compare_exchange::<Serve>(seat, SERVING, ticket, ticket) == ticket
-        {
+        let served = words.load::<Serve>(seat, SERVING);
+        if served == ticket {
             return;
         }
-        backoff.snooze();
+        if looks < LOOKS && ticket.saturating_sub(served) <= NEAR {
+            looks += 1;
+            backoff.spin();
+        } else {
+            // returns at once where the word has moved since the look, so no wake is lost
+            words.park(rt, SERVING, (served % (1 << 32)) as u32);
+        }
     }
     unreachable!()
 }

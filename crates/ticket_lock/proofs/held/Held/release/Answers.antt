@@ -6,8 +6,8 @@ use Rattle.ticket_lock.proofs.RuleKept.{hands_back_at}
 use Rattle.ticket_lock.proofs.Passes.{fixed_is}
 use Rattle.ticket_lock.proofs.held.Held.release.Goals as goal
 
-pub fetch_add-requires : goal.fetch_add-requires
-fetch_add-requires g c =
+pub fetch_add-served-requires : goal.fetch_add-served-requires
+fetch_add-served-requires g c =
     let seat = c.self.inside.seat in
     let is = ap (λ h. h.pass) c.self.view_is in
     let value = ap (λ h. h.value) c.self.view_is in (
