@@ -4,7 +4,7 @@ ghost use Rattle.ticket_lock.specs.declared.rule.Turn.TheVariants.{Waiting};
 ghost use Rattle.ticket_lock.specs.Steps.{IsHanded, Becomes, IsIdle, IsWaiting};
 
 use crate::kept::Kept;
-use crate::plays::{Draw, LookNext, Serve};
+use crate::plays::{Draw, Look, LookNext, Serve};
 use crate::rule::{END, NEXT, Place, SERVING, Words};
 use crossbeam_utils::Backoff;
 use std::sync::Wait;
@@ -50,8 +50,10 @@ pub(crate) fn wait<T: Kept, R: Wait>(rt: &R, words: &Words<T>, seat: &mut Place<
     let backoff = Backoff::new();
     let mut looks = 0u32;
     for _ in rt.forever() {
-        let served = words.load::<Serve>(seat, SERVING);
-        if served == ticket {
+        let served = words.load::<Look>(seat, SERVING);
+        if served == ticket
+            && words.compare_exchange::<Serve>(seat, SERVING, ticket, ticket) == ticket
+        {
             return;
         }
         if looks < LOOKS && ticket.saturating_sub(served) <= NEAR {
