@@ -2,6 +2,7 @@
 use Rattle.std.proofs.Common.{◌≡◌, ℕ, ◌<◌, ◌==◌, ◌&&◌, Bool, true, false, cond, List, Option, Some, None, slice_index, refl, sym, ap, subst, ◌∙◌, arith}
 use Rattle.std.proofs.Math.Path.{fun_ext}
 use Rattle.std.proofs.lemmas.Bool.Decides.{nat_tests}
+use Rattle.std.proofs.lemmas.Nat.{pow_pos}
 use Rattle.spec_states.specs.declared.line.LineState.{LineState}
 use Rattle.spec_states.specs.declared.line.Marks.{Marks}
 use Rattle.spec_states.specs.Copies.{LineCopy, copy_of, no_copy, merged_line, IsUpToDate}
@@ -14,7 +15,7 @@ use Rattle.cache_lines.specs.Cells.{cell_of, with_number, line_with_number, refr
 use Rattle.cache_lines.specs.Changes.{rolled_back_line, published_line, with_each_line, IsFound, CopiesAreFilled, CopiesChange, CopiesAllChange}
 use Rattle.cache_lines.specs.Lines.{Contents, way_count, line_in, with_line, is_copy_of, held_line}
 use Rattle.cache_lines.specs.Placed.{IsNotElsewhere, IsPlaced, MayStand}
-use Rattle.cache_lines.specs.Protocol.{copy_of_line, copy_or_none, copy_at, rolled_back_copy, published_copy, copy_with_number, refreshed_copy}
+use Rattle.cache_lines.specs.Protocol.{IsInPlace, copy_of_line, copy_or_none, copy_at, rolled_back_copy, published_copy, copy_with_number, refreshed_copy}
 use Rattle.cache_lines.proofs.LineLaws.{is_copy_of-true, is_copy_of-own, not_true, held_line-own, held_line-with_line}
 use Rattle.cache_lines.proofs.WholeCache.{changed_held, held_line-each, KeepsAddresses, KeepsAddresses-rolled_back, KeepsAddresses-published}
 
@@ -34,6 +35,26 @@ copy_at-own cache h addr way way_way v =
 -- a copy of this line is one of no other
 pub is_copy_of-other : (line : Line) (addr other : ℕ) → is_copy_of line addr ≡ true → is_copy_of line other ≡ (addr == other)
 is_copy_of-other line addr other e = let p = is_copy_of-true line addr e in rw (p.0, p.1) refl
+
+-- the copy at each address is in its place
+pub copy_at-in_place : (cache : Contents) → IsPlaced cache → (addr : ℕ)
+    → IsInPlace cache.line_length addr (copy_at cache addr)
+copy_at-in_place cache h addr =
+    elim (is_copy_of (line_in cache addr 0) addr) as (λ b. is_copy_of (line_in cache addr 0) addr ≡ b → IsInPlace cache.line_length addr (copy_or_none (cond b (Some (line_in cache addr 0)) (cond (is_copy_of (line_in cache addr 1) addr) (Some (line_in cache addr 1)) None)))) [
+      | true ↦ λ e. held 0 (omega arith) e
+      | false ↦ λ _.
+          elim (is_copy_of (line_in cache addr 1) addr) as (λ b. is_copy_of (line_in cache addr 1) addr ≡ b → IsInPlace cache.line_length addr (copy_or_none (cond b (Some (line_in cache addr 1)) None))) [
+            | true ↦ λ e. held 1 (omega arith) e
+            | false ↦ λ _. record { aligned = λ v. cc; mask = pow_pos cache.line_length; cells = λ x past. refl }
+          ] refl
+    ] refl
+  where
+    held : (way : ℕ) → way < way_count → is_copy_of (line_in cache addr way) addr ≡ true
+        → IsInPlace cache.line_length addr (copy_of_line (line_in cache addr way))
+    held way way_way e =
+        let p = is_copy_of-true (line_in cache addr way) addr e in
+        let fits = h.fits addr way way_way p.0 in
+        record { aligned = λ _. rw p.1 at (h.aligned addr way way_way p.0); mask = fits.mask; cells = fits.cells }
 
 pub IsFound-way : (cache : Contents) (addr way : ℕ) → IsPlaced cache → way < way_count
     → is_copy_of (line_in cache addr way) addr ≡ true → IsFound cache addr way
@@ -212,3 +233,26 @@ pub IsUpToDate-published : (alone : Bool) (copy : LineCopy) (committed : ℕ →
     → IsUpToDate (published_copy alone copy) (merged_line copy.marks.bytes copy.cell committed)
 IsUpToDate-published alone copy committed h =
     up_to_date_copy _ _ _ (settlement-publishes copy.state copy.marks alone copy.cell committed h)
+
+-- ---- at the way that `find` gives
+
+-- the copy of its address changes, and no other
+pub copies-found : (old new : Contents) (addr way : ℕ) (change : LineCopy → LineCopy) → IsFound old addr way
+    → CopiesChange old new addr way change → (other : ℕ)
+    → copy_at new other ≡ cond (addr == other) (change (copy_at old other)) (copy_at old other)
+copies-found old new addr way change found changes other = rw (← found.copy_of_it other) (changes other)
+
+-- a line of its address takes its place: it is the copy, or there is none where it is not valid
+pub copies-refilled : (old new : Contents) (addr way : ℕ) (line : Line) → IsFound old addr way → line.addr ≡ addr
+    → CopiesAreFilled old new way line → (other : ℕ)
+    → copy_at new other ≡ cond (addr == other) (shown_line line) (copy_at old other)
+copies-refilled old new addr way line found same filled other =
+    filled other
+    ∙ rw (same, found.copy_of_it other) (choice (is_valid line.state) (addr == other) (copy_at old other))
+  where
+    choice : (v b : Bool) (copy : LineCopy)
+        → cond (v && b) (copy_of_line line) (cond b no_copy copy) ≡ cond b (cond v (copy_of_line line) no_copy) copy
+    choice true true copy = refl
+    choice true false copy = refl
+    choice false true copy = refl
+    choice false false copy = refl

@@ -7,7 +7,7 @@ ghost use Rattle.cache_lines.specs.Cells.{line_with_number, refreshed_line};
 ghost use Rattle.cache_lines.specs.Changes.{lowest_way, victim_of, rolled_back_line, published_line, with_each_line, IsFound, IsAbsent, CopiesAreFilled, CopiesChange, CopiesAllChange};
 ghost use Rattle.cache_lines.specs.Lines.{Contents, is_line_length, set_count, way_count, place, line_in, with_line, is_copy_of};
 ghost use Rattle.cache_lines.specs.Placed.{IsNotElsewhere, FitsLength, IsPlaced, MayStand};
-ghost use Rattle.cache_lines.specs.Protocol.{copy_at, copy_of_line, rolled_back_copy, published_copy, copy_with_number, refreshed_copy};
+ghost use Rattle.cache_lines.specs.Protocol.{IsInPlace, copy_at, copy_of_line, rolled_back_copy, published_copy, copy_with_number, refreshed_copy};
 
 use crate::line::Line;
 use spec_states::LONGEST_LINE;
@@ -107,6 +107,7 @@ impl Cache {
         ensures value { result ≡ lowest_way (λ line. is_copy_of line addr) self.now addr }
         ensures found { IfSome result (IsFound self.now addr) }
         ensures absent { IfNone result (IsAbsent self.now addr) }
+        ensures in_place { IsInPlace self.now.line_length addr (copy_at self.now addr) }
         ensures placed { IsPlaced self.now }
     {
         if self.line(addr, 0).is_copy_of(addr) {
