@@ -6,9 +6,9 @@ use Rattle.rv32_decode.specs.declared.instr.Instr.TheVariants.{Jal, Jalr, Beq, B
 use Rattle.rv32_decode.specs.declared.refused.Refused.{Refused}
 use Rattle.rv32_decode.specs.declared.refused.Refused.TheVariants.{Illegal, System}
 use Rattle.rv32_decode.specs.Table.{meaning_of}
-use Rattle.rv32_exec.specs.declared.hart.TheConstants.{EPOCH_END}
+use Rattle.rv32_exec.specs.Hart.{epoch_end}
 use Rattle.rv32_exec.specs.declared.stop.Stop.TheVariants.{Load, Store, Ended, Fault}
-use Rattle.rv32_exec.specs.declared.stop.TheConstants.{MISALIGNED_DATA, FETCH_OUTSIDE_CODE, INSTRUCTION_LIMIT, LOAD_OUTSIDE_MEMORY, STORE_OUTSIDE_DATA}
+use Rattle.rv32_exec.specs.Faults.{misaligned_data, fetch_outside_code, instruction_limit, load_outside_memory, store_outside_data}
 use Rattle.memory_bytes.specs.Bytes.{number_at}
 use Rattle.rv32_image.specs.Image.{LoadedImage}
 use Rattle.rv32_exec.specs.Hart.{HartState}
@@ -44,7 +44,7 @@ branch_sound image h taken offset = either image h (not taken) _ _ (executed ima
 
 load_by : (image : LoadedImage) (h : HartState) (width : ℕ) (signed : Bool) (rd address : ℕ) (aligned outside : Bool) → h.done < image.limit → IsWidth width
     → (address % width == 0) ≡ aligned → nat_lt image.size (address + width) ≡ outside
-    → IsSound image h (cond (not aligned) (Stops (Fault MISALIGNED_DATA h.pc)) (cond outside (Stops (Fault LOAD_OUTSIDE_MEMORY h.pc)) (Stops (Load address width signed rd))))
+    → IsSound image h (cond (not aligned) (Stops (Fault misaligned_data h.pc)) (cond outside (Stops (Fault load_outside_memory h.pc)) (Stops (Load address width signed rd))))
 load_by image h width signed rd address false outside room wide aligned is = faulted image h _ _
 load_by image h width signed rd address true true room wide aligned is = faulted image h _ _
 load_by image h width signed rd address true false room wide aligned is =
@@ -57,7 +57,7 @@ load_sound image h width signed rd address room wide =
 
 store_by : (image : LoadedImage) (h : HartState) (width address value : ℕ) (aligned outside code : Bool) → h.done < image.limit → IsWidth width → value < 256 ^ width
     → (address % width == 0) ≡ aligned → nat_lt image.size (address + width) ≡ outside → nat_lt address image.code ≡ code
-    → IsSound image h (cond (not aligned) (Stops (Fault MISALIGNED_DATA h.pc)) (cond (outside || code) (Stops (Fault STORE_OUTSIDE_DATA h.pc)) (Stops (Store address width value))))
+    → IsSound image h (cond (not aligned) (Stops (Fault misaligned_data h.pc)) (cond (outside || code) (Stops (Fault store_outside_data h.pc)) (Stops (Store address width value))))
 store_by image h width address value false outside code room wide low aligned is above = faulted image h _ _
 store_by image h width address value true true code room wide low aligned is above = faulted image h _ _
 store_by image h width address value true false true room wide low aligned is above = faulted image h _ _
@@ -111,7 +111,7 @@ word_sound image h (Err Illegal) room = faulted image h _ _
 word_sound image h (Err System) room = faulted image h _ _
 
 fetched_by : (image : LoadedImage) (h : HartState) (over : Bool) (fetched : Effect) → nat_le image.limit h.done ≡ over
-    → (h.done < image.limit → IsSound image h fetched) → IsSound image h (cond over (Stops (Fault INSTRUCTION_LIMIT h.pc)) fetched)
+    → (h.done < image.limit → IsSound image h fetched) → IsSound image h (cond over (Stops (Fault instruction_limit h.pc)) fetched)
 fetched_by image h true fetched is sound = faulted image h _ _
 fetched_by image h false fetched is sound = sound (grind (arith, nat_tests))
 
@@ -119,13 +119,13 @@ ended : (image : LoadedImage) (h : HartState) → IsSound image h (Stops Ended)
 ended image h = record { stops = tt }
 
 inside_code : (image : LoadedImage) (h : HartState) → h.done < image.limit
-    → IsSound image h (cond (nat_le image.code h.pc) (Stops (Fault FETCH_OUTSIDE_CODE h.pc)) (word_effect image h (meaning_of (number_at (λ a. slice_index image.bytes a) h.pc 4))))
+    → IsSound image h (cond (nat_le image.code h.pc) (Stops (Fault fetch_outside_code h.pc)) (word_effect image h (meaning_of (number_at (λ a. slice_index image.bytes a) h.pc 4))))
 inside_code image h room = either image h (nat_le image.code h.pc) _ _ (faulted image h _ _) (word_sound image h _ room)
 
 effect_sound : (image : LoadedImage) (h : HartState) → IsSound image h (hart_effect image h)
 unfolding hart_effect
 effect_sound image h =
-    either image h (h.pc == EPOCH_END) (Stops Ended) _ (ended image h) (fetched_by image h (nat_le image.limit h.done) _ refl (inside_code image h))
+    either image h (h.pc == epoch_end) (Stops Ended) _ (ended image h) (fetched_by image h (nat_le image.limit h.done) _ refl (inside_code image h))
 
 -- ---- the next event
 

@@ -5,7 +5,7 @@ use Rattle.rv32_decode.specs.declared.instr.Instr.{Instr}
 use Rattle.rv32_decode.specs.declared.instr.Instr.TheVariants.{Jal, Lb, Lh, Lw, Lbu, Lhu, Sb, Sh, Sw}
 use Rattle.rv32_decode.specs.declared.refused.Refused.{Refused}
 use Rattle.rv32_decode.specs.Table.{meaning_of}
-use Rattle.rv32_exec.specs.declared.hart.TheConstants.{EPOCH_END}
+use Rattle.rv32_exec.specs.Hart.{epoch_end}
 use Rattle.memory_bytes.specs.Bytes.{number_at}
 use Rattle.rv32_image.specs.Decoded.{IsDecoded, kept_of}
 use Rattle.rv32_image.specs.Image.{LoadedImage, IsImage}
@@ -22,7 +22,7 @@ fetched : (image : LoadedImage) (h : HartState) → IsImage image → h.pc < ima
     → hart_effect image h ≡ word_effect image h (meaning_of (number_at (λ a. slice_index image.bytes a) h.pc 4))
 unfolding hart_effect
 fetched image h ok inside room =
-    let before_end : (h.pc == EPOCH_END) ≡ false = grind (arith, nat_tests) in
+    let before_end : (h.pc == epoch_end) ≡ false = grind (arith, nat_tests) in
     let below : nat_le image.limit h.done ≡ false = grind (arith, nat_tests) in
     let within : nat_le image.code h.pc ≡ false = grind (arith, nat_tests) in
     rw (before_end, below, within) refl

@@ -1,7 +1,7 @@
 -- Proofs of the laws.
 use Rattle.std.proofs.Common.{◌≡◌, ℕ, zero, suc, ◌+◌, ◌-◌, ◌<◌, ◌≤◌, ◌==◌, nat_le, Bool, true, false, cond, List, refl, sym, ap, ◌∙◌, arith}
 use Rattle.std.proofs.lemmas.Bool.Decides.{nat_tests}
-use Rattle.rv32_exec.specs.declared.hart.TheConstants.{EPOCH_END}
+use Rattle.rv32_exec.specs.Hart.{epoch_end}
 use Rattle.rv32_exec.specs.declared.stop.Stop.{Stop}
 use Rattle.rv32_exec.specs.declared.stop.Stop.TheVariants.{Load, Store, Ended, Fault}
 use Rattle.rv32_image.specs.Image.{LoadedImage}
@@ -17,13 +17,13 @@ use Rattle.rv32_exec.proofs.Runs.{event_within_executes, event_within_stops}
 
 go_on_go_on : (p : Progress) (f g : HartState → List ℕ → Progress) → go_on (go_on p f) g ≡ go_on p (λ h m. go_on (f h m) g)
 go_on_go_on (Runs h memory) f g = refl
-go_on_go_on (Ends memory) f g = refl
+go_on_go_on (Ends e memory) f g = refl
 go_on_go_on (Faults cause pc memory) f g = refl
 
 -- two continuations that agree are one
 go_on_same : (p : Progress) (f g : HartState → List ℕ → Progress) → ((h : HartState) (m : List ℕ) → f h m ≡ g h m) → go_on p f ≡ go_on p g
 go_on_same (Runs h memory) f g same = same h memory
-go_on_same (Ends memory) f g same = refl
+go_on_same (Ends e memory) f g same = refl
 go_on_same (Faults cause pc memory) f g same = refl
 
 one_step : (image : LoadedImage) (n : ℕ) (h : HartState) (memory : List ℕ) → after_steps image (suc n) h memory ≡ go_on (execute image h memory) (after_steps image n)
@@ -124,12 +124,12 @@ before_end false e at is access = is
 pub accesses_below : (image : LoadedImage) (h : HartState) (at : Stop) → hart_effect image h ≡ Stops at → Accesses at → h.done < image.limit
 unfolding hart_effect
 accesses_below image h at is access =
-    within_limit image.limit h.done (nat_le image.limit h.done) _ _ _ at refl (before_end (h.pc == EPOCH_END) _ at is access) access
+    within_limit image.limit h.done (nat_le image.limit h.done) _ _ _ at refl (before_end (h.pc == epoch_end) _ at is access) access
 
 -- what leads on was counted, and there was room for it
 abbrev pub LeadsOn : LoadedImage → HartState → Progress → Type 0
 LeadsOn image h (Runs after memory) = (after.done ≡ h.done + 1) × (h.done < image.limit)
-LeadsOn image h (Ends memory) = Unit {0}
+LeadsOn image h (Ends e memory) = Unit {0}
 LeadsOn image h (Faults cause pc memory) = Unit {0}
 
 stop_leads_on : (image : LoadedImage) (h : HartState) (memory : List ℕ) (at : Stop) → hart_effect image h ≡ Stops at → LeadsOn image h (after_stop h memory at)
@@ -150,7 +150,7 @@ stops_by : (image : LoadedImage) (n : ℕ) (h : HartState) (p : Progress) → im
     → ((after : HartState) (memory : List ℕ) → after.done ≤ image.limit → image.limit < after.done + n → HasStopped (after_steps image n after memory))
     → HasStopped (go_on p (after_steps image n))
 stops_by image n h (Runs after memory) enough on later = later after memory (omega (arith, on.0, on.1)) (omega (arith, on.0, on.1))
-stops_by image n h (Ends memory) enough on later = tt
+stops_by image n h (Ends e memory) enough on later = tt
 stops_by image n h (Faults cause pc memory) enough on later = tt
 
 stops : (image : LoadedImage) (n : ℕ) (h : HartState) (memory : List ℕ) → h.done ≤ image.limit → image.limit < h.done + n → HasStopped (after_steps image n h memory)

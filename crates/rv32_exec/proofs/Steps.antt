@@ -6,10 +6,10 @@ use Rattle.rv32_decode.specs.declared.instr.Instr.TheVariants.{Jal, Jalr, Beq, B
 use Rattle.rv32_decode.specs.declared.refused.Refused.{Refused}
 use Rattle.rv32_decode.specs.declared.refused.Refused.TheVariants.{Illegal, System}
 use Rattle.rv32_decode.specs.Table.{meaning_of}
-use Rattle.rv32_exec.specs.declared.hart.TheConstants.{EPOCH_END}
+use Rattle.rv32_exec.specs.Hart.{epoch_end}
 use Rattle.rv32_exec.specs.declared.stop.Stop.{Stop}
 use Rattle.rv32_exec.specs.declared.stop.Stop.TheVariants.{Ended, Fault}
-use Rattle.rv32_exec.specs.declared.stop.TheConstants.{FETCH_OUTSIDE_CODE, INSTRUCTION_LIMIT}
+use Rattle.rv32_exec.specs.Faults.{fetch_outside_code, instruction_limit}
 use Rattle.memory_bytes.specs.Bytes.{number_at}
 use Rattle.rv32_image.specs.Image.{LoadedImage}
 use Rattle.rv32_exec.specs.Hart.{HartState}
@@ -76,9 +76,9 @@ effect_counts : (image : LoadedImage) (h : HartState) → IsCounted h (hart_effe
 unfolding hart_effect
 effect_counts image h =
     let fetched = word_counts image h (meaning_of (number_at (λ a. slice_index image.bytes a) h.pc 4)) in
-    let inside = either h (nat_le image.code h.pc) (Stops (Fault FETCH_OUTSIDE_CODE h.pc)) _ (stopped h _) fetched in
-    let below = either h (nat_le image.limit h.done) (Stops (Fault INSTRUCTION_LIMIT h.pc)) _ (stopped h _) inside in
-    either h (h.pc == EPOCH_END) (Stops Ended) _ (stopped h _) below
+    let inside = either h (nat_le image.code h.pc) (Stops (Fault fetch_outside_code h.pc)) _ (stopped h _) fetched in
+    let below = either h (nat_le image.limit h.done) (Stops (Fault instruction_limit h.pc)) _ (stopped h _) inside in
+    either h (h.pc == epoch_end) (Stops Ended) _ (stopped h _) below
 
 -- an instruction that is executed is counted
 pub executes_counts : (image : LoadedImage) (h after : HartState) → hart_effect image h ≡ Executes after → after.done ≡ h.done + 1

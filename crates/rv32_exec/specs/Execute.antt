@@ -9,13 +9,12 @@ use Rattle.rv32_decode.specs.declared.instr.Instr.{Instr}
 use Rattle.rv32_decode.specs.declared.instr.Instr.TheVariants.{Lui, Auipc, Jal, Jalr, Beq, Bne, Blt, Bge, Bltu, Bgeu, Lb, Lh, Lw, Lbu, Lhu, Sb, Sh, Sw, Addi, Slti, Sltiu, Xori, Ori, Andi, Slli, Srli, Srai, Add, Sub, Sll, Slt, Sltu, Xor, Srl, Sra, Or, And, Fence}
 use Rattle.rv32_decode.specs.declared.refused.Refused.{Refused}
 use Rattle.rv32_decode.specs.declared.refused.Refused.TheVariants.{Illegal, System}
-use Rattle.rv32_exec.specs.declared.hart.TheConstants.{EPOCH_END}
-use Rattle.rv32_exec.specs.declared.stop.TheConstants.{ILLEGAL_WORD, SYSTEM_INSTRUCTION, FETCH_OUTSIDE_CODE, MISALIGNED_TARGET, MISALIGNED_DATA, LOAD_OUTSIDE_MEMORY, STORE_OUTSIDE_DATA, INSTRUCTION_LIMIT}
+use Rattle.rv32_exec.specs.Faults.{illegal_word, system_instruction, fetch_outside_code, misaligned_target, misaligned_data, load_outside_memory, store_outside_data, instruction_limit}
 use Rattle.rv32_exec.specs.declared.stop.Stop.{Stop}
 use Rattle.rv32_exec.specs.declared.stop.Stop.TheVariants.{Load, Store, Ended, Fault}
 use Rattle.memory_bytes.specs.Bytes.{IsWidth, number_at}
 use Rattle.rv32_image.specs.Image.{LoadedImage}
-use Rattle.rv32_exec.specs.Hart.{HartState, with_register, stepped, wrote}
+use Rattle.rv32_exec.specs.Hart.{HartState, epoch_end, with_register, stepped, wrote}
 
 -- What happens at a hart before any data is accessed: the instruction is executed, or the hart stops at an
 -- access to data, at the epoch's end, or at a fault.
@@ -51,27 +50,27 @@ shift_right_arithmetic a amount = cast_unsigned w32 (int_shr (cast_signed w32 a)
 abbrev pub jump : HartState → ℕ → ℕ → Effect
 jump h rd target =
     if target % 4 == 0 then Executes (record { x = with_register h.x rd (add h.pc 4); pc = target; done = h.done + 1 })
-    else Stops (Fault MISALIGNED_TARGET h.pc)
+    else Stops (Fault misaligned_target h.pc)
 
 -- "Conditional Branches": only a branch that is taken can be misaligned
 abbrev pub branch : HartState → Bool → ℕ → Effect
 branch h taken offset =
     if not taken then Executes (stepped h)
     else if add h.pc offset % 4 == 0 then Executes (record { x = h.x; pc = add h.pc offset; done = h.done + 1 })
-    else Stops (Fault MISALIGNED_TARGET h.pc)
+    else Stops (Fault misaligned_target h.pc)
 
 -- "Load and Store Instructions": an address is a multiple of its access's width, in this profile
 abbrev pub load : LoadedImage → HartState → ℕ → Bool → ℕ → ℕ → Effect
 load image h width signed rd address =
-    if not (address % width == 0) then Stops (Fault MISALIGNED_DATA h.pc)
-    else if nat_lt image.size (address + width) then Stops (Fault LOAD_OUTSIDE_MEMORY h.pc)
+    if not (address % width == 0) then Stops (Fault misaligned_data h.pc)
+    else if nat_lt image.size (address + width) then Stops (Fault load_outside_memory h.pc)
     else Stops (Load address width signed rd)
 
 -- the low `width` bytes of the value are stored, outside the code
 abbrev pub store : LoadedImage → HartState → ℕ → ℕ → ℕ → Effect
 store image h width address value =
-    if not (address % width == 0) then Stops (Fault MISALIGNED_DATA h.pc)
-    else if nat_lt image.size (address + width) || nat_lt address image.code then Stops (Fault STORE_OUTSIDE_DATA h.pc)
+    if not (address % width == 0) then Stops (Fault misaligned_data h.pc)
+    else if nat_lt image.size (address + width) || nat_lt address image.code then Stops (Fault store_outside_data h.pc)
     else Stops (Store address width (value % 256 ^ width))
 
 -- the instruction, at a hart that is to execute it; `x r` is what register r holds
@@ -123,15 +122,15 @@ instruction_effect image h x Fence = Executes (stepped h)
 
 abbrev pub word_effect : LoadedImage → HartState → Result Instr Refused → Effect
 word_effect image h (Ok instr) = instruction_effect image h (λ r. slice_index h.x r) instr
-word_effect image h (Err Illegal) = Stops (Fault ILLEGAL_WORD h.pc)
-word_effect image h (Err System) = Stops (Fault SYSTEM_INSTRUCTION h.pc)
+word_effect image h (Err Illegal) = Stops (Fault illegal_word h.pc)
+word_effect image h (Err System) = Stops (Fault system_instruction h.pc)
 
 -- what happens at a hart: the end address, the limit, the fetch and the word are looked at in this order
 unfoldable pub hart_effect : LoadedImage → HartState → Effect
 hart_effect image h =
-    if h.pc == EPOCH_END then Stops Ended
-    else if nat_le image.limit h.done then Stops (Fault INSTRUCTION_LIMIT h.pc)
-    else if nat_le image.code h.pc then Stops (Fault FETCH_OUTSIDE_CODE h.pc)
+    if h.pc == epoch_end then Stops Ended
+    else if nat_le image.limit h.done then Stops (Fault instruction_limit h.pc)
+    else if nat_le image.code h.pc then Stops (Fault fetch_outside_code h.pc)
     else word_effect image h (meaning_of (number_at (λ a. slice_index image.bytes a) h.pc 4))
 
 -- the value that a load writes, from the number that its bytes are

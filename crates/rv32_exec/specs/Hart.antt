@@ -3,7 +3,10 @@
 -- epoch are this project's.
 use Rattle.std.specs.Prelude.{◌≡◌, ℕ, ◌+◌, ◌%◌, ◌^◌, List, length, slice_index, slice_set, ◌==◌, if◌then◌else◌}
 use Rattle.rv32_image.specs.Image.{LoadedImage}
-use Rattle.rv32_exec.specs.declared.hart.TheConstants.{EPOCH_END}
+
+-- the address that ends an epoch: a jump there is the epoch's return
+abbrev pub epoch_end : ℕ
+epoch_end = 0xfffffffc
 
 pub record HartState : Type 0 where
   -- the integer registers, x0 first
@@ -19,10 +22,10 @@ pub record IsHart (h : HartState) : Type 0 where
   pub register_count : length h.x ≡ 32
   pub x0 : slice_index h.x 0 ≡ 0
 
--- the hart at the start of an epoch: pc 0, x10 (a0) the epoch's number, x1 (ra) EPOCH_END, else as the image says
+-- the hart at the start of an epoch: pc 0, x10 (a0) the epoch's number, x1 (ra) epoch_end, else as the image says
 abbrev pub start_of : LoadedImage → ℕ → HartState
 start_of image epoch = record {
-  x = slice_set (slice_set image.registers 10 epoch) 1 EPOCH_END;
+  x = slice_set (slice_set image.registers 10 epoch) 1 epoch_end;
   pc = 0;
   done = 0;
 }

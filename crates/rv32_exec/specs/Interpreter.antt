@@ -2,7 +2,7 @@
 use Rattle.std.specs.Prelude.{◌≡◌, ℕ, ◌+◌, ◌-◌, ◌%◌, ◌^◌, List, length}
 use Rattle.rv32_decode.specs.declared.instr.Instr.{Instr}
 use Rattle.rv32_decode.specs.declared.instr.Instr.TheVariants.{Lb, Lh, Lw, Lbu, Lhu, Sb, Sh, Sw}
-use Rattle.rv32_exec.specs.declared.stop.TheConstants.{MISALIGNED_TARGET}
+use Rattle.rv32_exec.specs.Faults.{misaligned_target}
 use Rattle.rv32_exec.specs.declared.stop.Stop.TheVariants.{Fault}
 use Rattle.rv32_exec.specs.declared.interpreter.Next.{Next}
 use Rattle.rv32_exec.specs.declared.interpreter.Next.TheVariants.{Following, Jump, Stop}
@@ -39,7 +39,7 @@ Leads h memory instr effect Following x memory' =
 Leads h memory instr effect (Jump target) x memory' =
     (effect ≡ Executes (hart x target (h.done + 1))) × (memory' ≡ memory) × (target % 4 ≡ 0)
 Leads h memory instr effect Stop x memory' =
-    (x ≡ h.x) × (memory' ≡ memory) × (AccessesNoData instr → effect ≡ Stops (Fault MISALIGNED_TARGET h.pc))
+    (x ≡ h.x) × (memory' ≡ memory) × (AccessesNoData instr → effect ≡ Stops (Fault misaligned_target h.pc))
 
 -- what comes of the rest of the epoch, from this hart on
 abbrev pub rest : LoadedImage → HartState → List ℕ → Progress

@@ -8,7 +8,7 @@ use Rattle.rv32_exec.specs.Sequential.{Progress, Runs, Ends, Faults, execute, af
 -- the run has come to its end or to a fault
 abbrev pub HasStopped : Progress → Type 0
 HasStopped (Runs h memory) = ⊥
-HasStopped (Ends memory) = Unit {0}
+HasStopped (Ends h memory) = Unit {0}
 HasStopped (Faults cause pc memory) = Unit {0}
 
 -- from this hart, whole instructions lead to the event

@@ -1,8 +1,8 @@
+pub mod Faults
 pub mod Hart
 pub mod Execute
 pub mod NextEvent
 pub mod Sequential
 pub mod Interpreter
 pub mod Arrival
-pub mod Outcome
 pub mod Laws

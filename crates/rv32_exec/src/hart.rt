@@ -1,6 +1,7 @@
 ghost use Rattle.std.specs.Prelude.{◌≡◌, ◌<◌, ◌+◌, ◌%◌, ◌^◌, slice_index};
 ghost use Rattle.rv32_exec.specs.Hart as spec;
 ghost use Rattle.rv32_exec.specs.Execute.{after_load, extended};
+ghost use Rattle.rv32_exec.specs.Sequential.{exits};
 ghost use Rattle.memory_bytes.specs.Bytes.{IsWidth};
 
 use rv32_decode::Register;
@@ -79,6 +80,13 @@ impl Hart {
         self.done
     }
 
+    /// Whether an epoch that ends with this hart exits the loop: the image allows it, and x10 is not 0.
+    pub fn exits(&self, image: &Image) -> bool
+        ensures { result ≡ exits image.now self.now }
+    {
+        image.exit() && self.x[10] != 0
+    }
+
     /// Writes a register, and goes on to the next instruction.
     #[inline]
     pub(crate) fn write(&mut self, rd: Register, value: u32)
@@ -139,7 +147,7 @@ pub(crate) fn extend(width: u32, signed: bool, number: u32) -> u32
 pub fn start(image: &Image, epoch: u32) -> Hart
     ensures { result ≡ spec.start_of image.now epoch }
 {
-    let mut x = image.registers();
+    let mut x = image.regs();
     x[10] = epoch;
     x[1] = EPOCH_END;
     Hart { x, pc: 0, done: 0 }

@@ -1,9 +1,8 @@
-ghost use Rattle.std.specs.Prelude.{◌≡◌, IfOk, length};
+ghost use Rattle.std.specs.Prelude.{◌≡◌, ◌<◌, ◌^◌, IfOk, length};
 ghost use Rattle.rv32_exec.specs.Sequential as spec;
 ghost use Rattle.rv32_image.specs.Image.{IsImage};
-ghost use Rattle.rv32_exec.specs.Outcome.{progress_of};
 
-use crate::hart::start;
+use crate::hart::{Hart, start};
 use crate::interpreter::run;
 use crate::stop::Stop;
 use memory_bytes::{read_number, write_number};
@@ -16,6 +15,8 @@ use std::marker::Model;
 pub enum End {
     /// All of its epochs are done; there are so many.
     Done(u32),
+    /// This epoch ended with x10 other than 0, and the image lets an epoch exit: it was the last.
+    Exit(u32),
     /// This epoch faulted, with this cause and pc.
     Fault { epoch: u32, cause: u32, pc: u32 },
 }
@@ -51,7 +52,7 @@ impl SeqEnd {
     }
 }
 
-/// Runs the loop's epochs in order, each over the memory that the one before it left, up to the first that faults.
+/// Runs the loop's epochs in order, each over the memory that the one before it left, up to the first that faults or exits.
 ///
 /// `NoMemory`: there was no memory for a copy of the image's bytes.
 pub fn run_in_order(alloc: Global, image: &Image) -> Result<SeqEnd, NoMemory>
@@ -63,25 +64,27 @@ pub fn run_in_order(alloc: Global, image: &Image) -> Result<SeqEnd, NoMemory>
     Ok(SeqEnd { end, bytes })
 }
 
-/// Runs the epochs over memory, in order, up to the first that faults.
+/// Runs the epochs over memory, in order, up to the first that faults or exits.
 fn run_epochs(image: &Image, bytes: &mut [u8]) -> End
     requires { bytes.old ≡ image.now.bytes }
     ensures end { result ≡ (spec.sequential_result image.now).end }
     ensures bytes { bytes.new ≡ (spec.sequential_result image.now).bytes }
 {
     for epoch in 0..image.epochs() {
-        if let Some((cause, pc)) = run_epoch(image, epoch, bytes) {
-            return End::Fault { epoch, cause, pc };
+        match run_epoch(image, epoch, bytes) {
+            End::Done(_) => (),
+            end => return end,
         }
     }
     End::Done(image.epochs())
 }
 
-/// Runs one epoch over memory, and answers the cause and the pc of its fault, if it has one.
-fn run_epoch(image: &Image, epoch: u32, bytes: &mut [u8]) -> Option<(u32, u32)>
+/// Runs one epoch over memory, and answers how the loop ends if this is its last.
+fn run_epoch(image: &Image, epoch: u32, bytes: &mut [u8]) -> End
     requires limits { IsImage image.now }
     requires size { length bytes.old ≡ image.now.size }
-    ensures { progress_of result bytes.new ≡ spec.epoch_outcome image.now epoch bytes.old }
+    requires epoch { epoch < image.now.epochs }
+    ensures { spec.result_of image.now epoch (spec.epoch_outcome image.now epoch bytes.old) ≡ record { end = result; bytes = bytes.new } }
 {
     let mut hart = start(image, epoch);
     loop {
@@ -103,8 +106,20 @@ fn run_epoch(image: &Image, epoch: u32, bytes: &mut [u8]) -> Option<(u32, u32)>
                 write_number(bytes, addr as usize, width, value);
                 hart.go_on();
             }
-            Stop::Ended => return None,
-            Stop::Fault { cause, pc } => return Some((cause, pc)),
+            Stop::Ended => return end_of(image, epoch, &hart),
+            Stop::Fault { cause, pc } => return End::Fault { epoch, cause, pc },
         }
+    }
+}
+
+/// How the loop ends where the epoch that ended with this hart was its last.
+fn end_of(image: &Image, epoch: u32, hart: &Hart) -> End
+    requires { epoch < 2 ^ 16 }
+    ensures { result ≡ spec.end_of image.now epoch hart.now }
+{
+    if hart.exits(image) {
+        End::Exit(epoch)
+    } else {
+        End::Done(epoch + 1)
     }
 }

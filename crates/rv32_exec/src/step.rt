@@ -1,6 +1,7 @@
 ghost use Rattle.std.specs.Prelude.{◌≡◌, ◌<◌, ◌≤◌, ◌+◌, ◌%◌, ◌^◌, OnSome, IfSome, IsSome, None, Some, slice_index};
 ghost use Rattle.memory_bytes.specs.Bytes.{IsWidth};
 ghost use Rattle.rv32_exec.specs.Execute as spec;
+ghost use Rattle.rv32_exec.specs.Faults.{misaligned_target};
 ghost use Rattle.rv32_image.specs.Image.{IsImage};
 ghost use Rattle.rv32_exec.specs.Interpreter.{AccessesNoData};
 
@@ -68,7 +69,7 @@ impl Hart {
     #[tactic(auto, unfolding(crate::specs::Execute::instruction_effect))]
     fn stop(&self, image: &Image, instr: Instr) -> Option<Stop>
         requires room { self.now.done < image.now.limit }
-        requires target { AccessesNoData instr → spec.instruction_effect image.now self.now (λ r. slice_index self.now.x r) instr ≡ spec.Stops (Stop.Fault MISALIGNED_TARGET self.now.pc) }
+        requires target { AccessesNoData instr → spec.instruction_effect image.now self.now (λ r. slice_index self.now.x r) instr ≡ spec.Stops (Stop.Fault misaligned_target self.now.pc) }
         ensures effect { spec.effect_of result self.now ≡ spec.instruction_effect image.now self.now (λ r. slice_index self.now.x r) instr }
         ensures some { IsSome result }
         ensures stop { IfSome result (spec.IsStopOf image.now self.now) }

@@ -4,3 +4,4 @@ pub mod Pieces
 pub mod Lines
 pub mod Inputs
 pub mod Printed
+pub mod Settled

@@ -5,6 +5,8 @@ use Rattle.rv32_image.specs.Drafts.{IsDraft}
 
 abbrev pub draft_of : Inside → Draft
 draft_of i = record {
+  version = i.version;
+  exit = i.exit;
   size = i.size;
   epochs = i.epochs;
   limit = i.limit;

@@ -1,8 +1,13 @@
 -- The loaded image: what a run of the loop starts from. Its limits are this project's.
-use Rattle.std.specs.Prelude.{◌≡◌, ℕ, ◌%◌, ◌≤◌, List, length, slice_index}
+use Rattle.std.specs.Prelude.{◌≡◌, ℕ, ◌%◌, ◌≤◌, Bool, List, length, slice_index}
+use Rattle.rv32_image.specs.declared.version.Version.{Version}
+use Rattle.rv32_image.specs.Version.{IsSize}
 
 -- the loop as it was loaded
 pub record LoadedImage : Type 0 where
+  pub version : Version
+  -- an epoch may exit the loop: one that ends with x10 (a0) other than 0 is the last
+  pub exit : Bool
   -- bytes of memory
   pub size : ℕ
   -- bytes of code, which lies from address 0 on
@@ -16,14 +21,12 @@ pub record LoadedImage : Type 0 where
   -- memory, from address 0 on
   pub bytes : List ℕ
 
-abbrev pub loaded_image : ℕ → ℕ → ℕ → ℕ → List ℕ → List ℕ → LoadedImage
-loaded_image size code epochs limit registers bytes =
-    record { size = size; code = code; epochs = epochs; limit = limit; registers = registers; bytes = bytes }
-
 -- the image is within the limits
 pub record IsImage (image : LoadedImage) : Type 0 where
+  pub size_allowed : IsSize image.version image.size
+  -- so, in either version
   pub size_least : 16 ≤ image.size
-  pub size_most : image.size ≤ 65536
+  pub size_most : image.size ≤ 1048576
   pub size_lines : image.size % 16 ≡ 0
   pub code_least : 4 ≤ image.code
   pub code_most : image.code ≤ image.size

@@ -8,14 +8,23 @@ use Rattle.std.specs.List.{slice_split, list_all}
 use Rattle.std.specs.Char.{is_ascii_digit}
 use Rattle.hex.specs.Hex.{decode_of, decode_sized}
 use Rattle.hex.specs.declared.error.FromHexError.{FromHexError}
-use Rattle.rv32_image.specs.declared.fault.TheConstants.{LONGEST_IMAGE_TEXT}
 use Rattle.rv32_image.specs.declared.fault.ImageFault.{ImageFault}
 use Rattle.rv32_image.specs.declared.fault.ImageFaultKind.{ImageFaultKind}
 use Rattle.rv32_image.specs.declared.fault.ImageFaultKind.TheVariants.{Line, MissingOrRepeated, Range, Place, Hex, TooLong}
+use Rattle.rv32_image.specs.declared.version.Version.{Version}
+use Rattle.rv32_image.specs.declared.version.Version.TheVariants.{One, Two}
+use Rattle.rv32_image.specs.Version.{limits_of}
 use Rattle.rv32_image.specs.Image.{LoadedImage}
+
+-- the bytes that an image text may have
+abbrev pub longest_image_text : ℕ
+longest_image_text = 1048576
 
 -- what the lines so far have said
 pub record Draft : Type 0 where
+  -- the version: as its line says, and One from the first other line on, where no line says it
+  pub version : Option Version
+  pub exit : Bool
   pub size : Option ℕ
   pub epochs : Option ℕ
   pub limit : Option ℕ
@@ -29,7 +38,7 @@ pub record Draft : Type 0 where
   pub bytes : List ℕ
 
 abbrev pub blank : Draft
-blank = record { size = None; epochs = None; limit = None; code = None; registers = replicate 32 0; given = replicate 32 false; bytes = [] }
+blank = record { version = None; exit = false; size = None; epochs = None; limit = None; code = None; registers = replicate 32 0; given = replicate 32 false; bytes = [] }
 
 -- ---- steps that may find a fault
 
@@ -69,15 +78,43 @@ word_in digits = hex_or_fault (decode_sized digits 4) >>= λ bytes. Ok (from_be_
 
 -- ---- lines
 
-abbrev pub is_size : ℕ → Bool
-is_size n = nat_le 16 n && nat_le n 65536 && n % 16 == 0
+-- the number of a version
+abbrev pub version_of : ℕ → Result Version ImageFaultKind
+version_of n = if n == 1 then Ok One else if n == 2 then Ok Two else Err Range
+
+-- `version N`: above all other lines
+unfoldable pub version_line : Draft → List ℕ → Result Draft ImageFaultKind
+version_line draft word = do
+  n ← number_in word
+  _ ← refused (is_some draft.version) MissingOrRepeated
+  version ← version_of n
+  Ok (record draft { version = Some version })
+
+-- the version of the image, where no later line says it
+abbrev pub version_in : Draft → Version
+version_in draft = unwrap_or draft.version One
+
+-- at a line other than `version` the version is settled
+abbrev pub settled : Draft → Draft
+settled draft = record draft { version = Some (version_in draft) }
+
+-- `exit`: an epoch may exit the loop
+unfoldable pub exit_line : Draft → Result Draft ImageFaultKind
+exit_line draft = do
+  _ ← refused draft.exit MissingOrRepeated
+  Ok (record draft { exit = true })
+
+-- memory of this version may have so many bytes
+abbrev pub is_size : Version → ℕ → Bool
+is_size version n =
+    nat_le (limits_of version).least_size n && nat_le n (limits_of version).most_size && n % (limits_of version).line_length == 0
 
 -- `size N`: bytes of memory, all 0 so far
 unfoldable pub size_line : Draft → List ℕ → Result Draft ImageFaultKind
 size_line draft word = do
   n ← number_in word
   _ ← refused (is_some draft.size) MissingOrRepeated
-  _ ← refused (not (is_size n)) Range
+  _ ← refused (not (is_size (version_in draft) n)) Range
   Ok (record draft { size = Some n; bytes = replicate n 0 })
 
 -- `epochs N`
@@ -145,7 +182,10 @@ at_line draft digits word = do
   _ ← refused (not (is_data_place draft address (length bytes))) Place
   Ok (record draft { bytes = with_bytes draft.bytes address bytes })
 
--- a line of two words, and one of three
+-- a line of one word, of two, and of three
+unfoldable pub one_word : Draft → List ℕ → Result Draft ImageFaultKind
+one_word draft keyword = if bytes_eq keyword (codes "exit") then exit_line draft else Err Line
+
 unfoldable pub two_words : Draft → List ℕ → List ℕ → Result Draft ImageFaultKind
 two_words draft keyword word =
     if bytes_eq keyword (codes "size") then size_line draft word
@@ -161,8 +201,10 @@ three_words draft keyword first second =
     else Err Line
 
 abbrev pub words_read : Draft → List (List ℕ) → Result Draft ImageFaultKind
-words_read draft (keyword ∷ word ∷ []) = two_words draft keyword word
-words_read draft (keyword ∷ first ∷ second ∷ []) = three_words draft keyword first second
+words_read draft (keyword ∷ []) = one_word (settled draft) keyword
+words_read draft (keyword ∷ word ∷ []) =
+    if bytes_eq keyword (codes "version") then version_line draft word else two_words (settled draft) keyword word
+words_read draft (keyword ∷ first ∷ second ∷ []) = three_words (settled draft) keyword first second
 words_read draft words = Err Line
 
 -- an empty line, and a line that begins with #
@@ -190,7 +232,16 @@ lines_read n draft (line ∷ lines) = on_line n (line_read draft line) (λ next.
 
 abbrev pub image_of_parts : Draft → Option ℕ → Option ℕ → Option ℕ → Option ℕ → Result LoadedImage ImageFault
 image_of_parts draft (Some size) (Some code) (Some epochs) (Some limit) =
-    Ok (record { size = size; code = code; epochs = epochs; limit = limit; registers = draft.registers; bytes = draft.bytes })
+    Ok (record {
+      version = version_in draft;
+      exit = draft.exit;
+      size = size;
+      code = code;
+      epochs = epochs;
+      limit = limit;
+      registers = draft.registers;
+      bytes = draft.bytes;
+    })
 image_of_parts draft size code epochs limit = Err (record { line = 0; kind = MissingOrRepeated })
 
 -- the image, where no line that it needs is missing
@@ -204,5 +255,5 @@ then_finished (Err fault) = Err fault
 -- the image that a text says, or its first fault; lines end in a line feed and count from 1
 unfoldable pub image_text : List ℕ → Result LoadedImage ImageFault
 image_text text =
-    if nat_lt LONGEST_IMAGE_TEXT (length text) then Err (record { line = 0; kind = TooLong })
+    if nat_lt longest_image_text (length text) then Err (record { line = 0; kind = TooLong })
     else then_finished (lines_read 1 blank (pieces 10 text))

@@ -1,4 +1,6 @@
+pub mod Version
 pub mod Image
+pub mod Header
 pub mod LoadedCode
 pub mod Decoded
 pub mod ImageText

@@ -1,9 +1,11 @@
-ghost use Rattle.std.specs.Prelude.{◌≡◌, ◌+◌, ◌≤◌, length, replicate, Ok};
+ghost use Rattle.std.specs.Prelude.{◌≡◌, ◌+◌, ◌%◌, ◌≤◌, ◌≢◌, IsTrue, None, length, replicate, Ok};
 ghost use Rattle.rv32_image.specs.ImageText as spec;
 ghost use Rattle.rv32_image.specs.Reading.{Gives, Answers};
+ghost use Rattle.rv32_image.specs.Version.{IsSize};
 
 use crate::fault::{ImageFault, ImageFaultKind};
-use crate::image::Image;
+use crate::image::{Header, Image};
+use crate::version::Version;
 use crate::words::{Words, bytes_in, number_in, word_in, words_of};
 use std::alloc::Global;
 use std::marker::Model;
@@ -11,6 +13,8 @@ use std::marker::Model;
 /// What the lines so far have said.
 #[derive(Drop)]
 pub struct Draft {
+    version: Option<Version>,
+    exit: bool,
     size: Option<u32>,
     epochs: Option<u32>,
     limit: Option<u32>,
@@ -38,6 +42,8 @@ impl Draft {
         ensures { result ≡ spec.blank }
     {
         Draft {
+            version: None,
+            exit: false,
             size: None,
             epochs: None,
             limit: None,
@@ -57,10 +63,49 @@ impl Draft {
             return Ok(());
         }
         match words_of(line) {
+            Words::One(keyword) => self.one_word(keyword),
+            Words::Two(keyword, word) if keyword == b"version".as_slice() => self.version_line(
+                word,
+            ),
             Words::Two(keyword, word) => self.two_words(alloc, keyword, word),
             Words::Three(keyword, first, second) => self.three_words(alloc, keyword, first, second),
             Words::Other => Err(ImageFaultKind::Line),
         }
+    }
+
+    /// The version of the image, where no later line says it.
+    fn version(&self) -> Version
+        ensures { result ≡ spec.version_in self.now }
+    {
+        self.version.unwrap_or(Version::One)
+    }
+
+    /// Settles the version, at a line that is not its own.
+    fn settle(&mut self)
+        ensures { self.new ≡ spec.settled self.old }
+    {
+        self.version = Some(self.version());
+    }
+
+    #[tactic(auto, unfolding(crate::specs::ImageText::version_line))]
+    fn version_line(&mut self, word: &[u8]) -> Result<(), ImageFaultKind>
+        ensures { Gives (λ _. self.new) result (spec.version_line self.old word.now) }
+    {
+        let number = number_in(word)?;
+        refuse(self.version.is_some(), ImageFaultKind::MissingOrRepeated)?;
+        self.version = Some(version_of(number)?);
+        Ok(())
+    }
+
+    #[tactic(auto, unfolding(crate::specs::ImageText::one_word, crate::specs::ImageText::exit_line))]
+    fn one_word(&mut self, keyword: &[u8]) -> Result<(), ImageFaultKind>
+        ensures { Gives (λ _. self.new) result (spec.one_word (spec.settled self.old) keyword.now) }
+    {
+        self.settle();
+        refuse(keyword != b"exit".as_slice(), ImageFaultKind::Line)?;
+        refuse(self.exit, ImageFaultKind::MissingOrRepeated)?;
+        self.exit = true;
+        Ok(())
     }
 
     #[tactic(auto, unfolding(crate::specs::ImageText::two_words))]
@@ -70,8 +115,9 @@ impl Draft {
         keyword: &[u8],
         word: &[u8],
     ) -> Result<(), ImageFaultKind>
-        ensures { Gives (λ _. self.new) result (spec.two_words self.old keyword.now word.now) }
+        ensures { Gives (λ _. self.new) result (spec.two_words (spec.settled self.old) keyword.now word.now) }
     {
+        self.settle();
         if keyword == b"size".as_slice() {
             self.size_line(alloc, word)
         } else if keyword == b"epochs".as_slice() {
@@ -93,8 +139,9 @@ impl Draft {
         first: &[u8],
         second: &[u8],
     ) -> Result<(), ImageFaultKind>
-        ensures { Gives (λ _. self.new) result (spec.three_words self.old keyword.now first.now second.now) }
+        ensures { Gives (λ _. self.new) result (spec.three_words (spec.settled self.old) keyword.now first.now second.now) }
     {
+        self.settle();
         if keyword == b"reg".as_slice() {
             self.reg_line(first, second)
         } else if keyword == b"at".as_slice() {
@@ -106,11 +153,12 @@ impl Draft {
 
     #[tactic(auto, unfolding(crate::specs::ImageText::size_line))]
     fn size_line(&mut self, alloc: Global, word: &[u8]) -> Result<(), ImageFaultKind>
+        requires { self.old.version ≢ None }
         ensures { Gives (λ _. self.new) result (spec.size_line self.old word.now) }
     {
         let size = number_in(word)?;
         refuse(self.size.is_some(), ImageFaultKind::MissingOrRepeated)?;
-        refuse(!is_size(size), ImageFaultKind::Range)?;
+        refuse(!is_size(self.version(), size), ImageFaultKind::Range)?;
         self.bytes = zeros(alloc, size as usize)?;
         self.size = Some(size as u32);
         Ok(())
@@ -210,6 +258,8 @@ impl Draft {
         ensures { Answers (λ image. image) result (spec.finished self) }
     {
         let Draft {
+            version,
+            exit,
             size,
             epochs,
             limit,
@@ -224,7 +274,16 @@ impl Draft {
                 kind: ImageFaultKind::MissingOrRepeated,
             });
         };
-        Ok(Image::new(alloc, size, code, epochs, limit, registers, bytes)?)
+        let header = Header {
+            version: version.unwrap_or(Version::One),
+            exit,
+            size,
+            code,
+            epochs,
+            limit,
+            registers,
+        };
+        Ok(Image::new(alloc, header, bytes)?)
     }
 }
 
@@ -235,10 +294,28 @@ fn refuse(test: bool, kind: ImageFaultKind) -> Result<(), ImageFaultKind>
     if test { Err(kind) } else { Ok(()) }
 }
 
-fn is_size(n: u64) -> bool
-    ensures { result ≡ spec.is_size n }
+/// The version of a number.
+fn version_of(number: u64) -> Result<Version, ImageFaultKind>
+    ensures { result ≡ spec.version_of number }
 {
-    16 <= n && n <= 65536 && n % 16 == 0
+    match number {
+        1 => Ok(Version::One),
+        2 => Ok(Version::Two),
+        _ => Err(ImageFaultKind::Range),
+    }
+}
+
+/// Whether memory of this version may have so many bytes.
+fn is_size(version: Version, n: u64) -> bool
+    ensures test { result ≡ spec.is_size version n }
+    ensures allowed { IsTrue result → IsSize version n }
+    ensures least { IsTrue result → 16 ≤ n }
+    ensures most { IsTrue result → n ≤ 1048576 }
+    ensures lines { IsTrue result → n % 16 ≡ 0 }
+{
+    let limits = version.limits();
+    let line_length = u64::from(limits.line_length);
+    u64::from(limits.least_size) <= n && n <= u64::from(limits.most_size) && n % line_length == 0
 }
 
 fn is_code_length(size: usize, n: usize) -> bool

@@ -1,9 +1,11 @@
 ghost use Rattle.std.specs.Prelude.{◌≡◌, ◌<◌, ◌≤◌, ◌+◌, ◌%◌, IfOk, codes, length, slice_index};
 ghost use Rattle.rv32_decode.specs.Table.{meaning_of};
-ghost use Rattle.rv32_image.specs.Image.{IsImage, loaded_image};
+ghost use Rattle.rv32_image.specs.Image.{IsImage};
+ghost use Rattle.rv32_image.specs.Header.{loaded_image};
 ghost use Rattle.rv32_image.specs.Decoded.{IsDecoded, kept_of};
 ghost use Rattle.memory_bytes.specs.Bytes.{number_at};
 
+use crate::version::Version;
 use memory_bytes::read_number;
 use rv32_decode::{Instr, Refused, Register, decode};
 use std::alloc::{AllocError, Global};
@@ -24,18 +26,26 @@ impl NoMemory {
     }
 }
 
-/// A loop as it was loaded: its memory, with the code from address 0 on, how many epochs it has, how many
-/// instructions each may execute, and the registers at their start.
+/// What an image says beside its bytes.
+#[derive(Clone, Copy)]
+pub(crate) struct Header {
+    pub version: Version,
+    pub exit: bool,
+    pub size: u32,
+    pub code: u32,
+    pub epochs: u32,
+    pub limit: u32,
+    pub registers: [u32; 32],
+}
+
+/// A loop as it was loaded: its version, whether an epoch may exit it, its memory, with the code from address 0 on, how
+/// many epochs it has, how many instructions each may execute, and the registers at their start.
 ///
-/// Memory has 16 to 65,536 bytes, a multiple of 16; the code 4 bytes to all of memory, a multiple of 4; there
-/// are 0 to 65,535 epochs; the limit is 1 to 1,000,000. Contracts see these values.
+/// Memory has 16 to 65,536 bytes, a multiple of 16, and in version 2 32 to 1,048,576, a multiple of 32; the code 4 bytes
+/// to all of memory, a multiple of 4; there are 0 to 65,535 epochs; the limit is 1 to 1,000,000. Contracts see these values.
 #[derive(Drop)]
 pub struct Image {
-    size: u32,
-    code: u32,
-    epochs: u32,
-    limit: u32,
-    registers: [u32; 32],
+    header: Header,
     bytes: Vec<u8>,
     program: Vec<Instr>,
 }
@@ -53,28 +63,16 @@ impl Model for Image {
 }
 
 impl Image {
-    /// The image of these parts, with its code decoded.
+    /// The image of this header and these bytes, with its code decoded.
     ///
     /// `NoMemory`: there was no memory for the decoded code.
-    pub fn new(
-        alloc: Global,
-        size: u32,
-        code: u32,
-        epochs: u32,
-        limit: u32,
-        registers: [u32; 32],
-        bytes: Vec<u8>,
-    ) -> Result<Image, NoMemory>
-        requires { IsImage (loaded_image size code epochs limit registers bytes.items) }
-        ensures { IfOk result (λ image. image ≡ loaded_image size code epochs limit registers bytes.items) }
+    pub(crate) fn new(alloc: Global, header: Header, bytes: Vec<u8>) -> Result<Image, NoMemory>
+        requires { IsImage (loaded_image header bytes.items) }
+        ensures { IfOk result (λ image. image ≡ loaded_image header bytes.items) }
     {
-        let program = decoded(alloc, code, bytes.as_slice()).map_err(|_| NoMemory)?;
+        let program = decoded(alloc, header.code, bytes.as_slice()).map_err(|_| NoMemory)?;
         Ok(Image {
-            size,
-            code,
-            epochs,
-            limit,
-            registers,
+            header,
             bytes,
             program,
         })
@@ -89,22 +87,33 @@ impl Image {
         let bytes = Vec::from_slice(alloc, self.bytes.as_slice()).map_err(|_| NoMemory)?;
         let program = Vec::from_slice(alloc, self.program.as_slice()).map_err(|_| NoMemory)?;
         Ok(Image {
-            size: self.size,
-            code: self.code,
-            epochs: self.epochs,
-            limit: self.limit,
-            registers: self.registers,
+            header: self.header,
             bytes,
             program,
         })
     }
 
-    /// Bytes of memory: 16 to 65,536, a multiple of 16.
+    /// The version: One where the text names none.
+    pub fn version(&self) -> Version
+        ensures version { result ≡ self.now.version }
+        ensures limits { IsImage self.now }
+    {
+        self.header.version
+    }
+
+    /// Whether an epoch may exit the loop: one that ends with x10 other than 0 is then the last.
+    pub fn exit(&self) -> bool
+        ensures { result ≡ self.now.exit }
+    {
+        self.header.exit
+    }
+
+    /// Bytes of memory: 16 to 65,536, a multiple of 16; in version 2 32 to 1,048,576, a multiple of 32.
     pub fn size(&self) -> u32
         ensures size { result ≡ self.now.size }
         ensures limits { IsImage self.now }
     {
-        self.size
+        self.header.size
     }
 
     /// Bytes of code: 4 to the size, a multiple of 4.
@@ -112,7 +121,7 @@ impl Image {
         ensures code { result ≡ self.now.code }
         ensures limits { IsImage self.now }
     {
-        self.code
+        self.header.code
     }
 
     /// How many epochs the loop has: 0 to 65,535.
@@ -120,7 +129,7 @@ impl Image {
         ensures epochs { result ≡ self.now.epochs }
         ensures limits { IsImage self.now }
     {
-        self.epochs
+        self.header.epochs
     }
 
     /// How many instructions an epoch may execute: 1 to 1,000,000.
@@ -128,15 +137,15 @@ impl Image {
         ensures limit { result ≡ self.now.limit }
         ensures limits { IsImage self.now }
     {
-        self.limit
+        self.header.limit
     }
 
     /// The registers at an epoch's start, x0 first. Those that the start sets, and x0, are 0 here.
-    pub fn registers(&self) -> [u32; 32]
-        ensures registers { result ≡ self.now.registers }
+    pub fn regs(&self) -> [u32; 32]
+        ensures regs { result ≡ self.now.registers }
         ensures limits { IsImage self.now }
     {
-        self.registers
+        self.header.registers
     }
 
     /// Memory as it was loaded, from address 0 on.

@@ -7,9 +7,11 @@ mod image;
 mod input;
 pub mod laws;
 mod text;
+mod version;
 mod words;
 
 pub use fault::{ImageFault, ImageFaultKind, LONGEST_IMAGE_TEXT};
 pub use image::{Image, NoMemory};
 pub use input::{InputFault, read_input};
 pub use text::{image_of, read_image};
+pub use version::{Limits, Version};

@@ -35,7 +35,7 @@ pub fn image_of(alloc: Global, text: &[u8]) -> Result<Image, ImageFault>
 /// most 1,048,577 bytes.
 pub fn read_image<R: Read>(alloc: Global, reader: &mut R) -> Result<Image, ImageFault>
     ensures text { IfSome (R.remaining reader.old) (λ text. AnswersRead result (spec.image_text text)) }
-    ensures taken { TakesAtMost (R.remaining reader.old) (R.remaining reader.new) (LONGEST_IMAGE_TEXT + 1) }
+    ensures taken { TakesAtMost (R.remaining reader.old) (R.remaining reader.new) (spec.longest_image_text + 1) }
 {
     let text = read_input(alloc, reader, LONGEST_IMAGE_TEXT)?;
     image_of(alloc, text.as_slice())
@@ -43,7 +43,7 @@ pub fn read_image<R: Read>(alloc: Global, reader: &mut R) -> Result<Image, Image
 
 /// What the lines of a text say, up to the first that has a fault.
 fn read_lines(alloc: Global, text: &[u8]) -> Result<Draft, ImageFault>
-    requires { length text.now ≤ LONGEST_IMAGE_TEXT }
+    requires { length text.now ≤ spec.longest_image_text }
     ensures { Answers (λ draft. draft) result (spec.lines_read 1 spec.blank (spec.pieces 10 text.now)) }
 {
     let mut draft = Draft::blank(alloc);

@@ -19,9 +19,10 @@ pub fn cut(text: &[u8], separator: u8) -> (&[u8], Option<&[u8]>)
     }
 }
 
-/// The words of a line, where it has two or three.
+/// The words of a line, where it has one, two or three.
 #[derive(Clone, Copy)]
 pub enum Words<'a> {
+    One(&'a [u8]),
     Two(&'a [u8], &'a [u8]),
     Three(&'a [u8], &'a [u8], &'a [u8]),
     Other,
@@ -33,7 +34,7 @@ pub fn words_of(line: &[u8]) -> Words<'_>
 {
     let (first, rest) = cut(line, b' ');
     let Some(rest) = rest else {
-        return Words::Other;
+        return Words::One(first);
     };
     let (second, rest) = cut(rest, b' ');
     let Some(rest) = rest else {

@@ -3,7 +3,7 @@ use Rattle.rv32_exec.specs.declared.stop.Stop.TheVariants.{Load, Store, Ended, F
 use Rattle.memory_bytes.specs.Bytes.{number_at, with_number}
 use Rattle.rv32_exec.specs.Hart.{HartState, stepped}
 use Rattle.rv32_exec.specs.Execute.{Stops, hart_effect, after_load}
-use Rattle.rv32_exec.specs.Sequential.{Runs}
+use Rattle.rv32_exec.specs.Sequential.{Runs, SequentialResult, end_of, result_of}
 use Rattle.rv32_exec.proofs.Runs.{outcome-start, outcome-executes, outcome-access, outcome-stops}
 use Rattle.rv32_exec.proofs.Steps.{executes_counts, executes_below}
 use Rattle.rv32_exec.proofs.sequential.run_epoch.Goals as goal
@@ -58,9 +58,12 @@ loop-at-preserved c =
 pub returns-in-Ended : goal.returns-in-Ended
 returns-in-Ended c =
     let is = sym c.in-Some.ensures.effect ∙ ap Stops c.in-Ended.is in
-    outcome-stops c.args.image.now c.run.new.hart Ended c.run.new.bytes _ _ is (c.run.ensures.within c.loop-at.invariant.within) refl (c.run.ensures.rest ∙ c.loop-at.invariant.outcome)
+    let outcome = outcome-stops c.args.image.now c.run.new.hart Ended c.run.new.bytes _ _ is (c.run.ensures.within c.loop-at.invariant.within) refl (c.run.ensures.rest ∙ c.loop-at.invariant.outcome) in
+    let end = c.end_of.ensures ∙ ap (end_of c.args.image.now c.args.epoch) c.in-Some.ensures.stopped in
+    sym (ap (result_of c.args.image.now c.args.epoch) outcome) ∙ sym (ap (λ e. record { end = e; bytes = c.run.new.bytes }) end)
 
 pub returns-in-Fault : goal.returns-in-Fault
 returns-in-Fault c =
     let is = sym c.in-Some.ensures.effect ∙ ap Stops c.in-Fault.is in
-    outcome-stops c.args.image.now c.run.new.hart (Fault c.in-Fault.cause c.in-Fault.pc) c.run.new.bytes _ _ is (c.run.ensures.within c.loop-at.invariant.within) refl (c.run.ensures.rest ∙ c.loop-at.invariant.outcome)
+    let outcome = outcome-stops c.args.image.now c.run.new.hart (Fault c.in-Fault.cause c.in-Fault.pc) c.run.new.bytes _ _ is (c.run.ensures.within c.loop-at.invariant.within) refl (c.run.ensures.rest ∙ c.loop-at.invariant.outcome) in
+    sym (ap (result_of c.args.image.now c.args.epoch) outcome)

@@ -8,7 +8,7 @@ pub returns-in_default : goal.returns-in_default
 returns-in_default c =
     let program = c.self.inside.program.items in
     let decoded = c.self.invariant.decoded in
-    let within : c.args.pc < c.self.inside.code = rw (← c.self.view_is) at c.requires.within in
+    let within : c.args.pc < c.self.inside.header.code = rw (← c.self.view_is) at c.requires.within in
     let inside : c.args.pc / 4 < length program = omega (arith, decoded.long, c.requires.aligned) in
     let at = slice_get_read program _ (c.args.pc / 4) c.index.result.now refl inside c.index.ensures in
     let kept = kept_at program (view_of c.self.inside) (c.args.pc / 4) c.index.result.now decoded inside at in
