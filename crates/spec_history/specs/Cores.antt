@@ -1,5 +1,5 @@
 -- What the code keeps of a core, and the core that it stands for.
-use Rattle.std.specs.Prelude.{◌≡◌, ℕ, ◌+◌, ◌≤◌, List, length, Option, Some, None, option_map, option_and_then, if◌then◌else◌}
+use Rattle.std.specs.Prelude.{◌≡◌, ℕ, ◌+◌, ◌≤◌, List, length, Option, Some, None, option_map, option_and_then, slice_get, if◌then◌else◌}
 use Rattle.memory_bytes.specs.Shadow.{byte_in}
 use Rattle.rv32_image.specs.Image.{LoadedImage}
 use Rattle.rv32_exec.specs.NextEvent.{next_event}
@@ -42,3 +42,7 @@ pub record HasRoom (address width : ℕ) (core : Core) : Type 0 where
 -- how many instructions of a straight core's epoch are published
 abbrev pub published_by : Option CoreState → Option ℕ
 published_by core = option_and_then (λ (c : CoreState). if c.straight then Some c.hart.done else None) core
+
+-- each of the cores is idle, and keeps no cells
+pub record AreIdle (cores : List Core) : Type 0 where
+  pub each : (k : ℕ) (core : Core) → slice_get cores k ≡ Some core → (core.attempt ≡ None) × ((image : LoadedImage) → IsCoreOf image core)

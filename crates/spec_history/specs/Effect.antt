@@ -10,7 +10,7 @@ use Rattle.memory_bytes.specs.Maps.{nothing, joined, over, stored, read_outside}
 use Rattle.spec_history.specs.declared.entry.Entry.{Entry}
 use Rattle.spec_history.specs.declared.entry.What.{What}
 use Rattle.spec_history.specs.declared.entry.What.TheVariants.{Start, Load, Store, Hurt, Cancel, Restart, Publish, Commit, Fault}
-use Rattle.spec_history.specs.FlatState.{CoreState, FlatState, begun, end_at}
+use Rattle.spec_history.specs.FlatState.{CoreState, FlatState, begun, end_after}
 
 -- a value by what a core runs
 abbrev pub by_core : {A : Type 0} → Option CoreState → A → (CoreState → A) → A
@@ -72,7 +72,7 @@ effect_on image s by core Commit = record s {
   committed = over core.own s.committed;
   homefree = s.homefree + 1;
   published = 0;
-  end = end_at image (s.homefree + 1);
+  end = end_after image (next_event image core.hart).now s.homefree;
   cores = with_core s.cores by None;
 }
 effect_on image s by core (Fault cause pc) = record s {

@@ -45,6 +45,11 @@ IsInMemory size (Load address width value) = IsWidth width × (address + width �
 IsInMemory size (Store address width value) = IsWidth width × (address + width ≤ size)
 IsInMemory size what = Unit {0}
 
+-- the value of a load is of its width
+abbrev pub IsNumber : What → Type 0
+IsNumber (Load address width value) = value < 256 ^ width
+IsNumber what = Unit {0}
+
 -- the core can note the bytes of an access without taking memory
 pub record HasRoomAt (m : Machine) (by address width : ℕ) : Type 0 where
   pub room : (core : Core) → slice_get m.cores.items by ≡ Some core → HasRoom address width core
@@ -65,9 +70,13 @@ pub record IsAsBefore (old new : Machine) : Type 0 where
   pub count : count_of_cores new ≡ count_of_cores old
   pub fit : IsFit new
 
--- the machine has done what the entry does
-pub record Becomes (old new : Machine) (by : ℕ) (what : What) : Type 0 where
+-- the machine is now in this state
+pub record Becomes (old new : Machine) (s : FlatState) : Type 0 where
   pub image : new.image ≡ old.image
-  pub state : state_of new ≡ effect old.image (state_of old) (record { by = by; what = what })
+  pub state : state_of new ≡ s
   pub count : count_of_cores new ≡ count_of_cores old
   pub fit : IsFit new
+
+-- the state after an entry
+abbrev pub after : Machine → ℕ → What → FlatState
+after m by what = effect m.image (state_of m) (record { by = by; what = what })

@@ -6,7 +6,7 @@ use Rattle.memory_bytes.specs.Bytes.{number_at}
 use Rattle.memory_bytes.specs.Maps.{over}
 use Rattle.rv32_image.specs.Image.{LoadedImage}
 use Rattle.rv32_exec.specs.NextEvent.{Event, next_event}
-use Rattle.spec_history.specs.Exit.{exits}
+use Rattle.rv32_exec.specs.Sequential.{exits}
 use Rattle.spec_history.specs.declared.entry.Entry.{Entry}
 use Rattle.spec_history.specs.declared.entry.What.{What}
 use Rattle.spec_history.specs.declared.entry.What.TheVariants.{Start, Load, Store, Hurt, Cancel, Restart, Publish, Commit, Fault}
@@ -46,6 +46,7 @@ is_there count s by (Hurt epoch) = runs_and (s.cores by) (λ c. nat_lt c.epoch e
 is_there count s by (Cancel epoch) = runs_and (s.cores by) (λ c. nat_lt c.epoch epoch) && any_below count (λ k. is_at epoch (s.cores k))
 is_there count s by Restart = has (s.cores by) (λ c. c.hurt)
 is_there count s by Publish = runs_and (s.cores by) (λ c. not c.straight)
+-- a load, a store, a commit and a fault
 is_there count s by what = runs (s.cores by)
 
 abbrev pub is_that_load : ℕ → ℕ → Stop → Bool

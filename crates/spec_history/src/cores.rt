@@ -1,4 +1,4 @@
-ghost use Rattle.std.specs.Prelude.{◌≡◌, ◌<◌, ◌≤◌, ◌+◌, ◌^◌, ℕ, OnOk, None, Some, length, slice_index, option_map, nat_lt, not, is_some, ◌==◌};
+ghost use Rattle.std.specs.Prelude.{◌≡◌, ◌<◌, ◌≤◌, ◌+◌, ◌^◌, ℕ, OnOk, IsSome, None, Some, length, slice_index, option_map, nat_lt, not, is_some, ◌==◌};
 ghost use Rattle.memory_bytes.specs.Bytes.{IsWidth, number_at};
 ghost use Rattle.memory_bytes.specs.Maps.{over};
 ghost use Rattle.memory_bytes.specs.Shadow.{byte_in};
@@ -8,7 +8,6 @@ ghost use Rattle.spec_history.specs.FlatState.{begun};
 ghost use Rattle.spec_history.specs.Effect as effect;
 ghost use Rattle.spec_history.specs.Refusal as refusal;
 ghost use Rattle.spec_history.specs.Cores as spec;
-ghost use Rattle.spec_history.specs.Exit.{exits};
 
 use memory_bytes::ShadowBytes;
 use rv32_exec::{Arrived, Hart, Image, NoMemory, Stop, advance, start};
@@ -43,6 +42,14 @@ impl Core {
             own: ShadowBytes::new(alloc),
             outside: ShadowBytes::new(alloc),
         }
+    }
+
+    /// What it runs.
+    pub fn attempt(&self) -> &Attempt
+        requires { IsSome self.now.attempt }
+        ensures { self.now.attempt ≡ Some result.now }
+    {
+        self.attempt.as_ref().unwrap()
     }
 
     /// It runs no epoch.
@@ -140,13 +147,13 @@ impl Core {
         }
     }
 
-    /// The loop is over where its epoch ends now.
+    /// Its epoch ends, and the loop with it.
     pub fn exits(&self, image: &Image) -> bool
         requires { spec.IsCoreOf image.now self.now }
-        ensures { result ≡ refusal.has (spec.core_of self.now) (λ c. exits image.now (next_event image.now c.hart).now) }
+        ensures { result ≡ refusal.next_is image.now (spec.core_of self.now) (refusal.is_an_exit image.now) }
     {
         match &self.attempt {
-            Some(attempt) => exits(&attempt.next.now(), image),
+            Some(attempt) => attempt.next.at() == Stop::Ended && attempt.next.now().exits(image),
             None => false,
         }
     }
@@ -196,16 +203,6 @@ impl Core {
             straight: false,
             hurt: false,
         });
-    }
-
-    /// Begins its epoch again.
-    pub fn restart(&mut self, image: &Image)
-        ensures core { spec.core_of self.new ≡ option_map (λ c. begun image.now c.epoch) (spec.core_of self.old) }
-        ensures fit { spec.IsCoreOf image.now self.old → spec.IsCoreOf image.now self.new }
-    {
-        if let Some(attempt) = &self.attempt {
-            self.begin(image, attempt.epoch);
-        }
     }
 
     /// Goes on with this hart after a load.
@@ -287,12 +284,4 @@ impl Core {
     {
         self.own.commit(committed);
     }
-}
-
-/// stub
-#[tactic(auto, unfolding(crate::specs::Exit::exits))]
-fn exits(hart: &Hart, image: &Image) -> bool
-    ensures { result ≡ exits image.now hart.now }
-{
-    false
 }
