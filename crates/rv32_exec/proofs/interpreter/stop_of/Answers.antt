@@ -1,15 +1,17 @@
-use Rattle.std.proofs.Common.{◌*◌, refl, inl, inr}
+use Rattle.std.proofs.Common.{◌*◌, refl, arith, inl, inr}
 use Rattle.rv32_exec.specs.Execute.{instruction_effect}
 use Rattle.rv32_exec.specs.Interpreter.{DoesStop, hart}
-use Rattle.rv32_exec.proofs.interpreter.stop_at_word.Goals as goal
+use Rattle.rv32_exec.proofs.Interpreting.{fetched}
+use Rattle.rv32_exec.proofs.interpreter.stop_of.Goals as goal
 
 pub unreachable-requires : goal.unreachable-requires
 unreachable-requires c =
+    let here = fetched c.args.image.now (hart c.args.x.now (4 * c.args.word) c.args.done) c.limit.ensures.limits (omega arith) (omega arith) in
     let means = rw c.address-pc.ensures at c.in-Ok.ensures in
-    let stops = rw (← means) at (c.requires.stops 0) in
+    let stops = rw (here, ← means) at c.requires.stops in
     elim c.in-Following.is [
-      | inl is ↦ let goes = (rw is at (c.execute.ensures 0)).1 refl in rw goes at stops
-      | inr (target, is) ↦ let goes = (rw is at (c.execute.ensures 0)).0 in rw goes at stops
+      | inl is ↦ let goes = (rw is at (c.execute.ensures c.args.done)).1 refl in rw goes at stops
+      | inr (target, is) ↦ let goes = (rw is at (c.execute.ensures c.args.done)).0 in rw goes at stops
     ]
 
 pub stop-requires : goal.stop-requires
