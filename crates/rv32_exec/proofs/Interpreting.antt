@@ -1,8 +1,7 @@
 -- One instruction of the interpreter's loop is one of the epoch.
-use Rattle.std.proofs.Common.{◌≡◌, ◌⊎◌, inl, inr, ℕ, suc, ◌+◌, ◌*◌, ◌%◌, ◌<◌, ◌≤◌, ◌^◌, ◌==◌, ◌||◌, not, cond, nat_le, nat_lt, Bool, true, false, List, length, Some, Result, Ok, Err, slice_get, slice_index, refl, ap, sym, ◌∙◌, arith}
+use Rattle.std.proofs.Common.{◌≡◌, ◌⊎◌, inl, inr, ℕ, suc, ◌+◌, ◌*◌, ◌%◌, ◌<◌, ◌≤◌, ◌^◌, ◌==◌, ◌||◌, not, cond, nat_le, nat_lt, Bool, true, false, List, length, Some, Result, Ok, Err, slice_get, slice_index, refl, sym, ◌∙◌, arith}
 use Rattle.std.proofs.lemmas.Bool.Decides.{nat_tests}
 use Rattle.rv32_decode.specs.declared.instr.Instr.{Instr}
-use Rattle.rv32_decode.specs.declared.instr.Instr.TheVariants.{Jal}
 use Rattle.rv32_decode.specs.declared.refused.Refused.{Refused}
 use Rattle.rv32_decode.specs.declared.refused.Refused.TheVariants.{Illegal, System}
 use Rattle.rv32_decode.specs.Table.{meaning_of}

@@ -1,9 +1,6 @@
-use Rattle.std.proofs.Common.{◌≡◌, ℕ, ◌+◌, ◌-◌, ◌*◌, ◌/◌, ◌<◌, length, slice_index, refl, ap, sym, ◌∙◌, inl, inr, arith}
+use Rattle.std.proofs.Common.{◌≡◌, ◌+◌, ◌-◌, ◌*◌, ◌/◌, ◌<◌, length, refl, ap, ◌∙◌, inl, arith}
 use Rattle.std.proofs.lemmas.Option.{slice_get_read}
-use Rattle.rv32_exec.specs.declared.stop.Stop.TheVariants.{Fault}
-use Rattle.rv32_exec.specs.Faults.{misaligned_target}
-use Rattle.rv32_exec.specs.Execute.{Stops, instruction_effect}
-use Rattle.rv32_exec.specs.Interpreter.{IsNoAccess, hart, after_effect}
+use Rattle.rv32_exec.specs.Interpreter.{hart, after_effect}
 use Rattle.rv32_exec.proofs.Interpreting.{rest-after, event-after, halts, hart-stops, hart-without, kept-stops, kept-without, outside-over, stop-without}
 use Rattle.rv32_exec.proofs.interpreter.run.Goals.{else-loop-word-test, then-loop-word-test+in-Misaligned}
 use Rattle.rv32_exec.proofs.interpreter.run.Goals as goal
@@ -51,7 +48,6 @@ loop-word-preserved c =
       at_end = grind arith;
     }
 
-
 -- where the loop is left there is nothing more to execute, or an instruction that isn't executed
 pub stop_of-at-requires-clause-stops : goal.stop_of-at-requires-clause-stops
 stop_of-at-requires-clause-stops c =
@@ -86,7 +82,7 @@ returns-clause-whole c = λ whole.
           let at = slice_get_read c.program-program.result.now _ c.loop-word.word w.index-program-word.result refl inside w.index-program-word.is in
           let halt = halts c.args.image.now (hart c.loop-word.registers (4 * c.loop-word.word) done) c.loop-word.bytes _ _ _ _ (w.execute.ensures done) w.in-Misaligned.is in
           let none = kept-without c.args.image.now c.program-program.result.now c.loop-word.registers c.loop-word.word done w.index-program-word.result _ c.program-program.ensures.program inside at refl
-            (halt.whole (c.loop-word.auto.bytes ∙ whole)) in
+          (halt.whole (c.loop-word.auto.bytes ∙ whole)) in
           rw (w.registers-is, halt.same_x) (hart-without c.args.image.now c.program-program.result.now c.loop-word.registers c.loop-word.word done c.limit-limit.ensures.limits c.program-program.ensures.program inside (omega arith) none)
     ])
 

@@ -1,6 +1,5 @@
 use Rattle.std.proofs.Common.{◌*◌, refl, arith, inl, inr}
-use Rattle.rv32_exec.specs.Execute.{instruction_effect}
-use Rattle.rv32_exec.specs.Interpreter.{DoesStop, hart}
+use Rattle.rv32_exec.specs.Interpreter.{hart}
 use Rattle.rv32_exec.proofs.Interpreting.{fetched}
 use Rattle.rv32_exec.proofs.interpreter.stop_of.Goals as goal
 
