@@ -1,8 +1,7 @@
 -- One instruction of the interpreter's loop is one of the epoch.
-use Rattle.std.proofs.Common.{◌≡◌, ◌⊎◌, inl, inr, ℕ, suc, ◌+◌, ◌*◌, ◌%◌, ◌<◌, ◌≤◌, ◌^◌, ◌==◌, ◌||◌, not, cond, nat_le, nat_lt, Bool, true, false, List, length, Some, Result, Ok, Err, slice_get, slice_index, refl, ap, sym, ◌∙◌, arith}
+use Rattle.std.proofs.Common.{◌≡◌, ◌⊎◌, inl, inr, ℕ, suc, ◌+◌, ◌*◌, ◌%◌, ◌<◌, ◌≤◌, ◌^◌, ◌==◌, ◌||◌, not, cond, nat_le, nat_lt, Bool, true, false, List, length, Some, Result, Ok, Err, slice_get, slice_index, refl, sym, ◌∙◌, arith}
 use Rattle.std.proofs.lemmas.Bool.Decides.{nat_tests}
 use Rattle.rv32_decode.specs.declared.instr.Instr.{Instr}
-use Rattle.rv32_decode.specs.declared.instr.Instr.TheVariants.{Jal}
 use Rattle.rv32_decode.specs.declared.refused.Refused.{Refused}
 use Rattle.rv32_decode.specs.declared.refused.Refused.TheVariants.{Illegal, System}
 use Rattle.rv32_decode.specs.Table.{meaning_of}
@@ -27,7 +26,7 @@ use Rattle.rv32_exec.specs.Faults.{load_outside_memory, misaligned_data, store_o
 use Rattle.memory_bytes.specs.Bytes.{IsWidth}
 
 -- inside the code and below the limit the word is looked at
-fetched : (image : LoadedImage) (h : HartState) → IsImage image → h.pc < image.code → h.done < image.limit
+pub fetched : (image : LoadedImage) (h : HartState) → IsImage image → h.pc < image.code → h.done < image.limit
     → hart_effect image h ≡ word_effect image h (meaning_of (number_at (λ a. slice_index image.bytes a) h.pc 4))
 unfolding hart_effect
 fetched image h ok inside room =
@@ -176,20 +175,51 @@ word-without image h (Ok instr) none = none
 word-without image h (Err Illegal) none = tt
 word-without image h (Err System) none = tt
 
-pub kept-without : (image : LoadedImage) (program : List Instr) (x : List ℕ) (word done : ℕ) (instr : Instr) (effect : Effect) (at : Stop)
+pub kept-without : (image : LoadedImage) (program : List Instr) (x : List ℕ) (word done : ℕ) (instr : Instr) (effect : Effect)
     → IsDecoded program image.code image.bytes → word < length program → slice_get program word ≡ Some instr
     → instruction_effect image (hart x (4 * word) done) (λ r. slice_index x r) instr ≡ effect → StopsWithoutAccess effect
-    → word_effect image (hart x (4 * word) done) (meaning_of (number_at (λ a. slice_index image.bytes a) (4 * word) 4)) ≡ Stops at → IsNoAccess at
-kept-without image program x word done instr effect at decoded inside here is none stops =
-    let means = meaning_of (number_at (λ a. slice_index image.bytes a) (4 * word) 4) in
-    let kept : StopsWithoutAccess (instruction_effect image (hart x (4 * word) done) (λ r. slice_index x r) (kept_of means)) =
-    rw (← kept_at program image word instr decoded inside here, is) none in
-    rw stops at (word-without image (hart x (4 * word) done) means kept)
+    → StopsWithoutAccess (word_effect image (hart x (4 * word) done) (meaning_of (number_at (λ a. slice_index image.bytes a) (4 * word) 4)))
+kept-without image program x word done instr effect decoded inside here is none =
+    word-without image (hart x (4 * word) done) _ (rw (← kept_at program image word instr decoded inside here, is) none)
+
+-- ---- a hart that runs on no further
 
 -- inside the code and below the limit a hart stops where its word does
-pub stops_at_word : (image : LoadedImage) (program : List Instr) (x : List ℕ) (word done : ℕ) (at : Stop)
-    → IsImage image → IsDecoded program image.code image.bytes → word < length program → done < image.limit
-    → word_effect image (hart x (4 * word) done) (meaning_of (number_at (λ a. slice_index image.bytes a) (4 * word) 4)) ≡ Stops at
-    → hart_effect image (hart x (4 * word) done) ≡ Stops at
-stops_at_word image program x word done at ok decoded inside room is =
-    let within : 4 * word < image.code = omega (arith, decoded.long) in fetched image (hart x (4 * word) done) ok within room ∙ is
+pub hart-stops : (image : LoadedImage) (program : List Instr) (x : List ℕ) (word done : ℕ) → IsImage image → IsDecoded program image.code image.bytes
+    → word < length program → done < image.limit
+    → DoesStop (word_effect image (hart x (4 * word) done) (meaning_of (number_at (λ a. slice_index image.bytes a) (4 * word) 4)))
+    → DoesStop (hart_effect image (hart x (4 * word) done))
+hart-stops image program x word done ok decoded inside room stops =
+    let within : 4 * word < image.code = omega (arith, decoded.long) in rw (fetched image (hart x (4 * word) done) ok within room) stops
+
+pub hart-without : (image : LoadedImage) (program : List Instr) (x : List ℕ) (word done : ℕ) → IsImage image → IsDecoded program image.code image.bytes
+    → word < length program → done < image.limit
+    → StopsWithoutAccess (word_effect image (hart x (4 * word) done) (meaning_of (number_at (λ a. slice_index image.bytes a) (4 * word) 4)))
+    → StopsWithoutAccess (hart_effect image (hart x (4 * word) done))
+hart-without image program x word done ok decoded inside room stops =
+    let within : 4 * word < image.code = omega (arith, decoded.long) in rw (fetched image (hart x (4 * word) done) ok within room) stops
+
+-- a stop of the hart at its end or a fault
+abbrev pub IsOver : Effect → Type 0
+IsOver effect = DoesStop effect × StopsWithoutAccess effect
+
+at_limit : (over : Bool) (at : Stop) (e : Effect) → over ≡ true → IsNoAccess at → IsOver (cond over (Stops at) e)
+at_limit true at e is none = (tt, none)
+at_limit false at e is none = absurd cc
+
+either_over : (b : Bool) (at : Stop) (e : Effect) → IsNoAccess at → IsOver e → IsOver (cond b (Stops at) e)
+either_over true at e none over = (tt, none)
+either_over false at e none over = over
+
+-- past the limit or outside the code there is nothing to execute
+pub outside-over : (image : LoadedImage) (h : HartState) → (image.limit ≤ h.done) ⊎ (image.code ≤ h.pc) → IsOver (hart_effect image h)
+unfolding hart_effect
+outside-over image h (inl past) =
+    let over : nat_le image.limit h.done ≡ true = grind (arith, nat_tests) in either_over (h.pc == epoch_end) _ _ tt (at_limit (nat_le image.limit h.done) _ _ over tt)
+outside-over image h (inr past) =
+    let over : nat_le image.code h.pc ≡ true = grind (arith, nat_tests) in
+    either_over (h.pc == epoch_end) _ _ tt (either_over (nat_le image.limit h.done) _ _ tt (at_limit (nat_le image.code h.pc) _ _ over tt))
+
+-- where it stops without an access, its stop is none
+pub stop-without : (effect : Effect) (at : Stop) → effect ≡ Stops at → StopsWithoutAccess effect → IsNoAccess at
+stop-without effect at is none = rw is at none

@@ -3,9 +3,7 @@ ghost use Rattle.memory_bytes.specs.Bytes.{IsWidth};
 ghost use Rattle.rv32_exec.specs.Execute.{Stops, extended};
 ghost use Rattle.rv32_exec.specs.Interpreter as spec;
 
-use crate::stop::{
-    LOAD_OUTSIDE_MEMORY, MISALIGNED_DATA, STORE_OUTSIDE_DATA, Stop,
-};
+use crate::stop::{LOAD_OUTSIDE_MEMORY, MISALIGNED_DATA, STORE_OUTSIDE_DATA, Stop};
 use memory_bytes::low_bytes;
 use rv32_decode::Register;
 use rv32_image::Image;

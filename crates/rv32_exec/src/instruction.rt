@@ -126,14 +126,7 @@ fn branch(word: usize, taken: bool, offset: u32) -> Next
 
 /// Loads the number of this width at the address into the register, unless it is misaligned or past these bytes.
 #[inline]
-fn load(
-    bytes: &[u8],
-    x: &mut Registers,
-    addr: u32,
-    width: u32,
-    signed: bool,
-    rd: Register,
-) -> Next
+fn load(bytes: &[u8], x: &mut Registers, addr: u32, width: u32, signed: bool, rd: Register) -> Next
     requires width { IsWidth width }
     requires words { length bytes.now % 4 ≡ 0 }
     ensures { (image : LoadedImage) (pc done : ℕ) → length bytes.now ≤ image.size → spec.Leads image (spec.hart x.old pc done) bytes.now (load_effect image (spec.hart x.old pc done) width signed rd addr) result x.new bytes.now }

@@ -1,7 +1,5 @@
-ghost use Rattle.std.specs.Prelude.{◌≡◌, ◌<◌, ◌≤◌, ◌+◌, ◌*◌, ◌%◌, ◌^◌, ◌⊎◌, ℕ, List, length, slice_index};
-ghost use Rattle.memory_bytes.specs.Bytes.{number_at};
-ghost use Rattle.rv32_decode.specs.Table.{meaning_of};
-ghost use Rattle.rv32_exec.specs.Execute.{Stops, hart_effect, word_effect};
+ghost use Rattle.std.specs.Prelude.{◌≡◌, ◌<◌, ◌≤◌, ◌+◌, ◌*◌, ◌%◌, ◌^◌, length};
+ghost use Rattle.rv32_exec.specs.Execute.{Stops, hart_effect};
 ghost use Rattle.rv32_exec.specs.Interpreter as spec;
 ghost use Rattle.rv32_exec.specs.NextEvent.{next_event};
 
@@ -37,14 +35,14 @@ pub(crate) fn run(image: &Image, x: &mut Registers, pc: u32, done: u64, bytes: &
     ensures limit { image.now.limit ≤ 1000000 }
 {
     let limit = image.limit() as usize;
+    let mut word = (pc / 4) as usize;
     if done > limit as u64 {
-        let at = outside(image, pc, done);
+        let at = stop_of(image, x, word, done);
         return Halt { pc, done, at };
     }
     let program = image.program();
     // Registers of its own are nearer than those behind a reference.
     let mut registers = *x;
-    let mut word = (pc / 4) as usize;
     // Where it would meet the limit, and where it has to stop before that, if nothing jumps.
     let mut last = word + limit - done as usize;
     let mut end = last.min(program.len());
@@ -63,40 +61,29 @@ pub(crate) fn run(image: &Image, x: &mut Registers, pc: u32, done: u64, bytes: &
     *x = registers;
     let pc = address(word);
     let done = (word + limit - last) as u64;
-    let at = if word < end {
-        stop_at_word(image, x, word)
-    } else {
-        outside(image, pc, done)
-    };
+    let at = stop_of(image, x, word, done);
     Halt { pc, done, at }
 }
 
-/// Where a hart stops that has no instruction to execute.
-#[tactic(auto, unfolding(crate::specs::Execute::hart_effect))]
-fn outside(image: &Image, pc: u32, done: u64) -> Stop
-    requires { (image.now.limit ≤ done) ⊎ (image.now.code ≤ pc) }
-    ensures effect { (x : List ℕ) → hart_effect image.now (spec.hart x pc done) ≡ Stops result }
-    ensures access { spec.IsNoAccess result }
-{
-    if pc == EPOCH_END {
-        Stop::Ended
-    } else if done >= u64::from(image.limit()) {
-        fault(INSTRUCTION_LIMIT, pc)
-    } else {
-        fault(FETCH_OUTSIDE_CODE, pc)
-    }
-}
-
-/// Where a hart stops at a word of the code that it doesn't execute. With no memory at hand its instruction says so.
+/// Where a hart stops at a word that it doesn't execute. With no memory at hand an instruction says so itself.
 #[inline(never)]
-fn stop_at_word(image: &Image, x: &mut Registers, word: usize) -> Stop
+#[tactic(auto, unfolding(crate::specs::Execute::hart_effect))]
+fn stop_of(image: &Image, x: &mut Registers, word: usize, done: u64) -> Stop
     requires address { 4 * word < 2 ^ 32 }
-    requires within { 4 * word < image.now.code }
-    requires stops { (done : ℕ) → spec.DoesStop (word_effect image.now (spec.hart x.old (4 * word) done) (meaning_of (number_at (λ a. slice_index image.now.bytes a) (4 * word) 4))) }
+    requires stops { spec.DoesStop (hart_effect image.now (spec.hart x.old (4 * word) done)) }
     ensures kept { x.new ≡ x.old }
-    ensures effect { (done : ℕ) → word_effect image.now (spec.hart x.old (4 * word) done) (meaning_of (number_at (λ a. slice_index image.now.bytes a) (4 * word) 4)) ≡ Stops result }
+    ensures effect { hart_effect image.now (spec.hart x.old (4 * word) done) ≡ Stops result }
 {
     let pc = address(word);
+    if pc == EPOCH_END {
+        return Stop::Ended;
+    }
+    if done >= u64::from(image.limit()) {
+        return fault(INSTRUCTION_LIMIT, pc);
+    }
+    if pc >= image.code() {
+        return fault(FETCH_OUTSIDE_CODE, pc);
+    }
     let instr = match image.instruction_at(pc) {
         Ok(instr) => instr,
         Err(Refused::Illegal) => return fault(ILLEGAL_WORD, pc),

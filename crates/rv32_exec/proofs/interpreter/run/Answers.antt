@@ -1,11 +1,8 @@
-use Rattle.std.proofs.Common.{◌≡◌, ℕ, ◌+◌, ◌-◌, ◌*◌, ◌<◌, length, slice_index, refl, ap, sym, ◌∙◌, inl, inr, arith}
+use Rattle.std.proofs.Common.{◌≡◌, ◌+◌, ◌-◌, ◌*◌, ◌/◌, ◌<◌, length, refl, ap, ◌∙◌, inl, arith}
 use Rattle.std.proofs.lemmas.Option.{slice_get_read}
-use Rattle.rv32_exec.specs.declared.stop.Stop.TheVariants.{Fault}
-use Rattle.rv32_exec.specs.Faults.{misaligned_target}
-use Rattle.rv32_exec.specs.Execute.{Stops, instruction_effect}
-use Rattle.rv32_exec.specs.Interpreter.{IsNoAccess, hart, after_effect}
-use Rattle.rv32_exec.proofs.Interpreting.{rest-after, event-after, halts, kept-stops, kept-without, stops_at_word}
-use Rattle.rv32_exec.proofs.interpreter.run.Goals.{else-loop-word-test, then-loop-word-test+in-Misaligned, then-word-end, else-word-end}
+use Rattle.rv32_exec.specs.Interpreter.{hart, after_effect}
+use Rattle.rv32_exec.proofs.Interpreting.{rest-after, event-after, halts, hart-stops, hart-without, kept-stops, kept-without, outside-over, stop-without}
+use Rattle.rv32_exec.proofs.interpreter.run.Goals.{else-loop-word-test, then-loop-word-test+in-Misaligned}
 use Rattle.rv32_exec.proofs.interpreter.run.Goals as goal
 
 pub loop-word-preserved-in-Following : goal.loop-word-preserved-in-Following
@@ -51,27 +48,46 @@ loop-word-preserved c =
       at_end = grind arith;
     }
 
-pub stop_at_word-at-requires-clause-stops : goal.stop_at_word-at-requires-clause-stops
-stop_at_word-at-requires-clause-stops c =
+-- where the loop is left there is nothing more to execute, or an instruction that isn't executed
+pub stop_of-at-requires-clause-stops : goal.stop_of-at-requires-clause-stops
+stop_of-at-requires-clause-stops c =
+    (outside-over c.args.image.now (hart c.args.x.now (4 * (c.args.pc / 4)) c.args.done) (inl (omega arith))).0
+
+pub stop_of-at-requires-2-clause-stops : goal.stop_of-at-requires-2-clause-stops
+stop_of-at-requires-2-clause-stops c =
+    let done = c.loop-word.word + c.limit-limit.result - c.loop-word.last in
     elim c.loop-word-test.branch [
-      | else-loop-word-test w ↦ absurd (omega (arith, w.loop-word-test.false, c.if-word-end.true))
-      | then-loop-word-test+in-Misaligned w ↦ λ done.
+      | else-loop-word-test w ↦
+          (outside-over c.args.image.now (hart c.loop-word-test.registers (4 * c.loop-word.word) done) (grind (arith, w.loop-word-test.false, c.program-program.ensures.program.long))).0
+      | then-loop-word-test+in-Misaligned w ↦
           let inside : c.loop-word.word < length c.program-program.result.now = omega arith in
           let at = slice_get_read c.program-program.result.now _ c.loop-word.word w.index-program-word.result refl inside w.index-program-word.is in
           let halt = halts c.args.image.now (hart c.loop-word.registers (4 * c.loop-word.word) done) c.loop-word.bytes _ _ _ _ (w.execute.ensures done) w.in-Misaligned.is in
-          rw (w.registers-is, halt.same_x) (kept-stops c.args.image.now c.program-program.result.now c.loop-word.registers c.loop-word.word done w.index-program-word.result _
-            c.program-program.ensures.program inside at refl halt.stops)
+          let stops = kept-stops c.args.image.now c.program-program.result.now c.loop-word.registers c.loop-word.word done w.index-program-word.result _ c.program-program.ensures.program inside at refl halt.stops in
+          rw (w.registers-is, halt.same_x) (hart-stops c.args.image.now c.program-program.result.now c.loop-word.registers c.loop-word.word done c.limit-limit.ensures.limits c.program-program.ensures.program inside (omega arith) stops)
     ]
 
-kept_x : (c : goal.Joined-word-end) → c.if-word-end.x ≡ c.loop-word-test.registers
-kept_x c =
-    elim c.if-word-end.branch [
-      | then-word-end w ↦ w.x-is ∙ w.stop_at_word-at.ensures.kept
-      | else-word-end w ↦ w.x-is
-    ]
+pub returns-then-done-limit-clause-whole : goal.returns-then-done-limit-clause-whole
+returns-then-done-limit-clause-whole c = λ whole.
+    stop-without _ _ c.stop_of-at.ensures.effect (outside-over c.args.image.now (hart c.args.x.now (4 * (c.args.pc / 4)) c.args.done) (inl (omega arith))).1
+
+pub returns-clause-whole : goal.returns-clause-whole
+returns-clause-whole c = λ whole.
+    let done = c.loop-word.word + c.limit-limit.result - c.loop-word.last in
+    stop-without _ _ c.stop_of-at-2.ensures.effect (elim c.loop-word-test.branch [
+      | else-loop-word-test w ↦
+          (outside-over c.args.image.now (hart c.loop-word-test.registers (4 * c.loop-word.word) done) (grind (arith, w.loop-word-test.false, c.program-program.ensures.program.long))).1
+      | then-loop-word-test+in-Misaligned w ↦
+          let inside : c.loop-word.word < length c.program-program.result.now = omega arith in
+          let at = slice_get_read c.program-program.result.now _ c.loop-word.word w.index-program-word.result refl inside w.index-program-word.is in
+          let halt = halts c.args.image.now (hart c.loop-word.registers (4 * c.loop-word.word) done) c.loop-word.bytes _ _ _ _ (w.execute.ensures done) w.in-Misaligned.is in
+          let none = kept-without c.args.image.now c.program-program.result.now c.loop-word.registers c.loop-word.word done w.index-program-word.result _ c.program-program.ensures.program inside at refl
+          (halt.whole (c.loop-word.auto.bytes ∙ whole)) in
+          rw (w.registers-is, halt.same_x) (hart-without c.args.image.now c.program-program.result.now c.loop-word.registers c.loop-word.word done c.limit-limit.ensures.limits c.program-program.ensures.program inside (omega arith) none)
+    ])
 
 -- a last instruction that isn't executed leaves all as it was
-kept : (c : goal.Joined-word-end) → (c.loop-word-test.registers ≡ c.loop-word.registers) × (c.loop-word-test.bytes ≡ c.loop-word.bytes)
+kept : (c : goal.After-stop_of-at-2) → (c.loop-word-test.registers ≡ c.loop-word.registers) × (c.loop-word-test.bytes ≡ c.loop-word.bytes)
 kept c =
     elim c.loop-word-test.branch [
       | else-loop-word-test w ↦ (w.registers-is, w.bytes-is)
@@ -80,37 +96,10 @@ kept c =
           (w.registers-is ∙ halt.same_x, w.bytes-is ∙ halt.same_memory)
     ]
 
-pub returns-clause-stop : goal.returns-clause-stop
-returns-clause-stop c =
-    let done = c.loop-word.word + c.limit-limit.result - c.loop-word.last in
-    elim c.if-word-end.branch [
-      | then-word-end w ↦
-          let inside : c.loop-word.word < length c.program-program.result.now = omega (arith, w.if-word-end.true) in
-          rw (kept_x c, w.at-is, c.address-pc.ensures) (stops_at_word c.args.image.now c.program-program.result.now c.loop-word-test.registers c.loop-word.word done w.stop_at_word-at.result
-            c.limit-limit.ensures.limits c.program-program.ensures.program inside (omega (arith, w.if-word-end.true)) (w.stop_at_word-at.ensures.effect done))
-      | else-word-end w ↦ rw w.at-is (w.outside-at-else-word-end.ensures.effect c.if-word-end.x)
-    ]
-
-pub returns-clause-whole : goal.returns-clause-whole
-returns-clause-whole c = λ whole.
-    elim c.if-word-end.branch [
-      | then-word-end w ↦
-          elim c.loop-word-test.branch [
-            | else-loop-word-test v ↦ absurd (omega (arith, v.loop-word-test.false, w.if-word-end.true))
-            | then-loop-word-test+in-Misaligned v ↦
-                let inside : c.loop-word.word < length c.program-program.result.now = omega (arith, w.if-word-end.true) in
-                let at = slice_get_read c.program-program.result.now _ c.loop-word.word v.index-program-word.result refl inside v.index-program-word.is in
-                let halt = halts c.args.image.now (hart c.loop-word.registers (4 * c.loop-word.word) 0) c.loop-word.bytes _ _ _ _ (v.execute.ensures 0) v.in-Misaligned.is in
-                rw w.at-is (kept-without c.args.image.now c.program-program.result.now c.loop-word.registers c.loop-word.word 0 v.index-program-word.result _ w.stop_at_word-at.result
-                  c.program-program.ensures.program inside at refl (halt.whole (c.loop-word.auto.bytes ∙ whole)) (rw (v.registers-is, halt.same_x) at (w.stop_at_word-at.ensures.effect 0)))
-          ]
-      | else-word-end w ↦ rw w.at-is w.outside-at-else-word-end.ensures.access
-    ]
-
 pub returns-clause-rest : goal.returns-clause-rest
 returns-clause-rest c =
     let left : c.args.image.now.limit + 1 - (c.loop-word.word + c.limit-limit.result - c.loop-word.last) ≡ c.loop-word.last + 1 - c.loop-word.word = omega arith in
-    rw (kept_x c, c.address-pc.ensures, (kept c).0, (kept c).1, left) c.loop-word.invariant.rest
+    rw (c.stop_of-at-2.ensures.kept, c.address-pc.ensures, (kept c).0, (kept c).1, left) c.loop-word.invariant.rest
 
 pub returns-clause-event : goal.returns-clause-event
-returns-clause-event c = λ none. rw (kept_x c, c.address-pc.ensures, (kept c).0) (c.loop-word.invariant.event none)
+returns-clause-event c = λ none. rw (c.stop_of-at-2.ensures.kept, c.address-pc.ensures, (kept c).0) (c.loop-word.invariant.event none)
