@@ -1,4 +1,7 @@
+use super::*;
+
 #[test]
+#[rattlefmt::skip]
 fn decodes_registers(rt: HostRuntime) {
     for (word, instruction) in [
         (0x007302b3, Instr::Add { rd: x(5), rs1: x(6), rs2: x(7) }),
@@ -20,6 +23,7 @@ fn decodes_registers(rt: HostRuntime) {
 }
 
 #[test]
+#[rattlefmt::skip]
 fn decodes_immediates(rt: HostRuntime) {
     for (word, instruction) in [
         (0x00030293, Instr::Addi { rd: x(5), rs1: x(6), imm: 0x00000000 }),
@@ -43,6 +47,7 @@ fn decodes_immediates(rt: HostRuntime) {
 }
 
 #[test]
+#[rattlefmt::skip]
 fn decodes_loads_and_stores(rt: HostRuntime) {
     for (word, instruction) in [
         (0x00030283, Instr::Lb { rd: x(5), rs1: x(6), imm: 0x00000000 }),
@@ -66,6 +71,7 @@ fn decodes_loads_and_stores(rt: HostRuntime) {
 }
 
 #[test]
+#[rattlefmt::skip]
 fn decodes_jumps_and_upper_immediates(rt: HostRuntime) {
     for (word, instruction) in [
         (0x7e730fe3, Instr::Beq { rs1: x(6), rs2: x(7), offset: 0x00000ffe }),
