@@ -1,7 +1,7 @@
 ghost use Rattle.std.specs.Prelude.{◌≡◌, ℕ, ◌+◌, ◌<◌, ◌≤◌, ◌%◌, ◌*◌, map, true, false, slice_index, IsTrue, All, IfSome, IfNone};
 ghost use Rattle.spec_states.specs.declared.line.LineState.TheVariants.{I};
 ghost use Rattle.spec_states.specs.Copies.{no_copy, merged_line, IsUpToDate};
-ghost use Rattle.spec_states.specs.Mask.{IsWidth};
+ghost use Rattle.memory_bytes.specs.Bytes.{IsWidth};
 ghost use Rattle.spec_states.specs.States.{is_valid, is_speculative};
 ghost use Rattle.cache_lines.specs.Cells.{line_with_number, refreshed_line};
 ghost use Rattle.cache_lines.specs.Changes.{lowest_way, victim_of, rolled_back_line, published_line, with_each_line, IsFound, IsAbsent, CopiesAreFilled, CopiesChange, CopiesAllChange};

@@ -8,7 +8,8 @@ use Rattle.spec_states.specs.declared.line.Marks.{Marks}
 use Rattle.spec_states.specs.declared.next.Order.{Order}
 use Rattle.spec_states.specs.declared.next.Order.TheVariants.{Earlier, Later}
 use Rattle.spec_states.specs.States.{is_valid, is_modified, is_speculative}
-use Rattle.spec_states.specs.Mask.{has, has_all, with_bytes, is_within, IsWidth, IsWithinLine}
+use Rattle.memory_bytes.specs.Bytes.{IsWidth}
+use Rattle.spec_states.specs.Mask.{has, has_all, with_bytes, is_within, IsWithinLine}
 use Rattle.spec_states.specs.Tables
 use Rattle.spec_states.specs.Rows.{MarksRead}
 use Rattle.spec_states.specs.Copies.{LineCopy, copy_of, IsUpToDate, merged_line, KeepsUpToDate, FilledIsUpToDate, KeepsUpToDateAtStore, StoredIsUpToDate, FollowsPublish, Publishes}

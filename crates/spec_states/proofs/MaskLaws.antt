@@ -8,7 +8,8 @@ use Rattle.std.proofs.lemmas.Nat.{or_lt, pow-add, pow_pos}
 use Rattle.std.proofs.Math.Nat.{mul-sub, mul_comm, mul-one, one-mul}
 use Rattle.std.proofs.Math.Pow.{pow_mono, shl_exact}
 use Rattle.std.specs.Int.{bit_at}
-use Rattle.spec_states.specs.Mask.{has, has_all, with_bytes, is_within, IsWidth, IsWithinLine}
+use Rattle.memory_bytes.specs.Bytes.{IsWidth}
+use Rattle.spec_states.specs.Mask.{has, has_all, with_bytes, is_within, IsWithinLine}
 
 -- a byte of the mask by its bit
 has-bit : (bytes x : ℕ) → has bytes x ≡ (bit_at bytes x == 1)

@@ -7,7 +7,8 @@ use Rattle.spec_states.specs.declared.line.Marks.{Marks}
 use Rattle.spec_states.specs.declared.next.Order.{Order}
 use Rattle.spec_states.specs.declared.next.Order.TheVariants.{Earlier, Later}
 use Rattle.spec_states.specs.Copies.{IsMarked}
-use Rattle.spec_states.specs.Mask.{with_bytes, IsWidth}
+use Rattle.memory_bytes.specs.Bytes.{IsWidth}
+use Rattle.spec_states.specs.Mask.{with_bytes}
 use Rattle.spec_states.specs.States.{is_valid, is_exclusive, is_modified, is_speculative}
 use Rattle.spec_states.specs.Tables
 use Rattle.spec_states.specs.Rows.{owns_line, is_later, was_loaded, GivesWay, TakesHold, RollsBack, Settles}

@@ -1,5 +1,5 @@
 -- The mask of the speculatively modified bytes of a line: bit i is the byte at address i of the line.
-use Rattle.std.specs.Prelude.{◌≡◌, ℕ, ◌+◌, ◌-◌, ◌^◌, ◌<◌, ◌==◌, ◌&&◌, ◌⊎◌, nat_le, nat_lt, Bool, bit_or}
+use Rattle.std.specs.Prelude.{ℕ, ◌+◌, ◌-◌, ◌^◌, ◌<◌, ◌==◌, ◌&&◌, nat_le, nat_lt, Bool, bit_or}
 use Rattle.std.specs.Int.{bit_at}
 use Rattle.std.specs.List.{list_all, range_with_len}
 
@@ -18,10 +18,6 @@ with_bytes bytes offset width = bit_or bytes (2 ^ (offset + width) - 2 ^ offset)
 -- is the byte at x among the `width` ones from `offset` on?
 abbrev pub is_within : ℕ → ℕ → ℕ → Bool
 is_within offset width x = nat_le offset x && nat_lt x (offset + width)
-
--- the widths of an access, in bytes
-abbrev pub IsWidth : ℕ → Type 0
-IsWidth width = (width ≡ 1) ⊎ (width ≡ 2) ⊎ (width ≡ 4)
 
 -- the mask has no byte past a line of this length
 abbrev pub IsWithinLine : ℕ → ℕ → Type 0

@@ -1,5 +1,6 @@
 ghost use Rattle.std.specs.Prelude.{◌≡◌, ◌+◌, ◌-◌, ◌^◌, ◌<◌, ◌≤◌};
-ghost use Rattle.spec_states.specs.Mask.{has, has_all, with_bytes, IsWidth};
+ghost use Rattle.memory_bytes.specs.Bytes.{IsWidth};
+ghost use Rattle.spec_states.specs.Mask.{has, has_all, with_bytes};
 ghost use Rattle.spec_states.specs.declared.line.TheConstants.{LONGEST_LINE};
 ghost use Rattle.spec_states.specs.States.{is_valid, is_exclusive, is_speculative, is_modified};
 

@@ -1,7 +1,8 @@
 ghost use Rattle.std.specs.Prelude.{◌≡◌, ℕ, ◌+◌, ◌<◌, ◌≤◌, ◌%◌, ◌||◌, true, false};
 ghost use Rattle.spec_states.specs.declared.line.TheConstants.{LONGEST_LINE};
 ghost use Rattle.spec_states.specs.Copies.{KeepsUpToDate, FilledIsUpToDate, KeepsUpToDateAtStore, StoredIsUpToDate, Publishes};
-ghost use Rattle.spec_states.specs.Mask.{has, is_within, IsWidth, IsWithinLine};
+ghost use Rattle.memory_bytes.specs.Bytes.{IsWidth};
+ghost use Rattle.spec_states.specs.Mask.{has, is_within, IsWithinLine};
 ghost use Rattle.spec_states.specs.Rows.{TakesHold, RollsBack, Settles, MarksRead};
 ghost use Rattle.spec_states.specs.States.{is_valid};
 ghost use Rattle.spec_states.specs.Tables.{next, own_load, own_load_table, own_store, own_store_table, violation, settlement, marks_after_load, marks_after_store, marks_of};

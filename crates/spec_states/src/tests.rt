@@ -1,7 +1,7 @@
 //! Each cell of the tables, with answers that were worked out by hand from the protocol, for lines of 16 and of 32 bytes.
 
 ghost use Rattle.std.specs.Prelude.{◌≡◌, ◌<◌, ◌%◌, true};
-ghost use Rattle.spec_states.specs.Mask.{IsWidth};
+ghost use Rattle.memory_bytes.specs.Bytes.{IsWidth};
 
 use super::*;
 use LineState::{E, I, M, S, SpE, SpS};
