@@ -3,7 +3,6 @@
 -- entered.
 use Rattle.std.specs.Prelude.{◌≡◌, ℕ, ◌≤◌, ◌==◌, ◌⊎◌, Bool, false, not, List, [], ◌∷◌, filter, length}
 use Rattle.std.specs.List.{list_any}
-use Rattle.orb.specs.declared.buffer.TheConstants.{LARGEST_LIMIT}
 
 -- how many lines a buffer may have, and the addresses of those that it has
 pub record Buffer : Type 0 where
@@ -34,5 +33,5 @@ IsEachOnce (line ∷ lines) = (holds lines line ≡ false) × IsEachOnce lines
 -- what every buffer keeps
 pub record IsBuffer (buffer : Buffer) : Type 0 where
   pub within : length buffer.lines ≤ buffer.limit
-  pub limit_is : buffer.limit ≤ LARGEST_LIMIT
+  pub limit_is : buffer.limit ≤ 8
   pub each_once : IsEachOnce buffer.lines

@@ -3,6 +3,10 @@ use Rattle.std.specs.Prelude.{ℕ, ◌+◌, ◌-◌, ◌^◌, ◌<◌, ◌==◌,
 use Rattle.std.specs.Int.{bit_at}
 use Rattle.std.specs.List.{list_all, range_with_len}
 
+-- the bytes of the longest line, and so the bits of a mask
+abbrev pub longest_line : ℕ
+longest_line = 32
+
 -- is the byte at this offset of the line in the mask?
 unfoldable pub has : ℕ → ℕ → Bool
 has bytes offset = bit_at bytes offset == 1
