@@ -87,7 +87,6 @@ impl Cache {
         ensures value { result ≡ self.now.line_length }
         ensures either { IsTrue (is_line_length result) }
     {
-        let _ = &self.lines;
         self.line_length
     }
 

@@ -7,7 +7,7 @@ use Rattle.spec_states.specs.declared.line.Marks.{Marks}
 use Rattle.spec_states.specs.declared.next.Next.{Next}
 use Rattle.spec_states.specs.declared.next.Order.{Order}
 use Rattle.spec_states.specs.declared.next.Order.TheVariants.{Earlier, Later}
-use Rattle.spec_states.specs.Mask.{has, is_within, IsWithinLine}
+use Rattle.spec_states.specs.Mask.{has, is_within}
 use Rattle.spec_states.specs.States.{is_valid, is_exclusive, is_modified, is_speculative}
 use Rattle.spec_states.specs.Tables.{is_written, marks_of, no_marks}
 
@@ -105,8 +105,3 @@ pub record Settles (state : LineState) (marks : Marks) (alone : Bool) (next : Ne
 abbrev pub MarksRead : ℕ → ℕ → Next → Type 0
 MarksRead offset width next =
     (x : ℕ) → is_within offset width x ≡ true → has next.marks.bytes x ≡ false → next.marks.loaded ≡ true
-
--- a mask that has no byte past a line of some length stays so, where the access ends there too
-abbrev pub StaysWithinLine : Marks → Marks → Type 0
-StaysWithinLine before after =
-    (length : ℕ) → IsWithinLine length before.bytes → IsWithinLine length after.bytes

@@ -267,3 +267,11 @@ fn states_and_masks(rt: HostRuntime) {
         assert_eq!(rt; loaded(mask).has(offset), want, "{mask} {offset}");
     }
 }
+
+#[test]
+fn a_word_is_loaded_after_a_store_of_its_first_byte(rt: HostRuntime) {
+    let first = after_own_store(I, NONE, 0, 1, ALONE);
+    assert_eq!(rt; first, to(SpE, stored(0x0000_0001)));
+    let then = after_own_load(first.state, first.marks, 0, 4, ALONE);
+    assert_eq!(rt; then, to(SpE, loaded(0x0000_0001)));
+}
