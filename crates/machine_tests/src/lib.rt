@@ -2,4 +2,6 @@
 #![tactic(auto)]
 
 #[cfg(test)]
+mod execution;
+#[cfg(test)]
 mod history;
