@@ -85,9 +85,9 @@ with_number_bytes memory address (suc width) value within a =
       | inl e ↦ ap (λ b. slice_index (set before (address + width) (byte_of value width)) b) e
           ∙ (get_or-set_same before (address + width) (byte_of value width) 0 (omega (arith, long))
           ∙ sym (ap (over (stored address (suc width) value) (λ b. slice_index memory b)) e
-            ∙ ap (λ o. unwrap_or o (slice_index memory (address + width))) (stored_at address (suc width) value width (omega arith))))
+          ∙ ap (λ o. unwrap_or o (slice_index memory (address + width))) (stored_at address (suc width) value width (omega arith))))
       | inr other ↦ get_or-set_other before (address + width) a (byte_of value width) 0 other
           ∙ (with_number_bytes memory address width value (omega arith) a
           ∙ sym (ap (λ n. over (stored address n value) (λ b. slice_index memory b) a) more
-            ∙ ap (λ o. unwrap_or o (slice_index memory a)) (stored_other address width value a other)))
+          ∙ ap (λ o. unwrap_or o (slice_index memory a)) (stored_other address width value a other)))
     ]

@@ -1,10 +1,8 @@
 //! Numbers in the bytes of memory, and bytes kept beside it: what an epoch has stored and not committed, or what it has read.
 #![tactic(auto)]
 
-mod memory;
 mod numbers;
 mod shadow;
 
-pub use memory::put_number;
 pub use numbers::{read_number, write_number};
 pub use shadow::ShadowBytes;

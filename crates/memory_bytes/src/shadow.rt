@@ -1,4 +1,4 @@
-ghost use Rattle.std.specs.Prelude.{◌≡◌, ◌<◌, ◌≤◌, ◌+◌, ◌^◌, ℕ, IfOk, OnOk, Some, None, length, slice_index, slice_set};
+ghost use Rattle.std.specs.Prelude.{◌≡◌, ◌<◌, ◌≤◌, ◌+◌, ◌^◌, ℕ, [], OnOk, Some, None, length, slice_index, slice_set};
 ghost use Rattle.memory_bytes.specs.Bytes.{number_at};
 ghost use Rattle.memory_bytes.specs.Bytes.{IsWidth};
 ghost use Rattle.memory_bytes.specs.Maps.{joined, over, read_outside, stored};
@@ -9,6 +9,7 @@ use std::marker::Model;
 
 /// Some of memory's bytes, kept beside it: a byte or none at each address.
 ///
+/// It takes no memory before the first `reserve`, and a cell for each address up to the highest that was reserved.
 /// Reading and setting a byte take the same time whatever is kept, and clearing takes time for what was set. Contracts
 /// see the bytes by address, and for how many more there is room.
 #[derive(Drop)]
@@ -29,24 +30,24 @@ impl Model for ShadowBytes {
 }
 
 impl ShadowBytes {
-    /// No bytes, beside so many bytes of memory.
-    pub fn new(alloc: Global, size: u32) -> Result<ShadowBytes, AllocError>
-        ensures long { IfOk result (λ s. length s.cells ≡ size) }
-        ensures none { IfOk result (λ s. (a : ℕ) → spec.byte_in s.cells a ≡ None) }
+    /// No bytes.
+    pub fn new(alloc: Global) -> ShadowBytes
+        ensures { result.cells ≡ [] }
     {
-        let cells = no_bytes(alloc, size)?;
-        Ok(ShadowBytes {
-            cells,
+        ShadowBytes {
+            cells: Vec::new(alloc),
             touched: Vec::new(alloc),
-        })
+        }
     }
 
     /// The byte at an address, if there is one.
     pub fn get(&self, addr: u32) -> Option<u8>
-        requires { addr < length self.now.cells }
         ensures { result ≡ spec.byte_in self.now.cells addr }
     {
-        self.cells[addr as usize]
+        match self.cells.get(addr as usize) {
+            Some(cell) => *cell,
+            None => None,
+        }
     }
 
     /// Addresses that have each at which there is a byte.
@@ -56,13 +57,16 @@ impl ShadowBytes {
         self.touched.as_slice()
     }
 
-    /// Makes room for so many more bytes.
-    pub fn reserve(&mut self, additional: usize) -> Result<(), AllocError>
-        ensures cells { self.new.cells ≡ self.old.cells }
-        ensures kept { self.old.room ≤ self.new.room }
-        ensures room { OnOk result (additional ≤ self.new.room) }
+    /// Makes room for the bytes of an access to `width` bytes from `addr` on.
+    pub fn reserve(&mut self, addr: u32, width: u32) -> Result<(), AllocError>
+        requires { addr + width < 2 ^ 32 }
+        ensures bytes { (a : ℕ) → spec.byte_in self.new.cells a ≡ spec.byte_in self.old.cells a }
+        ensures within { (size : ℕ) → length self.old.cells ≤ size → addr + width ≤ size → length self.new.cells ≤ size }
+        ensures cells { OnOk result (addr + width ≤ length self.new.cells) }
+        ensures room { OnOk result (width ≤ self.new.room) }
     {
-        self.touched.reserve(additional)
+        self.touched.reserve(width as usize)?;
+        grow(&mut self.cells, addr + width)
     }
 
     /// Sets the byte at an address.
@@ -80,8 +84,7 @@ impl ShadowBytes {
 
     /// The byte of memory with these bytes over it.
     pub fn seen(&self, memory: &[u8], addr: u32) -> u8
-        requires own { addr < length self.now.cells }
-        requires memory { addr < length memory.now }
+        requires { addr < length memory.now }
         ensures { result ≡ over (spec.byte_in self.now.cells) (λ a. slice_index memory.now a) addr }
     {
         self.get(addr).unwrap_or(memory[addr as usize])
@@ -92,7 +95,6 @@ impl ShadowBytes {
     pub fn number(&self, memory: &[u8], addr: u32, width: u32) -> u32
         requires width { IsWidth width }
         requires small { addr + width < 2 ^ 32 }
-        requires own { addr + width ≤ length self.now.cells }
         requires memory { addr + width ≤ length memory.now }
         ensures number { result ≡ number_at (over (spec.byte_in self.now.cells) (λ a. slice_index memory.now a)) addr width }
         ensures below { result < 256 ^ width }
@@ -115,7 +117,6 @@ impl ShadowBytes {
     /// Notes the bytes that a load reads from outside `own`: those of memory at its addresses that `own` hasn't.
     pub fn note(&mut self, own: &ShadowBytes, memory: &[u8], addr: u32, width: u32)
         requires small { addr + width < 2 ^ 32 }
-        requires own { addr + width ≤ length own.now.cells }
         requires within { addr + width ≤ length self.old.cells }
         requires memory { addr + width ≤ length memory.now }
         requires room { width ≤ self.old.room }
@@ -173,14 +174,15 @@ impl ShadowBytes {
     }
 }
 
-/// No byte at each of so many addresses.
-fn no_bytes(alloc: Global, size: u32) -> Result<Vec<Option<u8>>, AllocError>
-    ensures long { IfOk result (λ cells. length cells.items ≡ size) }
-    ensures none { IfOk result (λ cells. (a : ℕ) → spec.byte_in cells.items a ≡ None) }
+/// Makes a cell without a byte for each address below this one that has none.
+fn grow(cells: &mut Vec<Option<u8>>, end: u32) -> Result<(), AllocError>
+    ensures bytes { (a : ℕ) → spec.byte_in cells.new.items a ≡ spec.byte_in cells.old.items a }
+    ensures more { length cells.old.items ≤ length cells.new.items }
+    ensures within { (size : ℕ) → length cells.old.items ≤ size → end ≤ size → length cells.new.items ≤ size }
+    ensures cells { OnOk result (end ≤ length cells.new.items) }
 {
-    let mut cells = Vec::with_capacity(alloc, size as usize)?;
-    for _ in 0..size {
+    for _ in cells.len()..end as usize {
         cells.push(None)?;
     }
-    Ok(cells)
+    Ok(())
 }

@@ -3,7 +3,7 @@ use Rattle.std.proofs.Common.{◌≡◌, ℕ, ◌+◌, ◌++◌, Bool, true, fal
 use Rattle.rv32_image.specs.Image.{LoadedImage}
 use Rattle.spec_history.specs.declared.entry.Entry.{Entry}
 use Rattle.spec_history.specs.declared.entry.What.{What}
-use Rattle.spec_history.specs.declared.entry.What.TheVariants.{Start, Load, Store, Hurt, Restart, Publish, Commit, Fault}
+use Rattle.spec_history.specs.declared.entry.What.TheVariants.{Start, Load, Store, Hurt, Cancel, Restart, Publish, Commit, Fault}
 use Rattle.spec_history.specs.FlatState.{CoreState, FlatState, first_state}
 use Rattle.spec_history.specs.Effect.{effect, effect_on, effect_idle}
 use Rattle.spec_history.specs.Refusal.{refusal_of}
@@ -32,15 +32,12 @@ counts_add (entry ∷ rest) later = ap (plus (count_of entry.what)) (counts_add 
 
 -- ---- commits
 
-either_homefree : (b : Bool) (x y : FlatState) (n : ℕ) → x.homefree ≡ n → y.homefree ≡ n → (cond b x y).homefree ≡ n
-either_homefree true x y n first second = first
-either_homefree false x y n first second = second
-
 homefree_on : (image : LoadedImage) (s : FlatState) (by : ℕ) (c : CoreState) (what : What) → (effect_on image s by c what).homefree ≡ s.homefree + (count_of what).commits
 homefree_on image s by c (Start epoch) = omega arith
-homefree_on image s by c (Load address width value) = either_homefree c.straight _ _ _ (omega arith) (omega arith)
-homefree_on image s by c (Store address width value) = either_homefree c.straight _ _ _ (omega arith) (omega arith)
+homefree_on image s by c (Load address width value) = omega arith
+homefree_on image s by c (Store address width value) = omega arith
 homefree_on image s by c (Hurt epoch) = omega arith
+homefree_on image s by c (Cancel epoch) = omega arith
 homefree_on image s by c Restart = omega arith
 homefree_on image s by c Publish = omega arith
 homefree_on image s by c Commit = omega arith
@@ -53,6 +50,7 @@ homefree_idle image count s by (Start epoch) at legal = omega arith
 homefree_idle image count s by (Load address width value) at legal = omega arith
 homefree_idle image count s by (Store address width value) at legal = omega arith
 homefree_idle image count s by (Hurt epoch) at legal = omega arith
+homefree_idle image count s by (Cancel epoch) at legal = omega arith
 homefree_idle image count s by Restart at legal = omega arith
 homefree_idle image count s by Publish at legal = omega arith
 homefree_idle image count s by Commit at legal = absurd (not_running (s.cores by) _ at legal.there)

@@ -1,5 +1,5 @@
 -- What each legal entry keeps.
-use Rattle.std.proofs.Common.{◌≡◌, ℕ, ◌+◌, ◌<◌, ◌==◌, ◌||◌, Bool, true, false, cond, List, slice_index, Option, Some, None, unwrap_or, refl, sym, ap, subst, ◌∙◌, inl, inr, true≢false, arith, ne_eqb, eqb-true}
+use Rattle.std.proofs.Common.{◌≡◌, ℕ, ◌+◌, ◌<◌, ◌==◌, ◌||◌, ◌≢◌, Bool, true, false, cond, List, slice_index, Option, Some, None, unwrap_or, refl, sym, ap, subst, ◌∙◌, inl, inr, true≢false, add-one, arith, ne_eqb, eqb-true}
 use Rattle.std.proofs.lemmas.Bool.{cases_Bool}
 use Rattle.rv32_exec.specs.declared.stop.Stop.TheVariants as stop
 use Rattle.rv32_exec.specs.declared.sequential.End.{End}
@@ -9,15 +9,15 @@ use Rattle.rv32_image.specs.Image.{LoadedImage}
 use Rattle.rv32_exec.specs.Hart.{start_of, stepped}
 use Rattle.rv32_exec.specs.NextEvent.{next_event}
 use Rattle.rv32_exec.specs.Arrival.{after_number}
-use Rattle.rv32_exec.specs.Sequential.{Runs, Ends, Faults, SequentialResult, after_steps, epoch_outcome, first_epochs}
-use Rattle.rv32_exec.proofs.Epochs.{first_epochs-ends, sequential_result-fault, sequential_result-done}
-use Rattle.spec_history.specs.declared.entry.What.TheVariants.{Start, Load, Store, Hurt, Restart, Publish, Commit, Fault}
+use Rattle.rv32_exec.specs.Sequential.{Runs, Ends, Faults, SequentialResult, exits, after_steps, epoch_outcome, first_epochs}
+use Rattle.rv32_exec.proofs.Epochs.{first_epochs-ends, first_epochs-exits, sequential_result-fault, sequential_result-exit, sequential_result-done}
+use Rattle.spec_history.specs.declared.entry.What.TheVariants.{Start, Load, Store, Hurt, Cancel, Restart, Publish, Commit, Fault}
 use Rattle.memory_bytes.specs.Maps.{nothing, joined, over, stored, read_outside}
 use Rattle.spec_history.specs.FlatState.{CoreState, FlatState, begun, end_at}
-use Rattle.spec_history.specs.Effect.{with_core, hurt_at, effect_on, effect_idle}
+use Rattle.spec_history.specs.Effect.{with_core, hurt_at, idle_at, effect_on, effect_idle}
 use Rattle.spec_history.specs.Laws.{Holds, IsKeptCore, IsKept, IsPublished, EndsInOrder}
 use Rattle.memory_bytes.proofs.Bytes.{number_at_same}
-use Rattle.spec_history.proofs.Progress.{comes_to_event, comes_past_access, outcome_there, published_memory-is}
+use Rattle.spec_history.proofs.Progress.{comes_to_event, comes_past_access, outcome_there, published_memory-is, published_memory-exit}
 use Rattle.spec_history.proofs.Keeping.{at_core, same_core, apart_with, apart_changed, keeps_with, moves_on, begun_kept}
 use Rattle.spec_history.proofs.Accesses.{load_goes_on, load_counts, store_goes_on, store_within, holds_stored, load_kept, store_kept}
 use Rattle.spec_history.proofs.Going.{Shown, Going, Spares, same_spares, rest_kept, keeps_changed, shown_with, others_speculate, shown_straight, homefree_run, straight_kept}
@@ -40,13 +40,39 @@ goes_on image count s by c new committed published kept at same spares is_kept s
 speculated : (s : FlatState) (by : ℕ) (c : CoreState) → s.cores by ≡ Some c → c.straight ≡ false → (d : CoreState) → s.cores by ≡ Some d → d.straight ≡ false
 speculated s by c at speculative d at' = let same : c ≡ d = same_core (s.cores by) c d at at' in sym (ap (λ (x : CoreState). x.straight) same) ∙ speculative
 
-when_speculative : (image : LoadedImage) (count : ℕ) (b : Bool) (straight speculative : FlatState) → b ≡ false → Going image count speculative → Going image count (cond b straight speculative)
-when_speculative image count true straight speculative is going = absurd cc
-when_speculative image count false straight speculative is going = going
+-- ---- what a load and a store do, straight or not
 
-when_straight : (image : LoadedImage) (count : ℕ) (b : Bool) (straight speculative : FlatState) → b ≡ true → Going image count straight → Going image count (cond b straight speculative)
-when_straight image count true straight speculative is going = going
-when_straight image count false straight speculative is going = absurd cc
+load_as : (image : LoadedImage) (s : FlatState) (by : ℕ) (c : CoreState) (address width value : ℕ) (b : Bool) → c.straight ≡ b
+    → effect_on image s by c (Load address width value) ≡ record s {
+      published = cond b (after_number (next_event image c.hart).now (next_event image c.hart).at value).done s.published;
+      cores = with_core s.cores by (Some (record c {
+        hart = after_number (next_event image c.hart).now (next_event image c.hart).at value;
+        outside = cond b c.outside (joined (read_outside address width c.own s.committed) c.outside);
+      }));
+    }
+load_as image s by c address width value b is =
+    let hart = after_number (next_event image c.hart).now (next_event image c.hart).at value in
+    ap (λ (x : Bool). let t : FlatState = record s {
+      published = cond x hart.done s.published;
+      cores = with_core s.cores by (Some (record c { hart = hart; outside = cond x c.outside (joined (read_outside address width c.own s.committed) c.outside) }));
+    } in t) is
+
+store_as : (image : LoadedImage) (s : FlatState) (by : ℕ) (c : CoreState) (address width value : ℕ) (b : Bool) → c.straight ≡ b
+    → effect_on image s by c (Store address width value) ≡ record s {
+      committed = cond b (over (stored address width value) s.committed) s.committed;
+      published = cond b (stepped (next_event image c.hart).now).done s.published;
+      cores = with_core s.cores by (Some (record c {
+        hart = stepped (next_event image c.hart).now;
+        own = cond b c.own (joined (stored address width value) c.own);
+      }));
+    }
+store_as image s by c address width value b is =
+    let hart = stepped (next_event image c.hart).now in
+    ap (λ (x : Bool). let t : FlatState = record s {
+      committed = cond x (over (stored address width value) s.committed) s.committed;
+      published = cond x hart.done s.published;
+      cores = with_core s.cores by (Some (record c { hart = hart; own = cond x c.own (joined (stored address width value) c.own) }));
+    } in t) is
 
 -- ---- loads
 
@@ -59,7 +85,7 @@ load_speculative image count s by c address width signed rd value going at unhur
       hart = after_number (next_event image c.hart).now (next_event image c.hart).at value;
       outside = joined (read_outside address width c.own s.committed) c.outside;
     } in
-    when_speculative image count c.straight _ _ speculative (goes_on image count s by c new s.committed s.published going.kept at refl (same_spares s by)
+    subst (Going image count) (sym (load_as image s by c address width value false speculative)) (goes_on image count s by c new s.committed s.published going.kept at refl (same_spares s by)
     (load_kept image count s.committed s.homefree s.next_epoch by c address width signed rd value unhurt speculative is number (going.kept.core by c at))
     (shown_with image s.committed s.homefree s.published s.cores by new speculative (speculated s by c at speculative) going.shown))
 
@@ -81,7 +107,7 @@ load_straight image count s by c address width signed rd value going at unhurt s
     let loads = number_at_same (λ a. slice_index run.after a) (over c.own s.committed) address width (λ a low high. sym (run.holds.bytes a)) ∙ number in
     let runs = comes_past_access image (start_of image s.homefree) c.hart hart going.shown.before run.after run.after refl run.runs
     (load_goes_on image c.hart address width signed rd value run.after is loads) (load_counts image c.hart address width signed rd value is) in
-    when_straight image count c.straight _ _ straight (goes_on image count s by c new s.committed hart.done going.kept at refl (same_spares s by)
+    subst (Going image count) (sym (load_as image s by c address width value true straight)) (goes_on image count s by c new s.committed hart.done going.kept at refl (same_spares s by)
     (straight_kept image count s.committed s.committed s.homefree s.next_epoch by c hart straight was)
     (shown_straight image count s by c new s.committed run.after going at homefree straight runs (straight_holds image s c run.after (was.straight_owns straight) run.holds)))
 
@@ -93,7 +119,7 @@ pub store_speculative : (image : LoadedImage) (count : ℕ) (s : FlatState) (by 
     → Going image count (effect_on image s by c (Store address width value))
 store_speculative image count s by c address width value going at unhurt speculative is =
     let new = record c { hart = stepped (next_event image c.hart).now; own = joined (stored address width value) c.own } in
-    when_speculative image count c.straight _ _ speculative (goes_on image count s by c new s.committed s.published going.kept at refl (same_spares s by)
+    subst (Going image count) (sym (store_as image s by c address width value false speculative)) (goes_on image count s by c new s.committed s.published going.kept at refl (same_spares s by)
     (store_kept image count s.committed s.homefree s.next_epoch by c address width value unhurt speculative is (going.kept.core by c at))
     (shown_with image s.committed s.homefree s.published s.cores by new speculative (speculated s by c at speculative) going.shown))
 
@@ -113,7 +139,7 @@ store_straight image count s by c address width value going at unhurt straight i
     (straight_holds image s c run.after (was.straight_owns straight) run.holds) in
     let runs = comes_past_access image (start_of image s.homefree) c.hart hart going.shown.before run.after after refl run.runs
     (store_goes_on image c.hart address width value run.after is) refl in
-    when_straight image count c.straight _ _ straight (goes_on image count s by c new committed hart.done going.kept at refl spares
+    subst (Going image count) (sym (store_as image s by c address width value true straight)) (goes_on image count s by c new committed hart.done going.kept at refl spares
     (straight_kept image count s.committed committed s.homefree s.next_epoch by c hart straight was)
     (shown_straight image count s by c new committed after going at homefree straight runs holds))
 
@@ -226,6 +252,49 @@ hurt_goes_on image count s by c epoch going at later =
       };
     }
 
+-- ---- cancels
+
+kept_by : (b : Bool) (d c : CoreState) → cond b None (Some d) ≡ Some c → Some d ≡ Some c
+kept_by true d c is = absurd cc
+kept_by false d c is = is
+
+-- a core that still runs ran before
+still_runs : (epoch : ℕ) (core : Option CoreState) (c : CoreState) → idle_at epoch core ≡ Some c → core ≡ Some c
+still_runs epoch None c is = absurd cc
+still_runs epoch (Some d) c is = kept_by (d.epoch == epoch) d c is
+
+-- the core of another epoch runs on
+runs_on : (epoch : ℕ) (core : Option CoreState) (d : CoreState) → core ≡ Some d → d.epoch ≢ epoch → idle_at epoch core ≡ Some d
+runs_on epoch core d is other = ap (idle_at epoch) is ∙ ap (λ b. cond b None (Some d)) (ne_eqb d.epoch epoch other)
+
+pub cancel_goes_on : (image : LoadedImage) (count : ℕ) (s : FlatState) (by : ℕ) (c : CoreState) (epoch : ℕ) → Going image count s → s.cores by ≡ Some c → c.epoch < epoch
+    → Going image count (effect_on image s by c (Cancel epoch))
+cancel_goes_on image count s by c epoch going at later =
+    let kept = going.kept in
+    let shown = going.shown in
+    let from : s.homefree < epoch = omega (arith, (kept.core by c at).from) in record {
+      kept = record {
+        started = kept.started;
+        homefree_started = kept.homefree_started;
+        core = λ k x is. kept.core k x (still_runs epoch (s.cores k) x is);
+        apart = λ j k x y is_x is_y. kept.apart j k x y (still_runs epoch (s.cores j) x is_x) (still_runs epoch (s.cores k) y is_y);
+      };
+      shown = record {
+        before = shown.before;
+        memory = shown.memory;
+        hart = shown.hart;
+        done = shown.done;
+        long = shown.long;
+        runs = shown.runs;
+        holds = shown.holds;
+        straight = λ k x is. shown.straight k x (still_runs epoch (s.cores k) x is);
+        unpublished = λ none. shown.unpublished (λ k d at_k. elim (cases_Bool d.straight) [
+          | inl straight ↦ let here = (kept.core k d at_k).straight_homefree straight in none k d (runs_on epoch (s.cores k) d at_k (omega (arith, here, from)))
+          | inr speculates ↦ speculates
+        ]);
+      };
+    }
+
 -- ---- the homefree epoch's own
 
 pub publish_goes_on : (image : LoadedImage) (count : ℕ) (s : FlatState) (by : ℕ) (c : CoreState) → Going image count s → s.cores by ≡ Some c → c.hurt ≡ false
@@ -253,16 +322,23 @@ starts : (image : LoadedImage) (epoch : ℕ) (memory : List ℕ) → after_steps
 unfolding after_steps
 starts image epoch memory = refl
 
+-- the outcome of the homefree epoch, where it ends
+homefree_ends : (image : LoadedImage) (s : FlatState) (c : CoreState) (before after : List ℕ) → (next_event image c.hart).at ≡ stop.Ended
+    → after_steps image c.hart.done (start_of image s.homefree) before ≡ Runs c.hart after
+    → epoch_outcome image s.homefree before ≡ Ends (next_event image c.hart).now after
+homefree_ends image s c before after ends runs =
+    outcome_there image s.homefree c.hart before after (Ends (next_event image c.hart).now after) runs (rw ends refl) tt
+
 no_core : (c : CoreState) → None ≡ Some c → ⊥
 no_core c is = cc
 
 pub commit_goes_on : (image : LoadedImage) (count : ℕ) (s : FlatState) (by : ℕ) (c : CoreState) → Going image count s → s.cores by ≡ Some c → c.hurt ≡ false
-    → c.epoch ≡ s.homefree → (next_event image c.hart).at ≡ stop.Ended → Spares s by (over c.own s.committed) → Going image count (effect_on image s by c Commit)
-commit_goes_on image count s by c going at unhurt homefree ends spares =
+    → c.epoch ≡ s.homefree → (next_event image c.hart).at ≡ stop.Ended → exits image (next_event image c.hart).now ≡ false → Spares s by (over c.own s.committed)
+    → Going image count (effect_on image s by c Commit)
+commit_goes_on image count s by c going at unhurt homefree ends goes_on spares =
     let kept = going.kept in
     let run = homefree_run image count s by c going at homefree unhurt in
-    let outcome : epoch_outcome image s.homefree going.shown.before ≡ Ends run.after =
-    outcome_there image s.homefree c.hart going.shown.before run.after (Ends run.after) run.runs (rw ends refl) tt in
+    let outcome = homefree_ends image s c going.shown.before run.after ends run.runs in
     let straight = others_speculate image count s by c kept at homefree in record {
       kept = record {
         started = kept.started;
@@ -279,7 +355,7 @@ commit_goes_on image count s by c going at unhurt homefree ends spares =
         before = run.after;
         memory = run.after;
         hart = start_of image (s.homefree + 1);
-        done = first_epochs-ends image s.homefree going.shown.before run.after going.shown.done (sym outcome);
+        done = first_epochs-ends image s.homefree (next_event image c.hart).now going.shown.before run.after going.shown.done (sym outcome) goes_on;
         long = run.holds.long;
         runs = starts image (s.homefree + 1) run.after;
         holds = run.holds;
@@ -292,6 +368,34 @@ commit_goes_on image count s by c going at unhurt homefree ends spares =
     }
 
 -- ---- the end
+
+-- the commit of an epoch that exits
+pub exit_published : (image : LoadedImage) (count : ℕ) (s : FlatState) (by : ℕ) (c : CoreState) → Going image count s → s.cores by ≡ Some c → c.hurt ≡ false
+    → c.epoch ≡ s.homefree → (next_event image c.hart).at ≡ stop.Ended → exits image (next_event image c.hart).now ≡ true → IsPublished image (effect_on image s by c Commit)
+exit_published image count s by c going at unhurt homefree ends exit =
+    let run = homefree_run image count s by c going at homefree unhurt in
+    let outcome = homefree_ends image s c going.shown.before run.after ends run.runs in record {
+      memory = run.after;
+      published = published_memory-exit image s.homefree run.after
+          (ap (first_epochs image) (add-one s.homefree)
+          ∙ first_epochs-exits image s.homefree (next_event image c.hart).now going.shown.before run.after going.shown.done (sym outcome) exit);
+      holds = run.holds;
+    }
+
+pub exit_ends : (image : LoadedImage) (count : ℕ) (s : FlatState) (by : ℕ) (c : CoreState) (e : End) → Going image count s → s.cores by ≡ Some c → c.hurt ≡ false
+    → c.epoch ≡ s.homefree → (next_event image c.hart).at ≡ stop.Ended → exits image (next_event image c.hart).now ≡ true → Some (end.Exit s.homefree) ≡ Some e
+    → EndsInOrder image (effect_on image s by c Commit) e
+exit_ends image count s by c e going at unhurt homefree ends exit end_is =
+    let run = homefree_run image count s by c going at homefree unhurt in
+    let outcome = homefree_ends image s c going.shown.before run.after ends run.runs in
+    let within : s.homefree < image.epochs = omega (arith, going.kept.started, (going.kept.core by c at).below, homefree) in
+    let whole = sequential_result-exit image s.homefree (next_event image c.hart).now going.shown.before run.after within going.shown.done (sym outcome) exit in
+    let same : end.Exit s.homefree ≡ e = cc in
+    rw (← same) (record {
+      end_is = sym (ap (λ (r : SequentialResult). r.end) whole);
+      at_homefree = refl;
+      holds = rw whole run.holds;
+    })
 
 pub published_is : (image : LoadedImage) (count : ℕ) (s : FlatState) → Going image count s → IsPublished image s
 published_is image count s going = record {

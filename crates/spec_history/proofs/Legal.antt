@@ -6,7 +6,7 @@ use Rattle.rv32_exec.specs.declared.stop.Stop.TheVariants as stop
 use Rattle.rv32_image.specs.Image.{LoadedImage}
 use Rattle.spec_history.specs.declared.entry.Entry.{Entry}
 use Rattle.spec_history.specs.declared.entry.What.{What}
-use Rattle.spec_history.specs.declared.entry.What.TheVariants.{Start, Load, Store, Hurt, Restart, Publish, Commit, Fault}
+use Rattle.spec_history.specs.declared.entry.What.TheVariants.{Start, Load, Store, Hurt, Cancel, Restart, Publish, Commit, Fault}
 use Rattle.rv32_exec.specs.Execute.{IsAccess, IsStore}
 use Rattle.rv32_exec.specs.NextEvent.{next_event}
 use Rattle.spec_history.specs.declared.illegal.Illegal.{Illegal}
@@ -14,7 +14,7 @@ use Rattle.spec_history.specs.Machine.{IsInMemory}
 use Rattle.rv32_exec.proofs.Accesses.{stop_of_event}
 use Rattle.spec_history.specs.FlatState.{CoreState, FlatState}
 use Rattle.spec_history.specs.Effect.{by_core, effect}
-use Rattle.spec_history.specs.Refusal.{any_below, is_there, is_next, is_homefree, is_value, misses_a_hurt, has_read, other_has_read, refusal_of, is_that_load, is_that_store, is_the_end, is_that_fault}
+use Rattle.spec_history.specs.Refusal.{any_below, is_there, is_next, is_homefree, is_value, misses_a_hurt, misses_a_cancel, has_read, other_has_read, refusal_of, is_that_load, is_that_store, is_the_end, is_that_fault}
 
 -- ---- tests
 
@@ -73,6 +73,7 @@ pub record IsLegalEntry (image : LoadedImage) (count : ℕ) (s : FlatState) (ent
   pub homefree : is_homefree s entry.by entry.what ≡ true
   pub value : is_value s entry.by entry.what ≡ true
   pub spares : misses_a_hurt image count s entry ≡ false
+  pub cancelled : misses_a_cancel image count s entry.by entry.what ≡ false
 
 passes : (b : Bool) (refusal : Illegal) (rest : Option Illegal) → cond b (Some refusal) rest ≡ None → (b ≡ false) × (rest ≡ None)
 passes true refusal rest is = absurd cc
@@ -91,6 +92,7 @@ legal_entry image count s entry is =
     let homefree = passes _ _ _ next.1 in
     let value = passes _ _ _ homefree.1 in
     let spares = passes _ _ _ value.1 in
+    let cancelled = passes _ _ _ spares.1 in
     record {
       going = no_end s.end over.0;
       there = not_false _ there.0;
@@ -98,7 +100,19 @@ legal_entry image count s entry is =
       homefree = not_false _ homefree.0;
       value = not_false _ value.0;
       spares = spares.0;
+      cancelled = cancelled.0;
     }
+
+pass : (b : Bool) (refusal : Illegal) (rest : Option Illegal) → b ≡ false → rest ≡ None → cond b (Some refusal) rest ≡ None
+pass true refusal rest is none = absurd cc
+pass false refusal rest is none = none
+
+-- an entry that passes each test is legal
+pub legal_is : (image : LoadedImage) (count : ℕ) (s : FlatState) (entry : Entry) → IsLegalEntry image count s entry → refusal_of image count s entry ≡ None
+unfolding refusal_of
+legal_is image count s entry l =
+    pass _ _ _ (ap is_some l.going) (pass _ _ _ (ap not l.there) (pass _ _ _ (ap not l.next) (pass _ _ _ (ap not l.homefree)
+    (pass _ _ _ (ap not l.value) (pass _ _ _ l.spares (pass _ _ _ l.cancelled refl))))))
 
 unread : (core : Option CoreState) (c : CoreState) (a byte : ℕ) → core ≡ Some c → c.hurt ≡ false → c.outside a ≡ Some byte → has_read core a ≡ true
 unread core c a byte is unhurt read = rw (is, unhurt, read) refl
@@ -173,6 +187,7 @@ next_by image s by (Store address width value) (Some c) at is =
     let next = that_store address width value _ (sym (ap (λ o. by_core o false (λ x. is_that_store address width value (next_event image x.hart).at)) at) ∙ is) in
     let store : IsStore image (next_event image c.hart).now address width value = rw next at (stop_of_event image c.hart) in (store.access.wide, store.access.within)
 next_by image s by (Hurt epoch) core at is = tt
+next_by image s by (Cancel epoch) core at is = tt
 next_by image s by Restart core at is = tt
 next_by image s by Publish core at is = tt
 next_by image s by Commit core at is = tt

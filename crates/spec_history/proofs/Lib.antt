@@ -6,11 +6,12 @@ pub mod Going
 pub mod Entries
 pub mod Replays
 pub mod Searches
-pub mod Lanes
+pub mod CoreStates
 pub mod Missing
 pub mod Parts
 pub mod Performed
-pub mod Hurting
+pub mod Changing
 pub mod Reaching
+pub mod Joining
 pub mod Faults
 pub mod Counting

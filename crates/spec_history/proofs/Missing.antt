@@ -3,15 +3,15 @@ use Rattle.std.proofs.Common.{◌≡◌, ◌⊎◌, ℕ, ◌+◌, ◌%◌, ◌<�
 use Rattle.std.proofs.lemmas.Bool.{cases_eq}
 use Rattle.rv32_image.specs.Image.{LoadedImage}
 use Rattle.spec_history.specs.declared.entry.What.{What}
-use Rattle.spec_history.specs.declared.entry.What.TheVariants.{Start, Load, Store, Hurt, Restart, Publish, Commit, Fault}
+use Rattle.spec_history.specs.declared.entry.What.TheVariants.{Start, Load, Store, Hurt, Cancel, Restart, Publish, Commit, Fault}
 use Rattle.memory_bytes.specs.Maps.{over, stored}
 use Rattle.spec_history.specs.FlatState.{CoreState, FlatState}
 use Rattle.spec_history.specs.Effect.{effect_on, effect_idle}
 use Rattle.spec_history.specs.Refusal.{other_has_read, changes_unseen, misses_a_hurt}
 use Rattle.memory_bytes.specs.Shadow.{byte_in, IsAmong, Covers}
-use Rattle.spec_history.specs.declared.lane.Lane.{Lane}
-use Rattle.spec_history.specs.Lane.{core_of}
-use Rattle.spec_history.proofs.Lanes.{lane_own}
+use Rattle.spec_history.specs.declared.cores.Core.{Core}
+use Rattle.spec_history.specs.Cores.{core_of}
+use Rattle.spec_history.proofs.CoreStates.{kept_own}
 use Rattle.memory_bytes.proofs.Bytes.{stored_below}
 use Rattle.spec_history.proofs.Searches.{all_fail}
 use Rattle.memory_bytes.proofs.Stores.{Storing, storing_byte, storing_end}
@@ -94,26 +94,20 @@ below_all size count s by address width value rest storing below = all_fail size
 
 -- ---- entries
 
-either_same : (b : Bool) (x y : FlatState) (committed : ℕ → ℕ) → x.committed ≡ committed → y.committed ≡ committed → (cond b x y).committed ≡ committed
-either_same true x y committed first second = first
-either_same false x y committed first second = second
-
 -- the entry commits nothing
 abbrev pub IsQuiet : What → Type 0
-IsQuiet (Start epoch) = Unit {0}
-IsQuiet (Load address width value) = Unit {0}
 IsQuiet (Store address width value) = ⊥
-IsQuiet (Hurt epoch) = Unit {0}
-IsQuiet Restart = Unit {0}
 IsQuiet Publish = ⊥
 IsQuiet Commit = ⊥
 IsQuiet (Fault cause pc) = ⊥
+IsQuiet what = Unit {0}
 
 quiet_same : (image : LoadedImage) (s : FlatState) (by : ℕ) (what : What) (c : CoreState) → IsQuiet what → (effect_on image s by c what).committed ≡ s.committed
 quiet_same image s by (Start epoch) c quiet = refl
-quiet_same image s by (Load address width value) c quiet = either_same c.straight _ _ s.committed refl refl
+quiet_same image s by (Load address width value) c quiet = refl
 quiet_same image s by (Store address width value) c quiet = absurd quiet
 quiet_same image s by (Hurt epoch) c quiet = refl
+quiet_same image s by (Cancel epoch) c quiet = refl
 quiet_same image s by Restart c quiet = refl
 quiet_same image s by Publish c quiet = absurd quiet
 quiet_same image s by Commit c quiet = absurd quiet
@@ -124,6 +118,7 @@ idle_same image s by (Start epoch) = refl
 idle_same image s by (Load address width value) = refl
 idle_same image s by (Store address width value) = refl
 idle_same image s by (Hurt epoch) = refl
+idle_same image s by (Cancel epoch) = refl
 idle_same image s by Restart = refl
 idle_same image s by Publish = refl
 idle_same image s by Commit = refl
@@ -145,49 +140,36 @@ pub misses_by : (image : LoadedImage) (count : ℕ) (s : FlatState) (by : ℕ) (
     → misses_a_hurt image count s (record { by = by; what = what }) ≡ changes_unseen image.size count s by committed
 misses_by image count s by what c committed runs is = ap (changes_unseen image.size count s by) (ap (λ (x : FlatState). x.committed) (effect-on image s by what c runs) ∙ is)
 
-when_true : (b : Bool) (x y : FlatState) → b ≡ true → (cond b x y).committed ≡ x.committed
-when_true true x y is = refl
-when_true false x y is = absurd cc
-
-when_false : (b : Bool) (x y : FlatState) → b ≡ false → (cond b x y).committed ≡ y.committed
-when_false true x y is = absurd cc
-when_false false x y is = refl
-
 pub straight_store_commits : (image : LoadedImage) (s : FlatState) (by : ℕ) (c : CoreState) (address width value : ℕ) → c.straight ≡ true
     → (effect_on image s by c (Store address width value)).committed ≡ over (stored address width value) s.committed
-straight_store_commits image s by c address width value straight = when_true c.straight _ _ straight
+straight_store_commits image s by c address width value is = ap (λ b. cond b (over (stored address width value) s.committed) s.committed) is
 
 pub other_store_commits : (image : LoadedImage) (s : FlatState) (by : ℕ) (c : CoreState) (address width value : ℕ) → c.straight ≡ false
     → (effect_on image s by c (Store address width value)).committed ≡ s.committed
-other_store_commits image s by c address width value speculative = when_false c.straight _ _ speculative
-
--- ---- entries of a lane
+other_store_commits image s by c address width value is = ap (λ b. cond b (over (stored address width value) s.committed) s.committed) is
 
 -- the entry commits the core's own bytes
 abbrev pub IsCommitting : What → Type 0
-IsCommitting (Start epoch) = ⊥
-IsCommitting (Load address width value) = ⊥
-IsCommitting (Store address width value) = ⊥
-IsCommitting (Hurt epoch) = ⊥
-IsCommitting Restart = ⊥
 IsCommitting Publish = Unit {0}
 IsCommitting Commit = Unit {0}
 IsCommitting (Fault cause pc) = Unit {0}
+IsCommitting what = ⊥
 
 commits_own : (image : LoadedImage) (s : FlatState) (by : ℕ) (what : What) (c : CoreState) → IsCommitting what → (effect_on image s by c what).committed ≡ over c.own s.committed
 commits_own image s by (Start epoch) c is = absurd is
 commits_own image s by (Load address width value) c is = absurd is
 commits_own image s by (Store address width value) c is = absurd is
 commits_own image s by (Hurt epoch) c is = absurd is
+commits_own image s by (Cancel epoch) c is = absurd is
 commits_own image s by Restart c is = absurd is
 commits_own image s by Publish c is = refl
 commits_own image s by Commit c is = refl
 commits_own image s by (Fault cause pc) c is = refl
 
-pub committing_misses : (image : LoadedImage) (count : ℕ) (s : FlatState) (by : ℕ) (what : What) (lane : Lane) (c : CoreState) → IsCommitting what → s.cores by ≡ core_of lane → core_of lane ≡ Some c
-    → misses_a_hurt image count s (record { by = by; what = what }) ≡ changes_unseen image.size count s by (over (byte_in lane.own.cells) s.committed)
-committing_misses image count s by what lane c committing at runs =
-    misses_by image count s by what c _ (at ∙ runs) (commits_own image s by what c committing ∙ ap (λ o. over o s.committed) (lane_own lane c runs))
+pub committing_misses : (image : LoadedImage) (count : ℕ) (s : FlatState) (by : ℕ) (what : What) (core : Core) (c : CoreState) → IsCommitting what → s.cores by ≡ core_of core → core_of core ≡ Some c
+    → misses_a_hurt image count s (record { by = by; what = what }) ≡ changes_unseen image.size count s by (over (byte_in core.own.cells) s.committed)
+committing_misses image count s by what core c committing at runs =
+    misses_by image count s by what c _ (at ∙ runs) (commits_own image s by what c committing ∙ ap (λ o. over o s.committed) (kept_own core c runs))
 
 pub straight_misses : (image : LoadedImage) (count : ℕ) (s : FlatState) (by address width value : ℕ) (what : What) (c : CoreState) → what ≡ Store address width value → s.cores by ≡ Some c
     → c.straight ≡ true → misses_a_hurt image count s (record { by = by; what = what }) ≡ changes_unseen image.size count s by (over (stored address width value) s.committed)

@@ -1,36 +1,32 @@
 -- What a legal entry finds, and what is shown of its effect.
-use Rattle.std.proofs.Common.{◌≡◌, ℕ, ◌<◌, ◌≤◌, nat_lt, Bool, true, false, cond, List, length, set, slice_get, slice_index, Option, Some, None, option_map, option_and_then, refl, sym, ap, ◌∙◌, inl, inr, true≢false, arith, length-set}
+use Rattle.std.proofs.Common.{◌≡◌, ℕ, ◌+◌, ◌^◌, ◌<◌, ◌≤◌, nat_lt, Bool, true, false, cond, List, length, set, get_or, slice_get, slice_index, Option, Some, None, option_map, option_and_then, refl, sym, ap, ◌∙◌, inl, inr, true≢false, arith, length-set}
+use Rattle.std.proofs.lemmas.Bool.{cases_eq}
 use Rattle.std.proofs.lemmas.Option.{slice_get_within}
 use Rattle.rv32_image.specs.Image.{LoadedImage}
-use Rattle.memory_bytes.specs.Bytes.{IsWidth}
-use Rattle.rv32_exec.specs.NextEvent.{Event, next_event}
-use Rattle.rv32_exec.specs.Arrival.{Arrival}
-use Rattle.spec_history.specs.declared.entry.What.{What}
-use Rattle.spec_history.specs.declared.entry.What.TheVariants.{Start, Load, Store, Hurt, Restart, Publish, Commit, Fault}
-use Rattle.spec_history.specs.declared.lane.Lane.{Lane}
-use Rattle.spec_history.specs.declared.machine.Machine.{Machine}
 use Rattle.rv32_exec.specs.Hart.{HartState, stepped}
+use Rattle.rv32_exec.specs.NextEvent.{next_event}
+use Rattle.rv32_exec.specs.Sequential.{exits}
+use Rattle.rv32_exec.specs.declared.sequential.End.TheVariants.{Exit}
 use Rattle.rv32_exec.specs.Arrival.{after_number}
 use Rattle.memory_bytes.specs.Maps.{over, stored}
-use Rattle.spec_history.specs.FlatState.{CoreState, FlatState}
-use Rattle.spec_history.specs.Effect.{by_core, with_core, effect, effect_on}
+use Rattle.spec_history.specs.declared.entry.What.{What}
+use Rattle.spec_history.specs.declared.entry.What.TheVariants.{Start, Load, Store, Hurt, Cancel, Restart, Publish, Commit, Fault}
+use Rattle.spec_history.specs.declared.cores.Attempt.{Attempt}
+use Rattle.spec_history.specs.declared.cores.Core.{Core}
+use Rattle.spec_history.specs.declared.machine.Machine.{Machine}
+use Rattle.spec_history.specs.FlatState.{CoreState, FlatState, end_at}
+use Rattle.spec_history.specs.Effect.{by_core, with_core, after_load, after_store, effect_on}
 use Rattle.spec_history.specs.Refusal.{runs_and, is_there}
-use Rattle.spec_history.specs.Event.{event_of, NextIs}
-use Rattle.spec_history.specs.Lane.{core_of, IsSized, after_load, after_store}
-use Rattle.spec_history.specs.Machine.{cores_of, state_of, count_of_cores, IsFit, Becomes, IsLegal}
+use Rattle.spec_history.specs.Cores.{core_of, core_with, IsNext, IsCoreOf, HasRoom}
+use Rattle.spec_history.specs.Machine.{cores_of, state_of, count_of_cores, IsFit, IsLegal, IsAsBefore, HasRoomAt, Becomes, after}
 use Rattle.spec_history.proofs.Legal.{and_true, IsLegalEntry, legal_entry}
-use Rattle.spec_history.proofs.Lanes.{core_there}
-use Rattle.spec_history.proofs.Parts.{cores_set, sized_set, same_state}
+use Rattle.spec_history.proofs.CoreStates.{core_there, state_there, attempt_of}
+use Rattle.spec_history.proofs.Parts.{get_set_same, get_set_other, same_there, states_set, fit_set, same_state}
+use Rattle.spec_history.proofs.Replays.{effect-on}
 
 abbrev pub IsOfCore : What → Type 0
 IsOfCore (Start epoch) = ⊥
-IsOfCore (Load address width value) = Unit {0}
-IsOfCore (Store address width value) = Unit {0}
-IsOfCore (Hurt epoch) = Unit {0}
-IsOfCore Restart = Unit {0}
-IsOfCore Publish = Unit {0}
-IsOfCore Commit = Unit {0}
-IsOfCore (Fault cause pc) = Unit {0}
+IsOfCore what = Unit {0}
 
 idle_fails : (core : Option CoreState) (test : CoreState → Bool) → core ≡ None → by_core core false test ≡ true → ⊥
 idle_fails core test none is = true≢false (sym is ∙ ap (λ o. by_core o false test) none)
@@ -41,6 +37,7 @@ idle_not_there count s by (Start epoch) of none is = of
 idle_not_there count s by (Load address width value) of none is = idle_fails (s.cores by) _ none is
 idle_not_there count s by (Store address width value) of none is = idle_fails (s.cores by) _ none is
 idle_not_there count s by (Hurt epoch) of none is = idle_fails (s.cores by) _ none (and_true (runs_and (s.cores by) (λ x. nat_lt x.epoch epoch)) _ is).0
+idle_not_there count s by (Cancel epoch) of none is = idle_fails (s.cores by) _ none (and_true (runs_and (s.cores by) (λ x. nat_lt x.epoch epoch)) _ is).0
 idle_not_there count s by Restart of none is = idle_fails (s.cores by) _ none is
 idle_not_there count s by Publish of none is = idle_fails (s.cores by) _ none is
 idle_not_there count s by Commit of none is = idle_fails (s.cores by) _ none is
@@ -50,125 +47,215 @@ some_core : (count : ℕ) (s : FlatState) (by : ℕ) (what : What) (core : Optio
 some_core count s by what None of at is = absurd (idle_not_there count s by what of at is)
 some_core count s by what (Some c) of at is = (c, at)
 
-lane_by : (lanes : List Lane) (by : ℕ) (c : CoreState) (o : Option Lane) → slice_get lanes by ≡ o → option_and_then core_of o ≡ Some c → by < length lanes
-lane_by lanes by c None at is = absurd cc
-lane_by lanes by c (Some lane) at is = slice_get_within lanes by lane at
+within_by : (cores : List Core) (by : ℕ) (c : CoreState) (o : Option Core) → slice_get cores by ≡ o → option_and_then core_of o ≡ Some c → by < length cores
+within_by cores by c None at is = absurd cc
+within_by cores by c (Some core) at is = slice_get_within cores by core at
 
 -- what a legal entry of a core finds
-pub record Finds (image : LoadedImage) (m : Machine) (by : ℕ) (what : What) : Type 0 where
-  pub core : CoreState
-  pub runs : (state_of m).cores by ≡ Some core
-  pub below : by < length m.lanes.items
-  pub legal : IsLegalEntry image (count_of_cores m) (state_of m) (record { by = by; what = what })
+pub record Finds (m : Machine) (by : ℕ) (what : What) : Type 0 where
+  pub state : CoreState
+  pub runs : (state_of m).cores by ≡ Some state
+  pub below : by < length m.cores.items
+  pub legal : IsLegalEntry m.image (count_of_cores m) (state_of m) (record { by = by; what = what })
 
-pub finds : (image : LoadedImage) (m : Machine) (by : ℕ) (what : What) → IsOfCore what → IsLegal image m (record { by = by; what = what }) → Finds image m by what
-finds image m by what of is =
-    let legal = legal_entry image (count_of_cores m) (state_of m) (record { by = by; what = what }) is in
+pub finds : (m : Machine) (by : ℕ) (what : What) → IsOfCore what → IsLegal m by what → Finds m by what
+finds m by what of is =
+    let legal = legal_entry m.image (count_of_cores m) (state_of m) (record { by = by; what = what }) is in
     let found = some_core (count_of_cores m) (state_of m) by what ((state_of m).cores by) of refl legal.there in record {
-      core = found.0;
+      state = found.0;
       runs = found.1;
-      below = lane_by m.lanes.items by found.0 (slice_get m.lanes.items by) refl found.1;
+      below = within_by m.cores.items by found.0 (slice_get m.cores.items by) refl found.1;
       legal = legal;
     }
 
--- the core is that of its lane
-pub lane_runs : (m : Machine) (by : ℕ) (c : CoreState) (lane : Lane) → (state_of m).cores by ≡ Some c → slice_get m.lanes.items by ≡ Some lane → core_of lane ≡ Some c
-lane_runs m by c lane runs there = sym (core_there m.lanes.items by lane there) ∙ runs
+-- and the core of the code that is there
+pub record FindsCore (m : Machine) (by : ℕ) (what : What) (core : Core) : Type 0 where
+  pub found : Finds m by what
+  pub there : slice_get m.cores.items by ≡ Some core
+  pub runs : core_of core ≡ Some found.state
+  pub fit : IsCoreOf m.image core
+  pub attempt : Attempt
+  pub attempted : core.attempt ≡ Some attempt
+  pub stands : core_with core.own.cells core.outside.cells attempt ≡ found.state
+  pub next : IsNext m.image attempt.next
 
--- what is to be shown of a machine whose lane has changed
-pub becomes : (image : LoadedImage) (m m' : Machine) (by : ℕ) (what : What) (lane : Lane) (core : Option CoreState) (bytes : ℕ → ℕ) → IsFit image.size m → by < length m.lanes.items
-    → m'.lanes.items ≡ set m.lanes.items by lane → length m'.committed.items ≡ image.size → IsSized image.size lane → core_of lane ≡ core
+pub finds_core : (m : Machine) (by : ℕ) (what : What) (core : Core) → IsOfCore what → IsFit m → IsLegal m by what → core ≡ get_or m.cores.items by core
+    → FindsCore m by what core
+finds_core m by what core of fit is at =
+    let found = finds m by what of is in
+    let there = core_there m.cores.items m.cores.items by core refl found.below at in
+    let runs = sym (state_there m.cores.items by core there) ∙ found.runs in
+    let attempt = attempt_of core found.state runs in
+    let of_image = fit.cores.each by core there in record {
+      found = found;
+      there = there;
+      runs = runs;
+      fit = of_image;
+      attempt = attempt.0;
+      attempted = attempt.1;
+      stands = attempt.2;
+      next = of_image.next attempt.0 attempt.1;
+    }
+
+-- the attempt that the code reads is the one that was found
+same_attempt : (attempt : Option Attempt) (t u : Attempt) → attempt ≡ Some t → attempt ≡ Some u → t ≡ u
+same_attempt attempt t u first second = cc
+
+pub event_now : (m : Machine) (by : ℕ) (what : What) (core : Core) (f : FindsCore m by what core) (t : Attempt) → core.attempt ≡ Some t
+    → t.next.now ≡ (next_event m.image f.found.state.hart).now
+event_now m by what core f t is =
+    let same = same_attempt core.attempt f.attempt t f.attempted is in
+    sym (ap (λ (x : Attempt). x.next.now) same) ∙ (f.next.now ∙ ap (λ (x : CoreState). (next_event m.image x.hart).now) f.stands)
+
+pub event_at : (m : Machine) (by : ℕ) (what : What) (core : Core) (f : FindsCore m by what core) (t : Attempt) → core.attempt ≡ Some t
+    → t.next.at ≡ (next_event m.image f.found.state.hart).at
+event_at m by what core f t is =
+    let same = same_attempt core.attempt f.attempt t f.attempted is in
+    sym (ap (λ (x : Attempt). x.next.at) same) ∙ (f.next.at ∙ ap (λ (x : CoreState). (next_event m.image x.hart).at) f.stands)
+
+pub epoch_is : (m : Machine) (by : ℕ) (what : What) (core : Core) (f : FindsCore m by what core) (t : Attempt) → core.attempt ≡ Some t → t.epoch ≡ f.found.state.epoch
+epoch_is m by what core f t is =
+    let same = same_attempt core.attempt f.attempt t f.attempted is in
+    sym (ap (λ (x : Attempt). x.epoch) same) ∙ ap (λ (x : CoreState). x.epoch) f.stands
+
+-- ---- what is published
+
+pub published_now : (b : Bool) (n done old : ℕ) → Some done ≡ cond b (Some n) None → (b ≡ true) × (done ≡ cond b n old)
+published_now true n done old is = (refl, cc)
+published_now false n done old is = absurd cc
+
+pub published_still : (b : Bool) (n old : ℕ) → None ≡ cond b (Some n) None → (b ≡ false) × (old ≡ cond b n old)
+published_still true n old is = absurd cc
+published_still false n old is = (refl, refl)
+
+-- ---- loads and stores
+
+pub loads : (m : Machine) (by address width value published : ℕ) (c : CoreState) (hart : HartState) → (state_of m).cores by ≡ Some c
+    → hart ≡ after_number (next_event m.image c.hart).now (next_event m.image c.hart).at value → published ≡ cond c.straight hart.done m.published
+    → after m by (Load address width value) ≡ record (state_of m) {
+      published = published;
+      cores = with_core (state_of m).cores by (Some (after_load (state_of m).committed address width hart c));
+    }
+loads m by address width value published c hart runs is counted =
+    let s = state_of m in
+    effect-on m.image s by (Load address width value) c runs
+    ∙ (ap (λ (h : HartState). let t : FlatState = record s {
+      published = cond c.straight h.done s.published;
+      cores = with_core s.cores by (Some (after_load s.committed address width h c));
+    } in t) (sym is)
+    ∙ ap (λ (n : ℕ). let t : FlatState = record s { published = n; cores = with_core s.cores by (Some (after_load s.committed address width hart c)) } in t) (sym counted))
+
+pub stores : (m : Machine) (by address width value published : ℕ) (c : CoreState) (hart : HartState) (b : Bool) → (state_of m).cores by ≡ Some c
+    → hart ≡ stepped (next_event m.image c.hart).now → published ≡ cond c.straight hart.done m.published → c.straight ≡ b
+    → after m by (Store address width value) ≡ record (state_of m) {
+      committed = cond b (over (stored address width value) (state_of m).committed) (state_of m).committed;
+      published = published;
+      cores = with_core (state_of m).cores by (Some (after_store address width value hart c));
+    }
+stores m by address width value published c hart b runs is counted straight =
+    let s = state_of m in
+    effect-on m.image s by (Store address width value) c runs
+    ∙ (ap (λ (h : HartState). let t : FlatState = record s {
+      committed = cond c.straight (over (stored address width value) s.committed) s.committed;
+      published = cond c.straight h.done s.published;
+      cores = with_core s.cores by (Some (after_store address width value h c));
+    } in t) (sym is)
+    ∙ (ap (λ (n : ℕ). let t : FlatState = record s {
+      committed = cond c.straight (over (stored address width value) s.committed) s.committed;
+      published = n;
+      cores = with_core s.cores by (Some (after_store address width value hart c));
+    } in t) (sym counted)
+    ∙ ap (λ (x : Bool). let t : FlatState = record s {
+      committed = cond x (over (stored address width value) s.committed) s.committed;
+      published = published;
+      cores = with_core s.cores by (Some (after_store address width value hart c));
+    } in t) straight))
+
+-- what is to be shown of a machine, one core of which has changed
+pub becomes : (m m' : Machine) (by : ℕ) (what : What) (core : Core) (state : Option CoreState) (bytes : ℕ → ℕ) → IsFit m → by < length m.cores.items → m'.image ≡ m.image
+    → m'.cores.items ≡ set m.cores.items by core → length m'.committed.items ≡ length m.committed.items → IsCoreOf m.image core → core_of core ≡ state
     → ((a : ℕ) → slice_index m'.committed.items a ≡ bytes a)
-    → effect image (state_of m) (record { by = by; what = what }) ≡ record {
+    → after m by what ≡ record {
       committed = bytes;
       homefree = m'.homefree;
       published = m'.published;
       next_epoch = m'.next_epoch;
       end = m'.end;
-      cores = with_core (cores_of m.lanes.items) by core;
+      cores = with_core (cores_of m.cores.items) by state;
     }
-    → Becomes image m m' (record { by = by; what = what })
-becomes image m m' by what lane core bytes fit below lanes long sized is same effects = record {
+    → Becomes m m' (after m by what)
+becomes m m' by what core state bytes fit below image cores long of is same effects = record {
+  image = image;
   state = same_state (λ a. slice_index m'.committed.items a) bytes m'.homefree m'.homefree m'.published m'.published m'.next_epoch m'.next_epoch m'.end m'.end
-      (cores_of m'.lanes.items) (with_core (cores_of m.lanes.items) by core) same refl refl refl refl
-      (λ k. ap (λ xs. cores_of xs k) lanes ∙ (cores_set m.lanes.items by lane below k ∙ ap (λ o. with_core (cores_of m.lanes.items) by o k) is)) ∙ sym effects;
-  count = ap length lanes ∙ length-set m.lanes.items by lane;
+      (cores_of m'.cores.items) (with_core (cores_of m.cores.items) by state) same refl refl refl refl
+      (λ k. ap (λ xs. cores_of xs k) cores ∙ (states_set m.cores.items by core below k ∙ ap (λ o. with_core (cores_of m.cores.items) by o k) is)) ∙ sym effects;
+  count = ap length cores ∙ length-set m.cores.items by core;
   fit = record {
-    small = fit.small;
-    committed = long;
-    lanes = λ k l at. sized_set image.size m.lanes.items by lane below sized fit.lanes k l (sym (ap (λ xs. slice_get xs k) lanes) ∙ at);
+    image = rw image fit.image;
+    committed = long ∙ (fit.committed ∙ ap (λ (i : LoadedImage). i.size) (sym image));
+    cores = rw (image, cores) (fit_set m.image m.cores.items by core below of fit.cores);
   };
 }
 
-absurd_none : (image : LoadedImage) (c : CoreState) → ◌≡◌ {A = Option Event} None (Some (next_event image c.hart)) → ⊥
-absurd_none image c is = cc
-
-pub no_arrival : (image : LoadedImage) (core : Option CoreState) (c : CoreState) → core ≡ Some c → NextIs image core None → ⊥
-no_arrival image core c runs next = absurd_none image c (next ∙ ap (option_map (λ x. next_event image x.hart)) runs)
-
-some_is : (e f : Event) → ◌≡◌ {A = Option Event} (Some e) (Some f) → e ≡ f
-some_is e f is = cc
-
-pub arrival_is : (image : LoadedImage) (core : Option CoreState) (c : CoreState) (arrived : Arrival) → core ≡ Some c → NextIs image core (Some arrived) → event_of arrived ≡ next_event image c.hart
-arrival_is image core c arrived runs next = some_is (event_of arrived) (next_event image c.hart) (next ∙ ap (option_map (λ x. next_event image x.hart)) runs)
-
--- what is to be shown of a machine whose lanes stay
-pub becomes_still : (image : LoadedImage) (m m' : Machine) (by : ℕ) (what : What) (bytes : ℕ → ℕ) → IsFit image.size m
-    → m'.lanes.items ≡ m.lanes.items → length m'.committed.items ≡ image.size → ((a : ℕ) → slice_index m'.committed.items a ≡ bytes a)
-    → effect image (state_of m) (record { by = by; what = what }) ≡ record {
+-- what is to be shown of a machine, no core of which has changed
+pub becomes_still : (m m' : Machine) (by : ℕ) (what : What) (bytes : ℕ → ℕ) → IsFit m → m'.image ≡ m.image → m'.cores ≡ m.cores
+    → length m'.committed.items ≡ length m.committed.items → ((a : ℕ) → slice_index m'.committed.items a ≡ bytes a)
+    → after m by what ≡ record {
       committed = bytes;
       homefree = m'.homefree;
       published = m'.published;
       next_epoch = m'.next_epoch;
       end = m'.end;
-      cores = cores_of m.lanes.items;
+      cores = cores_of m.cores.items;
     }
-    → Becomes image m m' (record { by = by; what = what })
-becomes_still image m m' by what bytes fit lanes long same effects = record {
+    → Becomes m m' (after m by what)
+becomes_still m m' by what bytes fit image cores long same effects = record {
+  image = image;
   state = same_state (λ a. slice_index m'.committed.items a) bytes m'.homefree m'.homefree m'.published m'.published m'.next_epoch m'.next_epoch m'.end m'.end
-      (cores_of m'.lanes.items) (cores_of m.lanes.items) same refl refl refl refl (λ k. ap (λ xs. cores_of xs k) lanes) ∙ sym effects;
-  count = ap length lanes;
-  fit = record { small = fit.small; committed = long; lanes = λ k l at. fit.lanes k l (sym (ap (λ xs. slice_get xs k) lanes) ∙ at) };
+      (cores_of m'.cores.items) (cores_of m.cores.items) same refl refl refl refl (λ k. ap (λ v. cores_of v.items k) cores) ∙ sym effects;
+  count = ap (λ v. length v.items) cores;
+  fit = record {
+    image = rw image fit.image;
+    committed = long ∙ (fit.committed ∙ ap (λ (i : LoadedImage). i.size) (sym image));
+    cores = rw (image, cores) fit.cores;
+  };
 }
 
-pub width_small : (width : ℕ) → IsWidth width → width ≤ 4
-width_small width (inl one) = omega arith
-width_small width (inr (inl two)) = omega arith
-width_small width (inr (inr four)) = omega arith
+pub commits : (m : Machine) (by : ℕ) (c : CoreState) (b : Bool) → (state_of m).cores by ≡ Some c → exits m.image (next_event m.image c.hart).now ≡ b
+    → after m by Commit ≡ record (effect_on m.image (state_of m) by c Commit) { end = cond b (Some (Exit m.homefree)) (end_at m.image (m.homefree + 1)) }
+commits m by c b runs is =
+    effect-on m.image (state_of m) by Commit c runs
+    ∙ ap (λ x. record (effect_on m.image (state_of m) by c Commit) { end = cond x (Some (Exit m.homefree)) (end_at m.image (m.homefree + 1)) }) is
 
-both_straight : (b : Bool) (x y : FlatState) (f : CoreState → FlatState) (p q : CoreState) → b ≡ true → x ≡ f p → cond b x y ≡ f (cond b p q)
-both_straight true x y f p q is same = same
-both_straight false x y f p q is same = absurd cc
+same_cores : (cores : List Core) (by : ℕ) (core new : Core) → by < length cores → slice_get cores by ≡ Some core → core_of new ≡ core_of core
+    → (k : ℕ) → cores_of (set cores by new) k ≡ cores_of cores k
+same_cores cores by core new below there same k = elim (cases_eq k by) [
+  | inl e ↦ ap (cores_of (set cores by new)) e ∙ (ap (option_and_then core_of) (get_set_same cores by new below) ∙ (same ∙ sym (ap (cores_of cores) e ∙ state_there cores by core there)))
+  | inr other ↦ ap (option_and_then core_of) (get_set_other cores by k new other)
+]
 
-both_speculative : (b : Bool) (x y : FlatState) (f : CoreState → FlatState) (p q : CoreState) → b ≡ false → y ≡ f q → cond b x y ≡ f (cond b p q)
-both_speculative true x y f p q is same = absurd cc
-both_speculative false x y f p q is same = same
+-- a machine, one core of which has made room
+pub as_before : (m m' : Machine) (by : ℕ) (core new : Core) → IsFit m → by < length m.cores.items → core ≡ get_or m.cores.items by core → m'.image ≡ m.image
+    → m'.committed ≡ m.committed → m'.homefree ≡ m.homefree → m'.published ≡ m.published → m'.next_epoch ≡ m.next_epoch → m'.end ≡ m.end
+    → m'.cores.items ≡ set m.cores.items by new → core_of new ≡ core_of core → (IsCoreOf m.image core → IsCoreOf m.image new) → IsAsBefore m m'
+as_before m m' by core new fit below is image c h p n e cores same keeps =
+    let there = core_there m.cores.items m.cores.items by core refl below is in record {
+      image = image;
+      state = same_state (λ a. slice_index m'.committed.items a) (λ a. slice_index m.committed.items a) m'.homefree m.homefree m'.published m.published m'.next_epoch m.next_epoch m'.end m.end
+          (cores_of m'.cores.items) (cores_of m.cores.items) (λ a. ap (λ v. slice_index v.items a) c) h p n e
+          (λ k. ap (λ xs. cores_of xs k) cores ∙ same_cores m.cores.items by core new below there same k);
+      count = ap length cores ∙ length-set m.cores.items by new;
+      fit = record {
+        image = rw image fit.image;
+        committed = ap (λ v. length v.items) c ∙ (fit.committed ∙ ap (λ (i : LoadedImage). i.size) (sym image));
+        cores = rw (image, cores) (fit_set m.image m.cores.items by new below (keeps (fit.cores.each by core there)) fit.cores);
+      };
+    }
 
-pub straight_load : (image : LoadedImage) (s : FlatState) (by : ℕ) (c : CoreState) (address width value : ℕ) (hart : HartState) → c.straight ≡ true
-    → hart ≡ after_number (next_event image c.hart).now (next_event image c.hart).at value
-    → effect_on image s by c (Load address width value) ≡ record s { published = hart.done; cores = with_core s.cores by (Some (after_load s.committed address width hart c)) }
-straight_load image s by c address width value hart straight is =
-    rw is (both_straight c.straight _ _ (λ x. record s { published = (after_number (next_event image c.hart).now (next_event image c.hart).at value).done; cores = with_core s.cores by (Some x) }) _ _ straight refl)
-
-pub speculative_load : (image : LoadedImage) (s : FlatState) (by : ℕ) (c : CoreState) (address width value : ℕ) (hart : HartState) → c.straight ≡ false
-    → hart ≡ after_number (next_event image c.hart).now (next_event image c.hart).at value
-    → effect_on image s by c (Load address width value) ≡ record s { cores = with_core s.cores by (Some (after_load s.committed address width hart c)) }
-speculative_load image s by c address width value hart speculative is =
-    rw is (both_speculative c.straight _ _ (λ x. record s { cores = with_core s.cores by (Some x) }) _ _ speculative refl)
-
-pub straight_store : (image : LoadedImage) (s : FlatState) (by : ℕ) (c : CoreState) (address width value : ℕ) (hart : HartState) → c.straight ≡ true
-    → hart ≡ stepped (next_event image c.hart).now
-    → effect_on image s by c (Store address width value)
-    ≡ record s { committed = over (stored address width value) s.committed; published = hart.done; cores = with_core s.cores by (Some (after_store address width value hart c)) }
-straight_store image s by c address width value hart straight is =
-    rw is (both_straight c.straight _ _ (λ x. record s {
-      committed = over (stored address width value) s.committed;
-      published = (stepped (next_event image c.hart).now).done;
-      cores = with_core s.cores by (Some x);
-    }) _ _ straight refl)
-
-pub speculative_store : (image : LoadedImage) (s : FlatState) (by : ℕ) (c : CoreState) (address width value : ℕ) (hart : HartState) → c.straight ≡ false
-    → hart ≡ stepped (next_event image c.hart).now
-    → effect_on image s by c (Store address width value) ≡ record s { cores = with_core s.cores by (Some (after_store address width value hart c)) }
-speculative_store image s by c address width value hart speculative is =
-    rw is (both_speculative c.straight _ _ (λ x. record s { cores = with_core s.cores by (Some x) }) _ _ speculative refl)
+pub room_at : (m m' : Machine) (by address width : ℕ) (new : Core) → by < length m.cores.items → m'.cores.items ≡ set m.cores.items by new → HasRoom address width new
+    → HasRoomAt m' by address width
+room_at m m' by address width new below cores room = record {
+  room = λ core at.
+      let there = get_set_same m.cores.items by new below in
+      let same : new ≡ core = same_there (slice_get m'.cores.items by) new core (ap (λ xs. slice_get xs by) cores ∙ there) at in rw (← same) room;
+}

@@ -1,6 +1,6 @@
 -- How far an epoch has come, and what comes of its next event.
-use Rattle.std.proofs.Common.{◌≡◌, ℕ, zero, suc, ◌+◌, ◌-◌, ◌≤◌, List, Some, refl, sym, ap, ◌∙◌, arith}
-use Rattle.rv32_exec.specs.declared.sequential.End.TheVariants.{Done}
+use Rattle.std.proofs.Common.{◌≡◌, ℕ, zero, suc, ◌+◌, ◌-◌, ◌≤◌, List, Some, refl, sym, ap, ◌∙◌, arith, eq-eqb}
+use Rattle.rv32_exec.specs.declared.sequential.End.TheVariants.{Done, Exit}
 use Rattle.rv32_image.specs.Image.{LoadedImage}
 use Rattle.rv32_exec.specs.Hart.{HartState, start_of}
 use Rattle.rv32_exec.specs.NextEvent.{next_event}
@@ -23,7 +23,7 @@ one_step image n h memory = refl
 none_left : (image : LoadedImage) (p : Progress) → go_on p (after_steps image 0) ≡ p
 unfolding after_steps
 none_left image (Runs h memory) = refl
-none_left image (Ends memory) = refl
+none_left image (Ends e memory) = refl
 none_left image (Faults cause pc memory) = refl
 
 last_step : (image : LoadedImage) (h : HartState) (memory : List ℕ) (p : Progress) → execute image h memory ≡ p → after_steps image 1 h memory ≡ p
@@ -36,7 +36,7 @@ counted_by : (image : LoadedImage) (n : ℕ) (h g : HartState) (memory' : List �
 counted_by image n h g memory' (Runs after memory) on runs later =
     let rest = later after memory runs in
     record { count = omega (arith, on.0, rest.count); most = λ within. rest.most (omega (arith, on.0, on.1)) }
-counted_by image n h g memory' (Ends memory) on runs later = absurd cc
+counted_by image n h g memory' (Ends e memory) on runs later = absurd cc
 counted_by image n h g memory' (Faults cause pc memory) on runs later = absurd cc
 
 pub counted : (image : LoadedImage) (n : ℕ) (h g : HartState) (memory memory' : List ℕ) → after_steps image n h memory ≡ Runs g memory' → Counted image h n g
@@ -75,7 +75,7 @@ comes_past_access image from h after memory memory' memory'' none runs access co
 
 stays : (image : LoadedImage) (n : ℕ) (p : Progress) → HasStopped p → go_on p (after_steps image n) ≡ p
 stays image n (Runs h memory) stop = absurd stop
-stays image n (Ends memory) stop = refl
+stays image n (Ends e memory) stop = refl
 stays image n (Faults cause pc memory) stop = refl
 
 -- an epoch that has come to a hart whose next event stops it has that outcome
@@ -104,3 +104,9 @@ pub published_memory-is : (image : LoadedImage) (homefree k : ℕ) (before memor
     → published_memory image homefree k ≡ Some memory
 unfolding published_memory sequential_memory
 published_memory-is image homefree k before memory h done runs = rw done (rw runs refl)
+
+-- published memory, where the epoch before exited
+pub published_memory-exit : (image : LoadedImage) (epoch : ℕ) (memory : List ℕ) → first_epochs image (epoch + 1) ≡ record { end = Exit epoch; bytes = memory }
+    → published_memory image (epoch + 1) 0 ≡ Some memory
+unfolding published_memory sequential_memory after_steps
+published_memory-exit image epoch memory is = rw (is, eq-eqb (epoch + 1) (epoch + 1) refl) refl

@@ -1,15 +1,15 @@
--- Histories that grow by one entry, and lanes at the start.
+-- Histories that grow, and cores at the start.
 use Rattle.std.proofs.Common.{◌≡◌, ℕ, zero, suc, ◌+◌, ◌<◌, ◌≤◌, List, [], ◌∷◌, ◌++◌, length, slice_get, Option, Some, None, refl, sym, ap, subst, ◌∙◌, arith, take, get_or, add-one, option_and_then, option_map}
 use Rattle.std.proofs.lemmas.Option.{slice_get-get_or}
 use Rattle.rv32_image.specs.Image.{LoadedImage, IsImage}
 use Rattle.spec_history.specs.declared.entry.Entry.{Entry}
 use Rattle.spec_history.specs.declared.illegal.Illegal.{Illegal}
-use Rattle.spec_history.specs.declared.lane.Lane.{Lane}
+use Rattle.spec_history.specs.declared.cores.Core.{Core}
 use Rattle.spec_history.specs.FlatState.{FlatState, first_state}
 use Rattle.spec_history.specs.Effect.{effect}
 use Rattle.spec_history.specs.Refusal.{refusal_of}
 use Rattle.spec_history.specs.Replay.{where_legal, replay_from, replay}
-use Rattle.spec_history.specs.Lane.{core_of, core_with, IsSized, AreIdle}
+use Rattle.spec_history.specs.Cores.{core_of, core_with, IsCoreOf, AreIdle}
 use Rattle.spec_history.specs.Machine.{cores_of}
 use Rattle.spec_history.specs.View.{FlatView, state_in, cores_in, IsReached, IsApplied, IsRefused, IsRefusedAt}
 use Rattle.spec_history.proofs.Legal.{legal_entry}
@@ -53,25 +53,25 @@ homefree_within image count s entry is reached legal =
     let going = (replayed image count reached.entries s is reached.replays).going (legal_entry image count s entry legal).going in
     omega (arith, going.kept.homefree_started, going.kept.started, is.epochs_most)
 
--- ---- idle lanes
+-- ---- idle cores
 
-idle_at : (size : ℕ) (lanes : List Lane) (lane : Lane) → lane.attempt ≡ None → IsSized size lane
-    → ((k : ℕ) (l : Lane) → slice_get lanes k ≡ Some l → (l.attempt ≡ None) × IsSized size l)
-    → (k : ℕ) (l : Lane) → slice_get (lanes ++ lane ∷ []) k ≡ Some l → (l.attempt ≡ None) × IsSized size l
-idle_at size [] lane none sized each zero l at = let same : lane ≡ l = cc in subst (λ x. (x.attempt ≡ None) × IsSized size x) same (none, sized)
-idle_at size [] lane none sized each (suc k) l at = absurd cc
-idle_at size (first ∷ rest) lane none sized each zero l at = each 0 l at
-idle_at size (first ∷ rest) lane none sized each (suc k) l at = idle_at size rest lane none sized (λ j m is. each (suc j) m is) k l at
+idle_at : (P : Core → Type 0) (cores : List Core) (core : Core) → P core → ((k : ℕ) (l : Core) → slice_get cores k ≡ Some l → P l)
+    → (k : ℕ) (l : Core) → slice_get (cores ++ core ∷ []) k ≡ Some l → P l
+idle_at P [] core here each zero l at = let same : core ≡ l = cc in subst P same here
+idle_at P [] core here each (suc k) l at = absurd cc
+idle_at P (first ∷ rest) core here each zero l at = each 0 l at
+idle_at P (first ∷ rest) core here each (suc k) l at = idle_at P rest core here (λ j m is. each (suc j) m is) k l at
 
-pub idle_more : (size : ℕ) (lanes : List Lane) (lane : Lane) → lane.attempt ≡ None → IsSized size lane → AreIdle size lanes → AreIdle size (lanes ++ lane ∷ [])
-idle_more size lanes lane none sized idle = record { each = λ k l at. idle_at size lanes lane none sized idle.each k l at }
+pub idle_more : (cores : List Core) (core : Core) → core.attempt ≡ None → ((image : LoadedImage) → IsCoreOf image core) → AreIdle cores → AreIdle (cores ++ core ∷ [])
+idle_more cores core none fit idle =
+    record { each = λ k l at. idle_at (λ x. (x.attempt ≡ None) × ((image : LoadedImage) → IsCoreOf image x)) cores core (none, fit) idle.each k l at }
 
-idle_by : (size : ℕ) (lanes : List Lane) (o : Option Lane) → ((lane : Lane) → o ≡ Some lane → lane.attempt ≡ None) → option_and_then core_of o ≡ None
-idle_by size lanes None idle = refl
-idle_by size lanes (Some lane) idle = ap (option_map (core_with lane.own.cells lane.outside.cells)) (idle lane refl)
+idle_by : (cores : List Core) (o : Option Core) → ((core : Core) → o ≡ Some core → core.attempt ≡ None) → option_and_then core_of o ≡ None
+idle_by cores None idle = refl
+idle_by cores (Some core) idle = ap (option_map (core_with core.own.cells core.outside.cells)) (idle core refl)
 
-pub idle_cores : (size : ℕ) (lanes : List Lane) → AreIdle size lanes → (k : ℕ) → cores_of lanes k ≡ None
-idle_cores size lanes idle k = idle_by size lanes (slice_get lanes k) (λ lane at. (idle.each k lane at).0)
+pub idle_states : (cores : List Core) → AreIdle cores → (k : ℕ) → cores_of cores k ≡ None
+idle_states cores idle k = idle_by cores (slice_get cores k) (λ core at. (idle.each k core at).0)
 
 -- ---- an audit
 

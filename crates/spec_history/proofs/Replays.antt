@@ -1,27 +1,28 @@
 -- Proofs of the laws of replay.
-use Rattle.std.proofs.Common.{◌≡◌, ℕ, ◌==◌, not, nat_lt, Bool, true, false, cond, List, [], ◌∷◌, Option, Some, None, is_some, refl, sym, ap, subst, ◌∙◌, true≢false, arith, eqb-true, ltb-true}
+use Rattle.std.proofs.Common.{◌≡◌, ℕ, ◌+◌, ◌==◌, not, nat_lt, Bool, true, false, cond, List, [], ◌∷◌, Option, Some, None, is_some, refl, sym, ap, subst, ◌∙◌, true≢false, arith, eqb-true, ltb-true}
 use Rattle.rv32_exec.specs.declared.stop.Stop.TheVariants as stop
 use Rattle.rv32_exec.specs.declared.sequential.End.{End}
+use Rattle.rv32_exec.specs.declared.sequential.End.TheVariants as end
 use Rattle.memory_bytes.specs.Bytes.{number_at}
 use Rattle.rv32_image.specs.Image.{LoadedImage, IsImage}
 use Rattle.rv32_exec.specs.Hart.{start_of}
 use Rattle.rv32_exec.specs.NextEvent.{next_event}
 use Rattle.rv32_exec.specs.Hart.{HartState}
-use Rattle.rv32_exec.specs.Sequential.{Runs, after_steps}
+use Rattle.rv32_exec.specs.Sequential.{Runs, exits, after_steps}
 use Rattle.rv32_exec.proofs.Epochs.{first_epochs-none}
 use Rattle.spec_history.specs.declared.entry.Entry.{Entry}
 use Rattle.spec_history.specs.declared.entry.What.{What}
-use Rattle.spec_history.specs.declared.entry.What.TheVariants.{Start, Load, Store, Hurt, Restart, Publish, Commit, Fault}
+use Rattle.spec_history.specs.declared.entry.What.TheVariants.{Start, Load, Store, Hurt, Cancel, Restart, Publish, Commit, Fault}
 use Rattle.spec_history.specs.declared.illegal.Illegal.{Illegal}
 use Rattle.memory_bytes.specs.Maps.{over, stored}
-use Rattle.spec_history.specs.FlatState.{CoreState, FlatState, first_state}
+use Rattle.spec_history.specs.FlatState.{CoreState, FlatState, end_at, first_state}
 use Rattle.spec_history.specs.Effect.{by_core, effect, effect_on, effect_idle}
 use Rattle.spec_history.specs.Refusal.{refusal_of, runs, runs_and}
 use Rattle.spec_history.specs.Replay.{where_legal, replay_from, replay}
 use Rattle.spec_history.specs.Laws.{Holds, IsKept, IsPublished, EndsInOrder}
 use Rattle.spec_history.proofs.Legal.{and_true, not_true, IsLegalEntry, legal_entry, spared, that_load, that_store, the_end, that_fault}
 use Rattle.spec_history.proofs.Going.{Going, Spares}
-use Rattle.spec_history.proofs.Entries.{load_speculative, load_straight, store_speculative, store_straight, start_goes_on, restart_goes_on, hurt_goes_on, publish_goes_on, commit_goes_on, published_is, fault_published, fault_ends, ends_done}
+use Rattle.spec_history.proofs.Entries.{load_speculative, load_straight, store_speculative, store_straight, start_goes_on, restart_goes_on, hurt_goes_on, cancel_goes_on, publish_goes_on, commit_goes_on, exit_published, exit_ends, published_is, fault_published, fault_ends, ends_done}
 
 -- what holds of every state that a replay reaches
 pub record Whole (image : LoadedImage) (count : ℕ) (s : FlatState) : Type 0 where
@@ -75,19 +76,9 @@ on : (image : LoadedImage) (count : ℕ) (s : FlatState) (by : ℕ) (what : What
     → Whole image count (effect_on image s by c what) → Whole image count (effect image s (record { by = by; what = what }))
 on image count s by what c at whole = rw (effect-on image s by what c at) whole
 
-either_end : (b : Bool) (x y : FlatState) → x.end ≡ None → y.end ≡ None → (cond b x y).end ≡ None
-either_end true x y first second = first
-either_end false x y first second = second
-
-straight_bytes : (b : Bool) (x y : FlatState) (a : ℕ) → b ≡ true → x.committed a ≡ (cond b x y).committed a
-straight_bytes true x y a is = refl
-straight_bytes false x y a is = absurd cc
-
-end_load : (image : LoadedImage) (s : FlatState) (by : ℕ) (c : CoreState) (address width value : ℕ) → s.end ≡ None → (effect_on image s by c (Load address width value)).end ≡ None
-end_load image s by c address width value none = either_end c.straight _ _ none none
-
-end_store : (image : LoadedImage) (s : FlatState) (by : ℕ) (c : CoreState) (address width value : ℕ) → s.end ≡ None → (effect_on image s by c (Store address width value)).end ≡ None
-end_store image s by c address width value none = either_end c.straight _ _ none none
+straight_bytes : (b : Bool) (committed committed' : ℕ → ℕ) (a : ℕ) → b ≡ true → committed a ≡ cond b committed committed' a
+straight_bytes true committed committed' a is = refl
+straight_bytes false committed committed' a is = absurd cc
 
 store_spares : (image : LoadedImage) (s : FlatState) (by : ℕ) (c : CoreState) (address width value : ℕ) → c.straight ≡ true
     → Spares s by (effect_on image s by c (Store address width value)).committed → Spares s by (over (stored address width value) s.committed)
@@ -98,18 +89,18 @@ after_load : (image : LoadedImage) (count : ℕ) (s : FlatState) (by address wid
     → c.hurt ≡ false → (signed : Bool) (rd : ℕ) → (next_event image c.hart).at ≡ stop.Load address width signed rd → number_at (over c.own s.committed) address width ≡ value
     → (b : Bool) → c.straight ≡ b → Whole image count (effect_on image s by c (Load address width value))
 after_load image count s by address width value c at none going unhurt signed rd is number true straight =
-    goes image count _ (end_load image s by c address width value none) (load_straight image count s by c address width signed rd value going at unhurt straight is number)
+    goes image count _ none (load_straight image count s by c address width signed rd value going at unhurt straight is number)
 after_load image count s by address width value c at none going unhurt signed rd is number false straight =
-    goes image count _ (end_load image s by c address width value none) (load_speculative image count s by c address width signed rd value going at unhurt straight is number)
+    goes image count _ none (load_speculative image count s by c address width signed rd value going at unhurt straight is number)
 
 after_store : (image : LoadedImage) (count : ℕ) (s : FlatState) (by address width value : ℕ) (c : CoreState) → s.cores by ≡ Some c → s.end ≡ None → Going image count s
     → c.hurt ≡ false → (next_event image c.hart).at ≡ stop.Store address width value → Spares s by (effect_on image s by c (Store address width value)).committed
     → (b : Bool) → c.straight ≡ b → Whole image count (effect_on image s by c (Store address width value))
 after_store image count s by address width value c at none going unhurt is spares true straight =
-    goes image count _ (end_store image s by c address width value none)
+    goes image count _ none
     (store_straight image count s by c address width value going at unhurt straight is (store_spares image s by c address width value straight spares))
 after_store image count s by address width value c at none going unhurt is spares false straight =
-    goes image count _ (end_store image s by c address width value none) (store_speculative image count s by c address width value going at unhurt straight is)
+    goes image count _ none (store_speculative image count s by c address width value going at unhurt straight is)
 
 -- before an epoch has published anything
 begins : (image : LoadedImage) (committed : ℕ → ℕ) (before memory : List ℕ) (from hart : HartState) → after_steps image 0 from before ≡ Runs hart memory
@@ -117,13 +108,27 @@ begins : (image : LoadedImage) (committed : ℕ → ℕ) (before memory : List �
 unfolding after_steps
 begins image committed before memory from hart runs holds = let same : memory ≡ before = cc in subst (Holds image committed) same holds
 
--- the loop is over where the last epoch commits
-after_commit : (image : LoadedImage) (count : ℕ) (s : FlatState) (by : ℕ) (c : CoreState) → Going image count (effect_on image s by c Commit) → Whole image count (effect_on image s by c Commit)
-after_commit image count s by c going = record {
-  published = published_is image count _ going;
-  ends = λ e is. ends_done image (effect_on image s by c Commit) going.shown.before e going.shown.done (begins image _ _ _ _ _ going.shown.runs going.shown.holds) is;
-  going = λ none. going;
+exited : (b : Bool) (epoch : ℕ) (other : Option End) → b ≡ true → cond b (Some (end.Exit epoch)) other ≡ None → ⊥
+exited true epoch other is none = cc
+exited false epoch other is none = cc
+
+-- the loop is over where the last epoch commits, or one that exits
+after_commit : (image : LoadedImage) (count : ℕ) (s : FlatState) (by : ℕ) (c : CoreState) → s.cores by ≡ Some c → Going image count s → c.hurt ≡ false → c.epoch ≡ s.homefree
+    → (next_event image c.hart).at ≡ stop.Ended → Spares s by (over c.own s.committed) → (b : Bool) → exits image (next_event image c.hart).now ≡ b
+    → Whole image count (effect_on image s by c Commit)
+after_commit image count s by c at going unhurt homefree ends spares true exit = record {
+  published = exit_published image count s by c going at unhurt homefree ends exit;
+  ends = λ e is. exit_ends image count s by c e going at unhurt homefree ends exit
+      (sym (ap (λ b. cond b (Some (end.Exit s.homefree)) (end_at image (s.homefree + 1))) exit) ∙ is);
+  going = λ none. absurd (exited (exits image (next_event image c.hart).now) s.homefree (end_at image (s.homefree + 1)) exit none);
 }
+after_commit image count s by c at going unhurt homefree ends spares false goes_on =
+    let later = commit_goes_on image count s by c going at unhurt homefree ends goes_on spares in record {
+      published = published_is image count _ later;
+      ends = λ e is. ends_done image (effect_on image s by c Commit) later.shown.before e later.shown.done (begins image _ _ _ _ _ later.shown.runs later.shown.holds)
+          (sym (ap (λ b. cond b (Some (end.Exit s.homefree)) (end_at image (s.homefree + 1))) goes_on) ∙ is);
+      going = λ none. later;
+    }
 
 started : (image : LoadedImage) (count : ℕ) (s : FlatState) (by epoch : ℕ) (c : CoreState) → s.cores by ≡ Some c → IsLegalEntry image count s (record { by = by; what = Start epoch }) → ⊥
 started image count s by epoch c at legal =
@@ -148,6 +153,10 @@ step_on image count s by (Hurt epoch) c at legal going =
     let both = and_true (runs_and (s.cores by) (λ x. nat_lt x.epoch epoch)) _ legal.there in
     let runs = runs_so (s.cores by) c (λ x. nat_lt x.epoch epoch) at both.0 in
     on image count s by _ c at (goes image count _ legal.going (hurt_goes_on image count s by c epoch going at (ltb-true _ _ runs.passes)))
+step_on image count s by (Cancel epoch) c at legal going =
+    let both = and_true (runs_and (s.cores by) (λ x. nat_lt x.epoch epoch)) _ legal.there in
+    let runs = runs_so (s.cores by) c (λ x. nat_lt x.epoch epoch) at both.0 in
+    on image count s by _ c at (goes image count _ legal.going (cancel_goes_on image count s by c epoch going at (ltb-true _ _ runs.passes)))
 step_on image count s by Restart c at legal going =
     on image count s by _ c at (goes image count _ legal.going (restart_goes_on image count s by c going at (on_core (s.cores by) c (λ x. x.hurt) at legal.there)))
 step_on image count s by Publish c at legal going =
@@ -158,7 +167,7 @@ step_on image count s by Commit c at legal going =
     let runs = runs_so (s.cores by) c (λ _. true) at legal.there in
     let homefree = eqb-true _ _ (on_core (s.cores by) c _ at legal.homefree) in
     let ends = the_end _ (on_core (s.cores by) c _ at legal.next) in
-    on image count s by _ c at (after_commit image count s by c (commit_goes_on image count s by c going at runs.unhurt homefree ends (spares image count s by _ c legal going.kept at)))
+    on image count s by _ c at (after_commit image count s by c at going runs.unhurt homefree ends (spares image count s by _ c legal going.kept at) (exits image (next_event image c.hart).now) refl)
 step_on image count s by (Fault cause pc) c at legal going =
     let runs = runs_so (s.cores by) c (λ _. true) at legal.there in
     let homefree = eqb-true _ _ (on_core (s.cores by) c _ at legal.homefree) in
@@ -178,6 +187,7 @@ step_idle image count s by (Start epoch) at legal going =
 step_idle image count s by (Load address width value) at legal going = absurd (not_running (s.cores by) _ at legal.there)
 step_idle image count s by (Store address width value) at legal going = absurd (not_running (s.cores by) _ at legal.there)
 step_idle image count s by (Hurt epoch) at legal going = absurd (not_running (s.cores by) _ at (and_true (runs_and (s.cores by) (λ x. nat_lt x.epoch epoch)) _ legal.there).0)
+step_idle image count s by (Cancel epoch) at legal going = absurd (not_running (s.cores by) _ at (and_true (runs_and (s.cores by) (λ x. nat_lt x.epoch epoch)) _ legal.there).0)
 step_idle image count s by Restart at legal going = absurd (true≢false (sym legal.there ∙ ap (λ o. by_core o false (λ x. x.hurt)) at))
 step_idle image count s by Publish at legal going = absurd (not_running (s.cores by) _ at legal.there)
 step_idle image count s by Commit at legal going = absurd (not_running (s.cores by) _ at legal.there)

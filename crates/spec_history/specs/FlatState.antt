@@ -1,11 +1,12 @@
 -- The state of the flat machine: committed memory, the homefree epoch, and what each core runs.
 -- Source: ordered epochs, one of them homefree, and violation are those of Steffan, Colohan, Zhai and Mowry, "A
 -- Scalable Approach to Thread-Level Speculation", ISCA 2000. There are no caches here, and no messages.
-use Rattle.std.specs.Prelude.{ℕ, ◌==◌, Bool, false, Option, Some, None, slice_index, if◌then◌else◌}
+use Rattle.std.specs.Prelude.{ℕ, ◌+◌, ◌==◌, Bool, false, Option, Some, None, slice_index, if◌then◌else◌}
 use Rattle.rv32_exec.specs.declared.sequential.End.{End}
-use Rattle.rv32_exec.specs.declared.sequential.End.TheVariants.{Done}
+use Rattle.rv32_exec.specs.declared.sequential.End.TheVariants.{Done, Exit}
 use Rattle.rv32_image.specs.Image.{LoadedImage}
 use Rattle.rv32_exec.specs.Hart.{HartState, start_of}
+use Rattle.rv32_exec.specs.Sequential.{exits}
 use Rattle.memory_bytes.specs.Maps.{nothing}
 
 -- what a core runs
@@ -49,6 +50,10 @@ begun image epoch = record {
 -- the loop is over once all of its epochs have committed
 abbrev pub end_at : LoadedImage → ℕ → Option End
 end_at image homefree = if homefree == image.epochs then Some (Done homefree) else None
+
+-- it is over, too, once an epoch has committed that exits: one that ended with this hart
+abbrev pub end_after : LoadedImage → HartState → ℕ → Option End
+end_after image h epoch = if exits image h then Some (Exit epoch) else end_at image (epoch + 1)
 
 -- nothing has happened yet
 abbrev pub first_state : LoadedImage → FlatState

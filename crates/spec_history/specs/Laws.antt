@@ -1,10 +1,10 @@
 -- What the laws of replay say.
-use Rattle.std.specs.Prelude.{◌≡◌, ℕ, ◌<◌, ◌≤◌, true, false, List, [], length, Option, Some, None, slice_index}
+use Rattle.std.specs.Prelude.{◌≡◌, ℕ, ◌+◌, ◌<◌, ◌≤◌, true, false, List, [], length, Option, Some, None, slice_index}
 use Rattle.rv32_exec.specs.declared.sequential.End.{End}
-use Rattle.rv32_exec.specs.declared.sequential.End.TheVariants.{Done, Fault}
+use Rattle.rv32_exec.specs.declared.sequential.End.TheVariants.{Done, Exit, Fault}
 use Rattle.rv32_image.specs.Image.{LoadedImage}
 use Rattle.rv32_exec.specs.Hart.{start_of}
-use Rattle.rv32_exec.specs.Sequential.{Runs, after_steps, published_memory, sequential_result}
+use Rattle.rv32_exec.specs.Sequential.{Runs, after_steps, first_epochs, published_memory, sequential_result}
 use Rattle.spec_history.specs.declared.entry.Entry.{Entry}
 use Rattle.memory_bytes.specs.Maps.{over}
 use Rattle.spec_history.specs.FlatState.{CoreState, FlatState}
@@ -21,9 +21,10 @@ pub record IsPublished (image : LoadedImage) (s : FlatState) : Type 0 where
   pub published : published_memory image s.homefree s.published ≡ Some memory
   pub holds : Holds image s.committed memory
 
--- the epoch of a fault is the homefree one; without a fault all epochs have committed
+-- the epoch of a fault is the homefree one, and that of an exit is the one before it; else all epochs have committed
 abbrev pub IsAtHomefree : LoadedImage → ℕ → End → Type 0
 IsAtHomefree image homefree (Done epochs) = (epochs ≡ image.epochs) × (homefree ≡ image.epochs)
+IsAtHomefree image homefree (Exit epoch) = epoch + 1 ≡ homefree
 IsAtHomefree image homefree (Fault epoch cause pc) = epoch ≡ homefree
 
 -- the loop ended as the sequential loop does
@@ -32,10 +33,12 @@ pub record EndsInOrder (image : LoadedImage) (s : FlatState) (end : End) : Type 
   pub at_homefree : IsAtHomefree image s.homefree end
   pub holds : Holds image s.committed (sequential_result image).bytes
 
--- a fault of a history: no entry is later, and it is that of the sequential loop, at the homefree epoch
+-- a fault of a history: no entry is later, and it is that of the sequential loop, at the homefree epoch, so no epoch before
+-- it exits
 pub record FaultsInOrder (image : LoadedImage) (s : FlatState) (cause pc : ℕ) (later : List Entry) : Type 0 where
   pub last : later ≡ []
   pub end_is : (sequential_result image).end ≡ Fault s.homefree cause pc
+  pub before : (first_epochs image s.homefree).end ≡ Done s.homefree
 
 -- where the core's epoch has come from its start, over this memory
 pub record LeadsTo (image : LoadedImage) (core : CoreState) (memory : List ℕ) : Type 0 where

@@ -1,11 +1,13 @@
-pub mod Names
+-- Definitions to believe: the state, what an entry does, when it is refused, histories and their counts, and what the laws say.
 pub mod FlatState
 pub mod Effect
 pub mod Refusal
 pub mod Replay
-pub mod Lane
-pub mod Event
-pub mod Machine
-pub mod View
-pub mod FlatInside
 pub mod Laws
+-- Words of contracts: names, and what callers see of the flat machine.
+pub mod Names
+pub mod View
+-- What the code keeps, and what it stands for.
+pub mod Cores
+pub mod Machine
+pub mod FlatInside

@@ -1,21 +1,19 @@
 -- What the code keeps of the machine, and the state that it stands for.
-use Rattle.std.specs.Prelude.{◌≡◌, ℕ, ◌+◌, ◌≤◌, List, length, Option, Some, None, slice_get, slice_index, option_and_then}
-use Rattle.rv32_image.specs.Image.{LoadedImage}
+use Rattle.std.specs.Prelude.{◌≡◌, ℕ, ◌+◌, ◌<◌, ◌≤◌, ◌^◌, List, length, Option, Some, None, slice_get, slice_index, option_and_then}
 use Rattle.memory_bytes.specs.Bytes.{IsWidth}
-use Rattle.rv32_exec.specs.Arrival.{Arrival}
-use Rattle.spec_history.specs.declared.entry.What.{What}
-use Rattle.spec_history.specs.declared.entry.What.TheVariants.{Start, Load, Store, Hurt, Restart, Publish, Commit, Fault}
-use Rattle.spec_history.specs.declared.lane.Lane.{Lane}
-use Rattle.spec_history.specs.declared.machine.Machine.{Machine}
+use Rattle.rv32_image.specs.Image.{LoadedImage, IsImage}
+use Rattle.spec_history.specs.declared.cores.Core.{Core}
 use Rattle.spec_history.specs.declared.entry.Entry.{Entry}
+use Rattle.spec_history.specs.declared.entry.What.{What}
+use Rattle.spec_history.specs.declared.entry.What.TheVariants.{Load, Store}
+use Rattle.spec_history.specs.declared.machine.Machine.{Machine}
 use Rattle.spec_history.specs.FlatState.{CoreState, FlatState}
 use Rattle.spec_history.specs.Effect.{effect}
 use Rattle.spec_history.specs.Refusal.{refusal_of}
-use Rattle.spec_history.specs.Lane.{core_of, IsSized}
-use Rattle.spec_history.specs.Event.{NextIs}
+use Rattle.spec_history.specs.Cores.{core_of, IsCoreOf, HasRoom}
 
-abbrev pub cores_of : List Lane → ℕ → Option CoreState
-cores_of lanes k = option_and_then core_of (slice_get lanes k)
+abbrev pub cores_of : List Core → ℕ → Option CoreState
+cores_of cores k = option_and_then core_of (slice_get cores k)
 
 abbrev pub state_of : Machine → FlatState
 state_of m = record {
@@ -24,61 +22,61 @@ state_of m = record {
   published = m.published;
   next_epoch = m.next_epoch;
   end = m.end;
-  cores = cores_of m.lanes.items;
+  cores = cores_of m.cores.items;
 }
 
 -- how many cores it has
 abbrev pub count_of_cores : Machine → ℕ
-count_of_cores m = length m.lanes.items
+count_of_cores m = length m.cores.items
 
--- it keeps memory of this size, and a cell for each byte of it on each core
-pub record IsFit (size : ℕ) (m : Machine) : Type 0 where
-  pub small : size ≤ 65536
-  pub committed : length m.committed.items ≡ size
-  pub lanes : (k : ℕ) (lane : Lane) → slice_get m.lanes.items k ≡ Some lane → IsSized size lane
+-- each core is one beside this image
+pub record AreCoresOf (image : LoadedImage) (cores : List Core) : Type 0 where
+  pub each : (k : ℕ) (core : Core) → slice_get cores k ≡ Some core → IsCoreOf image core
 
--- and it is at hand, where the entry needs it
-abbrev pub IsAtHand : LoadedImage → Option CoreState → What → Option Arrival → Type 0
-IsAtHand image core (Start epoch) arrived = Unit {0}
-IsAtHand image core (Load address width value) arrived = NextIs image core arrived
-IsAtHand image core (Store address width value) arrived = NextIs image core arrived
-IsAtHand image core (Hurt epoch) arrived = Unit {0}
-IsAtHand image core Restart arrived = Unit {0}
-IsAtHand image core Publish arrived = Unit {0}
-IsAtHand image core Commit arrived = NextIs image core arrived
-IsAtHand image core (Fault cause pc) arrived = NextIs image core arrived
+-- it keeps memory of the image's size, and cores beside it
+pub record IsFit (m : Machine) : Type 0 where
+  pub image : IsImage m.image
+  pub committed : length m.committed.items ≡ m.image.size
+  pub cores : AreCoresOf m.image m.cores.items
 
 -- an access lies in memory, and has a width
 abbrev pub IsInMemory : ℕ → What → Type 0
-IsInMemory size (Start epoch) = Unit {0}
 IsInMemory size (Load address width value) = IsWidth width × (address + width ≤ size)
 IsInMemory size (Store address width value) = IsWidth width × (address + width ≤ size)
-IsInMemory size (Hurt epoch) = Unit {0}
-IsInMemory size Restart = Unit {0}
-IsInMemory size Publish = Unit {0}
-IsInMemory size Commit = Unit {0}
-IsInMemory size (Fault cause pc) = Unit {0}
+IsInMemory size what = Unit {0}
 
--- the core can note four more bytes of each kind without taking memory
-pub record HasRoom (m : Machine) (by : ℕ) : Type 0 where
-  pub room : (lane : Lane) → slice_get m.lanes.items by ≡ Some lane → (4 ≤ lane.own.room) × (4 ≤ lane.outside.room)
+-- the value of a load is of its width
+abbrev pub IsNumber : What → Type 0
+IsNumber (Load address width value) = value < 256 ^ width
+IsNumber what = Unit {0}
+
+-- the core can note the bytes of an access without taking memory
+pub record HasRoomAt (m : Machine) (by address width : ℕ) : Type 0 where
+  pub room : (core : Core) → slice_get m.cores.items by ≡ Some core → HasRoom address width core
 
 -- where the entry notes bytes
 abbrev pub HasRoomFor : Machine → ℕ → What → Type 0
-HasRoomFor m by (Start epoch) = Unit {0}
-HasRoomFor m by (Load address width value) = HasRoom m by
-HasRoomFor m by (Store address width value) = HasRoom m by
-HasRoomFor m by (Hurt epoch) = Unit {0}
-HasRoomFor m by Restart = Unit {0}
-HasRoomFor m by Publish = Unit {0}
-HasRoomFor m by Commit = Unit {0}
-HasRoomFor m by (Fault cause pc) = Unit {0}
+HasRoomFor m by (Load address width value) = HasRoomAt m by address width
+HasRoomFor m by (Store address width value) = HasRoomAt m by address width
+HasRoomFor m by what = Unit {0}
 
--- the machine has done what the entry does
-pub record Becomes (image : LoadedImage) (old new : Machine) (entry : Entry) : Type 0 where
-  pub state : state_of new ≡ effect image (state_of old) entry
+abbrev pub IsLegal : Machine → ℕ → What → Type 0
+IsLegal m by what = refusal_of m.image (count_of_cores m) (state_of m) (record { by = by; what = what }) ≡ None
+
+-- the machine is as it was, but for the room that its cores have
+pub record IsAsBefore (old new : Machine) : Type 0 where
+  pub image : new.image ≡ old.image
+  pub state : state_of new ≡ state_of old
   pub count : count_of_cores new ≡ count_of_cores old
-  pub fit : IsFit image.size new
+  pub fit : IsFit new
 
-abbrev pub IsLegal : LoadedImage → Machine → Entry → Type 0
-IsLegal image m entry = refusal_of image (count_of_cores m) (state_of m) entry ≡ None
+-- the machine is now in this state
+pub record Becomes (old new : Machine) (s : FlatState) : Type 0 where
+  pub image : new.image ≡ old.image
+  pub state : state_of new ≡ s
+  pub count : count_of_cores new ≡ count_of_cores old
+  pub fit : IsFit new
+
+-- the state after an entry
+abbrev pub after : Machine → ℕ → What → FlatState
+after m by what = effect m.image (state_of m) (record { by = by; what = what })

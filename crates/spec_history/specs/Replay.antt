@@ -3,7 +3,7 @@ use Rattle.std.specs.Prelude.{ℕ, ◌+◌, List, [], ◌∷◌, Option, Some, N
 use Rattle.rv32_image.specs.Image.{LoadedImage}
 use Rattle.spec_history.specs.declared.entry.Entry.{Entry}
 use Rattle.spec_history.specs.declared.entry.What.{What}
-use Rattle.spec_history.specs.declared.entry.What.TheVariants.{Start, Load, Store, Hurt, Restart, Publish, Commit, Fault}
+use Rattle.spec_history.specs.declared.entry.What.TheVariants.{Load, Store, Restart, Commit}
 use Rattle.spec_history.specs.declared.illegal.Illegal.{Illegal}
 use Rattle.spec_history.specs.FlatState.{FlatState, first_state}
 use Rattle.spec_history.specs.Effect.{effect}
@@ -34,14 +34,11 @@ abbrev pub no_counts : HistoryCounts
 no_counts = record { loads = 0; stores = 0; restarts = 0; commits = 0 }
 
 abbrev pub count_of : What → HistoryCounts
-count_of (Start epoch) = no_counts
 count_of (Load address width value) = record no_counts { loads = 1 }
 count_of (Store address width value) = record no_counts { stores = 1 }
-count_of (Hurt epoch) = no_counts
 count_of Restart = record no_counts { restarts = 1 }
-count_of Publish = no_counts
 count_of Commit = record no_counts { commits = 1 }
-count_of (Fault cause pc) = no_counts
+count_of what = no_counts
 
 abbrev pub plus : HistoryCounts → HistoryCounts → HistoryCounts
 plus a b = record {

@@ -4,10 +4,10 @@ use Rattle.rv32_exec.specs.declared.sequential.End.{End}
 use Rattle.rv32_image.specs.Image.{LoadedImage}
 use Rattle.spec_history.specs.declared.entry.Entry.{Entry}
 use Rattle.spec_history.specs.declared.entry.What.{What}
-use Rattle.spec_history.specs.declared.entry.What.TheVariants.{Start, Load, Store, Hurt, Restart, Publish, Commit, Fault}
+use Rattle.spec_history.specs.declared.entry.What.TheVariants.{Load, Store}
 use Rattle.spec_history.specs.declared.illegal.Illegal.{Illegal}
 use Rattle.spec_history.specs.declared.illegal.Illegal.TheVariants.{NoMemory}
-use Rattle.spec_history.specs.declared.lane.Lane.{Lane}
+use Rattle.spec_history.specs.declared.cores.Core.{Core}
 use Rattle.spec_history.specs.FlatState.{FlatState}
 use Rattle.spec_history.specs.Effect.{effect}
 use Rattle.spec_history.specs.Refusal.{refusal_of}
@@ -22,7 +22,7 @@ pub record FlatView : Type 0 where
   pub published : ℕ
   pub next_epoch : ℕ
   pub end : Option End
-  pub lanes : List Lane
+  pub cores : List Core
 
 -- the state that it stands for
 abbrev pub state_in : FlatView → FlatState
@@ -32,12 +32,12 @@ state_in v = record {
   published = v.published;
   next_epoch = v.next_epoch;
   end = v.end;
-  cores = cores_of v.lanes;
+  cores = cores_of v.cores;
 }
 
 -- how many cores it has
 abbrev pub cores_in : FlatView → ℕ
-cores_in v = length v.lanes
+cores_in v = length v.cores
 
 -- it has the same image and as many cores
 pub record IsSameMachine (old new : FlatView) : Type 0 where
@@ -56,14 +56,9 @@ pub record IsApplied (old new : FlatView) (entry : Entry) : Type 0 where
 
 -- a load or a store
 abbrev pub is_access : What → Bool
-is_access (Start epoch) = false
 is_access (Load address width value) = true
 is_access (Store address width value) = true
-is_access (Hurt epoch) = false
-is_access Restart = false
-is_access Publish = false
-is_access Commit = false
-is_access (Fault cause pc) = false
+is_access what = false
 
 -- it is the refusal of the entry; or the entry was a legal access, and memory ran out
 abbrev pub IsAnswer : Option Illegal → What → Illegal → Type 0

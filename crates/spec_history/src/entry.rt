@@ -21,11 +21,14 @@ pub enum What {
     Store { addr: u32, width: u32, value: u32 },
     /// The core's turn violates this epoch, which is later than its own.
     Hurt(u32),
+    /// The core's epoch, which is homefree, is about to end the loop: this later epoch is dropped.
+    Cancel(u32),
     /// The core, whose epoch was violated, begins it again.
     Restart,
     /// The core's epoch, which is homefree, commits the bytes that it has stored so far, and is straight from then on.
     Publish,
-    /// The core's epoch, which is homefree, has ended: it commits its bytes, and the next epoch is homefree.
+    /// The core's epoch, which is homefree, has ended: it commits its bytes, and the next epoch is homefree. Where the epoch
+    /// exits, the loop is over.
     Commit,
     /// The core's epoch, which is homefree, has faulted: it commits its bytes, and the loop is over.
     Fault { cause: u32, pc: u32 },

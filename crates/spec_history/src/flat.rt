@@ -16,7 +16,6 @@ use std::marker::Model;
 /// Contracts see the image, how many cores there are, and the state. Some history always leads to it.
 #[derive(Drop)]
 pub struct Flat {
-    image: Image,
     machine: Machine,
 }
 
@@ -42,26 +41,24 @@ impl Flat {
         ensures state { IfOk result (λ flat. spec.state_in flat ≡ first_state image.now) }
     {
         let machine = Machine::new(alloc, image, cores)?;
-        let image = image.copy(alloc)?;
-        Ok(Flat { image, machine })
+        Ok(Flat { machine })
     }
 
     /// Applies the next entry of the history.
     ///
     /// The refusals are tried in the order `Over`, `NotThere`, `NotNext`, `NotHomefree`, `WrongValue`, `HurtMissing`,
-    /// `NoMemory`, which only a load and a store can answer. After an Err the machine is unchanged.
+    /// `NotCancelled`, `NoMemory`, which only a load and a store can answer. After an Err the machine is unchanged.
     pub fn apply(&mut self, entry: Entry) -> Result<(), Illegal>
         ensures same { spec.IsSameMachine self.old self.new }
         ensures answer { MatchResult result (λ _. spec.IsApplied self.old self.new entry) (spec.IsRefused self.old self.new entry) }
     {
-        let arrived = self.machine.next_event(&self.image, entry);
-        if let Some(refusal) = self.machine.refusal(&self.image, entry, arrived.as_ref()) {
+        if let Some(refusal) = self.machine.refusal(entry) {
             return Err(refusal);
         }
-        if self.machine.prepare(entry).is_err() {
+        if self.machine.prepare(entry.by, entry.what).is_err() {
             return Err(Illegal::NoMemory);
         }
-        self.machine.perform(&self.image, entry, arrived.as_ref());
+        self.machine.perform(entry);
         Ok(())
     }
 
@@ -69,7 +66,7 @@ impl Flat {
     pub fn committed(&self, addr: u32) -> Option<u8>
         ensures { result ≡ (if nat_lt addr self.now.image.size then Some ((spec.state_in self.now).committed addr) else None) }
     {
-        if addr < self.image.size() {
+        if addr < self.machine.image.size() {
             Some(self.machine.committed[addr as usize])
         } else {
             None

@@ -6,8 +6,8 @@ use thiserror::Error;
 /// Why the flat machine refuses an entry.
 #[derive(Clone, Copy, Debug, PartialEq, Eq, Error)]
 pub enum Illegal {
-    /// The core isn't there, doesn't run an epoch, is hurt or straight where it must not be, or, at a `Hurt`, there
-    /// is no such epoch to be hurt.
+    /// The core isn't there, doesn't run an epoch, is hurt or straight where it must not be, or, at a `Hurt` or a
+    /// `Cancel`, there is no such epoch to be hurt or cancelled.
     #[error("NotThere")]
     NotThere,
     /// It isn't what comes next: the next epoch, or the next access, end or fault of the core's epoch.
@@ -25,6 +25,9 @@ pub enum Illegal {
     /// The loop is over.
     #[error("Over")]
     Over,
+    /// The core's epoch ends the loop, and another core runs an epoch.
+    #[error("NotCancelled")]
+    NotCancelled,
     /// Memory ran out.
     #[error("NoMemory")]
     NoMemory,
@@ -42,6 +45,7 @@ impl Illegal {
             Illegal::NotHomefree => "NotHomefree",
             Illegal::HurtMissing => "HurtMissing",
             Illegal::Over => "Over",
+            Illegal::NotCancelled => "NotCancelled",
             Illegal::NoMemory => "NoMemory",
         }
     }

@@ -2,16 +2,15 @@
 //! locks.
 #![tactic(auto)]
 
+mod cores;
+mod effects;
 mod entry;
 mod flat;
 mod illegal;
-mod lane;
 pub mod laws;
 mod machine;
+mod refusals;
 
 pub use entry::{Entry, What};
 pub use flat::{Flat, audit};
 pub use illegal::Illegal;
-
-#[cfg(test)]
-mod tests;

@@ -4,5 +4,5 @@ use Rattle.spec_history.specs.Machine.{cores_of}
 use Rattle.spec_history.proofs.machine.Machine.can_hurt.Given as goal
 
 -- none so far can be hurt
-abbrev pub invariant-loop-lane : goal.invariant-loop-lane
-invariant-loop-lane l = (k : ℕ) → k < l.lane-index → can_be_hurt l.epoch (cores_of l.lane-items k) ≡ false
+abbrev pub invariant-loop-core : goal.invariant-loop-core
+invariant-loop-core l = (k : ℕ) → k < l.core-index → can_be_hurt l.epoch (cores_of l.core-items k) ≡ false

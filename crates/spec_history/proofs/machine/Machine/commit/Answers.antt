@@ -1,60 +1,74 @@
-use Rattle.std.proofs.Common.{rules, ◌<◌, ◌+◌, cond, length, Some, None, refl, sym, ap, ◌∙◌, arith, eq-eqb, ne_eqb}
-use Rattle.spec_history.specs.declared.entry.What.TheVariants.{Commit}
-use Rattle.rv32_exec.specs.declared.sequential.End.TheVariants.{Done}
-use Rattle.spec_history.specs.Effect.{effect_on}
+use Rattle.std.proofs.Common.{rules, ◌≡◌, ◌<◌, ◌+◌, ◌&&◌, Bool, true, false, cond, length, Some, None, refl, sym, ap, ◌∙◌, arith, eq-eqb, ne_eqb}
 use Rattle.memory_bytes.specs.Maps.{over}
+use Rattle.rv32_exec.specs.declared.sequential.End.TheVariants.{Done, Exit}
+use Rattle.rv32_exec.specs.NextEvent.{next_event}
+use Rattle.rv32_exec.specs.Sequential.{exits}
+use Rattle.spec_history.specs.declared.entry.What.TheVariants.{Commit}
+use Rattle.spec_history.specs.FlatState.{CoreState, end_at}
+use Rattle.spec_history.specs.Effect.{effect_on}
+use Rattle.spec_history.specs.Refusal.{next_is, is_an_exit, is_the_end}
 use Rattle.spec_history.specs.Machine.{state_of}
-use Rattle.spec_history.proofs.Lanes.{lane_there, lane_own}
-use Rattle.spec_history.proofs.Performed.{finds, lane_runs, becomes}
-use Rattle.spec_history.proofs.Replays.{effect-on}
+use Rattle.spec_history.proofs.CoreStates.{kept_own}
+use Rattle.spec_history.proofs.Performed.{finds, finds_core, commits, becomes}
+use Rattle.spec_history.proofs.Legal.{the_end}
+use Rattle.spec_history.proofs.Replays.{on_core}
+use Rattle.rv32_exec.specs.declared.stop.Stop.{Stop}
+use Rattle.rv32_exec.specs.declared.stop.Stop.TheVariants as stop
 use Rattle.spec_history.proofs.machine.Machine.commit.Goals as goal
 
-pub index_mut-lane-requires : goal.index_mut-lane-requires
-index_mut-lane-requires c =
-    let found = finds c.args.image.now c.args.self.now c.args.by (Commit) tt c.requires.legal in
-    let below : c.args.by < length c.args.self.now.lanes.items = found.below in search rules
+exit_is : (at : Stop) (exit b : Bool) → at ≡ stop.Ended → (is_the_end at && exit) ≡ b → exit ≡ b
+exit_is at exit b ends is = sym (ap (λ a. is_the_end a && exit) ends) ∙ is
+
+pub index_mut-core-requires : goal.index_mut-core-requires
+index_mut-core-requires c =
+    let found = finds c.args.self.now c.args.by Commit tt c.requires.legal in
+    let below : c.args.by < length c.args.self.now.cores.items = found.below in search rules
+
+pub exits-exits-requires : goal.exits-exits-requires
+exits-exits-requires c =
+    let f = finds_core c.args.self.now c.args.by Commit c.index_mut-core.result.now tt c.requires.fit c.requires.legal c.index_mut-core.ensures.value in f.fit
 
 pub commit-requires : goal.commit-requires
 commit-requires c =
-    let image = c.args.image.now in
+    let f = finds_core c.args.self.now c.args.by Commit c.index_mut-core.result.now tt c.requires.fit c.requires.legal c.index_mut-core.ensures.value in omega (arith, f.fit.own, c.requires.fit.committed)
+
+pub returns-then-exits : goal.returns-then-exits
+returns-then-exits c =
     let m = c.args.self.now in
-    let found = finds image m c.args.by (Commit) tt c.requires.legal in
-    let lane = c.index_mut-lane.result.now in
-    let at = lane_there m.lanes.items m.lanes.items c.args.by lane refl found.below c.index_mut-lane.ensures.value in
-    let was = c.requires.fit.lanes c.args.by lane at in
-    let runs = lane_runs m c.args.by found.core lane found.runs at in
-    omega (arith, was.own, c.requires.fit.committed)
+    let f = finds_core c.args.self.now c.args.by Commit c.index_mut-core.result.now tt c.requires.fit c.requires.legal c.index_mut-core.ensures.value in
+    let exit : exits m.image (next_event m.image f.found.state.hart).now ≡ true =
+    exit_is (next_event m.image f.found.state.hart).at _ true (the_end _ (on_core ((state_of m).cores c.args.by) f.found.state _ f.found.runs f.found.legal.next))
+    (sym (ap (λ o. next_is m.image o (is_an_exit m.image)) f.runs) ∙ (sym c.exits-exits.ensures ∙ c.if-exits.true)) in
+    becomes m _ c.args.by Commit c.leave.new.self None (over f.found.state.own (state_of m).committed) c.requires.fit f.found.below refl refl
+    c.commit.ensures.long (c.leave.ensures.fit m.image f.fit) c.leave.ensures.core
+    (λ a. c.commit.ensures.bytes a ∙ ap (λ o. over o (state_of m).committed a) (sym (kept_own c.index_mut-core.result.now f.found.state f.runs)))
+    (commits m c.args.by f.found.state true f.found.runs exit)
 
 pub returns-then-self-epochs : goal.returns-then-self-epochs
 returns-then-self-epochs c =
-    let image = c.args.image.now in
     let m = c.args.self.now in
-    let found = finds image m c.args.by (Commit) tt c.requires.legal in
-    let lane = c.index_mut-lane.result.now in
-    let at = lane_there m.lanes.items m.lanes.items c.args.by lane refl found.below c.index_mut-lane.ensures.value in
-    let was = c.requires.fit.lanes c.args.by lane at in
-    let runs = lane_runs m c.args.by found.core lane found.runs at in
-    becomes image m _ c.args.by Commit c.leave.new.self None (over found.core.own (state_of m).committed) c.requires.fit found.below refl
-    (c.commit.ensures.long ∙ c.requires.fit.committed) (record { own = ap (λ x. length x.cells) c.leave.ensures.own ∙ was.own; outside = ap (λ x. length x.cells) c.leave.ensures.outside ∙ was.outside })
-    c.leave.ensures.core
-    (λ a. c.commit.ensures.bytes a ∙ ap (λ o. over o (state_of m).committed a) (sym (lane_own lane found.core runs)))
-    (effect-on image (state_of m) c.args.by Commit found.core found.runs
-    ∙ ap (λ e. record (effect_on image (state_of m) c.args.by found.core Commit) { end = e })
-    (ap (λ b. cond b (Some (Done (m.homefree + 1))) None) (eq-eqb (m.homefree + 1) image.epochs (c.if-self-epochs.true ∙ c.epochs.ensures.epochs))))
+    let f = finds_core c.args.self.now c.args.by Commit c.index_mut-core.result.now tt c.requires.fit c.requires.legal c.index_mut-core.ensures.value in
+    let exit : exits m.image (next_event m.image f.found.state.hart).now ≡ false =
+    exit_is (next_event m.image f.found.state.hart).at _ false (the_end _ (on_core ((state_of m).cores c.args.by) f.found.state _ f.found.runs f.found.legal.next))
+    (sym (ap (λ o. next_is m.image o (is_an_exit m.image)) f.runs) ∙ (sym c.exits-exits.ensures ∙ c.if-exits.false)) in
+    becomes m _ c.args.by Commit c.leave.new.self None (over f.found.state.own (state_of m).committed) c.requires.fit f.found.below refl refl
+    c.commit.ensures.long (c.leave.ensures.fit m.image f.fit) c.leave.ensures.core
+    (λ a. c.commit.ensures.bytes a ∙ ap (λ o. over o (state_of m).committed a) (sym (kept_own c.index_mut-core.result.now f.found.state f.runs)))
+    (commits m c.args.by f.found.state false f.found.runs exit
+    ∙ ap (λ e. record (effect_on m.image (state_of m) c.args.by f.found.state Commit) { end = e })
+    (ap (λ b. cond b (Some (Done (m.homefree + 1))) None) (eq-eqb (m.homefree + 1) m.image.epochs (c.if-self-epochs.true ∙ c.epochs.ensures.epochs))))
 
 pub returns-else-self-epochs : goal.returns-else-self-epochs
 returns-else-self-epochs c =
-    let image = c.args.image.now in
     let m = c.args.self.now in
-    let found = finds image m c.args.by (Commit) tt c.requires.legal in
-    let lane = c.index_mut-lane.result.now in
-    let at = lane_there m.lanes.items m.lanes.items c.args.by lane refl found.below c.index_mut-lane.ensures.value in
-    let was = c.requires.fit.lanes c.args.by lane at in
-    let runs = lane_runs m c.args.by found.core lane found.runs at in
-    becomes image m _ c.args.by Commit c.leave.new.self None (over found.core.own (state_of m).committed) c.requires.fit found.below refl
-    (c.commit.ensures.long ∙ c.requires.fit.committed) (record { own = ap (λ x. length x.cells) c.leave.ensures.own ∙ was.own; outside = ap (λ x. length x.cells) c.leave.ensures.outside ∙ was.outside })
-    c.leave.ensures.core
-    (λ a. c.commit.ensures.bytes a ∙ ap (λ o. over o (state_of m).committed a) (sym (lane_own lane found.core runs)))
-    (effect-on image (state_of m) c.args.by Commit found.core found.runs
-    ∙ ap (λ e. record (effect_on image (state_of m) c.args.by found.core Commit) { end = e })
-    (ap (λ b. cond b (Some (Done (m.homefree + 1))) None) (ne_eqb (m.homefree + 1) image.epochs (λ e. c.if-self-epochs.false (e ∙ sym c.epochs.ensures.epochs))) ∙ sym found.legal.going))
+    let f = finds_core c.args.self.now c.args.by Commit c.index_mut-core.result.now tt c.requires.fit c.requires.legal c.index_mut-core.ensures.value in
+    let exit : exits m.image (next_event m.image f.found.state.hart).now ≡ false =
+    exit_is (next_event m.image f.found.state.hart).at _ false (the_end _ (on_core ((state_of m).cores c.args.by) f.found.state _ f.found.runs f.found.legal.next))
+    (sym (ap (λ o. next_is m.image o (is_an_exit m.image)) f.runs) ∙ (sym c.exits-exits.ensures ∙ c.if-exits.false)) in
+    becomes m _ c.args.by Commit c.leave.new.self None (over f.found.state.own (state_of m).committed) c.requires.fit f.found.below refl refl
+    c.commit.ensures.long (c.leave.ensures.fit m.image f.fit) c.leave.ensures.core
+    (λ a. c.commit.ensures.bytes a ∙ ap (λ o. over o (state_of m).committed a) (sym (kept_own c.index_mut-core.result.now f.found.state f.runs)))
+    (commits m c.args.by f.found.state false f.found.runs exit
+    ∙ ap (λ e. record (effect_on m.image (state_of m) c.args.by f.found.state Commit) { end = e })
+    (ap (λ b. cond b (Some (Done (m.homefree + 1))) None) (ne_eqb (m.homefree + 1) m.image.epochs (λ e. c.if-self-epochs.false (e ∙ sym c.epochs.ensures.epochs))) ∙ sym f.found.legal.going))
+

@@ -1,34 +1,27 @@
-use Rattle.std.proofs.lemmas.Grind.{common_steps}
-use Rattle.std.proofs.Common.{rules, List, ℕ, ◌++◌, take, drop, ◌≡◌, ◌<◌, ◌≤◌, length, refl, sym, ap, ◌∙◌, arith}
-use Rattle.spec_history.specs.declared.entry.What.TheVariants.{Hurt}
+use Rattle.std.proofs.Common.{rules, ◌≡◌, ◌<◌, ◌≤◌, length, refl, sym, ap, ◌∙◌, arith}
 use Rattle.std.specs.Vec.{with_items}
-use Rattle.spec_history.specs.declared.lane.Lane.{Lane}
 use Rattle.spec_history.specs.Effect.{hurt_at}
-use Rattle.spec_history.specs.Lane.{core_of}
-use Rattle.spec_history.proofs.Performed.{finds}
-use Rattle.spec_history.proofs.Hurting.{hurting_start, hurting_more, hurt_becomes}
+use Rattle.spec_history.specs.Cores.{core_of, IsCoreOf}
+use Rattle.spec_history.proofs.Parts.{whole_items}
+use Rattle.spec_history.proofs.Changing.{changing_start, changing_more, changed_becomes}
 use Rattle.spec_history.proofs.machine.Machine.hurt.Goals as goal
 
-pub loop-lane-init : goal.loop-lane-init
-loop-lane-init c = rw c.deref_mut-lane-items.ensures.value (hurting_start c.args.image.now.size c.args.epoch c.args.self.now.lanes.items c.requires.fit.lanes)
+pub loop-core-init : goal.loop-core-init
+loop-core-init c = rw c.deref_mut-core-items.ensures.value (changing_start (hurt_at c.args.epoch) c.args.self.now.image c.args.self.now.cores.items c.requires.cores)
 
-pub loop-lane-preserved : goal.loop-lane-preserved
-loop-lane-preserved c =
-    let below : c.loop-lane.lane-index < length c.loop-lane.lane-items = omega (arith, c.loop-lane.auto.lane-items, c.loop-lane-test.true) in
-    hurting_more c.args.image.now.size c.args.epoch c.loop-lane.lane-index c.args.self.now.lanes.items c.loop-lane.lane-items c.lane-item.result c.hurt_at.new.self below c.lane-item.is
-    (c.hurt_at.ensures.core ∙ ap (λ l. hurt_at c.args.epoch (core_of l)) (sym c.lane-item.is)) (c.hurt_at.ensures.own ∙ ap (λ (l : Lane). l.own) (sym c.lane-item.is))
-    (c.hurt_at.ensures.outside ∙ ap (λ (l : Lane). l.outside) (sym c.lane-item.is)) c.loop-lane.invariant
-
-whole : (old new : List Lane) (len : ℕ) → len ≡ length old → length new ≡ length old → take len (new ++ drop (length new) old) ≡ new
-whole old new len is same = grind (arith, common_steps)
+pub loop-core-preserved : goal.loop-core-preserved
+loop-core-preserved c =
+    let image = c.args.self.now.image in
+    let below : c.loop-core.core-index < length c.loop-core.core-items = omega (arith, c.loop-core.auto.core-items, c.loop-core-test.true) in
+    changing_more (hurt_at c.args.epoch) image c.loop-core.core-index c.args.self.now.cores.items c.loop-core.core-items c.core-item.result c.hurt_at.new.self below c.core-item.is
+    (c.hurt_at.ensures.core ∙ ap (λ l. hurt_at c.args.epoch (core_of l)) (sym c.core-item.is)) (λ fit. c.hurt_at.ensures.fit image (rw c.core-item.is at fit)) c.loop-core.invariant
 
 pub returns : goal.returns
 returns c =
     let m = c.args.self.now in
-    let xs = c.loop-lane.lane-items in
-    let found = finds c.args.image.now m c.args.by (Hurt c.args.epoch) tt c.requires.legal in
-    let all : length xs ≤ c.loop-lane.lane-index = omega (arith, c.loop-lane.auto.lane-items, c.loop-lane-test.false) in
-    let count : m.lanes.len ≡ length m.lanes.items = search rules in
-    let items = sym (whole m.lanes.items xs m.lanes.len count c.loop-lane.invariant.long) in
-    hurt_becomes c.args.image.now m (record m { lanes = with_items m.lanes xs }) c.args.by c.args.epoch c.loop-lane.lane-index found c.requires.fit refl refl refl refl refl
-    (rw (← items) all) (rw (← items) c.loop-lane.invariant)
+    let xs = c.loop-core.core-items in
+    let all : length xs ≤ c.loop-core.core-index = omega (arith, c.loop-core.auto.core-items, c.loop-core-test.false) in
+    let count : m.cores.len ≡ length m.cores.items = search rules in
+    let items = sym (whole_items m.cores.items xs m.cores.len count c.loop-core.invariant.long) in
+    changed_becomes (hurt_at c.args.epoch) m (record m { cores = with_items m.cores xs }) c.loop-core.core-index refl c.requires refl refl refl refl refl refl
+    (rw (← items) all) (rw (← items) c.loop-core.invariant)

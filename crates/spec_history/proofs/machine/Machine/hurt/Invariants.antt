@@ -1,6 +1,7 @@
-use Rattle.spec_history.proofs.Hurting.{Hurting}
+use Rattle.spec_history.specs.Effect.{hurt_at}
+use Rattle.spec_history.proofs.Changing.{Changing}
 use Rattle.spec_history.proofs.machine.Machine.hurt.Given as goal
 
--- the cores so far are hurt where they run the epoch
-abbrev pub invariant-loop-lane : goal.invariant-loop-lane
-invariant-loop-lane l = Hurting l.image.size l.epoch l.lane-index l.fn.self.lanes.items l.lane-items
+-- the cores so far have changed
+abbrev pub invariant-loop-core : goal.invariant-loop-core
+invariant-loop-core l = Changing (hurt_at l.epoch) l.fn.self.image l.core-index l.fn.self.cores.items l.core-items

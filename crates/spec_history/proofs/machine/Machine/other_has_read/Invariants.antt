@@ -5,4 +5,4 @@ use Rattle.spec_history.proofs.machine.Machine.other_has_read.Given as goal
 
 -- no other one so far has read it
 abbrev pub invariant-loop-k : goal.invariant-loop-k
-invariant-loop-k l = (j : ℕ) → j < l.k → (not (j == l.by) && has_read (cores_of l.self.lanes.items j) l.addr) ≡ false
+invariant-loop-k l = (j : ℕ) → j < l.k → (not (j == l.by) && has_read (cores_of l.self.cores.items j) l.addr) ≡ false

@@ -1,54 +1,38 @@
-use Rattle.std.proofs.Common.{rules, ◌<◌, length, Some, option_map, refl, sym, ap, ◌∙◌, arith}
-use Rattle.spec_history.specs.declared.entry.What.TheVariants.{Publish}
-use Rattle.spec_history.specs.Effect.{effect_on}
+use Rattle.std.proofs.Common.{rules, ◌≡◌, ◌<◌, length, true, Some, option_map, refl, sym, ap, ◌∙◌, arith}
 use Rattle.memory_bytes.specs.Maps.{over}
-use Rattle.spec_history.specs.FlatState.{CoreState}
-use Rattle.spec_history.specs.Lane.{after_publish}
+use Rattle.spec_history.specs.declared.entry.What.TheVariants.{Publish}
+use Rattle.spec_history.specs.Effect.{effect_on, after_publish}
+use Rattle.spec_history.specs.Cores.{published_by}
 use Rattle.spec_history.specs.Machine.{state_of}
-use Rattle.spec_history.proofs.Lanes.{lane_there, lane_own, attempt_core, no_attempt}
-use Rattle.spec_history.proofs.Performed.{finds, lane_runs, becomes}
+use Rattle.spec_history.proofs.CoreStates.{kept_own}
+use Rattle.spec_history.proofs.Performed.{finds, finds_core, published_now, published_still, becomes}
 use Rattle.spec_history.proofs.Replays.{effect-on}
 use Rattle.spec_history.proofs.machine.Machine.publish.Goals as goal
 
-pub index_mut-lane-requires : goal.index_mut-lane-requires
-index_mut-lane-requires c =
-    let found = finds c.args.image.now c.args.self.now c.args.by (Publish) tt c.requires.legal in
-    let below : c.args.by < length c.args.self.now.lanes.items = found.below in search rules
+pub index_mut-core-requires : goal.index_mut-core-requires
+index_mut-core-requires c =
+    let found = finds c.args.self.now c.args.by Publish tt c.requires.legal in
+    let below : c.args.by < length c.args.self.now.cores.items = found.below in search rules
 
 pub commit-requires : goal.commit-requires
 commit-requires c =
-    let image = c.args.image.now in
-    let m = c.args.self.now in
-    let found = finds image m c.args.by (Publish) tt c.requires.legal in
-    let lane = c.index_mut-lane.result.now in
-    let at = lane_there m.lanes.items m.lanes.items c.args.by lane refl found.below c.index_mut-lane.ensures.value in
-    let was = c.requires.fit.lanes c.args.by lane at in
-    let runs = lane_runs m c.args.by found.core lane found.runs at in
-    omega (arith, was.own, c.requires.fit.committed)
+    let f = finds_core c.args.self.now c.args.by Publish c.index_mut-core.result.now tt c.requires.fit c.requires.legal c.index_mut-core.ensures.value in omega (arith, f.fit.own, c.requires.fit.committed)
 
 pub returns-in-Some : goal.returns-in-Some
 returns-in-Some c =
-    let image = c.args.image.now in
     let m = c.args.self.now in
-    let found = finds image m c.args.by (Publish) tt c.requires.legal in
-    let lane = c.index_mut-lane.result.now in
-    let at = lane_there m.lanes.items m.lanes.items c.args.by lane refl found.below c.index_mut-lane.ensures.value in
-    let was = c.requires.fit.lanes c.args.by lane at in
-    let runs = lane_runs m c.args.by found.core lane found.runs at in
-    let core = attempt_core lane c.in-Some.attempt found.core c.in-Some.is runs in
-    becomes image m _ c.args.by Publish c.publish.new.self (Some (after_publish found.core)) (over found.core.own (state_of m).committed) c.requires.fit found.below refl
-    (c.commit.ensures.long ∙ c.requires.fit.committed) (record { own = c.publish.ensures.own ∙ was.own; outside = c.publish.ensures.outside ∙ was.outside })
-    (c.publish.ensures.core ∙ ap (option_map after_publish) runs)
-    (λ a. c.commit.ensures.bytes a ∙ ap (λ o. over o (state_of m).committed a) (sym (lane_own lane found.core runs)))
-    (effect-on image (state_of m) c.args.by Publish found.core found.runs ∙ ap (λ n. record (effect_on image (state_of m) c.args.by found.core Publish) { published = n }) (sym (c.done-self.ensures ∙ ap (λ (x : CoreState). x.hart.done) core)))
+    let f = finds_core c.args.self.now c.args.by Publish c.index_mut-core.result.now tt c.requires.fit c.requires.legal c.index_mut-core.ensures.value in
+    let core = c.publish.ensures.core ∙ ap (option_map after_publish) f.runs in
+    let published = published_now true f.found.state.hart.done c.in-Some.done m.published (c.in-Some.ensures ∙ ap published_by core) in
+    becomes m _ c.args.by Publish c.publish.new.self (Some (after_publish f.found.state)) (over f.found.state.own (state_of m).committed) c.requires.fit f.found.below refl refl
+    c.commit.ensures.long (c.publish.ensures.fit m.image f.fit) core
+    (λ a. c.commit.ensures.bytes a ∙ ap (λ o. over o (state_of m).committed a) (sym (kept_own c.index_mut-core.result.now f.found.state f.runs)))
+    (effect-on m.image (state_of m) c.args.by Publish f.found.state f.found.runs
+    ∙ ap (λ n. record (effect_on m.image (state_of m) c.args.by f.found.state Publish) { published = n }) (sym published.1))
 
 pub returns-in_default : goal.returns-in_default
 returns-in_default c =
-    let image = c.args.image.now in
     let m = c.args.self.now in
-    let found = finds image m c.args.by (Publish) tt c.requires.legal in
-    let lane = c.index_mut-lane.result.now in
-    let at = lane_there m.lanes.items m.lanes.items c.args.by lane refl found.below c.index_mut-lane.ensures.value in
-    let was = c.requires.fit.lanes c.args.by lane at in
-    let runs = lane_runs m c.args.by found.core lane found.runs at in
-    absurd (no_attempt lane found.core c.in_default.is runs)
+    let f = finds_core c.args.self.now c.args.by Publish c.index_mut-core.result.now tt c.requires.fit c.requires.legal c.index_mut-core.ensures.value in
+    let core = c.publish.ensures.core ∙ ap (option_map after_publish) f.runs in
+    let none = sym c.in_default.is ∙ (c.published.ensures ∙ ap published_by core) in absurd cc

@@ -1,140 +1,98 @@
-use Rattle.std.proofs.Common.{rules, ◌≡◌, ◌<◌, true, false, length, Some, option_map, refl, sym, ap, ◌∙◌, arith}
-use Rattle.spec_history.specs.declared.entry.What.TheVariants.{Store}
-use Rattle.rv32_exec.specs.Hart.{stepped}
+use Rattle.std.proofs.Common.{rules, ◌≡◌, ◌<◌, ◌==◌, length, true, false, Some, option_map, refl, sym, ap, ◌∙◌, arith, eqb-true, slice_index}
 use Rattle.rv32_exec.specs.declared.stop.Stop.TheVariants as stop
-use Rattle.rv32_exec.specs.NextEvent.{Event, next_event}
-use Rattle.spec_history.specs.Event.{event_of}
-use Rattle.spec_history.specs.Refusal.{is_that_store}
-use Rattle.spec_history.specs.Effect.{by_core, with_core}
+use Rattle.rv32_exec.specs.Hart.{stepped}
+use Rattle.rv32_exec.specs.NextEvent.{next_event}
 use Rattle.memory_bytes.specs.Maps.{over, stored}
-use Rattle.spec_history.specs.Lane.{after_store}
+use Rattle.memory_bytes.proofs.Bytes.{length-with_number, with_number_bytes}
+use Rattle.memory_bytes.specs.Bytes.{with_number}
+use Rattle.spec_history.specs.declared.entry.What.TheVariants.{Store}
+use Rattle.spec_history.specs.Effect.{by_core, after_store}
+use Rattle.spec_history.specs.Refusal.{is_that_store}
+use Rattle.spec_history.specs.Cores.{published_by}
 use Rattle.spec_history.specs.Machine.{state_of}
 use Rattle.spec_history.proofs.Legal.{that_store, next_in_memory}
-use Rattle.spec_history.proofs.Lanes.{lane_there}
-use Rattle.spec_history.proofs.Performed.{finds, lane_runs, becomes, no_arrival, arrival_is, width_small, straight_store, speculative_store}
-use Rattle.spec_history.proofs.Replays.{effect-on}
+use Rattle.spec_history.proofs.Parts.{whole_items}
+use Rattle.spec_history.proofs.Performed.{finds, finds_core, event_now, event_at, published_now, published_still, stores, becomes}
+use Rattle.spec_history.proofs.Replays.{on_core}
 use Rattle.spec_history.proofs.machine.Machine.store.Goals as goal
 
-pub returns-in_default : goal.returns-in_default
-returns-in_default c =
-    let image = c.args.image.now in
-    let m = c.args.self.now in
-    let found = finds image m c.args.by (Store c.args.addr c.args.width c.args.value) tt c.requires.legal in
-    let next = rw c.in_default.is at c.requires.next in
-    absurd (no_arrival image ((state_of m).cores c.args.by) found.core found.runs next)
+pub index_mut-core-requires : goal.index_mut-core-requires
+index_mut-core-requires c =
+    let found = finds c.args.self.now c.args.by (Store c.args.addr c.args.width c.args.value) tt c.requires.legal in
+    let below : c.args.by < length c.args.self.now.cores.items = found.below in search rules
+
+pub attempt-requires : goal.attempt-requires
+attempt-requires c =
+    let f = finds_core c.args.self.now c.args.by (Store c.args.addr c.args.width c.args.value) c.index_mut-core.result.now tt c.requires.fit c.requires.legal c.index_mut-core.ensures.value in
+    rw f.attempted refl
 
 pub stored-hart-requires : goal.stored-hart-requires
 stored-hart-requires c =
-    let image = c.args.image.now in
     let m = c.args.self.now in
-    let found = finds image m c.args.by (Store c.args.addr c.args.width c.args.value) tt c.requires.legal in
-    let arrived = c.in-Some.arrived.now in
-    let next = rw c.in-Some.is at c.requires.next in
-    let event : event_of arrived ≡ next_event image found.core.hart = arrival_is image ((state_of m).cores c.args.by) found.core arrived found.runs next in
-    let is = that_store c.args.addr c.args.width c.args.value (next_event image found.core.hart).at
-    (sym (ap (λ o. by_core o false (λ x. is_that_store c.args.addr c.args.width c.args.value (next_event image x.hart).at)) found.runs) ∙ found.legal.next) in
-    let stop : arrived.at ≡ stop.Store c.args.addr c.args.width c.args.value = ap (λ (e : Event). e.at) event ∙ is in
-    rw stop tt
-
-pub index_mut-lane-requires : goal.index_mut-lane-requires
-index_mut-lane-requires c =
-    let image = c.args.image.now in
-    let m = c.args.self.now in
-    let found = finds image m c.args.by (Store c.args.addr c.args.width c.args.value) tt c.requires.legal in
-    let below : c.args.by < length m.lanes.items = found.below in search rules
+    let f = finds_core c.args.self.now c.args.by (Store c.args.addr c.args.width c.args.value) c.index_mut-core.result.now tt c.requires.fit c.requires.legal c.index_mut-core.ensures.value in
+    let at = event_at m c.args.by (Store c.args.addr c.args.width c.args.value) c.index_mut-core.result.now f c.attempt.result.now c.attempt.ensures in
+    let next = that_store c.args.addr c.args.width c.args.value _ (on_core ((state_of m).cores c.args.by) f.found.state _ f.found.runs f.found.legal.next) in
+    rw (at ∙ next) tt
 
 pub finish_store-requires-clause-small : goal.finish_store-requires-clause-small
 finish_store-requires-clause-small c =
-    let image = c.args.image.now in
     let m = c.args.self.now in
-    let found = finds image m c.args.by (Store c.args.addr c.args.width c.args.value) tt c.requires.legal in
-    let memory = next_in_memory image (state_of m) c.args.by (Store c.args.addr c.args.width c.args.value) found.legal.next in
-    omega (arith, memory.1, c.requires.fit.small)
-
-pub finish_store-requires-clause-own : goal.finish_store-requires-clause-own
-finish_store-requires-clause-own c =
-    let image = c.args.image.now in
-    let m = c.args.self.now in
-    let found = finds image m c.args.by (Store c.args.addr c.args.width c.args.value) tt c.requires.legal in
-    let lane = c.index_mut-lane.result.now in
-    let at = lane_there m.lanes.items m.lanes.items c.args.by lane refl found.below c.index_mut-lane.ensures.value in
-    let was = c.requires.fit.lanes c.args.by lane at in
-    let runs = lane_runs m c.args.by found.core lane found.runs at in
-    let memory = next_in_memory image (state_of m) c.args.by (Store c.args.addr c.args.width c.args.value) found.legal.next in
-    omega (arith, memory.1, was.own)
+    let found = finds m c.args.by (Store c.args.addr c.args.width c.args.value) tt c.requires.legal in
+    let memory = next_in_memory m.image (state_of m) c.args.by (Store c.args.addr c.args.width c.args.value) found.legal.next in
+    omega (arith, memory.1, c.requires.fit.image.size_most)
 
 pub finish_store-requires-clause-room : goal.finish_store-requires-clause-room
 finish_store-requires-clause-room c =
-    let image = c.args.image.now in
-    let m = c.args.self.now in
-    let found = finds image m c.args.by (Store c.args.addr c.args.width c.args.value) tt c.requires.legal in
-    let lane = c.index_mut-lane.result.now in
-    let at = lane_there m.lanes.items m.lanes.items c.args.by lane refl found.below c.index_mut-lane.ensures.value in
-    let was = c.requires.fit.lanes c.args.by lane at in
-    let runs = lane_runs m c.args.by found.core lane found.runs at in
-    let memory = next_in_memory image (state_of m) c.args.by (Store c.args.addr c.args.width c.args.value) found.legal.next in
-    omega (arith, (c.requires.room.room lane at).0, width_small c.args.width memory.0)
+    let f = finds_core c.args.self.now c.args.by (Store c.args.addr c.args.width c.args.value) c.index_mut-core.result.now tt c.requires.fit c.requires.legal c.index_mut-core.ensures.value in
+    c.requires.room.room c.index_mut-core.result.now f.there
 
-pub put_number-requires-clause-small : goal.put_number-requires-clause-small
-put_number-requires-clause-small c =
-    let image = c.args.image.now in
+pub write_number-requires-clause-width : goal.write_number-requires-clause-width
+write_number-requires-clause-width c =
     let m = c.args.self.now in
-    let found = finds image m c.args.by (Store c.args.addr c.args.width c.args.value) tt c.requires.legal in
-    let memory = next_in_memory image (state_of m) c.args.by (Store c.args.addr c.args.width c.args.value) found.legal.next in
-    omega (arith, memory.1, c.requires.fit.small)
+    let found = finds m c.args.by (Store c.args.addr c.args.width c.args.value) tt c.requires.legal in
+    (next_in_memory m.image (state_of m) c.args.by (Store c.args.addr c.args.width c.args.value) found.legal.next).0
 
-pub put_number-requires-clause-within : goal.put_number-requires-clause-within
-put_number-requires-clause-within c =
-    let image = c.args.image.now in
+pub write_number-requires-clause-within : goal.write_number-requires-clause-within
+write_number-requires-clause-within c =
     let m = c.args.self.now in
-    let found = finds image m c.args.by (Store c.args.addr c.args.width c.args.value) tt c.requires.legal in
-    let memory = next_in_memory image (state_of m) c.args.by (Store c.args.addr c.args.width c.args.value) found.legal.next in
-    omega (arith, memory.1, c.requires.fit.committed)
+    let found = finds m c.args.by (Store c.args.addr c.args.width c.args.value) tt c.requires.legal in
+    let memory = next_in_memory m.image (state_of m) c.args.by (Store c.args.addr c.args.width c.args.value) found.legal.next in
+    omega (arith, memory.1, c.requires.fit.committed, ap length c.deref_mut.ensures.value)
 
-pub returns-then-straight : goal.returns-then-straight
-returns-then-straight c =
-    let image = c.args.image.now in
+pub returns-in-Some : goal.returns-in-Some
+returns-in-Some c =
     let m = c.args.self.now in
-    let found = finds image m c.args.by (Store c.args.addr c.args.width c.args.value) tt c.requires.legal in
-    let lane = c.index_mut-lane.result.now in
-    let at = lane_there m.lanes.items m.lanes.items c.args.by lane refl found.below c.index_mut-lane.ensures.value in
-    let was = c.requires.fit.lanes c.args.by lane at in
-    let runs = lane_runs m c.args.by found.core lane found.runs at in
-    let arrived = c.in-Some.arrived.now in
-    let next = rw c.in-Some.is at c.requires.next in
-    let event : event_of arrived ≡ next_event image found.core.hart = arrival_is image ((state_of m).cores c.args.by) found.core arrived found.runs next in
-    let hart : c.stored-hart.result ≡ stepped (next_event image found.core.hart).now = c.stored-hart.ensures ∙ ap (λ (e : Event). stepped e.now) event in
-    let straight : found.core.straight ≡ true = sym (ap (λ o. by_core o false (λ x. x.straight)) runs) ∙ (sym c.is_straight-straight.ensures ∙ c.if-straight.true) in
-    let new = after_store c.args.addr c.args.width c.args.value c.stored-hart.result found.core in
-    let core = c.finish_store.ensures.core ∙ ap (option_map (after_store c.args.addr c.args.width c.args.value c.stored-hart.result)) runs in
-    becomes image m _ c.args.by (Store c.args.addr c.args.width c.args.value) c.finish_store.new.self (Some new) (over (stored c.args.addr c.args.width c.args.value) (state_of m).committed) c.requires.fit found.below refl
-    (c.put_number.ensures.long ∙ c.requires.fit.committed) (record { own = c.finish_store.ensures.own ∙ was.own; outside = c.finish_store.ensures.outside ∙ was.outside }) core
-    c.put_number.ensures.bytes
-    (effect-on image (state_of m) c.args.by (Store c.args.addr c.args.width c.args.value) found.core found.runs
-    ∙ (straight_store image (state_of m) c.args.by found.core c.args.addr c.args.width c.args.value c.stored-hart.result straight hart
-    ∙ ap (λ n. record (state_of m) {
-      committed = over (stored c.args.addr c.args.width c.args.value) (state_of m).committed;
-      published = n;
-      cores = with_core (state_of m).cores c.args.by (Some new);
-    }) (sym c.done-self.ensures)))
+    let f = finds_core c.args.self.now c.args.by (Store c.args.addr c.args.width c.args.value) c.index_mut-core.result.now tt c.requires.fit c.requires.legal c.index_mut-core.ensures.value in
+    let hart = c.stored-hart.result in
+    let now = event_now m c.args.by (Store c.args.addr c.args.width c.args.value) c.index_mut-core.result.now f c.attempt.result.now c.attempt.ensures in
+    let is : hart ≡ stepped (next_event m.image f.found.state.hart).now = c.stored-hart.ensures ∙ ap stepped now in
+    let new = after_store c.args.addr c.args.width c.args.value hart f.found.state in
+    let core = c.finish_store.ensures.core ∙ ap (option_map (after_store c.args.addr c.args.width c.args.value hart)) f.runs in
+    let published = published_now f.found.state.straight hart.done c.in-Some.done m.published (c.in-Some.ensures ∙ ap published_by core) in
+    let old = m.committed.items in
+    let xs = c.write_number.new.bytes in
+    let memory = next_in_memory m.image (state_of m) c.args.by (Store c.args.addr c.args.width c.args.value) f.found.legal.next in
+    let written : xs ≡ with_number old c.args.addr c.args.width c.args.value =
+    c.write_number.ensures ∙ ap (λ bytes. with_number bytes c.args.addr c.args.width c.args.value) c.deref_mut.ensures.value in
+    let long : length xs ≡ length old = ap length written ∙ length-with_number old c.args.addr c.args.width c.args.value in
+    let count : m.committed.len ≡ length old = search rules in
+    let items = whole_items old xs m.committed.len count long in
+    becomes m _ c.args.by (Store c.args.addr c.args.width c.args.value) c.finish_store.new.self (Some new) (over (stored c.args.addr c.args.width c.args.value) (state_of m).committed) c.requires.fit f.found.below refl refl
+    (ap length items ∙ long) (c.finish_store.ensures.fit f.fit) core
+    (λ a. ap (λ bytes. slice_index bytes a) (items ∙ written)
+    ∙ with_number_bytes old c.args.addr c.args.width c.args.value (omega (arith, memory.1, c.requires.fit.committed)) a)
+    (stores m c.args.by c.args.addr c.args.width c.args.value c.in-Some.done f.found.state hart true f.found.runs is published.1 published.0)
 
-pub returns-else-straight : goal.returns-else-straight
-returns-else-straight c =
-    let image = c.args.image.now in
+pub returns-in_default : goal.returns-in_default
+returns-in_default c =
     let m = c.args.self.now in
-    let found = finds image m c.args.by (Store c.args.addr c.args.width c.args.value) tt c.requires.legal in
-    let lane = c.index_mut-lane.result.now in
-    let at = lane_there m.lanes.items m.lanes.items c.args.by lane refl found.below c.index_mut-lane.ensures.value in
-    let was = c.requires.fit.lanes c.args.by lane at in
-    let runs = lane_runs m c.args.by found.core lane found.runs at in
-    let arrived = c.in-Some.arrived.now in
-    let next = rw c.in-Some.is at c.requires.next in
-    let event : event_of arrived ≡ next_event image found.core.hart = arrival_is image ((state_of m).cores c.args.by) found.core arrived found.runs next in
-    let hart : c.stored-hart.result ≡ stepped (next_event image found.core.hart).now = c.stored-hart.ensures ∙ ap (λ (e : Event). stepped e.now) event in
-    let straight : found.core.straight ≡ false = sym (ap (λ o. by_core o false (λ x. x.straight)) runs) ∙ (sym c.is_straight-straight.ensures ∙ c.if-straight.false) in
-    let new = after_store c.args.addr c.args.width c.args.value c.stored-hart.result found.core in
-    let core = c.finish_store.ensures.core ∙ ap (option_map (after_store c.args.addr c.args.width c.args.value c.stored-hart.result)) runs in
-    becomes image m _ c.args.by (Store c.args.addr c.args.width c.args.value) c.finish_store.new.self (Some new) (state_of m).committed c.requires.fit found.below refl
-    c.requires.fit.committed (record { own = c.finish_store.ensures.own ∙ was.own; outside = c.finish_store.ensures.outside ∙ was.outside }) core (λ a. refl)
-    (effect-on image (state_of m) c.args.by (Store c.args.addr c.args.width c.args.value) found.core found.runs
-    ∙ speculative_store image (state_of m) c.args.by found.core c.args.addr c.args.width c.args.value c.stored-hart.result straight hart)
+    let f = finds_core c.args.self.now c.args.by (Store c.args.addr c.args.width c.args.value) c.index_mut-core.result.now tt c.requires.fit c.requires.legal c.index_mut-core.ensures.value in
+    let hart = c.stored-hart.result in
+    let now = event_now m c.args.by (Store c.args.addr c.args.width c.args.value) c.index_mut-core.result.now f c.attempt.result.now c.attempt.ensures in
+    let is : hart ≡ stepped (next_event m.image f.found.state.hart).now = c.stored-hart.ensures ∙ ap stepped now in
+    let new = after_store c.args.addr c.args.width c.args.value hart f.found.state in
+    let core = c.finish_store.ensures.core ∙ ap (option_map (after_store c.args.addr c.args.width c.args.value hart)) f.runs in
+    let published = published_still f.found.state.straight hart.done m.published (sym c.in_default.is ∙ (c.published.ensures ∙ ap published_by core)) in
+    becomes m _ c.args.by (Store c.args.addr c.args.width c.args.value) c.finish_store.new.self (Some new) (state_of m).committed c.requires.fit f.found.below refl refl
+    refl (c.finish_store.ensures.fit f.fit) core (λ a. refl)
+    (stores m c.args.by c.args.addr c.args.width c.args.value m.published f.found.state hart false f.found.runs is published.1 published.0)

@@ -1,0 +1,7 @@
+use Rattle.spec_history.specs.Effect.{idle_at}
+use Rattle.spec_history.proofs.Changing.{Changing}
+use Rattle.spec_history.proofs.machine.Machine.cancel.Given as goal
+
+-- the cores so far have changed
+abbrev pub invariant-loop-core : goal.invariant-loop-core
+invariant-loop-core l = Changing (idle_at l.epoch) l.fn.self.image l.core-index l.fn.self.cores.items l.core-items

@@ -1,0 +1,287 @@
+ghost use Rattle.std.specs.Prelude.{◌≡◌, ◌<◌, ◌≤◌, ◌+◌, ◌^◌, ℕ, OnOk, IsSome, None, Some, length, slice_index, option_map, nat_lt, not, is_some, ◌==◌};
+ghost use Rattle.memory_bytes.specs.Bytes.{IsWidth, number_at};
+ghost use Rattle.memory_bytes.specs.Maps.{over};
+ghost use Rattle.memory_bytes.specs.Shadow.{byte_in};
+ghost use Rattle.rv32_image.specs.Image.{LoadedImage};
+ghost use Rattle.rv32_exec.specs.NextEvent.{next_event};
+ghost use Rattle.spec_history.specs.FlatState.{begun};
+ghost use Rattle.spec_history.specs.Effect as effect;
+ghost use Rattle.spec_history.specs.Refusal as refusal;
+ghost use Rattle.spec_history.specs.Cores as spec;
+
+use memory_bytes::ShadowBytes;
+use rv32_exec::{Arrived, Hart, Image, NoMemory, Stop, advance, start};
+use std::alloc::Global;
+
+/// What a core runs: an epoch, its next event with the hart at its last one, whether it has published, and whether it was
+/// violated.
+#[derive(Clone, Copy)]
+pub(crate) struct Attempt {
+    pub epoch: u32,
+    pub next: Arrived,
+    pub straight: bool,
+    pub hurt: bool,
+}
+
+/// A core: what it runs, the bytes that it has stored and not committed, and those that it has read from outside.
+#[derive(Drop)]
+pub(crate) struct Core {
+    pub attempt: Option<Attempt>,
+    pub own: ShadowBytes,
+    pub outside: ShadowBytes,
+}
+
+impl Core {
+    /// An idle core.
+    pub fn new(alloc: Global) -> Core
+        ensures idle { result.attempt ≡ None }
+        ensures fit { (image : LoadedImage) → spec.IsCoreOf image result }
+    {
+        Core {
+            attempt: None,
+            own: ShadowBytes::new(alloc),
+            outside: ShadowBytes::new(alloc),
+        }
+    }
+
+    /// What it runs.
+    pub fn attempt(&self) -> &Attempt
+        requires { IsSome self.now.attempt }
+        ensures { self.now.attempt ≡ Some result.now }
+    {
+        self.attempt.as_ref().unwrap()
+    }
+
+    /// It runs no epoch.
+    pub fn is_idle(&self) -> bool
+        ensures { result ≡ not (is_some (spec.core_of self.now)) }
+    {
+        self.attempt.is_none()
+    }
+
+    /// It runs an epoch, and is not hurt.
+    pub fn is_running(&self) -> bool
+        ensures { result ≡ refusal.runs (spec.core_of self.now) }
+    {
+        match &self.attempt {
+            Some(attempt) => !attempt.hurt,
+            None => false,
+        }
+    }
+
+    /// It runs an epoch, and is hurt.
+    pub fn is_hurt(&self) -> bool
+        ensures { result ≡ refusal.has (spec.core_of self.now) (λ c. c.hurt) }
+    {
+        match &self.attempt {
+            Some(attempt) => attempt.hurt,
+            None => false,
+        }
+    }
+
+    /// It runs an earlier epoch than this one, and is not hurt.
+    pub fn runs_before(&self, epoch: u32) -> bool
+        ensures { result ≡ refusal.runs_and (spec.core_of self.now) (λ c. nat_lt c.epoch epoch) }
+    {
+        match &self.attempt {
+            Some(attempt) => !attempt.hurt && attempt.epoch < epoch,
+            None => false,
+        }
+    }
+
+    /// It runs an epoch, and is neither hurt nor straight.
+    pub fn can_publish(&self) -> bool
+        ensures { result ≡ refusal.runs_and (spec.core_of self.now) (λ c. not c.straight) }
+    {
+        match &self.attempt {
+            Some(attempt) => !attempt.hurt && !attempt.straight,
+            None => false,
+        }
+    }
+
+    /// It runs an epoch, and is straight.
+    pub fn is_straight(&self) -> bool
+        ensures { result ≡ refusal.has (spec.core_of self.now) (λ c. c.straight) }
+    {
+        match &self.attempt {
+            Some(attempt) => attempt.straight,
+            None => false,
+        }
+    }
+
+    /// It runs this epoch.
+    pub fn is_at(&self, epoch: u32) -> bool
+        ensures { result ≡ refusal.is_at epoch (spec.core_of self.now) }
+    {
+        match &self.attempt {
+            Some(attempt) => attempt.epoch == epoch,
+            None => false,
+        }
+    }
+
+    /// It runs this epoch, and can be hurt.
+    pub fn can_be_hurt(&self, epoch: u32) -> bool
+        ensures { result ≡ refusal.can_be_hurt epoch (spec.core_of self.now) }
+    {
+        match &self.attempt {
+            Some(attempt) => !attempt.hurt && attempt.epoch == epoch && !attempt.straight,
+            None => false,
+        }
+    }
+
+    /// It runs an epoch, is not hurt, and has read this byte from outside.
+    pub fn has_read(&self, addr: u32) -> bool
+        ensures { result ≡ refusal.has_read (spec.core_of self.now) addr }
+    {
+        self.is_running() && self.outside.get(addr).is_some()
+    }
+
+    /// Where its epoch stops next.
+    pub fn next_stop(&self) -> Option<Stop>
+        ensures { (image : LoadedImage) → spec.IsCoreOf image self.now
+            → result ≡ option_map (λ c. (next_event image c.hart).at) (spec.core_of self.now) }
+    {
+        match &self.attempt {
+            Some(attempt) => Some(attempt.next.at()),
+            None => None,
+        }
+    }
+
+    /// Its epoch ends, and the loop with it.
+    pub fn exits(&self, image: &Image) -> bool
+        requires { spec.IsCoreOf image.now self.now }
+        ensures { result ≡ refusal.next_is image.now (spec.core_of self.now) (refusal.is_an_exit image.now) }
+    {
+        match &self.attempt {
+            Some(attempt) => attempt.next.at() == Stop::Ended && attempt.next.now().exits(image),
+            None => false,
+        }
+    }
+
+    /// How many instructions of its epoch are published, where it is straight.
+    pub fn published(&self) -> Option<u64>
+        ensures { result ≡ spec.published_by (spec.core_of self.now) }
+    {
+        match &self.attempt {
+            Some(attempt) if attempt.straight => Some(attempt.next.base().done()),
+            _ => None,
+        }
+    }
+
+    /// The number in `width` bytes that its epoch sees, little endian.
+    pub fn number(&self, committed: &[u8], addr: u32, width: u32) -> u32
+        requires width { IsWidth width }
+        requires small { addr + width < 2 ^ 32 }
+        requires committed { addr + width ≤ length committed.now }
+        ensures number { result ≡ number_at (over (byte_in self.now.own.cells) (λ a. slice_index committed.now a)) addr width }
+        ensures below { result < 256 ^ width }
+    {
+        self.own.number(committed, addr, width)
+    }
+
+    /// Makes room for the bytes of an access.
+    pub fn reserve(&mut self, addr: u32, width: u32) -> Result<(), NoMemory>
+        requires { addr + width < 2 ^ 32 }
+        ensures core { spec.core_of self.new ≡ spec.core_of self.old }
+        ensures fit { (image : LoadedImage) → addr + width ≤ image.size → spec.IsCoreOf image self.old → spec.IsCoreOf image self.new }
+        ensures room { OnOk result (spec.HasRoom addr width self.new) }
+    {
+        self.own.reserve(addr, width).map_err(|_| NoMemory)?;
+        self.outside.reserve(addr, width).map_err(|_| NoMemory)
+    }
+
+    /// Begins an epoch.
+    pub fn begin(&mut self, image: &Image, epoch: u32)
+        ensures core { spec.core_of self.new ≡ Some (begun image.now epoch) }
+        ensures fit { spec.IsCoreOf image.now self.old → spec.IsCoreOf image.now self.new }
+    {
+        self.own.clear();
+        self.outside.clear();
+        self.attempt = Some(Attempt {
+            epoch,
+            next: advance(image, start(image, epoch)),
+            straight: false,
+            hurt: false,
+        });
+    }
+
+    /// Goes on with this hart after a load.
+    pub fn finish_load(&mut self, image: &Image, committed: &[u8], addr: u32, width: u32, hart: Hart)
+        requires small { addr + width < 2 ^ 32 }
+        requires committed { addr + width ≤ length committed.now }
+        requires room { spec.HasRoom addr width self.old }
+        ensures core { spec.core_of self.new ≡ option_map (effect.after_load (λ a. slice_index committed.now a) addr width hart) (spec.core_of self.old) }
+        ensures fit { spec.IsCoreOf image.now self.old → spec.IsCoreOf image.now self.new }
+    {
+        if let Some(attempt) = &mut self.attempt {
+            attempt.next = advance(image, hart);
+            if !attempt.straight {
+                self.outside.note(&self.own, committed, addr, width);
+            }
+        }
+    }
+
+    /// Goes on with this hart after a store.
+    pub fn finish_store(&mut self, image: &Image, addr: u32, width: u32, value: u32, hart: Hart)
+        requires small { addr + width < 2 ^ 32 }
+        requires room { spec.HasRoom addr width self.old }
+        ensures core { spec.core_of self.new ≡ option_map (effect.after_store addr width value hart) (spec.core_of self.old) }
+        ensures fit { spec.IsCoreOf image.now self.old → spec.IsCoreOf image.now self.new }
+    {
+        if let Some(attempt) = &mut self.attempt {
+            attempt.next = advance(image, hart);
+            if !attempt.straight {
+                self.own.keep(addr, width, value);
+            }
+        }
+    }
+
+    /// Is hurt, where it runs this epoch.
+    pub fn hurt_at(&mut self, epoch: u32)
+        ensures core { spec.core_of self.new ≡ effect.hurt_at epoch (spec.core_of self.old) }
+        ensures fit { (image : LoadedImage) → spec.IsCoreOf image self.old → spec.IsCoreOf image self.new }
+    {
+        if let Some(attempt) = &mut self.attempt {
+            attempt.hurt = attempt.hurt || attempt.epoch == epoch;
+        }
+    }
+
+    /// Is idle, where it runs this epoch.
+    pub fn idle_at(&mut self, epoch: u32)
+        ensures core { spec.core_of self.new ≡ effect.idle_at epoch (spec.core_of self.old) }
+        ensures fit { (image : LoadedImage) → spec.IsCoreOf image self.old → spec.IsCoreOf image self.new }
+    {
+        if self.is_at(epoch) {
+            self.attempt = None;
+        }
+    }
+
+    /// Is straight from now on, and keeps no bytes.
+    pub fn publish(&mut self)
+        ensures core { spec.core_of self.new ≡ option_map effect.after_publish (spec.core_of self.old) }
+        ensures fit { (image : LoadedImage) → spec.IsCoreOf image self.old → spec.IsCoreOf image self.new }
+    {
+        self.own.clear();
+        self.outside.clear();
+        if let Some(attempt) = &mut self.attempt {
+            attempt.straight = true;
+        }
+    }
+
+    /// Runs no epoch.
+    pub fn leave(&mut self)
+        ensures core { spec.core_of self.new ≡ None }
+        ensures fit { (image : LoadedImage) → spec.IsCoreOf image self.old → spec.IsCoreOf image self.new }
+    {
+        self.attempt = None;
+    }
+
+    /// Commits its own bytes.
+    pub fn commit(&self, committed: &mut Vec<u8>)
+        requires { length self.now.own.cells ≤ length committed.old.items }
+        ensures long { length committed.new.items ≡ length committed.old.items }
+        ensures bytes { (a : ℕ) → slice_index committed.new.items a ≡ over (byte_in self.now.own.cells) (λ b. slice_index committed.old.items b) a }
+    {
+        self.own.commit(committed);
+    }
+}
