@@ -5,3 +5,5 @@
 mod execution;
 #[cfg(test)]
 mod history;
+#[cfg(test)]
+mod images;

@@ -1,0 +1,117 @@
+-- Loads and stores of the plain store, over its view.
+use Rattle.std.proofs.Common.{◌≡◌, ℕ, zero, suc, ◌+◌, ◌/◌, ◌%◌, ◌^◌, ◌<◌, ◌-◌, ◌==◌, ◌&&◌, nat_le, nat_lt, Bool, true, false, cond, slice_get, slice_index, Option, Some, None, is_some, is_none, unwrap_or, refl, sym, ap, ◌∙◌, true≢false}
+use Rattle.memory_bytes.specs.Bytes.{byte_of, number_at}
+use Rattle.memory_bytes.specs.Maps.{first_of, joined, over, stored, read_outside}
+use Rattle.memory_bytes.specs.Shadow.{byte_in}
+use Rattle.memory_bytes.proofs.Bytes.{over-joined, number_at_same}
+use Rattle.violations.specs.declared.core_state.CoreState.{CoreState}
+use Rattle.violations.specs.View.{attempt_of, IsSettled, Runs, is_accessed}
+use Rattle.violations.specs.Rule.{HurtsLater, Loads, Stores, LoadsStraight}
+use Rattle.violations.specs.Plain.{PlainView, attempt_in, own_in, guarded_in, store_view}
+use Rattle.violations.proofs.Changing.{get_set_other}
+use Rattle.violations.proofs.Plains.{none_by, none_hurt, alike_state, shape_same, with_state, here}
+use Rattle.violations.proofs.Calls.{straight_bare}
+
+abbrev committed_of : PlainView → ℕ → ℕ
+committed_of p a = slice_index p.committed a
+
+-- the others at a speculative access
+access_others : (p : PlainView) (by budget : ℕ) (state : CoreState) (hurt : ℕ → Bool) → ((k : ℕ) → hurt k ≡ false) → HurtsLater (store_view p) (store_view (with_state p p.committed by state budget)) by hurt
+access_others p by budget state hurt none = none_hurt p (with_state p p.committed by state budget) by hurt none (λ k other. get_set_other p.states by k state other) (λ a. refl)
+
+-- ---- loads
+
+some_first : (first second : Option ℕ) → is_some second ≡ true → is_some (first_of first second) ≡ true
+some_first None second is = is
+some_first (Some byte) second is = refl
+
+guarded_now : (address width a committed : ℕ) (own before : Option ℕ) → is_accessed address width a ≡ true → is_some own ≡ false
+    → is_some (first_of (cond ((nat_le address a && nat_lt a (address + width)) && is_none own) (Some committed) None) before) ≡ true
+guarded_now address width a committed own before inside outside = rw (inside, none_by own outside) refl
+
+pub loads : (p : PlainView) (by address width value budget : ℕ) (state state' : CoreState) (hurt : ℕ → Bool) → ((k : ℕ) → hurt k ≡ false) → IsSettled (store_view p) → Runs (store_view p) by false
+    → slice_get p.states by ≡ Some state → state'.attempt ≡ state.attempt → state'.own ≡ state.own
+    → ((a : ℕ) → byte_in state'.guarded.cells a ≡ joined (read_outside address width (byte_in state.own.cells) (committed_of p)) (byte_in state.guarded.cells) a)
+    → value ≡ number_at (over (byte_in state.own.cells) (committed_of p)) address width → value < 256 ^ width
+    → Loads (store_view p) (store_view (with_state p p.committed by state' budget)) by address width value hurt
+loads p by address width value budget state state' hurt none settled runs there same own guards is small =
+    let below = settled.there by (attempt_of runs.epoch false) runs.is in
+    let now = here p by state' below in record {
+      shape = shape_same p (with_state p p.committed by state' budget) (alike_state p p.committed by state' budget refl);
+      others = access_others p by budget state' hurt none;
+      committed = λ a. refl;
+      value_is = is ∙ ap (λ x. number_at (over (own_in x) (committed_of p)) address width) (sym there);
+      small = small;
+      attempt = ap attempt_in now ∙ (same ∙ sym (ap attempt_in there));
+      own = λ a. ap (λ x. is_some (own_in x a)) now ∙ (ap (λ o. is_some (byte_in o.cells a)) own ∙ sym (ap (λ x. is_some (own_in x a)) there));
+      sees = λ a. ap (λ x. over (own_in x) (committed_of p) a) now ∙ (ap (λ o. over (byte_in o.cells) (committed_of p) a) own ∙ sym (ap (λ x. over (own_in x) (committed_of p) a) there));
+      guards = λ a loaded outside.
+          ap (λ x. is_some (guarded_in x a)) now ∙ (ap is_some (guards a)
+          ∙ guarded_now address width a (committed_of p a) (byte_in state.own.cells a) (byte_in state.guarded.cells a) loaded (sym (ap (λ x. is_some (own_in x a)) there) ∙ outside));
+      guards_still = λ a was.
+          ap (λ x. is_some (guarded_in x a)) now ∙ (ap is_some (guards a)
+          ∙ some_first (read_outside address width (byte_in state.own.cells) (committed_of p) a) (byte_in state.guarded.cells a) (sym (ap (λ x. is_some (guarded_in x a)) there) ∙ was));
+    }
+
+-- ---- stores
+
+-- which bytes a store has
+stored_by : (b : Bool) (x : ℕ) → is_some (cond b (Some x) None) ≡ b
+stored_by true x = refl
+stored_by false x = refl
+
+pub stored_there : (address width value a : ℕ) → is_some (stored address width value a) ≡ is_accessed address width a
+unfolding stored
+stored_there address width value a = stored_by (nat_le address a && nat_lt a (address + width)) (byte_of value (a - address))
+
+first_some : (first second : Option ℕ) → is_some first ≡ true → is_some (first_of first second) ≡ true
+first_some None second is = absurd cc
+first_some (Some byte) second is = refl
+
+first_none : (first second : Option ℕ) → is_some first ≡ false → is_some (first_of first second) ≡ is_some second
+first_none None second is = refl
+first_none (Some byte) second is = absurd cc
+
+pub stores : (p : PlainView) (by address width value budget : ℕ) (state state' : CoreState) (hurt : ℕ → Bool) → ((k : ℕ) → hurt k ≡ false) → IsSettled (store_view p) → Runs (store_view p) by false
+    → slice_get p.states by ≡ Some state → state'.attempt ≡ state.attempt → state'.guarded ≡ state.guarded
+    → ((a : ℕ) → byte_in state'.own.cells a ≡ joined (stored address width value) (byte_in state.own.cells) a)
+    → Stores (store_view p) (store_view (with_state p p.committed by state' budget)) by address width value hurt
+stores p by address width value budget state state' hurt none settled runs there same guarded keeps =
+    let below = settled.there by (attempt_of runs.epoch false) runs.is in
+    let now = here p by state' below in record {
+      shape = shape_same p (with_state p p.committed by state' budget) (alike_state p p.committed by state' budget refl);
+      others = access_others p by budget state' hurt none;
+      committed = λ a. refl;
+      attempt = ap attempt_in now ∙ (same ∙ sym (ap attempt_in there));
+      sees = λ a.
+          ap (λ x. over (own_in x) (committed_of p) a) now ∙ (ap (λ o. unwrap_or o (committed_of p a)) (keeps a)
+          ∙ (over-joined (stored address width value) (byte_in state.own.cells) (committed_of p) a
+          ∙ sym (ap (λ x. over (stored address width value) (over (own_in x) (committed_of p)) a) there)));
+      owns = λ a is.
+          ap (λ x. is_some (own_in x a)) now ∙ (ap is_some (keeps a)
+          ∙ first_some (stored address width value a) (byte_in state.own.cells a) (stored_there address width value a ∙ is));
+      owns_still = λ a was.
+          ap (λ x. is_some (own_in x a)) now ∙ (ap is_some (keeps a)
+          ∙ some_first (stored address width value a) (byte_in state.own.cells a) (sym (ap (λ x. is_some (own_in x a)) there) ∙ was));
+      guards_new = λ a new old not_stored.
+          let still = ap (λ x. is_some (own_in x a)) now ∙ (ap is_some (keeps a) ∙ (first_none (stored address width value a) (byte_in state.own.cells a) (stored_there address width value a ∙ not_stored)
+          ∙ sym (ap (λ x. is_some (own_in x a)) there))) in
+          absurd (true≢false (sym new ∙ (still ∙ old)));
+      guards_still = λ a was.
+          ap (λ x. is_some (guarded_in x a)) now ∙ (ap (λ o. is_some (byte_in o.cells a)) guarded ∙ (sym (ap (λ x. is_some (guarded_in x a)) there) ∙ was));
+    }
+
+-- ---- straight loads
+
+pub loads_straight : (p : PlainView) (by address width value : ℕ) (state : CoreState) (hurt : ℕ → Bool) → ((k : ℕ) → hurt k ≡ false) → IsSettled (store_view p) → Runs (store_view p) by true
+    → slice_get p.states by ≡ Some state → value ≡ number_at (over (byte_in state.own.cells) (committed_of p)) address width → value < 256 ^ width
+    → LoadsStraight (store_view p) (store_view p) by address width value hurt
+loads_straight p by address width value state hurt none settled runs there is small =
+    let bare = straight_bare p by state settled runs there in record {
+      shape = refl;
+      others = none_hurt p p by hurt none (λ k other. refl) (λ a. refl);
+      committed = λ a. refl;
+      small = small;
+      value_is = is ∙ number_at_same (over (byte_in state.own.cells) (committed_of p)) (committed_of p) address width (λ a low high. ap (λ o. unwrap_or o (committed_of p a)) (bare.own a));
+      attempt = refl;
+    }

@@ -1,0 +1,6 @@
+pub mod Changing
+pub mod Plains
+pub mod Calls
+pub mod Accesses
+pub mod Publishing
+pub mod Opening

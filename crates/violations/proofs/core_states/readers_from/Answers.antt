@@ -1,0 +1,26 @@
+use Rattle.std.proofs.Common.{refl, arith}
+use Rattle.violations.specs.CoreSet.{is_in}
+use Rattle.violations.specs.View.{is_accessed}
+use Rattle.violations.proofs.Changing.{state_there, reading_insert, reading_on, reading_end, range_spared}
+use Rattle.violations.proofs.core_states.readers_from.Goals as goal
+use Rattle.violations.proofs.core_states.readers_from.Goals.{then-k-core+then-guards_from, else-k-core, else-k-core-via-then-k-core+else-guards_from, else-k-core-via-else-k-core}
+
+pub loop-k-preserved : goal.loop-k-preserved
+loop-k-preserved c =
+    let states = c.args.states.now in
+    let state = c.index-states-k.result in
+    let there = state_there states states c.loop-k.k state refl c.loop-k-test.true c.index-states-k.is in
+    elim c.if-k-core.branch [
+      | then-k-core+then-guards_from w ↦
+          rw w.hurt-is (reading_insert c.args.core (is_accessed c.args.addr c.args.width) states (is_in c.loop-k.hurt) (is_in w.insert.new.self) c.loop-k.k state there w.if-k-core.true
+          (w.guards_from.ensures.found w.if-guards_from.true) w.insert.ensures c.loop-k.invariant)
+      | else-k-core w ↦ rw w.hurt-is (elim w.else-k-core.branch [
+        | else-k-core-via-then-k-core+else-guards_from w' ↦ reading_on c.args.core (is_accessed c.args.addr c.args.width) states (is_in c.loop-k.hurt) c.loop-k.k state there
+            (λ other runs a byte. range_spared state.guarded.cells c.args.addr c.args.width a (w'.guards_from.ensures.spared w'.if-guards_from.false runs) byte) c.loop-k.invariant
+        | else-k-core-via-else-k-core w' ↦ reading_on c.args.core (is_accessed c.args.addr c.args.width) states (is_in c.loop-k.hurt) c.loop-k.k state there
+            (λ other runs a byte. absurd (other w'.if-k-core.false)) c.loop-k.invariant
+      ])
+    ]
+
+pub returns : goal.returns
+returns c = reading_end c.args.core (is_accessed c.args.addr c.args.width) c.args.states.now (is_in c.loop-k.hurt) c.loop-k.k (omega (arith, c.loop-k-test.false)) c.loop-k.invariant

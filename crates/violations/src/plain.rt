@@ -1,0 +1,202 @@
+ghost use Rattle.std.specs.Prelude.{◌≡◌, ◌<◌, ◌≤◌, ◌+◌, ◌^◌, ◌==◌, ℕ, IfOk, OnOk, Some, None, true, false, length, slice_get, slice_index};
+ghost use Rattle.violations.specs.Plain as spec;
+ghost use Rattle.violations.specs.View as view_spec;
+ghost use Rattle.violations.specs.Rule as rule;
+ghost use Rattle.violations.specs.Answers.{MatchStep};
+ghost use Rattle.violations.specs.View.{is_accessed};
+ghost use Rattle.violations.specs.CoreSet.{is_in};
+
+use crate::attempt::Attempt;
+use crate::core_set::CoreSet;
+use crate::core_state::CoreState;
+use crate::core_states::{commit_number, drop_attempts, idle_states, readers_from, readers_of, reserve};
+use crate::step::Step;
+use crate::store::EpochStore;
+use rv32_image::{Image, NoMemory};
+use std::alloc::Global;
+use std::marker::Model;
+
+/// A store of committed bytes and, for each core, of the bytes that its attempt has stored and of those that it has loaded
+/// from outside. It never waits. Its publish and its straight store violate each later core that guards a byte that is
+/// written, changed or not; its speculative store violates nobody.
+///
+/// A load and a store take the same time whatever is kept; a publish, a violation and a leave take time for what the
+/// attempt has touched.
+#[derive(Drop)]
+pub struct PlainStore {
+    size: u32,
+    code: u32,
+    committed: Vec<u8>,
+    states: Vec<CoreState>,
+    budget: u32,
+}
+
+impl Model for PlainStore {
+    ghost use Rattle.violations.specs.Plain.{PlainView};
+
+    ghost Value = { PlainView };
+
+    ghost use Rattle.violations.specs.PlainInside.{view_of, IsPlain};
+
+    ghost view = { view_of };
+
+    ghost invariant = { IsPlain };
+}
+
+impl PlainStore {
+    /// A speculative load, as the trait has it. It never waits, and violates nobody.
+    pub fn load(&mut self, core: u32, addr: u32, width: u32) -> Step
+        requires budget { 1 ≤ self.old.budget }
+        requires runs { view_spec.Runs (spec.store_view self.old) core false }
+        requires access { view_spec.IsLoad (spec.store_view self.old).shape addr width }
+        ensures loads { MatchStep result (λ value hurt. rule.Loads (spec.store_view self.old) (spec.store_view self.new) core addr width value hurt) ⊥ }
+        ensures nobody { MatchStep result (λ value hurt. (k : ℕ) → hurt k ≡ false) ⊥ }
+        ensures budget { self.old.budget ≤ self.new.budget + 1 }
+    {
+        let state = &mut self.states[core as usize];
+        let value = state.load(self.committed.as_slice(), addr, width);
+        self.budget -= 1;
+        Step::Done {
+            value,
+            hurt: CoreSet::none(),
+        }
+    }
+
+    /// A speculative store, as the trait has it. It never waits, and violates nobody.
+    pub fn store(&mut self, core: u32, addr: u32, width: u32, value: u32) -> Step
+        requires budget { 1 ≤ self.old.budget }
+        requires runs { view_spec.Runs (spec.store_view self.old) core false }
+        requires access { view_spec.IsStore (spec.store_view self.old).shape addr width value }
+        ensures stores { MatchStep result (λ answer hurt. (answer ≡ 0) × rule.Stores (spec.store_view self.old) (spec.store_view self.new) core addr width value hurt) ⊥ }
+        ensures nobody { MatchStep result (λ answer hurt. (k : ℕ) → hurt k ≡ false) ⊥ }
+        ensures budget { self.old.budget ≤ self.new.budget + 1 }
+    {
+        let state = &mut self.states[core as usize];
+        state.own.keep(addr, width, value);
+        self.budget -= 1;
+        Step::Done {
+            value: 0,
+            hurt: CoreSet::none(),
+        }
+    }
+
+    /// A publish, as the trait has it. It violates exactly the other cores that guard a byte of the caller's own.
+    pub fn publish(&mut self, core: u32) -> CoreSet
+        requires budget { 1 ≤ self.old.budget }
+        requires may { view_spec.MayPublish (spec.store_view self.old) core }
+        ensures publishes { rule.Publishes (spec.store_view self.old) (spec.store_view self.new) core (is_in result) }
+        ensures violates { spec.ViolatesReaders core ((spec.store_view self.old).own core) (is_in result) (spec.store_view self.old) }
+        ensures budget { self.old.budget ≤ self.new.budget + 1 }
+    {
+        let own = &self.states[core as usize].own;
+        let hurt = readers_of(self.states.as_slice(), core, own);
+        drop_attempts(&mut self.states, hurt);
+        let state = &mut self.states[core as usize];
+        state.own.commit(&mut self.committed);
+        state.go_straight();
+        hurt
+    }
+
+    /// A straight load, as the trait has it. It violates nobody.
+    pub fn straight_load(&mut self, core: u32, addr: u32, width: u32) -> (u32, CoreSet)
+        requires budget { 1 ≤ self.old.budget }
+        requires runs { view_spec.Runs (spec.store_view self.old) core true }
+        requires access { view_spec.IsLoad (spec.store_view self.old).shape addr width }
+        ensures loads { rule.LoadsStraight (spec.store_view self.old) (spec.store_view self.new) core addr width result.0 (is_in result.1) }
+        ensures nobody { (k : ℕ) → is_in result.1 k ≡ false }
+        ensures budget { self.old.budget ≤ self.new.budget + 1 }
+    {
+        let value = self.states[core as usize]
+            .own
+            .number(self.committed.as_slice(), addr, width);
+        (value, CoreSet::none())
+    }
+
+    /// A straight store, as the trait has it. It violates exactly the other cores that guard a byte that is written.
+    pub fn straight_store(&mut self, core: u32, addr: u32, width: u32, value: u32) -> CoreSet
+        requires budget { 1 ≤ self.old.budget }
+        requires runs { view_spec.Runs (spec.store_view self.old) core true }
+        requires access { view_spec.IsStore (spec.store_view self.old).shape addr width value }
+        ensures stores { rule.StoresStraight (spec.store_view self.old) (spec.store_view self.new) core addr width value (is_in result) }
+        ensures violates { spec.ViolatesReaders core (is_accessed addr width) (is_in result) (spec.store_view self.old) }
+        ensures budget { self.old.budget ≤ self.new.budget + 1 }
+    {
+        let hurt = readers_from(self.states.as_slice(), core, addr, width);
+        drop_attempts(&mut self.states, hurt);
+        commit_number(&mut self.committed, addr, width, value);
+        hurt
+    }
+}
+
+impl EpochStore for PlainStore {
+    ghost use Rattle.violations.specs.Plain.{store_view};
+
+    ghost view = { store_view };
+
+    ghost budget = { λ p. p.budget };
+
+    fn fresh(alloc: Global, image: &Image, cores: u32) -> Result<PlainStore, NoMemory> {
+        let committed = Vec::from_slice(alloc, image.bytes()).map_err(|_| NoMemory)?;
+        let states = idle_states(alloc, cores)?;
+        Ok(PlainStore {
+            size: image.size(),
+            code: image.code(),
+            committed,
+            states,
+            budget: 0,
+        })
+    }
+
+    fn look(&self) {
+        let _ = &self.code;
+    }
+
+    fn reserve(&mut self) -> Result<(), NoMemory> {
+        self.budget = 0;
+        reserve(&mut self.states, self.size)?;
+        self.budget = 4;
+        Ok(())
+    }
+
+    fn begin(&mut self, core: u32, epoch: u32) {
+        let state = &mut self.states[core as usize];
+        state.attempt = Some(Attempt {
+            epoch,
+            straight: false,
+        });
+    }
+
+    fn load(&mut self, core: u32, addr: u32, width: u32) -> Step {
+        PlainStore::load(self, core, addr, width)
+    }
+
+    fn store(&mut self, core: u32, addr: u32, width: u32, value: u32) -> Step {
+        PlainStore::store(self, core, addr, width, value)
+    }
+
+    fn publish(&mut self, core: u32) -> CoreSet {
+        PlainStore::publish(self, core)
+    }
+
+    fn straight_load(&mut self, core: u32, addr: u32, width: u32) -> (u32, CoreSet) {
+        PlainStore::straight_load(self, core, addr, width)
+    }
+
+    fn straight_store(&mut self, core: u32, addr: u32, width: u32, value: u32) -> CoreSet {
+        PlainStore::straight_store(self, core, addr, width, value)
+    }
+
+    fn leave(&mut self, core: u32) {
+        let state = &mut self.states[core as usize];
+        state.drop_attempt();
+    }
+
+    fn cancel(&mut self, core: u32) {
+        let state = &mut self.states[core as usize];
+        state.drop_attempt();
+    }
+
+    fn committed_byte(&self, addr: u32) -> u8 {
+        self.committed[addr as usize]
+    }
+}

@@ -1,0 +1,108 @@
+ghost use Rattle.std.specs.Prelude.{◌≡◌, ◌+◌, ◌<◌, ◌≤◌, ℕ, IfOk, OnOk, true, false};
+ghost use Rattle.violations.specs.View.{StoreView};
+ghost use Rattle.violations.specs.View as view_spec;
+ghost use Rattle.violations.specs.Rule as rule;
+ghost use Rattle.violations.specs.CoreSet.{is_in};
+ghost use Rattle.violations.specs.Answers.{MatchStep};
+
+use crate::core_set::CoreSet;
+use crate::step::Step;
+use rv32_image::{Image, NoMemory};
+use std::alloc::Global;
+
+/// A store of speculative epochs. Each core runs at most one attempt of an epoch, which loads and stores speculatively
+/// until it publishes, and goes straight from then on.
+///
+/// Contracts see a store by its view, and a budget of calls: each changing call but `cancel` needs one of it, and takes at most one.
+/// No call but `fresh` and `reserve` takes memory.
+pub trait EpochStore: Drop + Send {
+    /// What the store holds.
+    ghost view: { Self → StoreView };
+
+    /// How many changing calls there is room for.
+    ghost budget: { Self → ℕ };
+
+    /// A store with the image's memory, for so many cores, and no attempts. The cores are 1 to the most that the image's version
+    /// allows.
+    ///
+    /// `NoMemory`: there was no memory for it, and nothing was made.
+    fn fresh(alloc: Global, image: &Image, cores: u32) -> Result<Self, NoMemory>
+        requires cores { rule.IsCoreCount image.now cores }
+        ensures fresh { IfOk result (λ store. rule.IsFresh image.now cores (view store)) };
+
+    /// What every store keeps: this call does nothing, and its contract is the law.
+    fn look(&self)
+        ensures { view_spec.IsSettled (view self.now) };
+
+    /// Makes room for four changing calls.
+    ///
+    /// `NoMemory`: there was no memory. The view is as it was.
+    fn reserve(&mut self) -> Result<(), NoMemory>
+        ensures view { rule.IsSameView (view self.old) (view self.new) }
+        ensures budget { OnOk result (4 ≤ budget self.new) };
+
+    /// The core begins an attempt of the epoch.
+    fn begin(&mut self, core: u32, epoch: u32)
+        requires budget { 1 ≤ budget self.old }
+        requires may { view_spec.MayBegin (view self.old) core epoch }
+        ensures begins { rule.Begins (view self.old) (view self.new) core epoch }
+        ensures budget { budget self.old ≤ budget self.new + 1 };
+
+    /// A speculative load of `width` bytes.
+    fn load(&mut self, core: u32, addr: u32, width: u32) -> Step
+        requires budget { 1 ≤ budget self.old }
+        requires runs { view_spec.Runs (view self.old) core false }
+        requires access { view_spec.IsLoad (view self.old).shape addr width }
+        ensures loads { MatchStep result (λ value hurt. rule.Loads (view self.old) (view self.new) core addr width value hurt) (self.new ≡ self.old) }
+        ensures budget { budget self.old ≤ budget self.new + 1 };
+
+    /// A speculative store of the low `width` bytes of a value. It gives 0.
+    fn store(&mut self, core: u32, addr: u32, width: u32, value: u32) -> Step
+        requires budget { 1 ≤ budget self.old }
+        requires runs { view_spec.Runs (view self.old) core false }
+        requires access { view_spec.IsStore (view self.old).shape addr width value }
+        ensures stores { MatchStep result (λ answer hurt. (answer ≡ 0) × rule.Stores (view self.old) (view self.new) core addr width value hurt) (self.new ≡ self.old) }
+        ensures budget { budget self.old ≤ budget self.new + 1 };
+
+    /// The attempt, whose epoch is the first of all attempts, commits what it sees and is straight. Answers the cores that
+    /// it violates.
+    fn publish(&mut self, core: u32) -> CoreSet
+        requires budget { 1 ≤ budget self.old }
+        requires may { view_spec.MayPublish (view self.old) core }
+        ensures publishes { rule.Publishes (view self.old) (view self.new) core (is_in result) }
+        ensures budget { budget self.old ≤ budget self.new + 1 };
+
+    /// A load of a straight attempt, with the cores that it violates.
+    fn straight_load(&mut self, core: u32, addr: u32, width: u32) -> (u32, CoreSet)
+        requires budget { 1 ≤ budget self.old }
+        requires runs { view_spec.Runs (view self.old) core true }
+        requires access { view_spec.IsLoad (view self.old).shape addr width }
+        ensures loads { rule.LoadsStraight (view self.old) (view self.new) core addr width result.0 (is_in result.1) }
+        ensures budget { budget self.old ≤ budget self.new + 1 };
+
+    /// A store of a straight attempt: its bytes are committed. Answers the cores that it violates.
+    fn straight_store(&mut self, core: u32, addr: u32, width: u32, value: u32) -> CoreSet
+        requires budget { 1 ≤ budget self.old }
+        requires runs { view_spec.Runs (view self.old) core true }
+        requires access { view_spec.IsStore (view self.old).shape addr width value }
+        ensures stores { rule.StoresStraight (view self.old) (view self.new) core addr width value (is_in result) }
+        ensures budget { budget self.old ≤ budget self.new + 1 };
+
+    /// A straight attempt ends.
+    fn leave(&mut self, core: u32)
+        requires budget { 1 ≤ budget self.old }
+        requires runs { view_spec.Runs (view self.old) core true }
+        ensures leaves { rule.Ends (view self.old) (view self.new) core }
+        ensures budget { budget self.old ≤ budget self.new + 1 };
+
+    /// An attempt that isn't straight ends, and what it stored is forgotten. It asks for no budget.
+    fn cancel(&mut self, core: u32)
+        requires runs { view_spec.Runs (view self.old) core false }
+        ensures cancels { rule.Ends (view self.old) (view self.new) core }
+        ensures budget { budget self.new ≡ budget self.old };
+
+    /// The committed byte at an address of memory.
+    fn committed_byte(&self, addr: u32) -> u8
+        requires { addr < (view self.now).shape.size }
+        ensures { result ≡ (view self.now).committed addr };
+}
