@@ -229,7 +229,14 @@ impl Core {
     }
 
     /// Goes on with this hart after a store.
-    pub(crate) fn finish_store(&mut self, image: &Image, addr: u32, width: u32, value: u32, hart: Hart)
+    pub(crate) fn finish_store(
+        &mut self,
+        image: &Image,
+        addr: u32,
+        width: u32,
+        value: u32,
+        hart: Hart,
+    )
         requires small { addr + width < 2 ^ 32 }
         requires room { spec.HasRoom addr width self.old }
         ensures core { spec.core_of self.new ≡ option_map (effect.after_store addr width value hart) (spec.core_of self.old) }
