@@ -4,7 +4,9 @@ mod plain;
 mod rows;
 
 use plain::PlainFlat;
-use rows::{ADD, After, LARGE, LEGAL, REFUSED, Row, WIDTHS, after_of, entries_of, entry_of, is_row, row_of};
+use rows::{
+    ADD, After, LARGE, LEGAL, REFUSED, Row, WIDTHS, after_of, entries_of, entry_of, is_row, row_of,
+};
 use rv32_exec::{image_of, run_in_order};
 use spec_history::{Entry, Flat, Illegal, What, audit};
 use std::alloc::Global;
@@ -33,7 +35,9 @@ fn audits_histories(rt: HostRuntime) -> Result<(), Fail> {
         let image = image_of(rt.alloc(), row.image.as_bytes())?;
         let entries = entries_of(rt.alloc(), row.entries)?;
         let want = after_of(row.want).ok_or(line)?;
-        let flat = audit(rt.alloc(), &image, row.cores, entries.as_slice()).ok().ok_or(line)?;
+        let flat = audit(rt.alloc(), &image, row.cores, entries.as_slice())
+            .ok()
+            .ok_or(line)?;
         assert!(rt; is_after(&flat, want), "{line}");
         assert!(rt; flat.committed(image.size()).is_none());
     }
@@ -48,7 +52,10 @@ fn refuses_by_the_first_test(rt: HostRuntime) -> Result<(), Fail> {
         let entries = entries_of(rt.alloc(), row.entries)?;
         let answer = audit(rt.alloc(), &image, row.cores, entries.as_slice());
         let (place, illegal) = answer.err().ok_or(line)?;
-        assert!(rt; place.wrapping_add(1) == entries.len() && illegal.name() == row.want, "{line}");
+        assert!(rt;
+            place.wrapping_add(1) == entries.len() && illegal.name() == row.want,
+            "{line}"
+        );
     }
     Ok(())
 }
@@ -82,8 +89,13 @@ fn ends_as_the_sequential_loop_does(rt: HostRuntime) -> Result<(), Fail> {
         let row = row_of(line).ok_or(line)?;
         let image = image_of(rt.alloc(), row.image.as_bytes())?;
         let entries = entries_of(rt.alloc(), row.entries)?;
-        let flat = audit(rt.alloc(), &image, row.cores, entries.as_slice()).ok().ok_or(line)?;
-        assert!(rt; flat.homefree() as usize == commits_of(entries.as_slice()), "{line}");
+        let flat = audit(rt.alloc(), &image, row.cores, entries.as_slice())
+            .ok()
+            .ok_or(line)?;
+        assert!(rt;
+            flat.homefree() as usize == commits_of(entries.as_slice()),
+            "{line}"
+        );
         if let Some(end) = flat.ended() {
             let whole = run_in_order(rt.alloc(), &image)?;
             assert!(rt; whole.end() == end && holds(&flat, whole.bytes()), "{line}");
@@ -95,8 +107,13 @@ fn ends_as_the_sequential_loop_does(rt: HostRuntime) -> Result<(), Fail> {
 #[test]
 fn the_last_word_of_a_large_memory_is_committed(rt: HostRuntime) -> Result<(), Fail> {
     let image = image_of(rt.alloc(), LARGE.as_bytes())?;
-    let entries = entries_of(rt.alloc(), "15 start 0; 15 store 1048572 4 4294967292; 15 commit")?;
-    let flat = audit(rt.alloc(), &image, 16, entries.as_slice()).ok().ok_or("refused")?;
+    let entries = entries_of(
+        rt.alloc(),
+        "15 start 0; 15 store 1048572 4 4294967292; 15 commit",
+    )?;
+    let flat = audit(rt.alloc(), &image, 16, entries.as_slice())
+        .ok()
+        .ok_or("refused")?;
     assert!(rt; word(&flat, 1_048_572) == Some(4_294_967_292));
     assert!(rt; flat.committed(1_048_576).is_none());
     Ok(())

@@ -12,7 +12,7 @@ impl Machine {
     ghost use Rattle.spec_history.specs.Machine as spec;
 
     /// Does what a legal entry does. There is room for it.
-    pub fn perform(&mut self, entry: Entry)
+    pub(crate) fn perform(&mut self, entry: Entry)
         requires fit { spec.IsFit self.old }
         requires homefree { self.old.homefree ≤ 65535 }
         requires room { spec.HasRoomFor self.old entry.by entry.what }

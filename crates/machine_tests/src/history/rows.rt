@@ -14,8 +14,7 @@ const SIGNAL: &str =
 /// Each of three epochs adds its number to the word at 64.
 ///
 /// `lw x5,64(x0); add x5,x5,x10; sw x5,64(x0); jalr x0,0(x1)`
-const SUM: &str =
-    "size 256\nepochs 3\nlimit 100\ncode 83220004b382a2002320500467800000\n";
+const SUM: &str = "size 256\nepochs 3\nlimit 100\ncode 83220004b382a2002320500467800000\n";
 
 /// Each of three epochs adds its number and 1 to the word at 64.
 ///
@@ -58,40 +57,32 @@ const FORK: &str =
 /// Each of two epochs adds 1 to the word at 64, and then faults.
 ///
 /// `lw x5,64(x0); addi x5,x5,1; sw x5,64(x0); ecall`
-const CALL: &str =
-    "size 256\nepochs 2\nlimit 50\ncode 83220004938212002320500473000000\n";
+const CALL: &str = "size 256\nepochs 2\nlimit 50\ncode 83220004938212002320500473000000\n";
 
 /// Epoch 1 loads the word at 64 and faults.
 ///
 /// `beq x10,x0,+12; lw x5,64(x0); ecall; jalr x0,0(x1)`
-const CALL_AT_ONE: &str =
-    "size 256\nepochs 2\nlimit 50\ncode 63060500832200047300000067800000\n";
+const CALL_AT_ONE: &str = "size 256\nepochs 2\nlimit 50\ncode 63060500832200047300000067800000\n";
 
 /// Nothing is to be run.
-const EMPTY: &str =
-    "size 256\nepochs 0\nlimit 50\ncode 67800000\nat 00000040 05\n";
+const EMPTY: &str = "size 256\nepochs 0\nlimit 50\ncode 67800000\nat 00000040 05\n";
 
 /// Each of three epochs stores its number to 64, and then exits the loop.
 ///
 /// `sw x10,64(x0); addi x10,x0,1; jalr x0,0(x1)`
-const EXIT: &str =
-    "size 256\nepochs 3\nlimit 50\nexit\ncode 2320a0041305100067800000\n";
+const EXIT: &str = "size 256\nepochs 3\nlimit 50\nexit\ncode 2320a0041305100067800000\n";
 
 /// The same loop of two epochs.
-const EXIT_OF_TWO: &str =
-    "exit\nsize 256\nepochs 2\nlimit 50\ncode 2320a0041305100067800000\n";
+const EXIT_OF_TWO: &str = "exit\nsize 256\nepochs 2\nlimit 50\ncode 2320a0041305100067800000\n";
 
 /// The same loop of one epoch, and of none.
-const EXIT_OF_ONE: &str =
-    "size 256\nepochs 1\nlimit 50\nexit\ncode 2320a0041305100067800000\n";
+const EXIT_OF_ONE: &str = "size 256\nepochs 1\nlimit 50\nexit\ncode 2320a0041305100067800000\n";
 
 /// The same loop of no epoch.
-const EXIT_OF_NONE: &str =
-    "size 256\nepochs 0\nlimit 50\nexit\ncode 2320a0041305100067800000\n";
+const EXIT_OF_NONE: &str = "size 256\nepochs 0\nlimit 50\nexit\ncode 2320a0041305100067800000\n";
 
 /// The same loop, which no epoch may exit.
-const NO_EXIT: &str =
-    "size 256\nepochs 3\nlimit 50\ncode 2320a0041305100067800000\n";
+const NO_EXIT: &str = "size 256\nepochs 3\nlimit 50\ncode 2320a0041305100067800000\n";
 
 /// Each of eight epochs stores its number to its word at 64, 68, .. Epoch 2 exits the loop.
 ///
