@@ -1,7 +1,7 @@
 -- What one instruction does.
 -- Source: RISC-V Unprivileged ISA, chapter "RV32I Base Integer Instruction Set", by its sections. Ends, limits
 -- and the numbers of faults are this project's.
-use Rattle.std.specs.Prelude.{◌≡◌, ◌<◌, ◌≤◌, Option, Some, None, ℕ, ◌+◌, ◌-◌, ◌*◌, ◌/◌, ◌%◌, ◌^◌, Bool, true, false, not, ◌==◌, ◌||◌, nat_lt, nat_le, Result, Ok, Err, slice_index, if◌then◌else◌, bit_and, bit_or, bit_xor, int_lt}
+use Rattle.std.specs.Prelude.{◌≡◌, ◌<◌, ◌≤◌, ℕ, ◌+◌, ◌-◌, ◌*◌, ◌/◌, ◌%◌, ◌^◌, Bool, true, false, not, ◌==◌, ◌||◌, nat_lt, nat_le, Result, Ok, Err, slice_index, if◌then◌else◌, bit_and, bit_or, bit_xor, int_lt}
 use Rattle.std.specs.Int.{w32, cast_signed, cast_unsigned, int_shr}
 use Rattle.rv32_decode.specs.Word.{sign_extended}
 use Rattle.rv32_decode.specs.Table.{meaning_of}
@@ -166,8 +166,3 @@ IsStopOf image h (Load address width signed rd) = IsAccess image h address width
 IsStopOf image h (Store address width value) = IsStore image h address width value
 IsStopOf image h Ended = Unit {0}
 IsStopOf image h (Fault cause pc) = Unit {0}
-
--- what an answer of one step says: it was executed, or it stopped
-abbrev pub effect_of : Option Stop → HartState → Effect
-effect_of None after = Executes after
-effect_of (Some at) after = Stops at

@@ -21,7 +21,7 @@ struct Plain {
 }
 
 /// Runs the loop of an image, and answers how it ended and its memory then.
-pub fn run(alloc: Global, image: &Image) -> Result<(End, Vec<u8>), AllocError> {
+pub(crate) fn run(alloc: Global, image: &Image) -> Result<(End, Vec<u8>), AllocError> {
     let mut plain = Plain {
         x: image.regs(),
         pc: 0,

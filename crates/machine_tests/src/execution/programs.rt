@@ -23,13 +23,13 @@ const REGISTERS: [u32; 8] = [0, 5, 5, 6, 7, 7, 10, 11];
 
 /// Where the next random number comes from.
 #[derive(Drop)]
-pub struct Dice {
+pub(crate) struct Dice {
     state: u32,
 }
 
 impl Dice {
     /// Dice that roll the same numbers for the same seed.
-    pub fn new(seed: u32) -> Dice {
+    pub(crate) fn new(seed: u32) -> Dice {
         Dice { state: seed }
     }
 
@@ -78,7 +78,7 @@ impl Dice {
 }
 
 /// An image text of four epochs, with twelve words that end by a return.
-pub fn image_text(alloc: Global, dice: &mut Dice) -> Result<String, AllocError> {
+pub(crate) fn image_text(alloc: Global, dice: &mut Dice) -> Result<String, AllocError> {
     let mut text = String::from_str(alloc, "size 256\nepochs 4\nlimit 40\nreg 6 00000040\n")?;
     if dice.roll(3) == 0 {
         text.push_str("exit\n")?;
