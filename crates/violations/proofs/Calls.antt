@@ -1,5 +1,5 @@
 -- The calls of the plain store, over its view.
-use Rattle.std.proofs.Common.{◌≡◌, ◌≢◌, ◌⊎◌, ℕ, zero, suc, ◌<◌, Bool, true, false, length, set, slice_get, slice_index, is_some, Option, Some, None, refl, sym, ap, subst, ◌∙◌, inl, inr, arith, length-set, true≢false, [], ◌∷◌, slice_index_or}
+use Rattle.std.proofs.Common.{◌≡◌, ◌≢◌, ◌⊎◌, ℕ, ◌<◌, Bool, true, false, length, set, slice_get, slice_index, is_some, Option, Some, None, refl, sym, ap, subst, ◌∙◌, inl, inr, arith, length-set, true≢false}
 use Rattle.std.proofs.lemmas.Bool.{cases_eq}
 use Rattle.violations.specs.declared.attempt.Attempt.{Attempt}
 use Rattle.violations.specs.declared.core_state.CoreState.{CoreState}

@@ -1,5 +1,5 @@
 -- What a publish and a straight store of the plain store do to its view.
-use Rattle.std.proofs.Common.{◌≡◌, ◌≢◌, ℕ, zero, suc, ◌+◌, ◌/◌, ◌%◌, ◌<◌, ◌≤◌, Bool, true, false, List, length, set, take, drop, ◌++◌, slice_get, slice_index, Option, Some, None, is_some, unwrap_or, option_map, refl, sym, ap, subst, ◌∙◌, inl, inr, arith, length-set, true≢false}
+use Rattle.std.proofs.Common.{◌≡◌, ◌≢◌, ℕ, ◌<◌, ◌≤◌, Bool, true, false, List, length, set, take, drop, ◌++◌, slice_get, slice_index, Option, Some, None, is_some, unwrap_or, option_map, refl, sym, ap, subst, ◌∙◌, inl, inr, arith, length-set, true≢false}
 use Rattle.std.proofs.lemmas.Bool.{cases_eq}
 use Rattle.std.proofs.lemmas.Grind.{common_steps}
 use Rattle.memory_bytes.specs.Maps.{over, stored}

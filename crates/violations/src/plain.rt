@@ -9,7 +9,9 @@ ghost use Rattle.violations.specs.CoreSet.{is_in};
 use crate::attempt::Attempt;
 use crate::core_set::CoreSet;
 use crate::core_state::CoreState;
-use crate::core_states::{commit_number, drop_attempts, idle_states, readers_from, readers_of, reserve};
+use crate::core_states::{
+    commit_number, drop_attempts, idle_states, readers_from, readers_of, reserve,
+};
 use crate::step::Step;
 use crate::store::EpochStore;
 use rv32_image::{Image, NoMemory};

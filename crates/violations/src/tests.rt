@@ -16,6 +16,16 @@ fn a_fresh_store_has_the_image_s_memory(rt: HostRuntime) -> Result<(), Fail> {
 }
 
 #[test]
+fn a_store_that_waits_has_the_memory_of_the_one_in_it(rt: HostRuntime) -> Result<(), Fail> {
+    let image = image_of(rt.alloc(), IMAGE.as_bytes())?;
+    let mut store: Waiting<PlainStore> = Waiting::fresh(rt.alloc(), &image, 8)?;
+    assert_eq!(rt; store.reserve(), Ok(()));
+    assert!(rt; image.size() > 64);
+    assert_eq!(rt; store.committed_byte(64), 5);
+    Ok(())
+}
+
+#[test]
 fn sets_of_cores(rt: HostRuntime) {
     let mut set = CoreSet::none();
     assert!(rt; set.is_empty());
@@ -27,10 +37,12 @@ fn sets_of_cores(rt: HostRuntime) {
     set.insert(3);
     assert_eq!(rt; set.len(), 3);
     assert!(rt; !set.is_empty());
-    let has = [0, 1, 2, 3, 4, 5, 6, 7, 8, 9, 10, 11, 12, 13, 14, 15].map(|core| set.has(core));
-    let wanted = [0, 3, 15];
-    for core in 0..16 {
-        assert_eq!(rt; has[core as usize], wanted.contains(&core));
-    }
+    let low = [0, 1, 2, 3, 4, 5, 6, 7].map(|core| set.has(core));
+    assert_eq!(rt; low, [true, false, false, true, false, false, false, false]);
+    let high = [8, 9, 10, 11, 12, 13, 14, 15].map(|core| set.has(core));
+    assert_eq!(rt;
+        high,
+        [false, false, false, false, false, false, false, true]
+    );
     assert!(rt; !set.has(16));
 }

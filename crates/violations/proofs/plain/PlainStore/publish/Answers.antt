@@ -1,4 +1,4 @@
-use Rattle.std.proofs.Common.{◌≡◌, ◌<◌, length, false, slice_get, is_some, refl, sym, ap, subst, ◌∙◌, arith}
+use Rattle.std.proofs.Common.{◌≡◌, ◌<◌, length, false, slice_get, is_some, refl, sym, subst, ◌∙◌, arith}
 use Rattle.violations.specs.declared.core_state.CoreState.{CoreState}
 use Rattle.violations.specs.CoreState.{AreReaders, bytes_in}
 use Rattle.violations.specs.View.{MayPublish, attempt_of}

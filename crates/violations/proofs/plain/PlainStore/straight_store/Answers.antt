@@ -1,4 +1,4 @@
-use Rattle.std.proofs.Common.{true, slice_get, sym, ap, subst, ◌∙◌, arith}
+use Rattle.std.proofs.Common.{true, sym, subst, ◌∙◌}
 use Rattle.violations.specs.View.{Runs, is_accessed}
 use Rattle.violations.specs.CoreSet.{is_in}
 use Rattle.violations.specs.Plain.{store_view}

@@ -1,5 +1,4 @@
-use Rattle.std.proofs.Common.{length, refl, sym, ◌∙◌, ap, arith}
-use Rattle.violations.specs.CoreState.{AreWithin}
+use Rattle.std.proofs.Common.{arith}
 use Rattle.violations.specs.PlainInside.{view_of}
 use Rattle.violations.proofs.Opening.{same_view, same_settled, same_fit}
 use Rattle.violations.proofs.plain.PlainStoreEpochStore.reserve.Goals as goal
