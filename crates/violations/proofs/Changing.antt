@@ -78,17 +78,17 @@ pub within_set : (size : ℕ) (states : List CoreState) (i : ℕ) (state : CoreS
 within_set size states i state below within are = record { each = all_set (IsWithin size) states i state below within are.each }
 
 -- the states so far have room
-pub record Reserving (size : ℕ) (old new : List CoreState) (i : ℕ) : Type 0 where
+pub record Reserving (size accesses : ℕ) (old new : List CoreState) (i : ℕ) : Type 0 where
   pub same : AreSame old new
   pub within : AreWithin size new
-  pub room : (k : ℕ) (state : CoreState) → k < i → slice_get new k ≡ Some state → HasRoom size 4 state
+  pub room : (k : ℕ) (state : CoreState) → k < i → slice_get new k ≡ Some state → HasRoom size accesses state
 
-pub reserving_start : (size : ℕ) (states : List CoreState) → AreWithin size states → Reserving size states states 0
-reserving_start size states within = record { same = same_states states; within = within; room = λ k state below at. absurd (omega arith) }
+pub reserving_start : (size accesses : ℕ) (states : List CoreState) → AreWithin size states → Reserving size accesses states states 0
+reserving_start size accesses states within = record { same = same_states states; within = within; room = λ k state below at. absurd (omega arith) }
 
-pub reserving_more : (size : ℕ) (old new : List CoreState) (i : ℕ) (state state' : CoreState) → i < length new → slice_get new i ≡ Some state → IsSameState state state' → IsWithin size state'
-    → HasRoom size 4 state' → Reserving size old new i → Reserving size old (set new i state') (i + 1)
-reserving_more size old new i state state' below there same within room reserving = record {
+pub reserving_more : (size accesses : ℕ) (old new : List CoreState) (i : ℕ) (state state' : CoreState) → i < length new → slice_get new i ≡ Some state → IsSameState state state' → IsWithin size state'
+    → HasRoom size accesses state' → Reserving size accesses old new i → Reserving size accesses old (set new i state') (i + 1)
+reserving_more size accesses old new i state state' below there same within room reserving = record {
   same = same_set old new i state state' below there same reserving.same;
   within = within_set size new i state' below within reserving.within;
   room = λ k l under at. elim (cases_eq k i) [
@@ -107,8 +107,8 @@ below_length [] k state at = absurd cc
 below_length (first ∷ rest) zero state at = omega arith
 below_length (first ∷ rest) (suc k) state at = let less = below_length rest k state at in omega arith
 
-pub reserving_end : (size : ℕ) (old new : List CoreState) (i : ℕ) → length new ≤ i → Reserving size old new i → HaveRoom size 4 new
-reserving_end size old new i all reserving = record { each = λ k state at. let below = below_length new k state at in reserving.room k state (omega arith) at }
+pub reserving_end : (size accesses : ℕ) (old new : List CoreState) (i : ℕ) → length new ≤ i → Reserving size accesses old new i → HaveRoom size accesses new
+reserving_end size accesses old new i all reserving = record { each = λ k state at. let below = below_length new k state at in reserving.room k state (omega arith) at }
 
 -- ---- attempts that end
 

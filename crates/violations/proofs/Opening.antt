@@ -89,13 +89,12 @@ same_settled p states budget same settled =
     settled_from p (with_states p states budget) settled same.long (λ k now at. came_alike p k (slice_get states k) now (alike k) at)
     (λ k. quiet_alike (slice_get p.states k) (slice_get states k) (alike k) (quiet_of p k settled))
 
-pub same_fit : (p : PlainView) (states : List CoreState) (budget : ℕ) → AreSame p.states states → budget ≤ 4 → AreWithin (length p.committed) states
+pub same_fit : (p : PlainView) (states : List CoreState) (budget : ℕ) → AreSame p.states states → AreWithin (length p.committed) states
     → (1 ≤ budget → HaveRoom (length p.committed) budget states) → IsFit p → IsFit (with_states p states budget)
-same_fit p states budget same most within room fit = record {
+same_fit p states budget same within room fit = record {
   least = fit.least;
   small = fit.small;
   count = omega (arith, fit.count, same.long);
-  most = most;
   within = within;
   room = room;
 }
@@ -127,7 +126,6 @@ fresh_fit p none least small few idle = record {
   least = least;
   small = small;
   count = few;
-  most = omega (arith, none);
   within = record { each = λ k state at. (idle.each k state at).1 };
   room = λ some. absurd (omega (arith, some, none));
 }

@@ -140,7 +140,6 @@ fit_state p by state budget below less within room fit = record {
   least = fit.least;
   small = fit.small;
   count = omega (arith, fit.count, length-set p.states by state);
-  most = omega (arith, fit.most, less);
   within = record { each = all_set (IsWithin (length p.committed)) p.states by state below within fit.within.each };
   room = λ some. record {
     each = all_set (HasRoom (length p.committed) budget) p.states by state below (room some) (λ k l at.

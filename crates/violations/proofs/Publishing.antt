@@ -141,7 +141,6 @@ changed_fit p committed states fit long count within room = record {
   least = omega (arith, fit.least, long);
   small = omega (arith, fit.small, long);
   count = omega (arith, fit.count, count);
-  most = fit.most;
   within = rw long within;
   room = λ some. rw long (room some);
 }

@@ -41,7 +41,6 @@ pub record IsFit (p : PlainView) : Type 0 where
   pub least : 16 ≤ length p.committed
   pub small : length p.committed ≤ 1048576
   pub count : length p.states ≤ 16
-  pub most : p.budget ≤ 4
   pub within : AreWithin (length p.committed) p.states
   pub room : 1 ≤ p.budget → HaveRoom (length p.committed) p.budget p.states
 

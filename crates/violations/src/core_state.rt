@@ -1,4 +1,4 @@
-ghost use Rattle.std.specs.Prelude.{◌≡◌, ◌<◌, ◌≤◌, ◌+◌, ◌^◌, ℕ, OnOk, Some, None, true, false, length, is_some, option_map, slice_index};
+ghost use Rattle.std.specs.Prelude.{◌≡◌, ◌<◌, ◌≤◌, ◌+◌, ◌*◌, ◌^◌, ℕ, OnOk, Some, None, true, false, length, is_some, option_map, slice_index};
 ghost use Rattle.memory_bytes.specs.Bytes.{IsWidth, number_at};
 ghost use Rattle.memory_bytes.specs.Maps.{joined, over, read_outside};
 ghost use Rattle.memory_bytes.specs.Shadow.{byte_in};
@@ -9,9 +9,6 @@ use crate::attempt::Attempt;
 use memory_bytes::ShadowBytes;
 use rv32_image::NoMemory;
 use std::alloc::Global;
-
-/// How many bytes four accesses have at most.
-const FOUR_ACCESSES: u32 = 16;
 
 /// What a plain store keeps of a core: its attempt, the bytes that it has stored, and those that it has loaded from outside.
 #[derive(Drop)]
@@ -34,20 +31,20 @@ impl CoreState {
         }
     }
 
-    /// Makes room for four accesses to so many bytes of memory: a cell for each byte where there is none yet, and the places of the
-    /// bytes that they touch.
-    pub fn reserve(&mut self, size: u32) -> Result<(), NoMemory>
-        requires least { 16 ≤ size }
+    /// Makes room for so many accesses to so many bytes of memory: a cell for each byte where there is none yet, and the places of the
+    /// bytes that the accesses touch.
+    pub fn reserve(&mut self, size: u32, accesses: u32) -> Result<(), NoMemory>
+        requires least { 4 * accesses ≤ size }
         requires within { spec.IsWithin size self.old }
         ensures same { spec.IsSameState self.old self.new }
         ensures within { spec.IsWithin size self.new }
-        ensures room { OnOk result (spec.HasRoom size 4 self.new) }
+        ensures room { OnOk result (spec.HasRoom size accesses self.new) }
     {
-        let last = size - FOUR_ACCESSES;
-        if self.own.reserve(last, FOUR_ACCESSES).is_err() {
+        let bytes = 4 * accesses;
+        if self.own.reserve(size - bytes, bytes).is_err() {
             return Err(NoMemory);
         }
-        if self.guarded.reserve(last, FOUR_ACCESSES).is_err() {
+        if self.guarded.reserve(size - bytes, bytes).is_err() {
             return Err(NoMemory);
         }
         Ok(())

@@ -1,5 +1,5 @@
 //! The states of all cores of a store.
-ghost use Rattle.std.specs.Prelude.{◌≡◌, ◌<◌, ◌≤◌, ◌+◌, ◌^◌, ℕ, IfOk, OnOk, length, slice_index};
+ghost use Rattle.std.specs.Prelude.{◌≡◌, ◌<◌, ◌≤◌, ◌+◌, ◌*◌, ◌^◌, ℕ, IfOk, OnOk, length, slice_index};
 ghost use Rattle.memory_bytes.specs.Bytes.{IsWidth};
 ghost use Rattle.memory_bytes.specs.Maps.{over, stored};
 ghost use Rattle.violations.specs.CoreState as spec;
@@ -26,17 +26,17 @@ pub fn idle_states(alloc: Global, cores: u32) -> Result<Vec<CoreState>, NoMemory
     Ok(states)
 }
 
-/// Makes room for four accesses of each core to so many bytes of memory.
-pub fn reserve(states: &mut Vec<CoreState>, size: u32) -> Result<(), NoMemory>
-    requires least { 16 ≤ size }
+/// Makes room for so many accesses of each core to so many bytes of memory.
+pub fn reserve(states: &mut Vec<CoreState>, size: u32, accesses: u32) -> Result<(), NoMemory>
+    requires least { 4 * accesses ≤ size }
     requires within { spec.AreWithin size states.old.items }
     ensures same { spec.AreSame states.old.items states.new.items }
     ensures within { spec.AreWithin size states.new.items }
-    ensures room { OnOk result (spec.HaveRoom size 4 states.new.items) }
+    ensures room { OnOk result (spec.HaveRoom size accesses states.new.items) }
 {
     for k in 0..states.len() {
         let state = &mut states[k];
-        state.reserve(size)?;
+        state.reserve(size, accesses)?;
     }
     Ok(())
 }

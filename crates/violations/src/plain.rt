@@ -18,12 +18,16 @@ use rv32_image::{Image, NoMemory};
 use std::alloc::Global;
 use std::marker::Model;
 
+/// For how many accesses of each core room is made at once, where memory has as many words.
+const MOST_ACCESSES: u32 = 64;
+
 /// A store of committed bytes and, for each core, of the bytes that its attempt has stored and of those that it has loaded
 /// from outside. It never waits. Its publish and its straight store violate each later core that guards a byte that is
 /// written, changed or not; its speculative store violates nobody.
 ///
-/// A load and a store take the same time whatever is kept; a publish, a violation and a leave take time for what the
-/// attempt has touched.
+/// A load and a store take the same time whatever is kept; a publish, a violation, a cancel and a leave take time for what the
+/// attempt has touched. It takes no memory for a core before the first `reserve`, which makes two cells for each byte of memory and each core;
+/// a later one grows nothing but the lists of touched bytes, and looks at the cores once in 64 accesses.
 #[derive(Drop)]
 pub struct PlainStore {
     size: u32,
@@ -130,6 +134,20 @@ impl PlainStore {
     }
 }
 
+impl PlainStore {
+    /// Makes room for some more calls.
+    fn grow(&mut self) -> Result<(), NoMemory>
+        ensures view { rule.IsSameView (spec.store_view self.old) (spec.store_view self.new) }
+        ensures budget { OnOk result (4 ≤ self.new.budget) }
+    {
+        let accesses = self.size.min(4 * MOST_ACCESSES) / 4;
+        self.budget = 0;
+        reserve(&mut self.states, self.size, accesses)?;
+        self.budget = accesses;
+        Ok(())
+    }
+}
+
 impl EpochStore for PlainStore {
     ghost use Rattle.violations.specs.Plain.{store_view};
 
@@ -154,9 +172,9 @@ impl EpochStore for PlainStore {
     }
 
     fn reserve(&mut self) -> Result<(), NoMemory> {
-        self.budget = 0;
-        reserve(&mut self.states, self.size)?;
-        self.budget = 4;
+        if self.budget < 4 {
+            self.grow()?;
+        }
         Ok(())
     }
 

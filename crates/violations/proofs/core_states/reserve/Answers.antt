@@ -3,7 +3,7 @@ use Rattle.violations.proofs.Changing.{state_there, same_set, within_set, reserv
 use Rattle.violations.proofs.core_states.reserve.Goals as goal
 
 pub loop-k-init : goal.loop-k-init
-loop-k-init c = reserving_start c.args.size c.args.states.now.items c.requires.within
+loop-k-init c = reserving_start c.args.size c.args.accesses c.args.states.now.items c.requires.within
 
 pub reserve-requires-clause-within : goal.reserve-requires-clause-within
 reserve-requires-clause-within c =
@@ -29,8 +29,8 @@ loop-k-preserved c =
     let xs = c.loop-k.states.items in
     let below : c.loop-k.k < length xs = search rules in
     let there = state_there xs xs c.loop-k.k c.index_mut-state.result.now refl below c.index_mut-state.ensures.value in
-    reserving_more c.args.size c.args.states.now.items xs c.loop-k.k c.index_mut-state.result.now c.reserve.new.self below there c.reserve.ensures.same c.reserve.ensures.within
+    reserving_more c.args.size c.args.accesses c.args.states.now.items xs c.loop-k.k c.index_mut-state.result.now c.reserve.new.self below there c.reserve.ensures.same c.reserve.ensures.within
     c.in_ok-reserve.ensures.room c.loop-k.invariant
 
 pub returns-clause-room : goal.returns-clause-room
-returns-clause-room c = reserving_end c.args.size c.args.states.now.items c.loop-k.states.items c.loop-k.k (search rules) c.loop-k.invariant
+returns-clause-room c = reserving_end c.args.size c.args.accesses c.args.states.now.items c.loop-k.states.items c.loop-k.k (search rules) c.loop-k.invariant
