@@ -1,5 +1,5 @@
 -- What a legal entry tells.
-use Rattle.std.proofs.Common.{◌≡◌, ◌≢◌, ℕ, zero, suc, ◌<◌, ◌==◌, ◌&&◌, ◌||◌, not, Bool, true, false, cond, is_some, Option, Some, None, refl, sym, ap, ◌∙◌, inl, inr, true≢false, arith, ne_eqb, eqb-true}
+use Rattle.std.proofs.Common.{◌≡◌, ◌≢◌, ℕ, zero, suc, ◌<◌, ◌==◌, ◌&&◌, ◌||◌, not, Bool, true, false, cond, is_some, Option, Some, None, refl, sym, ap, ◌∙◌, inl, inr, true≢false, arith, ne_eqb, eq-eqb, eqb-true}
 use Rattle.std.proofs.lemmas.Bool.{cases_eq}
 use Rattle.rv32_exec.specs.declared.stop.Stop.{Stop}
 use Rattle.rv32_exec.specs.declared.stop.Stop.TheVariants as stop
@@ -173,6 +173,16 @@ that_fault cause pc (stop.Fault c p) is =
     let both = and_true (c == cause) (p == pc) is in
     let ec = eqb-true c cause both.0 in
     let ep = eqb-true p pc both.1 in cc
+
+-- and the event passes the test of the entry that it is
+pub load_is_that : (address width : ℕ) (signed : Bool) (rd : ℕ) → is_that_load address width (stop.Load address width signed rd) ≡ true
+load_is_that address width signed rd = rw (eq-eqb address address refl, eq-eqb width width refl) refl
+
+pub store_is_that : (address width value : ℕ) → is_that_store address width value (stop.Store address width value) ≡ true
+store_is_that address width value = rw (eq-eqb address address refl, eq-eqb width width refl, eq-eqb value value refl) refl
+
+pub fault_is_that : (cause pc : ℕ) → is_that_fault cause pc (stop.Fault cause pc) ≡ true
+fault_is_that cause pc = rw (eq-eqb cause cause refl, eq-eqb pc pc refl) refl
 
 -- ---- an entry that is next
 

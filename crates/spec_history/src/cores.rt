@@ -190,13 +190,24 @@ impl Core {
         self.outside.reserve(addr, width).map_err(|_| NoMemory)
     }
 
+    /// Keeps no bytes.
+    fn forget(&mut self)
+        ensures attempt { self.new.attempt ≡ self.old.attempt }
+        ensures own { (a : ℕ) → byte_in self.new.own.cells a ≡ None }
+        ensures outside { (a : ℕ) → byte_in self.new.outside.cells a ≡ None }
+        ensures own_long { length self.new.own.cells ≡ length self.old.own.cells }
+        ensures outside_long { length self.new.outside.cells ≡ length self.old.outside.cells }
+    {
+        self.own.clear();
+        self.outside.clear();
+    }
+
     /// Begins an epoch.
     pub(crate) fn begin(&mut self, image: &Image, epoch: u32)
         ensures core { spec.core_of self.new ≡ Some (begun image.now epoch) }
         ensures fit { spec.IsCoreOf image.now self.old → spec.IsCoreOf image.now self.new }
     {
-        self.own.clear();
-        self.outside.clear();
+        self.forget();
         self.attempt = Some(Attempt {
             epoch,
             next: advance(image, start(image, epoch)),
@@ -275,8 +286,7 @@ impl Core {
         ensures core { spec.core_of self.new ≡ option_map effect.after_publish (spec.core_of self.old) }
         ensures fit { (image : LoadedImage) → spec.IsCoreOf image self.old → spec.IsCoreOf image self.new }
     {
-        self.own.clear();
-        self.outside.clear();
+        self.forget();
         if let Some(attempt) = &mut self.attempt {
             attempt.straight = true;
         }

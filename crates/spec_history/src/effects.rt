@@ -104,8 +104,8 @@ impl Machine {
         ensures { spec.Becomes self.old self.new (spec.after self.old by What.Restart) }
     {
         let core = &mut self.cores[by as usize];
-        let again = core.attempt().epoch;
-        core.begin(&self.image, again);
+        let epoch = core.attempt().epoch;
+        core.begin(&self.image, epoch);
     }
 
     /// The core's epoch publishes.
