@@ -6,10 +6,9 @@ Usage: tests/vectors/make.py
 The words come from the GNU assembler (riscv64-unknown-elf-as) and the results
 from qemu-riscv32, which runs every case as a user program and logs pc and
 registers before each instruction. Nothing of this project is run, so the
-vectors are independent of it. Writes one text file per group, and
-`rows.rs` with the same rows as Rust constants; and `fields.txt`, which gives
-the fields of words as the assembler's text has them, with `fields.rs`, tests of
-the decoder over some of its rows. Needs the Debian packages
+vectors are independent of it. Writes one text file per group; and `fields.txt`,
+which gives the fields of words as the assembler's text has them, with tests of
+the decoder over some of its rows, in the crate `rv32_decode`. Needs the Debian packages
 gcc-riscv64-unknown-elf and qemu-user; the files made by it are kept in the
 repository, so the tests need neither.
 """
@@ -21,6 +20,7 @@ import tempfile
 from pathlib import Path
 
 HERE = Path(__file__).resolve().parent
+DECODER_TESTS = HERE.parent.parent / "crates" / "rv32_decode" / "src" / "tests" / "fields.rt"
 AS = "riscv64-unknown-elf-as"
 LD = "riscv64-unknown-elf-ld"
 NM = "riscv64-unknown-elf-nm"
@@ -564,20 +564,20 @@ def field_test(name, table):
     """A test of the decoder over a table, as source."""
     rows = "".join(f"        (0x{word:08x}, Instr::{mnemonic.capitalize()} {{ {rust_fields(fields)} }}),\n"
                    for _, word, mnemonic, fields in table)
-    return (f"#[test]\nfn decodes_{name}(rt: HostRuntime) {{\n    for (word, instruction) in [\n{rows}    ] {{\n"
+    return (f"#[test]\n#[rattlefmt::skip]\nfn decodes_{name}(rt: HostRuntime) {{\n    for (word, instruction) in [\n{rows}    ] {{\n"
             '        assert_eq!(rt; decode(word), Ok(instruction), "at {word}");\n    }\n}\n')
 
 
 def write_fields():
-    """`fields.txt`, and `fields.rs` with tests of the decoder over some of its rows."""
-    lines, rust = ["# Words and their fields: text, word, name, fields."], []
+    """`fields.txt`, and tests of the decoder over some of its rows."""
+    lines, rust = ["# Words and their fields: text, word, name, fields."], ["use super::*;\n"]
     for name, cases in FIELD_GROUPS.items():
         table = field_rows(cases())
         lines += [f"{text} | {word:08x} | {mnemonic} | " + " ".join(f"{key}={value:x}" for key, value in fields.items())
                   for text, word, mnemonic, fields in table]
         rust.append(field_test(name, chosen(table)))
     (HERE / "fields.txt").write_text("\n".join(lines) + "\n")
-    (HERE / "fields.rs").write_text("\n".join(rust))
+    DECODER_TESTS.write_text("\n".join(rust))
     print(f"{'fields':10} {len(lines) - 1:4} rows")
 
 
@@ -593,53 +593,30 @@ def write_text(name, heading, rows):
     (HERE / f"{name}.txt").write_text("\n".join(lines) + "\n")
 
 
-def rust_value(value):
-    return f'"{value}"' if isinstance(value, str) else f"0x{value:08x}"
-
-
-def rust_table(name, form, heading, rows):
-    doc = "".join(f"/// {line}\n" for line in heading.splitlines())
-    body = "".join("    (" + ", ".join(map(rust_value, row)) + "),\n" for row in rows)
-    return f"{doc}const {name}: [{form}; {len(rows)}] = [\n{body}];\n"
-
-
 def main():
     register = alu_rows([(f"{name} x5,x6,x7", a, b) for name, pairs in REGISTER.items() for a, b in pairs])
     immediate = alu_rows([(f"{name} x5,x6,{i}", a, 0) for name, pairs in IMMEDIATE.items() for a, i in pairs])
     tables = [
-        ("register", "REGISTER", "(&str, u32, u32, u32, u32)",
-         "Register-register instructions: text, word, x6, x7, result in x5.", register),
-        ("immediate", "IMMEDIATE", "(&str, u32, u32, u32, u32)",
-         "Register-immediate instructions: text, word, x6, x7 (not read), result in x5.", immediate),
-        ("upper", "UPPER", "(&str, u32, u32)",
-         "LUI and AUIPC: text, word, result in x5; AUIPC's as if it stood at pc 0.", upper_rows()),
-        ("registers", "REGISTERS", "(&str, u32, u32, u32, u32, u32, u32, u32)",
-         "Other registers: text, word, a register and its value, another and its value,\n"
+        ("register", "Register-register instructions: text, word, x6, x7, result in x5.", register),
+        ("immediate", "Register-immediate instructions: text, word, x6, x7 (not read), result in x5.", immediate),
+        ("upper", "LUI and AUIPC: text, word, result in x5; AUIPC's as if it stood at pc 0.", upper_rows()),
+        ("registers", "Other registers: text, word, a register and its value, another and its value,\n"
          "the register looked at and its value afterwards.", register_rows()),
-        ("load", "LOAD", "(&str, u32, u32, u32)",
-         f"Loads: text, word, base in x6, result in x5. The 16 bytes at {DATA:#x} are\n{PATTERN}.", load_rows()),
-        ("store", "STORE", "(&str, u32, u32, u32, &str)",
-         f"Stores: text, word, base in x6, value in x7, the 16 bytes at {DATA:#x} afterwards,\n"
+        ("load", f"Loads: text, word, base in x6, result in x5. The 16 bytes at {DATA:#x} are\n{PATTERN}.", load_rows()),
+        ("store", f"Stores: text, word, base in x6, value in x7, the 16 bytes at {DATA:#x} afterwards,\n"
          f"which before are {PATTERN}.", store_rows()),
-        ("branch", "BRANCH", "(&str, u32, u32, u32, u32)",
-         "Branches: text, word, x6, x7, next pc minus own pc.", branch_rows()),
-        ("jal", "JAL", "(&str, u32, u32, u32)",
-         "JAL: text, word, link minus own pc (0 where the target is x0), next pc minus own pc.", jal_rows()),
-        ("jalr", "JALR", "(&str, u32, u32, u32, u32)",
-         "JALR: text, word, source minus own pc, link minus own pc (0 where the target is\n"
+        ("branch", "Branches: text, word, x6, x7, next pc minus own pc.", branch_rows()),
+        ("jal", "JAL: text, word, link minus own pc (0 where the target is x0), next pc minus own pc.", jal_rows()),
+        ("jalr", "JALR: text, word, source minus own pc, link minus own pc (0 where the target is\n"
          "x0), next pc minus own pc.", jalr_rows()),
-        ("fence", "FENCE", "(&str, u32)", "FENCE: text, word. Nothing changes but the pc.", fence_rows()),
-        ("system", "SYSTEM", "(&str, u32)", "ECALL and EBREAK: text, word.",
+        ("fence", "FENCE: text, word. Nothing changes but the pc.", fence_rows()),
+        ("system", "ECALL and EBREAK: text, word.",
          [("ecall", word_of("ecall")), ("ebreak", word_of("ebreak"))]),
-        ("illegal", "ILLEGAL", "(&str, u32, &str)",
-         "Words outside the table: text, word, remark.", refused_words()),
+        ("illegal", "Words outside the table: text, word, remark.", refused_words()),
     ]
-    rust = []
-    for name, constant, form, heading, rows in tables:
+    for name, heading, rows in tables:
         write_text(name, heading, rows)
-        rust.append(rust_table(constant, form, heading, rows))
         print(f"{name:10} {len(rows):4} rows")
-    (HERE / "rows.rs").write_text("\n".join(rust))
     write_fields()
     accepted = [(text, f"{word:08x}") for text, word, _ in tables[-1][-1] if not refused_by_qemu(word)]
     print("outside the table, but taken by qemu:", accepted)

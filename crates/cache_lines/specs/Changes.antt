@@ -1,17 +1,19 @@
--- The line that a call picks, and what a rollback and a publish make of a line.
-use Rattle.std.specs.Prelude.{◌≡◌, ℕ, ◌<◌, Bool, true, false, not, if◌then◌else◌, List, Option, Some, None}
+-- The line that a call picks, and what it makes of a line and of the copies that a cache holds.
+use Rattle.std.specs.Prelude.{◌≡◌, ℕ, ◌%◌, ◌==◌, ◌<◌, Bool, false, not, if◌then◌else◌, map, Option, Some, None}
 use Rattle.std.specs.Option.{option_or}
 use Rattle.spec_states.specs.declared.next.Next.{Next}
+use Rattle.spec_states.specs.Copies.{LineCopy, no_copy}
 use Rattle.spec_states.specs.States.{is_valid, is_speculative}
 use Rattle.spec_states.specs.Tables.{violation, settlement}
 use Rattle.cache_lines.specs.declared.line.Line.{Line}
-use Rattle.cache_lines.specs.declared.cache.TheConstants.{WAYS}
-use Rattle.cache_lines.specs.Lines.{line_in, is_copy_of, copy_at, IsNotElsewhere}
+use Rattle.cache_lines.specs.Lines.{Contents, way_count, line_in, is_copy_of}
+use Rattle.cache_lines.specs.Placed.{IsNotElsewhere}
+use Rattle.cache_lines.specs.Protocol.{copy_at, copy_of_line}
 
 -- the lowest way of the set of this address whose line passes the test
-abbrev pub lowest_way : (Line → Bool) → List Line → ℕ → Option ℕ
-lowest_way test lines addr =
-    if test (line_in lines addr 0) then Some 0 else (if test (line_in lines addr 1) then Some 1 else None)
+abbrev pub lowest_way : (Line → Bool) → Contents → ℕ → Option ℕ
+lowest_way test cache addr =
+    if test (line_in cache addr 0) then Some 0 else (if test (line_in cache addr 1) then Some 1 else None)
 
 abbrev pub is_invalid : Line → Bool
 is_invalid line = not (is_valid line.state)
@@ -20,29 +22,52 @@ abbrev pub is_unmarked : Line → Bool
 is_unmarked line = not (is_speculative line.state)
 
 -- the way that a line of this address would take: the lowest invalid one, else the lowest unmarked one
-abbrev pub victim_of : List Line → ℕ → Option ℕ
-victim_of lines addr = option_or (lowest_way is_invalid lines addr) (lowest_way is_unmarked lines addr)
+abbrev pub victim_of : Contents → ℕ → Option ℕ
+victim_of cache addr = option_or (lowest_way is_invalid cache addr) (lowest_way is_unmarked cache addr)
 
 -- the way has the copy of the line at this address, and no other way has
-pub record IsFound (lines : List Line) (addr way : ℕ) : Type 0 where
-  pub in_ways : way < WAYS
-  pub here : is_copy_of (line_in lines addr way) addr ≡ true
-  pub copy : copy_at lines addr ≡ Some (line_in lines addr way)
-  pub once : IsNotElsewhere lines addr way
+pub record IsFound (cache : Contents) (addr way : ℕ) : Type 0 where
+  pub in_ways : way < way_count
+  pub copy : copy_at cache addr ≡ copy_of_line (line_in cache addr way)
+  pub copy_of_it : (other : ℕ) → is_copy_of (line_in cache addr way) other ≡ (addr == other)
+  pub once : IsNotElsewhere cache addr way
+  pub aligned : addr % cache.line_length ≡ 0
 
 -- no way has a copy of the line at this address
-pub record IsAbsent (lines : List Line) (addr : ℕ) : Type 0 where
-  pub nowhere : (way : ℕ) → way < WAYS → is_copy_of (line_in lines addr way) addr ≡ false
-  pub copy : copy_at lines addr ≡ None
+pub record IsAbsent (cache : Contents) (addr : ℕ) : Type 0 where
+  pub nowhere : (way : ℕ) → way < way_count → is_copy_of (line_in cache addr way) addr ≡ false
+  pub copy : copy_at cache addr ≡ no_copy
 
 -- the line with the state and the marks of this change
-abbrev pub changed : Line → Next → Line
-changed line next = record line { state = next.state; marks = next.marks }
+abbrev pub changed_line : Line → Next → Line
+changed_line line next = record line { state = next.state; marks = next.marks }
 
 -- the line after a violation of its core's epoch
-abbrev pub rolled_back : Line → Line
-rolled_back line = changed line (violation line.state line.marks)
+abbrev pub rolled_back_line : Line → Line
+rolled_back_line line = changed_line line (violation line.state line.marks)
 
 -- the line after its core's publish
-abbrev pub published : Line → Bool → Line
-published line alone = changed line (settlement line.state line.marks alone)
+abbrev pub published_line : Bool → Line → Line
+published_line alone line = changed_line line (settlement line.state line.marks alone)
+
+-- the cache, with each line changed so
+abbrev pub with_each_line : (Line → Line) → Contents → Contents
+with_each_line change cache = record cache { lines = map change cache.lines }
+
+-- the line came into this way of its set: the copy of its address is the new line, the line that stood there is gone,
+-- and the other copies are as before
+abbrev pub CopiesAreFilled : Contents → Contents → ℕ → Line → Type 0
+CopiesAreFilled old new way line =
+    (addr : ℕ) → copy_at new addr
+    ≡ (if is_copy_of line addr then copy_of_line line
+    else (if is_copy_of (line_in old line.addr way) addr then no_copy else copy_at old addr))
+
+-- the copy in this way of the set of `addr` is changed so, and the other copies are as before
+abbrev pub CopiesChange : Contents → Contents → ℕ → ℕ → (LineCopy → LineCopy) → Type 0
+CopiesChange old new addr way change =
+    (other : ℕ) → copy_at new other
+    ≡ (if is_copy_of (line_in old addr way) other then change (copy_at old other) else copy_at old other)
+
+-- each copy is changed so
+abbrev pub CopiesAllChange : Contents → Contents → (LineCopy → LineCopy) → Type 0
+CopiesAllChange old new change = (addr : ℕ) → copy_at new addr ≡ change (copy_at old addr)

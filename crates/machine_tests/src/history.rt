@@ -1,10 +1,14 @@
+//! Histories and their audit: worked ones, and a plain slow machine beside the proved one.
+
 mod plain;
 mod rows;
 
-use super::*;
 use plain::PlainFlat;
-use rows::{ADD, LEGAL, REFUSED, WIDTHS, entries_of, entry_of};
-use rv32_exec::image_of;
+use rows::{
+    ADD, After, LARGE, LEGAL, REFUSED, Row, WIDTHS, after_of, entries_of, entry_of, is_row, row_of,
+};
+use rv32_exec::{image_of, run_in_order};
+use spec_history::{Entry, Flat, Illegal, What, audit};
 use std::alloc::Global;
 use std::process::Abort;
 use std::test::*;
@@ -15,41 +19,103 @@ fn word(flat: &Flat, addr: u32) -> Option<u32> {
     Some(u32::from_le_bytes([a?, b?, c?, d?]))
 }
 
+/// The machine says this of its state.
+fn is_after(flat: &Flat, want: After) -> bool {
+    flat.homefree() == want.homefree
+        && flat.published() == want.published
+        && flat.ended() == want.ended
+        && word(flat, 64) == Some(want.words[0])
+        && word(flat, 68) == Some(want.words[1])
+}
+
 #[test]
 fn audits_histories(rt: HostRuntime) -> Result<(), Fail> {
-    for row in &LEGAL {
-        let name = row.name;
+    for line in LEGAL.split('\n').filter(|line| is_row(line)) {
+        let row = row_of(line).ok_or(line)?;
         let image = image_of(rt.alloc(), row.image.as_bytes())?;
         let entries = entries_of(rt.alloc(), row.entries)?;
-        match audit(rt.alloc(), &image, row.cores, entries.as_slice()) {
-            Ok(flat) => {
-                assert_eq!(rt; flat.homefree(), row.homefree, "{name}");
-                assert_eq!(rt; flat.published(), row.published, "{name}");
-                assert_eq!(rt; flat.ended(), row.ended, "{name}");
-                assert_eq!(rt; word(&flat, 64), Some(row.words[0]), "{name}");
-                assert_eq!(rt; word(&flat, 68), Some(row.words[1]), "{name}");
-                assert_eq!(rt; flat.committed(256), None, "{name}");
-            }
-            Err((place, illegal)) => assert!(rt; false, "{name}: {place} {illegal}"),
-        }
+        let want = after_of(row.want).ok_or(line)?;
+        let flat = audit(rt.alloc(), &image, row.cores, entries.as_slice())
+            .ok()
+            .ok_or(line)?;
+        assert!(rt; is_after(&flat, want), "{line}");
+        assert!(rt; flat.committed(image.size()).is_none());
     }
     Ok(())
 }
 
 #[test]
 fn refuses_by_the_first_test(rt: HostRuntime) -> Result<(), Fail> {
-    for row in &REFUSED {
-        let name = row.name;
+    for line in REFUSED.split('\n').filter(|line| is_row(line)) {
+        let row = row_of(line).ok_or(line)?;
         let image = image_of(rt.alloc(), row.image.as_bytes())?;
         let entries = entries_of(rt.alloc(), row.entries)?;
-        match audit(rt.alloc(), &image, row.cores, entries.as_slice()) {
-            Ok(_) => assert!(rt; false, "{name}"),
-            Err((place, illegal)) => {
-                assert_eq!(rt; place.wrapping_add(1), entries.len(), "{name}");
-                assert_eq!(rt; illegal, row.illegal, "{name}");
-            }
+        let answer = audit(rt.alloc(), &image, row.cores, entries.as_slice());
+        let (place, illegal) = answer.err().ok_or(line)?;
+        assert!(rt;
+            place.wrapping_add(1) == entries.len() && illegal.name() == row.want,
+            "{line}"
+        );
+    }
+    Ok(())
+}
+
+/// How many commits there are.
+fn commits_of(entries: &[Entry]) -> usize {
+    let mut count = 0_usize;
+    for entry in entries {
+        if matches!(entry.what, What::Commit) {
+            count = count.wrapping_add(1);
         }
     }
+    count
+}
+
+/// Committed memory is these bytes.
+fn holds(flat: &Flat, bytes: &[u8]) -> bool {
+    for (addr, byte) in (0..1 << 20).zip(bytes) {
+        if flat.committed(addr) != Some(*byte) {
+            return false;
+        }
+    }
+    true
+}
+
+/// A loop that is over has ended as the sequential loop does, with its memory, and has a commit for each epoch before the
+/// homefree one.
+#[test]
+fn ends_as_the_sequential_loop_does(rt: HostRuntime) -> Result<(), Fail> {
+    for line in LEGAL.split('\n').filter(|line| is_row(line)) {
+        let row = row_of(line).ok_or(line)?;
+        let image = image_of(rt.alloc(), row.image.as_bytes())?;
+        let entries = entries_of(rt.alloc(), row.entries)?;
+        let flat = audit(rt.alloc(), &image, row.cores, entries.as_slice())
+            .ok()
+            .ok_or(line)?;
+        assert!(rt;
+            flat.homefree() as usize == commits_of(entries.as_slice()),
+            "{line}"
+        );
+        if let Some(end) = flat.ended() {
+            let whole = run_in_order(rt.alloc(), &image)?;
+            assert!(rt; whole.end() == end && holds(&flat, whole.bytes()), "{line}");
+        }
+    }
+    Ok(())
+}
+
+#[test]
+fn the_last_word_of_a_large_memory_is_committed(rt: HostRuntime) -> Result<(), Fail> {
+    let image = image_of(rt.alloc(), LARGE.as_bytes())?;
+    let entries = entries_of(
+        rt.alloc(),
+        "15 start 0; 15 store 1048572 4 4294967292; 15 commit",
+    )?;
+    let flat = audit(rt.alloc(), &image, 16, entries.as_slice())
+        .ok()
+        .ok_or("refused")?;
+    assert!(rt; word(&flat, 1_048_572) == Some(4_294_967_292));
+    assert!(rt; flat.committed(1_048_576).is_none());
     Ok(())
 }
 
@@ -66,17 +132,11 @@ fn is_same(flat: &Flat, plain: &PlainFlat) -> bool {
 }
 
 /// Both machines take these entries one after the other. Before each, both are given all of them that are to be refused there.
-fn compare(
-    rt: &impl Abort,
-    alloc: Global,
-    name: &str,
-    text: &str,
-    cores: u32,
-    entries: &[Entry],
-) -> Result<(), Fail> {
-    let image = image_of(alloc, text.as_bytes())?;
-    let mut flat = Flat::new(alloc, &image, cores)?;
-    let mut plain = PlainFlat::new(alloc, &image, cores)?;
+fn compare(rt: &impl Abort, alloc: Global, row: &Row, entries: &[Entry]) -> Result<(), Fail> {
+    let name = row.name;
+    let image = image_of(alloc, row.image.as_bytes())?;
+    let mut flat = Flat::new(alloc, &image, row.cores)?;
+    let mut plain = PlainFlat::new(alloc, &image, row.cores)?;
     assert!(rt; is_same(&flat, &plain), "{name}");
     for (place, entry) in entries.iter().enumerate() {
         refuse_all(rt, alloc, &mut flat, &plain, entries)?;
@@ -108,27 +168,12 @@ fn refuse_all(
 
 #[test]
 fn both_machines_agree(rt: HostRuntime) -> Result<(), Fail> {
-    for row in &LEGAL {
-        let entries = entries_of(rt.alloc(), row.entries)?;
-        compare(
-            &rt,
-            rt.alloc(),
-            row.name,
-            row.image,
-            row.cores,
-            entries.as_slice(),
-        )?;
-    }
-    for row in &REFUSED {
-        let entries = entries_of(rt.alloc(), row.entries)?;
-        compare(
-            &rt,
-            rt.alloc(),
-            row.name,
-            row.image,
-            row.cores,
-            entries.as_slice(),
-        )?;
+    for table in [LEGAL, REFUSED] {
+        for line in table.split('\n').filter(|line| is_row(line)) {
+            let row = row_of(line).ok_or(line)?;
+            let entries = entries_of(rt.alloc(), row.entries)?;
+            compare(&rt, rt.alloc(), &row, entries.as_slice())?;
+        }
     }
     Ok(())
 }
@@ -271,6 +316,7 @@ fn names_are_printed(rt: HostRuntime) -> Result<(), Fail> {
         (Illegal::NotHomefree, "NotHomefree"),
         (Illegal::HurtMissing, "HurtMissing"),
         (Illegal::Over, "Over"),
+        (Illegal::NotCancelled, "NotCancelled"),
         (Illegal::NoMemory, "NoMemory"),
     ] {
         assert_eq!(rt; illegal.name(), name);

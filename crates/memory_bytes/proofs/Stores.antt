@@ -1,6 +1,7 @@
 -- The bytes of an access, one after another.
-use Rattle.std.proofs.Common.{◌≡◌, ◌≢◌, ◌⊎◌, ℕ, suc, ◌+◌, ◌-◌, ◌/◌, ◌%◌, ◌^◌, ◌<◌, ◌≤◌, ◌&&◌, Bool, true, false, cond, nat_le, nat_lt, is_none, List, length, set, slice_index, Option, Some, None, unwrap_or, refl, sym, ap, ◌∙◌, inl, inr, arith, get_or-set_same, get_or-set_other, eq-eqb, ne_eqb}
-use Rattle.std.proofs.Math.Nat.{div-one, div-div-eq-div-mul, pow-suc}
+use Rattle.std.proofs.Common.{◌≡◌, ◌≢◌, ◌⊎◌, ℕ, suc, ◌+◌, ◌-◌, ◌*◌, ◌/◌, ◌%◌, ◌^◌, ◌<◌, ◌≤◌, ◌&&◌, Bool, true, false, cond, nat_le, nat_lt, is_none, List, length, set, slice_index, Option, Some, None, unwrap_or, refl, sym, ap, ◌∙◌, inl, inr, arith, get_or-set_same, get_or-set_other, eq-eqb, ne_eqb}
+use Rattle.std.proofs.Math.Nat.{div-one, div-div-eq-div-mul}
+use Rattle.std.proofs.lemmas.Nat.{pow-add}
 use Rattle.std.proofs.lemmas.Bool.{cases_eq}
 use Rattle.std.proofs.lemmas.Bool.Decides.{nat_tests}
 use Rattle.memory_bytes.specs.Maps.{first_of, joined, over, stored, read_outside}
@@ -11,7 +12,7 @@ use Rattle.memory_bytes.proofs.Bytes.{cases_below, stored_at, stored_below, stor
 
 -- the bytes from byte i on are still to come
 pub record Storing (address width value i rest : ℕ) : Type 0 where
-  pub left : rest ≡ value / 256 ^ i
+  pub left : rest ≡ value / 2 ^ (8 * i)
 
 pub storing_start : (address width value : ℕ) → Storing address width value 0 value
 storing_start address width value = record { left = sym (div-one value) }
@@ -22,10 +23,10 @@ storing_byte address width value i rest storing more =
 
 pub storing_more : (address width value i rest : ℕ) → Storing address width value i rest → i < width → Storing address width value (i + 1) (rest / 256)
 storing_more address width value i rest storing more =
-    let next : i + 1 ≡ suc i = omega arith in
+    let next : 8 * (i + 1) ≡ 8 * i + 8 = omega arith in
     record {
-      left = ap (λ n. n / 256) storing.left ∙ (div-div-eq-div-mul value (256 ^ i) 256
-          ∙ sym (ap (λ n. value / 256 ^ n) next ∙ ap (λ n. value / n) (pow-suc 256 i)));
+      left = ap (λ n. n / 256) storing.left ∙ (div-div-eq-div-mul value (2 ^ (8 * i)) 256
+          ∙ sym (ap (λ n. value / 2 ^ n) next ∙ ap (λ n. value / n) (pow-add 2 (8 * i) 8)));
     }
 
 pub storing_end : (address width value rest : ℕ) → Storing address width value width rest → (a : ℕ) → address + width ≤ a → stored address width value a ≡ None

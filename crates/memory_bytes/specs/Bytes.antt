@@ -8,7 +8,7 @@ IsWidth width = (width ≡ 1) ⊎ (width ≡ 2) ⊎ (width ≡ 4)
 
 -- byte i of a number, the least significant first
 abbrev pub byte_of : ℕ → ℕ → ℕ
-byte_of value i = value / 256 ^ i % 256
+byte_of value i = value / 2 ^ (8 * i) % 256
 
 -- the number in the `width` bytes from this address on, in a memory that has this byte at each address
 unfoldable pub number_at : (ℕ → ℕ) → ℕ → ℕ → ℕ

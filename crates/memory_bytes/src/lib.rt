@@ -4,5 +4,5 @@
 mod numbers;
 mod shadow;
 
-pub use numbers::{read_number, write_number};
+pub use numbers::{low_bytes, read_number, write_number};
 pub use shadow::ShadowBytes;

@@ -1,4 +1,4 @@
-ghost use Rattle.std.specs.Prelude.{◌≡◌, ◌+◌, ◌≤◌, ◌<◌, ◌^◌, length, slice_index};
+ghost use Rattle.std.specs.Prelude.{◌≡◌, ◌+◌, ◌%◌, ◌≤◌, ◌<◌, ◌^◌, length, slice_index};
 ghost use Rattle.memory_bytes.specs.Bytes.{IsWidth, number_at, with_number};
 
 /// The number in the `width` bytes from `addr` on, little endian.
@@ -36,5 +36,18 @@ pub fn write_number(bytes: &mut [u8], addr: usize, width: u32, value: u32)
     if width > 2 {
         bytes[addr + 2] = third;
         bytes[addr + 3] = fourth;
+    }
+}
+
+/// The low `width` bytes of a value.
+#[inline]
+pub fn low_bytes(width: u32, value: u32) -> u32
+    requires { IsWidth width }
+    ensures { result ≡ value % 256 ^ width }
+{
+    match width {
+        1 => value & 0xff,
+        2 => value & 0xffff,
+        _ => value,
     }
 }

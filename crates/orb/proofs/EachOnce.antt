@@ -1,9 +1,9 @@
 -- Lists in which each line stands once.
-use Rattle.std.proofs.Common.{◌≡◌, ℕ, suc, zero, ◌==◌, ◌||◌, ◌&&◌, not, Bool, true, false, List, [], ◌∷◌, ◌++◌, Some, refl, sym, ap, ◌∙◌, arith, cond}
+use Rattle.std.proofs.Common.{◌≡◌, ℕ, suc, zero, ◌==◌, ◌||◌, ◌&&◌, not, Bool, true, false, List, [], ◌∷◌, ◌++◌, Some, refl, sym, ap, subst, ◌∙◌, arith, cond, length, length-append, ◌≤◌, ◌≢◌}
 use Rattle.std.proofs.lemmas.Bool.Decides.{nat_tests}
 use Rattle.std.proofs.lemmas.List.Folds.{list_any-append, list_any_none}
 use Rattle.std.specs.List.{remove, All, slice_get}
-use Rattle.orb.specs.Lines.{holds, without, IsEachOnce}
+use Rattle.orb.specs.Lines.{Buffer, IsBuffer, holds, without, IsEachOnce}
 
 -- a line that is not there may come at the end
 pub IsEachOnce-push : (xs : List ℕ) (y : ℕ) → IsEachOnce xs → holds xs y ≡ false → IsEachOnce (xs ++ y ∷ [])
@@ -76,3 +76,53 @@ remove-without (x ∷ xs) (suc i) addr once at =
 -- a list none of whose lines has this address
 pub absent : (addr : ℕ) (xs : List ℕ) → All (λ line. (line == addr) ≡ false) xs → holds xs addr ≡ false
 absent addr xs none = list_any_none (λ line. line == addr) xs none
+
+-- a line at the end is there beside the others
+pub holds-push : (xs : List ℕ) (addr x : ℕ) → holds (xs ++ addr ∷ []) x ≡ (holds xs x || (addr == x))
+holds-push xs addr x = list_any-append (λ line. line == x) xs (addr ∷ []) ∙ last (holds xs x) (addr == x)
+  where
+    last : (b d : Bool) → (b || (d || false)) ≡ (b || d)
+    last b d = grind (arith, nat_tests)
+
+-- there are no more lines without one
+pub length-without : (addr : ℕ) (xs : List ℕ) → length (without addr xs) ≤ length xs
+length-without addr [] = omega arith
+length-without addr (x ∷ xs) = step (not (x == addr)) (length-without addr xs)
+  where
+    step : (b : Bool) → length (without addr xs) ≤ length xs
+        → length (cond b (x ∷ without addr xs) (without addr xs)) ≤ length (x ∷ xs)
+    step true h = omega arith
+    step false h = omega arith
+
+-- ---- buffers
+
+abbrev pub buffer : ℕ → List ℕ → Buffer
+buffer limit lines = record { limit = limit; lines = lines }
+
+-- a buffer that is not full, with one more line
+pub IsBuffer-push : (limit : ℕ) (lines : List ℕ) (addr : ℕ) → IsBuffer (buffer limit lines) → holds lines addr ≡ false
+    → length lines ≢ limit → IsBuffer (buffer limit (lines ++ addr ∷ []))
+IsBuffer-push limit lines addr h out room =
+    record {
+      within = let w = h.within in omega (arith, length-append lines (addr ∷ []));
+      limit_is = h.limit_is;
+      each_once = IsEachOnce-push lines addr h.each_once out;
+    }
+
+-- a buffer without a line
+pub IsBuffer-without : (limit : ℕ) (lines : List ℕ) (addr : ℕ) → IsBuffer (buffer limit lines)
+    → IsBuffer (buffer limit (without addr lines))
+IsBuffer-without limit lines addr h =
+    record {
+      within = let w = h.within in omega (arith, length-without addr lines);
+      limit_is = h.limit_is;
+      each_once = IsEachOnce-without addr lines h.each_once;
+    }
+
+-- to take out the place of a line is to take out the line
+pub buffer-remove : (limit : ℕ) (lines : List ℕ) (seen : Buffer) (i addr : ℕ) → buffer limit lines ≡ seen
+    → IsEachOnce seen.lines → slice_get seen.lines i ≡ Some addr
+    → buffer limit (remove lines i) ≡ buffer seen.limit (without addr seen.lines)
+buffer-remove limit lines seen i addr e =
+    subst (λ (b : Buffer). IsEachOnce b.lines → slice_get b.lines i ≡ Some addr → buffer limit (remove lines i) ≡ buffer b.limit (without addr b.lines))
+    e (λ once at. ap (buffer limit) (remove-without lines i addr once at))

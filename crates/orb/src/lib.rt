@@ -7,4 +7,4 @@ mod buffer;
 #[cfg(test)]
 mod tests;
 
-pub use buffer::{ORB_LINES, Orb, OrbFull};
+pub use buffer::{LARGEST_LIMIT, Orb, OrbFull};

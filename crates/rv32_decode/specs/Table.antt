@@ -92,7 +92,7 @@ is_fixed (Some value) field = field == value
 abbrev pub fits_row : Row → ℕ → Bool
 fits_row row word = opcode word == row.opcode && is_fixed row.funct3 (funct3 word) && is_fixed row.funct7 (funct7 word)
 
--- the meaning by the first row that the word fits; the rows exclude one another
+-- the meaning by the row that the word fits: it fits one at most, which the law `rows_exclude_one_another` says
 abbrev pub in_rows : List Row → ℕ → Result Instr Refused
 in_rows [] word = Err Illegal
 in_rows (row ∷ rows) word = if fits_row row word then Ok (row.meaning word) else in_rows rows word

@@ -7,6 +7,7 @@
 mod decoder;
 mod fields;
 mod instr;
+pub mod laws;
 mod refused;
 
 pub use decoder::decode;

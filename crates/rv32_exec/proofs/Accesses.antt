@@ -7,6 +7,7 @@ use Rattle.rv32_decode.specs.declared.refused.Refused.{Refused}
 use Rattle.rv32_decode.specs.declared.refused.Refused.TheVariants.{Illegal, System}
 use Rattle.rv32_decode.specs.Table.{meaning_of}
 use Rattle.rv32_exec.specs.Hart.{epoch_end}
+use Rattle.rv32_exec.specs.declared.stop.Stop.{Stop}
 use Rattle.rv32_exec.specs.declared.stop.Stop.TheVariants.{Load, Store, Ended, Fault}
 use Rattle.rv32_exec.specs.Faults.{misaligned_data, fetch_outside_code, instruction_limit, load_outside_memory, store_outside_data}
 use Rattle.memory_bytes.specs.Bytes.{number_at}
@@ -148,3 +149,7 @@ stop_within image (suc n) h = event_by image n h (hart_effect image h) refl (λ 
 pub stop_of_event : (image : LoadedImage) (h : HartState) → IsStopOf image (next_event image h).now (next_event image h).at
 unfolding next_event
 stop_of_event image h = stop_within image _ h
+
+-- what is known of a stop, by the effect
+pub stop_of_effect : (image : LoadedImage) (h : HartState) (at : Stop) → hart_effect image h ≡ Stops at → IsStopOf image h at
+stop_of_effect image h at is = (rw is at (effect_sound image h)).stops

@@ -1,11 +1,11 @@
 -- How the next event and an epoch's outcome go on over one step.
-use Rattle.std.proofs.Common.{◌≡◌, ℕ, suc, ◌+◌, ◌-◌, ◌<◌, ◌≤◌, List, refl, sym, ap, ◌∙◌, arith}
+use Rattle.std.proofs.Common.{◌≡◌, ℕ, suc, ◌+◌, ◌-◌, ◌≤◌, List, refl, sym, ap, ◌∙◌, arith}
 use Rattle.rv32_exec.specs.declared.stop.Stop.{Stop}
 use Rattle.rv32_image.specs.Image.{LoadedImage}
 use Rattle.rv32_exec.specs.Hart.{HartState, start_of}
 use Rattle.rv32_exec.specs.Execute.{Executes, Stops, hart_effect}
 use Rattle.rv32_exec.specs.NextEvent.{event_within, next_event}
-use Rattle.rv32_exec.specs.Sequential.{Progress, Runs, execute, after_steps, after_stop, epoch_outcome, go_on}
+use Rattle.rv32_exec.specs.Sequential.{Progress, execute, after_steps, after_stop, epoch_outcome, go_on}
 use Rattle.rv32_exec.proofs.Steps.{executes_counts, executes_below}
 
 pub event_within_executes : (image : LoadedImage) (n : ℕ) (h after : HartState) → hart_effect image h ≡ Executes after
@@ -36,12 +36,7 @@ next_event-stops image h at is =
     let left : image.limit - h.done + 1 ≡ suc (image.limit - h.done) = omega arith in
     ap (λ n. event_within image n h) left ∙ event_within_stops image (image.limit - h.done) h at is
 
--- one step of a run
-pub after_steps-executes : (image : LoadedImage) (n : ℕ) (h after : HartState) (memory : List ℕ) → hart_effect image h ≡ Executes after
-    → after_steps image (suc n) h memory ≡ after_steps image n after memory
-unfolding after_steps execute
-after_steps-executes image n h after memory is = rw is refl
-
+-- a run where it stops
 pub after_steps-stops : (image : LoadedImage) (n : ℕ) (h : HartState) (at : Stop) (memory : List ℕ) → hart_effect image h ≡ Stops at
     → after_steps image (suc n) h memory ≡ go_on (after_stop h memory at) (after_steps image n)
 unfolding after_steps execute
@@ -50,28 +45,6 @@ after_steps-stops image n h at memory is = rw is refl
 -- from a hart within the limit, `left` instructions are left of the epoch and one more turn, in which it stops
 abbrev pub left : LoadedImage → HartState → ℕ
 left image h = image.limit + 1 - h.done
-
-pub left_after : (image : LoadedImage) (h after : HartState) → h.done < image.limit → after.done ≡ h.done + 1 → left image h ≡ suc (left image after)
-left_after image h after room counted = omega arith
-
--- the rest of the run is the same after an instruction that is executed
-pub outcome-executes : (image : LoadedImage) (h after : HartState) (memory : List ℕ) (outcome : Progress) → hart_effect image h ≡ Executes after
-    → after_steps image (left image h) h memory ≡ outcome → after_steps image (left image after) after memory ≡ outcome
-outcome-executes image h after memory outcome is before =
-    let counted = executes_counts image h after is in
-    let room = executes_below image h after is in
-    let one = ap (λ n. after_steps image n h memory) (left_after image h after room counted) in
-    sym (one ∙ after_steps-executes image (left image after) h after memory is) ∙ before
-
--- and after the access at which it stopped
-pub outcome-access : (image : LoadedImage) (h after : HartState) (at : Stop) (memory memory' : List ℕ) (outcome : Progress)
-    → hart_effect image h ≡ Stops at → h.done < image.limit → after.done ≡ h.done + 1 → after_stop h memory at ≡ Runs after memory'
-    → after_steps image (left image h) h memory ≡ outcome → after_steps image (left image after) after memory' ≡ outcome
-outcome-access image h after at memory memory' outcome is room counted access before =
-    let one = ap (λ n. after_steps image n h memory) (left_after image h after room counted) in
-    let step = after_steps-stops image (left image after) h at memory is in
-    let made = ap (λ p. go_on p (after_steps image (left image after))) access in
-    sym (one ∙ step ∙ made) ∙ before
 
 -- at the end or a fault the outcome is there
 pub outcome-stops : (image : LoadedImage) (h : HartState) (at : Stop) (memory : List ℕ) (outcome stopped : Progress)

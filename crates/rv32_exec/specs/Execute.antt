@@ -1,7 +1,7 @@
 -- What one instruction does.
 -- Source: RISC-V Unprivileged ISA, chapter "RV32I Base Integer Instruction Set", by its sections. Ends, limits
 -- and the numbers of faults are this project's.
-use Rattle.std.specs.Prelude.{◌≡◌, ◌<◌, ◌≤◌, ◌⊎◌, Option, Some, None, ℕ, ◌+◌, ◌-◌, ◌*◌, ◌/◌, ◌%◌, ◌^◌, Bool, true, false, not, ◌==◌, ◌||◌, nat_lt, nat_le, Result, Ok, Err, slice_index, if◌then◌else◌, bit_and, bit_or, bit_xor, int_lt}
+use Rattle.std.specs.Prelude.{◌≡◌, ◌<◌, ◌≤◌, ℕ, ◌+◌, ◌-◌, ◌*◌, ◌/◌, ◌%◌, ◌^◌, Bool, true, false, not, ◌==◌, ◌||◌, nat_lt, nat_le, Result, Ok, Err, slice_index, if◌then◌else◌, bit_and, bit_or, bit_xor, int_lt}
 use Rattle.std.specs.Int.{w32, cast_signed, cast_unsigned, int_shr}
 use Rattle.rv32_decode.specs.Word.{sign_extended}
 use Rattle.rv32_decode.specs.Table.{meaning_of}
@@ -73,31 +73,11 @@ store image h width address value =
     else if nat_lt image.size (address + width) || nat_lt address image.code then Stops (Fault store_outside_data h.pc)
     else Stops (Store address width (value % 256 ^ width))
 
--- the instruction, at a hart that is to execute it; `x r` is what register r holds
+-- the instruction, at a hart that is to execute it; `x r` is what register r holds. In the order of the decoder's table.
 unfoldable pub instruction_effect : LoadedImage → HartState → (ℕ → ℕ) → Instr → Effect
 -- "Integer Register-Immediate Instructions"
-instruction_effect image h x (Addi rd rs1 imm) = Executes (wrote h rd (add (x rs1) imm))
-instruction_effect image h x (Slti rd rs1 imm) = Executes (wrote h rd (bit (is_less_signed (x rs1) imm)))
-instruction_effect image h x (Sltiu rd rs1 imm) = Executes (wrote h rd (bit (nat_lt (x rs1) imm)))
-instruction_effect image h x (Andi rd rs1 imm) = Executes (wrote h rd (bit_and (x rs1) imm))
-instruction_effect image h x (Ori rd rs1 imm) = Executes (wrote h rd (bit_or (x rs1) imm))
-instruction_effect image h x (Xori rd rs1 imm) = Executes (wrote h rd (bit_xor (x rs1) imm))
-instruction_effect image h x (Slli rd rs1 amount) = Executes (wrote h rd (shift_left (x rs1) amount))
-instruction_effect image h x (Srli rd rs1 amount) = Executes (wrote h rd (shift_right (x rs1) amount))
-instruction_effect image h x (Srai rd rs1 amount) = Executes (wrote h rd (shift_right_arithmetic (x rs1) amount))
 instruction_effect image h x (Lui rd imm) = Executes (wrote h rd imm)
 instruction_effect image h x (Auipc rd imm) = Executes (wrote h rd (add h.pc imm))
--- "Integer Register-Register Operations"
-instruction_effect image h x (Add rd rs1 rs2) = Executes (wrote h rd (add (x rs1) (x rs2)))
-instruction_effect image h x (Slt rd rs1 rs2) = Executes (wrote h rd (bit (is_less_signed (x rs1) (x rs2))))
-instruction_effect image h x (Sltu rd rs1 rs2) = Executes (wrote h rd (bit (nat_lt (x rs1) (x rs2))))
-instruction_effect image h x (And rd rs1 rs2) = Executes (wrote h rd (bit_and (x rs1) (x rs2)))
-instruction_effect image h x (Or rd rs1 rs2) = Executes (wrote h rd (bit_or (x rs1) (x rs2)))
-instruction_effect image h x (Xor rd rs1 rs2) = Executes (wrote h rd (bit_xor (x rs1) (x rs2)))
-instruction_effect image h x (Sll rd rs1 rs2) = Executes (wrote h rd (shift_left (x rs1) (x rs2)))
-instruction_effect image h x (Srl rd rs1 rs2) = Executes (wrote h rd (shift_right (x rs1) (x rs2)))
-instruction_effect image h x (Sub rd rs1 rs2) = Executes (wrote h rd (subtract (x rs1) (x rs2)))
-instruction_effect image h x (Sra rd rs1 rs2) = Executes (wrote h rd (shift_right_arithmetic (x rs1) (x rs2)))
 -- "Unconditional Jumps"; JALR clears the lowest bit of its target
 instruction_effect image h x (Jal rd offset) = jump h rd (add h.pc offset)
 instruction_effect image h x (Jalr rd rs1 imm) = jump h rd (add (x rs1) imm / 2 * 2)
@@ -105,18 +85,39 @@ instruction_effect image h x (Jalr rd rs1 imm) = jump h rd (add (x rs1) imm / 2 
 instruction_effect image h x (Beq rs1 rs2 offset) = branch h (x rs1 == x rs2) offset
 instruction_effect image h x (Bne rs1 rs2 offset) = branch h (not (x rs1 == x rs2)) offset
 instruction_effect image h x (Blt rs1 rs2 offset) = branch h (is_less_signed (x rs1) (x rs2)) offset
-instruction_effect image h x (Bltu rs1 rs2 offset) = branch h (nat_lt (x rs1) (x rs2)) offset
 instruction_effect image h x (Bge rs1 rs2 offset) = branch h (not (is_less_signed (x rs1) (x rs2))) offset
+instruction_effect image h x (Bltu rs1 rs2 offset) = branch h (nat_lt (x rs1) (x rs2)) offset
 instruction_effect image h x (Bgeu rs1 rs2 offset) = branch h (not (nat_lt (x rs1) (x rs2))) offset
 -- "Load and Store Instructions"
-instruction_effect image h x (Lw rd rs1 imm) = load image h 4 false rd (add (x rs1) imm)
-instruction_effect image h x (Lh rd rs1 imm) = load image h 2 true rd (add (x rs1) imm)
-instruction_effect image h x (Lhu rd rs1 imm) = load image h 2 false rd (add (x rs1) imm)
 instruction_effect image h x (Lb rd rs1 imm) = load image h 1 true rd (add (x rs1) imm)
+instruction_effect image h x (Lh rd rs1 imm) = load image h 2 true rd (add (x rs1) imm)
+instruction_effect image h x (Lw rd rs1 imm) = load image h 4 false rd (add (x rs1) imm)
 instruction_effect image h x (Lbu rd rs1 imm) = load image h 1 false rd (add (x rs1) imm)
-instruction_effect image h x (Sw rs1 rs2 imm) = store image h 4 (add (x rs1) imm) (x rs2)
-instruction_effect image h x (Sh rs1 rs2 imm) = store image h 2 (add (x rs1) imm) (x rs2)
+instruction_effect image h x (Lhu rd rs1 imm) = load image h 2 false rd (add (x rs1) imm)
 instruction_effect image h x (Sb rs1 rs2 imm) = store image h 1 (add (x rs1) imm) (x rs2)
+instruction_effect image h x (Sh rs1 rs2 imm) = store image h 2 (add (x rs1) imm) (x rs2)
+instruction_effect image h x (Sw rs1 rs2 imm) = store image h 4 (add (x rs1) imm) (x rs2)
+-- "Integer Register-Immediate Instructions"
+instruction_effect image h x (Addi rd rs1 imm) = Executes (wrote h rd (add (x rs1) imm))
+instruction_effect image h x (Slti rd rs1 imm) = Executes (wrote h rd (bit (is_less_signed (x rs1) imm)))
+instruction_effect image h x (Sltiu rd rs1 imm) = Executes (wrote h rd (bit (nat_lt (x rs1) imm)))
+instruction_effect image h x (Xori rd rs1 imm) = Executes (wrote h rd (bit_xor (x rs1) imm))
+instruction_effect image h x (Ori rd rs1 imm) = Executes (wrote h rd (bit_or (x rs1) imm))
+instruction_effect image h x (Andi rd rs1 imm) = Executes (wrote h rd (bit_and (x rs1) imm))
+instruction_effect image h x (Slli rd rs1 amount) = Executes (wrote h rd (shift_left (x rs1) amount))
+instruction_effect image h x (Srli rd rs1 amount) = Executes (wrote h rd (shift_right (x rs1) amount))
+instruction_effect image h x (Srai rd rs1 amount) = Executes (wrote h rd (shift_right_arithmetic (x rs1) amount))
+-- "Integer Register-Register Operations"
+instruction_effect image h x (Add rd rs1 rs2) = Executes (wrote h rd (add (x rs1) (x rs2)))
+instruction_effect image h x (Sub rd rs1 rs2) = Executes (wrote h rd (subtract (x rs1) (x rs2)))
+instruction_effect image h x (Sll rd rs1 rs2) = Executes (wrote h rd (shift_left (x rs1) (x rs2)))
+instruction_effect image h x (Slt rd rs1 rs2) = Executes (wrote h rd (bit (is_less_signed (x rs1) (x rs2))))
+instruction_effect image h x (Sltu rd rs1 rs2) = Executes (wrote h rd (bit (nat_lt (x rs1) (x rs2))))
+instruction_effect image h x (Xor rd rs1 rs2) = Executes (wrote h rd (bit_xor (x rs1) (x rs2)))
+instruction_effect image h x (Srl rd rs1 rs2) = Executes (wrote h rd (shift_right (x rs1) (x rs2)))
+instruction_effect image h x (Sra rd rs1 rs2) = Executes (wrote h rd (shift_right_arithmetic (x rs1) (x rs2)))
+instruction_effect image h x (Or rd rs1 rs2) = Executes (wrote h rd (bit_or (x rs1) (x rs2)))
+instruction_effect image h x (And rd rs1 rs2) = Executes (wrote h rd (bit_and (x rs1) (x rs2)))
 -- "Memory Ordering Instructions"
 instruction_effect image h x Fence = Executes (stepped h)
 
@@ -165,8 +166,3 @@ IsStopOf image h (Load address width signed rd) = IsAccess image h address width
 IsStopOf image h (Store address width value) = IsStore image h address width value
 IsStopOf image h Ended = Unit {0}
 IsStopOf image h (Fault cause pc) = Unit {0}
-
--- what an answer of one step says: it was executed, or it stopped
-abbrev pub effect_of : Option Stop → HartState → Effect
-effect_of None after = Executes after
-effect_of (Some at) after = Stops at

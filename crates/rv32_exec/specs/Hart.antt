@@ -16,6 +16,11 @@ pub record HartState : Type 0 where
   -- how many instructions of its epoch it has executed
   pub done : ℕ
 
+-- there are 32 registers, and x0 is 0
+pub record AreRegisters (x : List ℕ) : Type 0 where
+  pub register_count : length x ≡ 32
+  pub x0 : slice_index x 0 ≡ 0
+
 -- pc is a multiple of 4, there are 32 registers, and x0 is 0
 pub record IsHart (h : HartState) : Type 0 where
   pub aligned : h.pc % 4 ≡ 0

@@ -1,8 +1,12 @@
+-- Definitions to believe: Faults (the causes), Hart (a hart and its start), Execute (what one instruction does), NextEvent
+-- (the next access, end or fault) and Sequential (an epoch, the loop, published memory).
 pub mod Faults
 pub mod Hart
 pub mod Execute
 pub mod NextEvent
 pub mod Sequential
-pub mod Interpreter
+-- Words of contracts: Arrival (what `advance` answers) and Laws (what the laws say).
 pub mod Arrival
 pub mod Laws
+-- What the code keeps: Interpreter (one instruction of the interpreter's loop).
+pub mod Interpreter

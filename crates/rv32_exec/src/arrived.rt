@@ -5,7 +5,6 @@ ghost use Rattle.rv32_exec.specs.Hart.{stepped};
 ghost use Rattle.rv32_exec.specs.Execute.{IsStopOf};
 
 use crate::hart::Hart;
-use crate::interpreter::run;
 use crate::stop::Stop;
 use rv32_image::Image;
 use std::marker::Model;
@@ -69,20 +68,16 @@ pub fn advance(image: &Image, hart: Hart) -> Arrived
 {
     let base = hart;
     let mut now = hart;
-    loop {
-        // With no memory at hand it stops at an access to data.
-        run(image, &mut now, &mut []);
-        if let Some(at) = now.step(image) {
-            return Arrived { base, now, at };
-        }
-    }
+    // With no memory at hand it stops at an access to data.
+    let at = now.run(image, &mut []);
+    Arrived { base, now, at }
 }
 
-/// The hart after the load at which it stopped. `word` holds the bytes that were loaded, little endian; its
+/// The hart after the load at which it stopped. `number` is that of the bytes that were loaded, little endian; its
 /// upper bytes are 0.
-pub fn loaded(arrived: &Arrived, word: u32) -> Hart
-    requires { spec.IsAtLoad arrived.now.at word }
-    ensures { result ≡ spec.after_loading arrived.entry.now word }
+pub fn loaded(arrived: &Arrived, number: u32) -> Hart
+    requires { spec.IsAtLoad arrived.now.at number }
+    ensures { result ≡ spec.after_loading arrived.entry.now number }
 {
     let mut hart = arrived.now;
     if let Stop::Load {
@@ -92,7 +87,7 @@ pub fn loaded(arrived: &Arrived, word: u32) -> Hart
         ..
     } = arrived.at
     {
-        hart.complete_load(width, signed, rd, word);
+        hart.complete_load(width, signed, rd, number);
     }
     hart
 }

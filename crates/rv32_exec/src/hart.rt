@@ -1,15 +1,18 @@
-ghost use Rattle.std.specs.Prelude.{◌≡◌, ◌<◌, ◌+◌, ◌%◌, ◌^◌, slice_index};
+ghost use Rattle.std.specs.Prelude.{◌≡◌, ◌<◌, ◌≤◌, ◌+◌, ◌%◌, ◌^◌, length, slice_index};
 ghost use Rattle.rv32_exec.specs.Hart as spec;
-ghost use Rattle.rv32_exec.specs.Execute.{after_load, extended};
+ghost use Rattle.rv32_exec.specs.Execute.{Stops, after_load, hart_effect};
+ghost use Rattle.rv32_exec.specs.Interpreter.{IsNoAccess, rest};
+ghost use Rattle.rv32_exec.specs.NextEvent.{next_event};
 ghost use Rattle.rv32_exec.specs.Sequential.{exits};
 ghost use Rattle.memory_bytes.specs.Bytes.{IsWidth};
 
+use crate::access::extend;
+use crate::interpreter::run;
+use crate::registers::Registers;
+use crate::stop::{EPOCH_END, Stop};
 use rv32_decode::Register;
 use rv32_image::Image;
 use std::marker::Model;
-
-/// The address that ends an epoch: x1 holds it at the start, and a jump there is the epoch's return.
-pub const EPOCH_END: u32 = 0xffff_fffc;
 
 /// The state of one epoch's execution, memory aside. Contracts see it as its registers, its pc and its count.
 ///
@@ -18,7 +21,7 @@ pub const EPOCH_END: u32 = 0xffff_fffc;
 /// Source: RISC-V Unprivileged ISA, "Programmers' Model for Base Integer ISA".
 #[derive(Clone, Copy, Debug, PartialEq, Eq)]
 pub struct Hart {
-    x: [u32; 32],
+    x: Registers,
     pc: u32,
     done: u64,
 }
@@ -38,29 +41,12 @@ impl Model for Hart {
 }
 
 impl Hart {
-    /// The hart with these registers, at this pc, with so many instructions executed.
-    pub(crate) fn new(x: [u32; 32], pc: u32, done: u64) -> Hart
-        requires aligned { pc % 4 ≡ 0 }
-        requires x0 { slice_index x 0 ≡ 0 }
-        ensures { result ≡ record { x = x; pc = pc; done = done } }
-    {
-        Hart { x, pc, done }
-    }
-
-    /// What its registers hold.
-    pub(crate) fn registers(&self) -> [u32; 32]
-        ensures x { result ≡ self.now.x }
-        ensures x0 { slice_index result 0 ≡ 0 }
-    {
-        self.x
-    }
-
     /// What a register holds.
     #[inline]
     pub fn x(&self, register: Register) -> u32
         ensures { result ≡ slice_index self.now.x register }
     {
-        self.x[usize::from(register.number())]
+        self.x.get(register)
     }
 
     /// The address of the next instruction, a multiple of 4.
@@ -84,7 +70,7 @@ impl Hart {
     pub fn exits(&self, image: &Image) -> bool
         ensures { result ≡ exits image.now self.now }
     {
-        image.exit() && self.x[10] != 0
+        image.exit() && self.x.get(Register::new(10)) != 0
     }
 
     /// Writes a register, and goes on to the next instruction.
@@ -93,7 +79,7 @@ impl Hart {
         requires { self.old.done < 2 ^ 63 }
         ensures { self.new ≡ spec.wrote self.old rd value }
     {
-        self.set(rd, value);
+        self.x.set(rd, value);
         self.go_on();
     }
 
@@ -118,27 +104,24 @@ impl Hart {
         self.write(rd, extend(width, signed, number));
     }
 
-    /// Sets a register; x0 stays 0.
-    #[inline]
-    pub(crate) fn set(&mut self, rd: Register, value: u32)
-        ensures { self.new ≡ record self.old { x = spec.with_register self.old.x rd value } }
+    /// Runs it over memory up to its next stop. `bytes` is memory from address 0 on as far as it is at hand: it stops at a
+    /// load or a store past it.
+    pub(crate) fn run(&mut self, image: &Image, bytes: &mut [u8]) -> Stop
+        requires size { length bytes.old ≤ image.now.size }
+        requires words { length bytes.old % 4 ≡ 0 }
+        ensures stop { hart_effect image.now self.new ≡ Stops result }
+        ensures whole { length bytes.old ≡ image.now.size → IsNoAccess result }
+        ensures rest { rest image.now self.new bytes.new ≡ rest image.now self.old bytes.old }
+        ensures event { length bytes.old ≡ 0 → next_event image.now self.new ≡ next_event image.now self.old }
+        ensures within { self.old.done ≤ image.now.limit → self.new.done ≤ image.now.limit }
+        ensures later { self.old.done ≤ self.new.done }
+        ensures limit { image.now.limit ≤ 1000000 }
     {
-        self.x[usize::from(rd.number())] = value;
-        self.x[0] = 0;
-    }
-}
-
-/// The value that a load of this number writes.
-#[inline(always)]
-pub(crate) fn extend(width: u32, signed: bool, number: u32) -> u32
-    requires wide { IsWidth width }
-    requires number { number < 256 ^ width }
-    ensures { result ≡ extended width signed number }
-{
-    match width {
-        1 if signed => i32::from((number as u8).cast_signed()).cast_unsigned(),
-        2 if signed => i32::from((number as u16).cast_signed()).cast_unsigned(),
-        _ => number,
+        let halt = run(image, &mut self.x, self.pc, self.done, bytes);
+        self.x.look();
+        self.pc = halt.pc;
+        self.done = halt.done;
+        halt.at
     }
 }
 
@@ -150,5 +133,9 @@ pub fn start(image: &Image, epoch: u32) -> Hart
     let mut x = image.regs();
     x[10] = epoch;
     x[1] = EPOCH_END;
-    Hart { x, pc: 0, done: 0 }
+    Hart {
+        x: Registers::new(x),
+        pc: 0,
+        done: 0,
+    }
 }

@@ -1,24 +1,28 @@
 ghost use Rattle.std.specs.Prelude.{◌≡◌, nat_lt, slice_index};
-ghost use Rattle.rv32_exec.specs.Hart.{with_register};
-ghost use Rattle.rv32_exec.specs.Execute.{is_less_signed, shift_right_arithmetic};
+ghost use Rattle.rv32_exec.specs.Hart.{AreRegisters, with_register};
+ghost use Rattle.rv32_exec.specs.Execute.{add, is_less_signed, shift_right_arithmetic};
 
 use rv32_decode::Register;
 use std::marker::Model;
 
-/// The integer registers of a hart that runs. Contracts see what they hold, x0 first; x0 is 0.
-#[derive(Drop)]
+/// The integer registers of a hart. Contracts see what they hold, x0 first; x0 is 0.
+#[derive(Clone, Copy, Debug, PartialEq, Eq)]
 pub(crate) struct Registers {
     x: [u32; 32],
 }
 
 impl Model for Registers {
-    ghost use Rattle.std.specs.Prelude.{◌≡◌, ℕ, List, slice_index};
+    ghost use Rattle.std.specs.Prelude.{ℕ, List};
 
     ghost Value = { List ℕ };
 
+    ghost use Rattle.rv32_exec.specs.Hart.{AreRegisters};
+
     ghost view = { λ r. r.x };
 
-    ghost invariant = { λ r. slice_index r.x 0 ≡ 0 };
+    ghost invariant = { λ r. AreRegisters r.x };
+
+    ghost inverse = { λ x. record { x = x } };
 }
 
 impl Registers {
@@ -30,25 +34,32 @@ impl Registers {
         Registers { x }
     }
 
-    /// What they hold.
-    pub(crate) fn into_array(self) -> [u32; 32]
-        ensures same { result ≡ self }
-        ensures x0 { slice_index result 0 ≡ 0 }
+    /// Does nothing: it tells what holds of all registers.
+    #[inline]
+    pub(crate) fn look(&self)
+        ensures { AreRegisters self.now }
     {
-        let Registers { x } = self;
-        x
+        let _ = &self.x;
     }
 
     /// What a register holds.
-    #[inline(always)]
+    #[inline]
     pub(crate) fn get(&self, register: Register) -> u32
         ensures { result ≡ slice_index self.now register }
     {
         self.x[usize::from(register.number())]
     }
 
+    /// The sum of what a register holds and a number, in 32 bits.
+    #[inline]
+    pub(crate) fn plus(&self, register: Register, number: u32) -> u32
+        ensures { result ≡ add (slice_index self.now register) number }
+    {
+        self.get(register).wrapping_add(number)
+    }
+
     /// Whether one holds less than the other, as unsigned numbers.
-    #[inline(always)]
+    #[inline]
     pub(crate) fn is_less(&self, left: Register, right: Register) -> bool
         ensures { result ≡ nat_lt (slice_index self.now left) (slice_index self.now right) }
     {
@@ -56,7 +67,7 @@ impl Registers {
     }
 
     /// Whether one holds less than the other, as signed numbers.
-    #[inline(always)]
+    #[inline]
     pub(crate) fn is_less_signed(&self, left: Register, right: Register) -> bool
         ensures { result ≡ is_less_signed (slice_index self.now left) (slice_index self.now right) }
     {
@@ -64,7 +75,7 @@ impl Registers {
     }
 
     /// What a register holds, shifted right by the low five bits of the amount, with copies of its sign.
-    #[inline(always)]
+    #[inline]
     pub(crate) fn shifted_signed(&self, register: Register, amount: u32) -> u32
         ensures { result ≡ shift_right_arithmetic (slice_index self.now register) amount }
     {
@@ -75,7 +86,7 @@ impl Registers {
     }
 
     /// Sets a register; x0 stays 0.
-    #[inline(always)]
+    #[inline]
     pub(crate) fn set(&mut self, rd: Register, value: u32)
         ensures { self.new ≡ with_register self.old rd value }
     {

@@ -3,9 +3,7 @@ ghost use Rattle.rv32_exec.specs.Sequential as spec;
 ghost use Rattle.rv32_image.specs.Image.{IsImage};
 
 use crate::hart::{Hart, start};
-use crate::interpreter::run;
 use crate::stop::Stop;
-use memory_bytes::{read_number, write_number};
 use rv32_image::{Image, NoMemory};
 use std::alloc::Global;
 use std::marker::Model;
@@ -87,28 +85,10 @@ fn run_epoch(image: &Image, epoch: u32, bytes: &mut [u8]) -> End
     ensures { spec.result_of image.now epoch (spec.epoch_outcome image.now epoch bytes.old) ≡ record { end = result; bytes = bytes.new } }
 {
     let mut hart = start(image, epoch);
-    loop {
-        run(image, &mut hart, bytes);
-        let Some(at) = hart.step(image) else {
-            continue;
-        };
-        match at {
-            Stop::Load {
-                addr,
-                width,
-                signed,
-                rd,
-            } => {
-                let number = read_number(bytes, addr as usize, width);
-                hart.complete_load(width, signed, rd, number);
-            }
-            Stop::Store { addr, width, value } => {
-                write_number(bytes, addr as usize, width, value);
-                hart.go_on();
-            }
-            Stop::Ended => return end_of(image, epoch, &hart),
-            Stop::Fault { cause, pc } => return End::Fault { epoch, cause, pc },
-        }
+    match hart.run(image, bytes) {
+        Stop::Ended => end_of(image, epoch, &hart),
+        Stop::Fault { cause, pc } => End::Fault { epoch, cause, pc },
+        Stop::Load { .. } | Stop::Store { .. } => unreachable!(),
     }
 }
 

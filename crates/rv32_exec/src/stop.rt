@@ -1,5 +1,8 @@
 use rv32_decode::Register;
 
+/// The address that ends an epoch: x1 holds it at the start, and a jump there is the epoch's return.
+pub const EPOCH_END: u32 = 0xffff_fffc;
+
 /// Fault: the word is no instruction of RV32I.
 pub const ILLEGAL_WORD: u32 = 1;
 /// Fault: the word is ECALL or EBREAK.

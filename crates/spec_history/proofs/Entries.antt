@@ -1,6 +1,6 @@
 -- What each legal entry keeps.
-use Rattle.std.proofs.Common.{◌≡◌, ℕ, ◌+◌, ◌<◌, ◌==◌, ◌||◌, ◌≢◌, Bool, true, false, cond, List, slice_index, Option, Some, None, unwrap_or, refl, sym, ap, subst, ◌∙◌, inl, inr, true≢false, add-one, arith, ne_eqb, eqb-true}
-use Rattle.std.proofs.lemmas.Bool.{cases_Bool}
+use Rattle.std.proofs.Common.{◌≡◌, ℕ, ◌+◌, ◌<◌, ◌==◌, ◌||◌, ◌&&◌, not, is_some, ◌≢◌, Bool, true, false, cond, List, slice_index, Option, Some, None, unwrap_or, refl, sym, ap, subst, ◌∙◌, inl, inr, true≢false, add-one, arith, ne_eqb, eqb-true}
+use Rattle.std.proofs.lemmas.Bool.{cases_Bool, cases_eq}
 use Rattle.rv32_exec.specs.declared.stop.Stop.TheVariants as stop
 use Rattle.rv32_exec.specs.declared.sequential.End.{End}
 use Rattle.rv32_exec.specs.declared.sequential.End.TheVariants as end
@@ -15,10 +15,12 @@ use Rattle.spec_history.specs.declared.entry.What.TheVariants.{Start, Load, Stor
 use Rattle.memory_bytes.specs.Maps.{nothing, joined, over, stored, read_outside}
 use Rattle.spec_history.specs.FlatState.{CoreState, FlatState, begun, end_at}
 use Rattle.spec_history.specs.Effect.{with_core, hurt_at, idle_at, effect_on, effect_idle}
+use Rattle.spec_history.specs.Refusal.{other_runs}
 use Rattle.spec_history.specs.Laws.{Holds, IsKeptCore, IsKept, IsPublished, EndsInOrder}
 use Rattle.memory_bytes.proofs.Bytes.{number_at_same}
 use Rattle.spec_history.proofs.Progress.{comes_to_event, comes_past_access, outcome_there, published_memory-is, published_memory-exit}
-use Rattle.spec_history.proofs.Keeping.{at_core, same_core, apart_with, apart_changed, keeps_with, moves_on, begun_kept}
+use Rattle.spec_history.proofs.Legal.{none_below}
+use Rattle.spec_history.proofs.Keeping.{with_core_same, with_core_other, at_core, same_core, apart_with, apart_changed, keeps_with, moves_on, begun_kept}
 use Rattle.spec_history.proofs.Accesses.{load_goes_on, load_counts, store_goes_on, store_within, holds_stored, load_kept, store_kept}
 use Rattle.spec_history.proofs.Going.{Shown, Going, Spares, same_spares, rest_kept, keeps_changed, shown_with, others_speculate, shown_straight, homefree_run, straight_kept}
 
@@ -369,6 +371,21 @@ commit_goes_on image count s by c going at unhurt homefree ends goes_on spares =
 
 -- ---- the end
 
+-- no core runs but this one
+idle_but : (image : LoadedImage) (count : ℕ) (s : FlatState) (by k : ℕ) (core : Option CoreState) → IsKept image count s → s.cores k ≡ core → k ≢ by
+    → other_runs count s by ≡ false → core ≡ None
+idle_but image count s by k None kept at other alone = refl
+idle_but image count s by k (Some d) kept at other alone =
+    let here : (not (k == by) && is_some (s.cores k)) ≡ false = none_below count _ alone k (kept.core k d at).there in
+    let runs : (not (k == by) && is_some (s.cores k)) ≡ true = rw (ne_eqb k by other, at) refl in
+    absurd (true≢false (sym runs ∙ here))
+
+-- where all epochs are done no core runs
+pub idle_at_the_end : (image : LoadedImage) (count : ℕ) (s : FlatState) (k : ℕ) (core : Option CoreState) → IsKept image count s → s.homefree ≡ image.epochs → s.cores k ≡ core → core ≡ None
+idle_at_the_end image count s k None kept all at = refl
+idle_at_the_end image count s k (Some d) kept all at =
+    let was = kept.core k d at in absurd (omega (arith, was.from, was.below, kept.started, all))
+
 -- the commit of an epoch that exits
 pub exit_published : (image : LoadedImage) (count : ℕ) (s : FlatState) (by : ℕ) (c : CoreState) → Going image count s → s.cores by ≡ Some c → c.hurt ≡ false
     → c.epoch ≡ s.homefree → (next_event image c.hart).at ≡ stop.Ended → exits image (next_event image c.hart).now ≡ true → IsPublished image (effect_on image s by c Commit)
@@ -383,9 +400,9 @@ exit_published image count s by c going at unhurt homefree ends exit =
     }
 
 pub exit_ends : (image : LoadedImage) (count : ℕ) (s : FlatState) (by : ℕ) (c : CoreState) (e : End) → Going image count s → s.cores by ≡ Some c → c.hurt ≡ false
-    → c.epoch ≡ s.homefree → (next_event image c.hart).at ≡ stop.Ended → exits image (next_event image c.hart).now ≡ true → Some (end.Exit s.homefree) ≡ Some e
-    → EndsInOrder image (effect_on image s by c Commit) e
-exit_ends image count s by c e going at unhurt homefree ends exit end_is =
+    → c.epoch ≡ s.homefree → (next_event image c.hart).at ≡ stop.Ended → exits image (next_event image c.hart).now ≡ true → other_runs count s by ≡ false
+    → Some (end.Exit s.homefree) ≡ Some e → EndsInOrder image (effect_on image s by c Commit) e
+exit_ends image count s by c e going at unhurt homefree ends exit alone end_is =
     let run = homefree_run image count s by c going at homefree unhurt in
     let outcome = homefree_ends image s c going.shown.before run.after ends run.runs in
     let within : s.homefree < image.epochs = omega (arith, going.kept.started, (going.kept.core by c at).below, homefree) in
@@ -394,6 +411,10 @@ exit_ends image count s by c e going at unhurt homefree ends exit end_is =
     rw (← same) (record {
       end_is = sym (ap (λ (r : SequentialResult). r.end) whole);
       at_homefree = refl;
+      idle = λ k. elim (cases_eq k by) [
+        | inl e ↦ rw e (with_core_same s.cores by None)
+        | inr other ↦ with_core_other s.cores by None k other ∙ idle_but image count s by k (s.cores k) going.kept refl other alone
+      ];
       holds = rw whole run.holds;
     })
 
@@ -427,25 +448,27 @@ fault_ends image count s by c cause pc e going at unhurt homefree is end_is =
     rw (← same) (record {
       end_is = sym (ap (λ (r : SequentialResult). r.end) whole);
       at_homefree = refl;
+      idle = tt;
       holds = rw whole run.holds;
     })
 
 ended_by : (image : LoadedImage) (s : FlatState) (memory : List ℕ) (b : Bool) (e : End) → (s.homefree == image.epochs) ≡ b
-    → first_epochs image s.homefree ≡ record { end = end.Done s.homefree; bytes = memory } → Holds image s.committed memory
+    → first_epochs image s.homefree ≡ record { end = end.Done s.homefree; bytes = memory } → Holds image s.committed memory → (s.homefree ≡ image.epochs → (k : ℕ) → s.cores k ≡ None)
     → cond b (Some (end.Done s.homefree)) None ≡ Some e → EndsInOrder image s e
-ended_by image s memory true e last done holds is =
+ended_by image s memory true e last done holds idle is =
     let all : s.homefree ≡ image.epochs = eqb-true s.homefree image.epochs last in
     let whole = sequential_result-done image memory (rw all at done) in
     let same : end.Done s.homefree ≡ e = cc in
     rw (← same) (record {
       end_is = ap end.Done all ∙ sym (ap (λ (r : SequentialResult). r.end) whole);
       at_homefree = (all, all);
+      idle = idle all;
       holds = rw whole holds;
     })
-ended_by image s memory false e last done holds is = absurd cc
+ended_by image s memory false e last done holds idle is = absurd cc
 
 -- where all epochs are done, the loop has ended as the sequential one does
 pub ends_done : (image : LoadedImage) (s : FlatState) (memory : List ℕ) (e : End)
-    → first_epochs image s.homefree ≡ record { end = end.Done s.homefree; bytes = memory } → Holds image s.committed memory
+    → first_epochs image s.homefree ≡ record { end = end.Done s.homefree; bytes = memory } → Holds image s.committed memory → (s.homefree ≡ image.epochs → (k : ℕ) → s.cores k ≡ None)
     → end_at image s.homefree ≡ Some e → EndsInOrder image s e
-ends_done image s memory e done holds is = ended_by image s memory (s.homefree == image.epochs) e refl done holds is
+ends_done image s memory e done holds idle is = ended_by image s memory (s.homefree == image.epochs) e refl done holds idle is

@@ -7,6 +7,7 @@ use Rattle.spec_history.specs.FlatState.{CoreState, FlatState, first_state}
 use Rattle.spec_history.specs.Effect.{effect}
 use Rattle.spec_history.specs.Refusal.{refusal_of, has_read, other_has_read, changes_unseen}
 use Rattle.spec_history.specs.Replay.{where_legal, replay_from, replay}
+use Rattle.spec_history.specs.Laws.{Splits}
 use Rattle.spec_history.proofs.Legal.{some_below, and_true, not_true}
 use Rattle.spec_history.proofs.Going.{Spares}
 use Rattle.spec_history.proofs.Searches.{all_fail}
@@ -84,24 +85,31 @@ pub history_goes_on : (image : LoadedImage) (count : ℕ) (history later : List 
 unfolding replay
 history_goes_on image count history later s t one two = then_entries image count history later (first_state image) s t one two
 
--- the state between the two lists
-pub record Splits (image : LoadedImage) (count : ℕ) (s : FlatState) (first later : List Entry) (u : FlatState) : Type 0 where
+-- the state between the two lists, from this state on
+record SplitsFrom (image : LoadedImage) (count : ℕ) (s : FlatState) (first later : List Entry) (last : FlatState) : Type 0 where
   pub between : FlatState
   pub first_replays : replay_from image count s first ≡ Some between
-  pub later_replays : replay_from image count between later ≡ Some u
+  pub later_replays : replay_from image count between later ≡ Some last
 
 splits_by : (image : LoadedImage) (count : ℕ) (s u : FlatState) (entry : Entry) (first later : List Entry) (refusal : Option Illegal)
     → where_legal refusal (replay_from image count (effect image s entry) (first ++ later)) ≡ Some u
-    → (replay_from image count (effect image s entry) (first ++ later) ≡ Some u → Splits image count (effect image s entry) first later u)
+    → (replay_from image count (effect image s entry) (first ++ later) ≡ Some u → SplitsFrom image count (effect image s entry) first later u)
     → (t : FlatState) × (where_legal refusal (replay_from image count (effect image s entry) first) ≡ Some t) × (replay_from image count t later ≡ Some u)
 splits_by image count s u entry first later None is more = let rest = more is in (rest.between, rest.first_replays, rest.later_replays)
 splits_by image count s u entry first later (Some r) is more = absurd cc
 
--- a replay of two lists, one after the other, splits
-pub splits : (image : LoadedImage) (count : ℕ) (first later : List Entry) (s u : FlatState) → replay_from image count s (first ++ later) ≡ Some u
-    → Splits image count s first later u
+splits_from : (image : LoadedImage) (count : ℕ) (first later : List Entry) (s u : FlatState) → replay_from image count s (first ++ later) ≡ Some u
+    → SplitsFrom image count s first later u
 unfolding replay_from
-splits image count [] later s u replays = record { between = s; first_replays = refl; later_replays = replays }
-splits image count (entry ∷ rest) later s u replays =
-    let parts = splits_by image count s u entry rest later (refusal_of image count s entry) replays (λ more. splits image count rest later (effect image s entry) u more) in
+splits_from image count [] later s u replays = record { between = s; first_replays = refl; later_replays = replays }
+splits_from image count (entry ∷ rest) later s u replays =
+    let parts = splits_by image count s u entry rest later (refusal_of image count s entry) replays (λ more. splits_from image count rest later (effect image s entry) u more) in
     record { between = parts.0; first_replays = parts.1; later_replays = parts.2 }
+
+-- a replay of two lists, one after the other, splits
+pub splits : (image : LoadedImage) (count : ℕ) (first later : List Entry) (last : FlatState) → replay image count (first ++ later) ≡ Some last
+    → Splits image count first later last
+unfolding replay
+splits image count first later last replays =
+    let parts = splits_from image count first later (first_state image) last replays in
+    record { between = parts.between; first_replays = parts.first_replays; later_replays = parts.later_replays }

@@ -1,5 +1,5 @@
 -- States by their parts, and cores that change.
-use Rattle.std.proofs.Common.{◌≡◌, ◌≢◌, Bool, ℕ, zero, suc, ◌<◌, ◌≤◌, List, [], ◌∷◌, length, set, take, drop, ◌++◌, slice_get, Option, Some, refl, sym, ap, ◌∙◌, inl, inr, arith, option_and_then}
+use Rattle.std.proofs.Common.{◌≡◌, ◌≢◌, Bool, ℕ, zero, suc, ◌<◌, List, [], ◌∷◌, length, set, take, drop, ◌++◌, slice_get, Option, Some, refl, sym, ap, ◌∙◌, inl, inr, arith, option_and_then}
 use Rattle.std.proofs.lemmas.Bool.{cases_eq}
 use Rattle.std.proofs.Math.Path.{fun_ext}
 use Rattle.std.proofs.lemmas.Grind.{common_steps}

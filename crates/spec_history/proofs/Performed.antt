@@ -1,5 +1,5 @@
 -- What a legal entry finds, and what is shown of its effect.
-use Rattle.std.proofs.Common.{◌≡◌, ℕ, ◌+◌, ◌^◌, ◌<◌, ◌≤◌, nat_lt, Bool, true, false, cond, List, length, set, get_or, slice_get, slice_index, Option, Some, None, option_map, option_and_then, refl, sym, ap, ◌∙◌, inl, inr, true≢false, arith, length-set}
+use Rattle.std.proofs.Common.{◌≡◌, ℕ, ◌+◌, ◌<◌, nat_lt, Bool, true, false, cond, List, length, set, get_or, slice_get, slice_index, Option, Some, None, option_and_then, refl, sym, ap, ◌∙◌, inl, inr, true≢false, length-set}
 use Rattle.std.proofs.lemmas.Bool.{cases_eq}
 use Rattle.std.proofs.lemmas.Option.{slice_get_within}
 use Rattle.rv32_image.specs.Image.{LoadedImage}

@@ -1,5 +1,5 @@
 -- Proofs of the laws of replay.
-use Rattle.std.proofs.Common.{◌≡◌, ℕ, ◌+◌, ◌==◌, not, nat_lt, Bool, true, false, cond, List, [], ◌∷◌, Option, Some, None, is_some, refl, sym, ap, subst, ◌∙◌, true≢false, arith, eqb-true, ltb-true}
+use Rattle.std.proofs.Common.{◌≡◌, ℕ, ◌+◌, ◌==◌, ◌&&◌, not, nat_lt, Bool, true, false, cond, List, [], ◌∷◌, Option, Some, None, is_some, refl, sym, ap, subst, ◌∙◌, true≢false, arith, eqb-true, ltb-true}
 use Rattle.rv32_exec.specs.declared.stop.Stop.TheVariants as stop
 use Rattle.rv32_exec.specs.declared.sequential.End.{End}
 use Rattle.rv32_exec.specs.declared.sequential.End.TheVariants as end
@@ -17,12 +17,12 @@ use Rattle.spec_history.specs.declared.illegal.Illegal.{Illegal}
 use Rattle.memory_bytes.specs.Maps.{over, stored}
 use Rattle.spec_history.specs.FlatState.{CoreState, FlatState, end_at, first_state}
 use Rattle.spec_history.specs.Effect.{by_core, effect, effect_on, effect_idle}
-use Rattle.spec_history.specs.Refusal.{refusal_of, runs, runs_and}
+use Rattle.spec_history.specs.Refusal.{refusal_of, runs, runs_and, next_is, is_an_exit, other_runs}
 use Rattle.spec_history.specs.Replay.{where_legal, replay_from, replay}
 use Rattle.spec_history.specs.Laws.{Holds, IsKept, IsPublished, EndsInOrder}
-use Rattle.spec_history.proofs.Legal.{and_true, not_true, IsLegalEntry, legal_entry, spared, that_load, that_store, the_end, that_fault}
+use Rattle.spec_history.proofs.Legal.{and_true, and_false, not_true, IsLegalEntry, legal_entry, spared, that_load, that_store, the_end, that_fault}
 use Rattle.spec_history.proofs.Going.{Going, Spares}
-use Rattle.spec_history.proofs.Entries.{load_speculative, load_straight, store_speculative, store_straight, start_goes_on, restart_goes_on, hurt_goes_on, cancel_goes_on, publish_goes_on, commit_goes_on, exit_published, exit_ends, published_is, fault_published, fault_ends, ends_done}
+use Rattle.spec_history.proofs.Entries.{load_speculative, load_straight, store_speculative, store_straight, start_goes_on, restart_goes_on, hurt_goes_on, cancel_goes_on, publish_goes_on, commit_goes_on, exit_published, exit_ends, published_is, fault_published, fault_ends, idle_at_the_end, ends_done}
 
 -- what holds of every state that a replay reaches
 pub record Whole (image : LoadedImage) (count : ℕ) (s : FlatState) : Type 0 where
@@ -115,17 +115,19 @@ exited false epoch other is none = cc
 -- the loop is over where the last epoch commits, or one that exits
 after_commit : (image : LoadedImage) (count : ℕ) (s : FlatState) (by : ℕ) (c : CoreState) → s.cores by ≡ Some c → Going image count s → c.hurt ≡ false → c.epoch ≡ s.homefree
     → (next_event image c.hart).at ≡ stop.Ended → Spares s by (over c.own s.committed) → (b : Bool) → exits image (next_event image c.hart).now ≡ b
-    → Whole image count (effect_on image s by c Commit)
-after_commit image count s by c at going unhurt homefree ends spares true exit = record {
+    → (next_is image (s.cores by) (is_an_exit image) && other_runs count s by) ≡ false → Whole image count (effect_on image s by c Commit)
+after_commit image count s by c at going unhurt homefree ends spares true exit cancelled = record {
   published = exit_published image count s by c going at unhurt homefree ends exit;
   ends = λ e is. exit_ends image count s by c e going at unhurt homefree ends exit
+      (and_false (next_is image (s.cores by) (is_an_exit image)) (other_runs count s by) cancelled (ap (λ o. next_is image o (is_an_exit image)) at ∙ rw (ends, exit) refl))
       (sym (ap (λ b. cond b (Some (end.Exit s.homefree)) (end_at image (s.homefree + 1))) exit) ∙ is);
   going = λ none. absurd (exited (exits image (next_event image c.hart).now) s.homefree (end_at image (s.homefree + 1)) exit none);
 }
-after_commit image count s by c at going unhurt homefree ends spares false goes_on =
+after_commit image count s by c at going unhurt homefree ends spares false goes_on cancelled =
     let later = commit_goes_on image count s by c going at unhurt homefree ends goes_on spares in record {
       published = published_is image count _ later;
       ends = λ e is. ends_done image (effect_on image s by c Commit) later.shown.before e later.shown.done (begins image _ _ _ _ _ later.shown.runs later.shown.holds)
+          (λ all k. idle_at_the_end image count (effect_on image s by c Commit) k ((effect_on image s by c Commit).cores k) later.kept all refl)
           (sym (ap (λ b. cond b (Some (end.Exit s.homefree)) (end_at image (s.homefree + 1))) goes_on) ∙ is);
       going = λ none. later;
     }
@@ -167,7 +169,7 @@ step_on image count s by Commit c at legal going =
     let runs = runs_so (s.cores by) c (λ _. true) at legal.there in
     let homefree = eqb-true _ _ (on_core (s.cores by) c _ at legal.homefree) in
     let ends = the_end _ (on_core (s.cores by) c _ at legal.next) in
-    on image count s by _ c at (after_commit image count s by c at going runs.unhurt homefree ends (spares image count s by _ c legal going.kept at) (exits image (next_event image c.hart).now) refl)
+    on image count s by _ c at (after_commit image count s by c at going runs.unhurt homefree ends (spares image count s by _ c legal going.kept at) (exits image (next_event image c.hart).now) refl legal.cancelled)
 step_on image count s by (Fault cause pc) c at legal going =
     let runs = runs_so (s.cores by) c (λ _. true) at legal.there in
     let homefree = eqb-true _ _ (on_core (s.cores by) c _ at legal.homefree) in
@@ -249,7 +251,7 @@ pub first_whole : (image : LoadedImage) (count : ℕ) → IsImage image → Whol
 first_whole image count is =
     let going = first_going image count is in record {
       published = published_is image count (first_state image) going;
-      ends = λ e at. ends_done image (first_state image) image.bytes e (first_epochs-none image) (record { long = is.byte_count; bytes = λ a. refl }) at;
+      ends = λ e at. ends_done image (first_state image) image.bytes e (first_epochs-none image) (record { long = is.byte_count; bytes = λ a. refl }) (λ all k. refl) at;
       going = λ none. going;
     }
 

@@ -1,6 +1,5 @@
 -- What an entry does to the state. It is total: what an entry that is refused would do is read by nothing.
-use Rattle.std.specs.Prelude.{ℕ, ◌+◌, ◌==◌, ◌||◌, true, false, Option, Some, None, if◌then◌else◌}
-use Rattle.rv32_exec.specs.declared.sequential.End.{End}
+use Rattle.std.specs.Prelude.{ℕ, ◌+◌, ◌==◌, ◌||◌, true, Option, Some, None, if◌then◌else◌}
 use Rattle.rv32_exec.specs.declared.sequential.End.TheVariants as end
 use Rattle.rv32_image.specs.Image.{LoadedImage}
 use Rattle.rv32_exec.specs.Hart.{HartState, stepped}
@@ -63,7 +62,7 @@ effect_on image s by core (Load address width value) =
 effect_on image s by core (Store address width value) =
     let event = next_event image core.hart in
     with_running (record s { committed = if core.straight then over (stored address width value) s.committed else s.committed })
-        by (after_store address width value (stepped event.now) core)
+    by (after_store address width value (stepped event.now) core)
 effect_on image s by core (Hurt epoch) = record s { cores = λ k. hurt_at epoch (s.cores k) }
 effect_on image s by core (Cancel epoch) = record s { cores = λ k. idle_at epoch (s.cores k) }
 effect_on image s by core Restart = with_running s by (begun image core.epoch)

@@ -8,6 +8,7 @@ use Rattle.rv32_exec.specs.Sequential.{Runs, after_steps, first_epochs, publishe
 use Rattle.spec_history.specs.declared.entry.Entry.{Entry}
 use Rattle.memory_bytes.specs.Maps.{over}
 use Rattle.spec_history.specs.FlatState.{CoreState, FlatState}
+use Rattle.spec_history.specs.Replay.{replay_from, replay}
 
 -- committed memory is this list, byte for byte
 pub record Holds (image : LoadedImage) (committed : ℕ → ℕ) (memory : List ℕ) : Type 0 where
@@ -27,10 +28,16 @@ IsAtHomefree image homefree (Done epochs) = (epochs ≡ image.epochs) × (homefr
 IsAtHomefree image homefree (Exit epoch) = epoch + 1 ≡ homefree
 IsAtHomefree image homefree (Fault epoch cause pc) = epoch ≡ homefree
 
+-- once the loop has ended, and not by a fault, no core runs an epoch
+abbrev pub IsIdleAfter : FlatState → End → Type 0
+IsIdleAfter s (Fault epoch cause pc) = Unit {0}
+IsIdleAfter s end = (k : ℕ) → s.cores k ≡ None
+
 -- the loop ended as the sequential loop does
 pub record EndsInOrder (image : LoadedImage) (s : FlatState) (end : End) : Type 0 where
   pub end_is : end ≡ (sequential_result image).end
   pub at_homefree : IsAtHomefree image s.homefree end
+  pub idle : IsIdleAfter s end
   pub holds : Holds image s.committed (sequential_result image).bytes
 
 -- a fault of a history: no entry is later, and it is that of the sequential loop, at the homefree epoch, so no epoch before
@@ -39,6 +46,12 @@ pub record FaultsInOrder (image : LoadedImage) (s : FlatState) (cause pc : ℕ) 
   pub last : later ≡ []
   pub end_is : (sequential_result image).end ≡ Fault s.homefree cause pc
   pub before : (first_epochs image s.homefree).end ≡ Done s.homefree
+
+-- the state between the first entries of a history and the others
+pub record Splits (image : LoadedImage) (count : ℕ) (first later : List Entry) (last : FlatState) : Type 0 where
+  pub between : FlatState
+  pub first_replays : replay image count first ≡ Some between
+  pub later_replays : replay_from image count between later ≡ Some last
 
 -- where the core's epoch has come from its start, over this memory
 pub record LeadsTo (image : LoadedImage) (core : CoreState) (memory : List ℕ) : Type 0 where

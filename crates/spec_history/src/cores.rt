@@ -33,7 +33,7 @@ pub(crate) struct Core {
 
 impl Core {
     /// An idle core.
-    pub fn new(alloc: Global) -> Core
+    pub(crate) fn new(alloc: Global) -> Core
         ensures idle { result.attempt ≡ None }
         ensures fit { (image : LoadedImage) → spec.IsCoreOf image result }
     {
@@ -45,7 +45,7 @@ impl Core {
     }
 
     /// What it runs.
-    pub fn attempt(&self) -> &Attempt
+    pub(crate) fn attempt(&self) -> &Attempt
         requires { IsSome self.now.attempt }
         ensures { self.now.attempt ≡ Some result.now }
     {
@@ -53,14 +53,14 @@ impl Core {
     }
 
     /// It runs no epoch.
-    pub fn is_idle(&self) -> bool
+    pub(crate) fn is_idle(&self) -> bool
         ensures { result ≡ not (is_some (spec.core_of self.now)) }
     {
         self.attempt.is_none()
     }
 
     /// It runs an epoch, and is not hurt.
-    pub fn is_running(&self) -> bool
+    pub(crate) fn is_running(&self) -> bool
         ensures { result ≡ refusal.runs (spec.core_of self.now) }
     {
         match &self.attempt {
@@ -70,7 +70,7 @@ impl Core {
     }
 
     /// It runs an epoch, and is hurt.
-    pub fn is_hurt(&self) -> bool
+    pub(crate) fn is_hurt(&self) -> bool
         ensures { result ≡ refusal.has (spec.core_of self.now) (λ c. c.hurt) }
     {
         match &self.attempt {
@@ -80,7 +80,7 @@ impl Core {
     }
 
     /// It runs an earlier epoch than this one, and is not hurt.
-    pub fn runs_before(&self, epoch: u32) -> bool
+    pub(crate) fn runs_before(&self, epoch: u32) -> bool
         ensures { result ≡ refusal.runs_and (spec.core_of self.now) (λ c. nat_lt c.epoch epoch) }
     {
         match &self.attempt {
@@ -90,7 +90,7 @@ impl Core {
     }
 
     /// It runs an epoch, and is neither hurt nor straight.
-    pub fn can_publish(&self) -> bool
+    pub(crate) fn can_publish(&self) -> bool
         ensures { result ≡ refusal.runs_and (spec.core_of self.now) (λ c. not c.straight) }
     {
         match &self.attempt {
@@ -100,7 +100,7 @@ impl Core {
     }
 
     /// It runs an epoch, and is straight.
-    pub fn is_straight(&self) -> bool
+    pub(crate) fn is_straight(&self) -> bool
         ensures { result ≡ refusal.has (spec.core_of self.now) (λ c. c.straight) }
     {
         match &self.attempt {
@@ -110,7 +110,7 @@ impl Core {
     }
 
     /// It runs this epoch.
-    pub fn is_at(&self, epoch: u32) -> bool
+    pub(crate) fn is_at(&self, epoch: u32) -> bool
         ensures { result ≡ refusal.is_at epoch (spec.core_of self.now) }
     {
         match &self.attempt {
@@ -120,7 +120,7 @@ impl Core {
     }
 
     /// It runs this epoch, and can be hurt.
-    pub fn can_be_hurt(&self, epoch: u32) -> bool
+    pub(crate) fn can_be_hurt(&self, epoch: u32) -> bool
         ensures { result ≡ refusal.can_be_hurt epoch (spec.core_of self.now) }
     {
         match &self.attempt {
@@ -130,14 +130,14 @@ impl Core {
     }
 
     /// It runs an epoch, is not hurt, and has read this byte from outside.
-    pub fn has_read(&self, addr: u32) -> bool
+    pub(crate) fn has_read(&self, addr: u32) -> bool
         ensures { result ≡ refusal.has_read (spec.core_of self.now) addr }
     {
         self.is_running() && self.outside.get(addr).is_some()
     }
 
     /// Where its epoch stops next.
-    pub fn next_stop(&self) -> Option<Stop>
+    pub(crate) fn next_stop(&self) -> Option<Stop>
         ensures { (image : LoadedImage) → spec.IsCoreOf image self.now
             → result ≡ option_map (λ c. (next_event image c.hart).at) (spec.core_of self.now) }
     {
@@ -148,7 +148,7 @@ impl Core {
     }
 
     /// Its epoch ends, and the loop with it.
-    pub fn exits(&self, image: &Image) -> bool
+    pub(crate) fn exits(&self, image: &Image) -> bool
         requires { spec.IsCoreOf image.now self.now }
         ensures { result ≡ refusal.next_is image.now (spec.core_of self.now) (refusal.is_an_exit image.now) }
     {
@@ -159,7 +159,7 @@ impl Core {
     }
 
     /// How many instructions of its epoch are published, where it is straight.
-    pub fn published(&self) -> Option<u64>
+    pub(crate) fn published(&self) -> Option<u64>
         ensures { result ≡ spec.published_by (spec.core_of self.now) }
     {
         match &self.attempt {
@@ -169,7 +169,7 @@ impl Core {
     }
 
     /// The number in `width` bytes that its epoch sees, little endian.
-    pub fn number(&self, committed: &[u8], addr: u32, width: u32) -> u32
+    pub(crate) fn number(&self, committed: &[u8], addr: u32, width: u32) -> u32
         requires width { IsWidth width }
         requires small { addr + width < 2 ^ 32 }
         requires committed { addr + width ≤ length committed.now }
@@ -180,7 +180,7 @@ impl Core {
     }
 
     /// Makes room for the bytes of an access.
-    pub fn reserve(&mut self, addr: u32, width: u32) -> Result<(), NoMemory>
+    pub(crate) fn reserve(&mut self, addr: u32, width: u32) -> Result<(), NoMemory>
         requires { addr + width < 2 ^ 32 }
         ensures core { spec.core_of self.new ≡ spec.core_of self.old }
         ensures fit { (image : LoadedImage) → addr + width ≤ image.size → spec.IsCoreOf image self.old → spec.IsCoreOf image self.new }
@@ -191,7 +191,7 @@ impl Core {
     }
 
     /// Begins an epoch.
-    pub fn begin(&mut self, image: &Image, epoch: u32)
+    pub(crate) fn begin(&mut self, image: &Image, epoch: u32)
         ensures core { spec.core_of self.new ≡ Some (begun image.now epoch) }
         ensures fit { spec.IsCoreOf image.now self.old → spec.IsCoreOf image.now self.new }
     {
@@ -206,7 +206,14 @@ impl Core {
     }
 
     /// Goes on with this hart after a load.
-    pub fn finish_load(&mut self, image: &Image, committed: &[u8], addr: u32, width: u32, hart: Hart)
+    pub(crate) fn finish_load(
+        &mut self,
+        image: &Image,
+        committed: &[u8],
+        addr: u32,
+        width: u32,
+        hart: Hart,
+    )
         requires small { addr + width < 2 ^ 32 }
         requires committed { addr + width ≤ length committed.now }
         requires room { spec.HasRoom addr width self.old }
@@ -222,7 +229,14 @@ impl Core {
     }
 
     /// Goes on with this hart after a store.
-    pub fn finish_store(&mut self, image: &Image, addr: u32, width: u32, value: u32, hart: Hart)
+    pub(crate) fn finish_store(
+        &mut self,
+        image: &Image,
+        addr: u32,
+        width: u32,
+        value: u32,
+        hart: Hart,
+    )
         requires small { addr + width < 2 ^ 32 }
         requires room { spec.HasRoom addr width self.old }
         ensures core { spec.core_of self.new ≡ option_map (effect.after_store addr width value hart) (spec.core_of self.old) }
@@ -237,7 +251,7 @@ impl Core {
     }
 
     /// Is hurt, where it runs this epoch.
-    pub fn hurt_at(&mut self, epoch: u32)
+    pub(crate) fn hurt_at(&mut self, epoch: u32)
         ensures core { spec.core_of self.new ≡ effect.hurt_at epoch (spec.core_of self.old) }
         ensures fit { (image : LoadedImage) → spec.IsCoreOf image self.old → spec.IsCoreOf image self.new }
     {
@@ -247,7 +261,7 @@ impl Core {
     }
 
     /// Is idle, where it runs this epoch.
-    pub fn idle_at(&mut self, epoch: u32)
+    pub(crate) fn idle_at(&mut self, epoch: u32)
         ensures core { spec.core_of self.new ≡ effect.idle_at epoch (spec.core_of self.old) }
         ensures fit { (image : LoadedImage) → spec.IsCoreOf image self.old → spec.IsCoreOf image self.new }
     {
@@ -257,7 +271,7 @@ impl Core {
     }
 
     /// Is straight from now on, and keeps no bytes.
-    pub fn publish(&mut self)
+    pub(crate) fn publish(&mut self)
         ensures core { spec.core_of self.new ≡ option_map effect.after_publish (spec.core_of self.old) }
         ensures fit { (image : LoadedImage) → spec.IsCoreOf image self.old → spec.IsCoreOf image self.new }
     {
@@ -269,7 +283,7 @@ impl Core {
     }
 
     /// Runs no epoch.
-    pub fn leave(&mut self)
+    pub(crate) fn leave(&mut self)
         ensures core { spec.core_of self.new ≡ None }
         ensures fit { (image : LoadedImage) → spec.IsCoreOf image self.old → spec.IsCoreOf image self.new }
     {
@@ -277,7 +291,7 @@ impl Core {
     }
 
     /// Commits its own bytes.
-    pub fn commit(&self, committed: &mut Vec<u8>)
+    pub(crate) fn commit(&self, committed: &mut Vec<u8>)
         requires { length self.now.own.cells ≤ length committed.old.items }
         ensures long { length committed.new.items ≡ length committed.old.items }
         ensures bytes { (a : ℕ) → slice_index committed.new.items a ≡ over (byte_in self.now.own.cells) (λ b. slice_index committed.old.items b) a }

@@ -12,7 +12,7 @@ impl Machine {
     ghost use Rattle.spec_history.specs.Machine as spec;
 
     /// Does what a legal entry does. There is room for it.
-    pub fn perform(&mut self, entry: Entry)
+    pub(crate) fn perform(&mut self, entry: Entry)
         requires fit { spec.IsFit self.old }
         requires homefree { self.old.homefree ≤ 65535 }
         requires room { spec.HasRoomFor self.old entry.by entry.what }
@@ -104,8 +104,8 @@ impl Machine {
         ensures { spec.Becomes self.old self.new (spec.after self.old by What.Restart) }
     {
         let core = &mut self.cores[by as usize];
-        let epoch = core.attempt().epoch;
-        core.begin(&self.image, epoch);
+        let again = core.attempt().epoch;
+        core.begin(&self.image, again);
     }
 
     /// The core's epoch publishes.

@@ -25,12 +25,12 @@ pub enum Illegal {
     /// The loop is over.
     #[error("Over")]
     Over,
-    /// The core's epoch ends the loop, and another core runs an epoch.
-    #[error("NotCancelled")]
-    NotCancelled,
     /// Memory ran out.
     #[error("NoMemory")]
     NoMemory,
+    /// The core's epoch ends the loop, and another core runs an epoch.
+    #[error("NotCancelled")]
+    NotCancelled,
 }
 
 impl Illegal {
@@ -45,8 +45,8 @@ impl Illegal {
             Illegal::NotHomefree => "NotHomefree",
             Illegal::HurtMissing => "HurtMissing",
             Illegal::Over => "Over",
-            Illegal::NotCancelled => "NotCancelled",
             Illegal::NoMemory => "NoMemory",
+            Illegal::NotCancelled => "NotCancelled",
         }
     }
 }

@@ -24,7 +24,7 @@ impl Machine {
     ghost use Rattle.spec_history.specs.Machine as spec;
 
     /// The machine before anything has happened, with a copy of the image.
-    pub fn new(alloc: Global, image: &Image, cores: u32) -> Result<Machine, NoMemory>
+    pub(crate) fn new(alloc: Global, image: &Image, cores: u32) -> Result<Machine, NoMemory>
         ensures image { IfOk result (λ m. m.image ≡ image.now) }
         ensures state { IfOk result (λ m. spec.state_of m ≡ first_state image.now) }
         ensures count { IfOk result (λ m. spec.count_of_cores m ≡ cores) }
@@ -50,14 +50,14 @@ impl Machine {
     }
 
     /// The core of this number, if there is one.
-    pub fn core(&self, by: u32) -> Option<&Core>
+    pub(crate) fn core(&self, by: u32) -> Option<&Core>
         ensures { option_copied result ≡ slice_get self.now.cores.items by }
     {
         self.cores.get(by as usize)
     }
 
     /// Makes room for what the entry notes. Only a load and a store note anything.
-    pub fn prepare(&mut self, by: u32, what: What) -> Result<(), NoMemory>
+    pub(crate) fn prepare(&mut self, by: u32, what: What) -> Result<(), NoMemory>
         requires fit { spec.IsFit self.old }
         requires within { spec.IsInMemory self.old.image.size what }
         ensures same { spec.IsAsBefore self.old self.new }

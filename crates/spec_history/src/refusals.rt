@@ -17,7 +17,7 @@ impl Machine {
 
     /// The refusal of an entry, or none.
     #[tactic(auto, unfolding(crate::specs::Refusal::refusal_of))]
-    pub fn refusal(&self, entry: Entry) -> Option<Illegal>
+    pub(crate) fn refusal(&self, entry: Entry) -> Option<Illegal>
         requires { spec.IsFit self.now }
         ensures refusal { result ≡ refusal.refusal_of self.now.image (spec.count_of_cores self.now) (spec.state_of self.now) entry }
         ensures within { result ≡ None → spec.IsInMemory self.now.image.size entry.what }
@@ -140,8 +140,9 @@ impl Machine {
         ensures { result ≡ refusal.is_homefree (spec.state_of self.now) by what }
     {
         match what {
-            What::Cancel(_) | What::Publish | What::Commit | What::Fault { .. } => match self
-                .core(by) {
+            What::Cancel(_) | What::Publish | What::Commit | What::Fault { .. } => match self.core(
+                by,
+            ) {
                 Some(core) => core.is_at(self.homefree),
                 None => false,
             },

@@ -7,7 +7,7 @@ mod next;
 mod others;
 mod own;
 
-pub use line::{LINE_BYTES, LineState, Marks, WORD_BYTES, WORDS_PER_LINE};
+pub use line::{LONGEST_LINE, LineState, Marks};
 pub use next::{Next, Order};
 pub use others::{after_other_load, after_other_store, after_publish};
 pub use own::{after_own_load, after_own_store, after_violation, settled};

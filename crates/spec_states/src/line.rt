@@ -1,15 +1,11 @@
-ghost use Rattle.std.specs.Prelude.{◌≡◌, ◌<◌};
-ghost use Rattle.spec_states.specs.Mask.{has};
+ghost use Rattle.std.specs.Prelude.{◌≡◌, ◌+◌, ◌-◌, ◌^◌, ◌<◌, ◌≤◌};
+ghost use Rattle.memory_bytes.specs.Bytes.{IsWidth};
+ghost use Rattle.spec_states.specs.Mask.{has, has_all, with_bytes};
+ghost use Rattle.spec_states.specs.declared.line.TheConstants.{LONGEST_LINE};
 ghost use Rattle.spec_states.specs.States.{is_valid, is_exclusive, is_speculative, is_modified};
 
-/// The bytes of a cache line.
-pub const LINE_BYTES: usize = 16;
-
-/// The bytes of a word, the unit of the mask of modified words.
-pub const WORD_BYTES: u32 = 4;
-
-/// The words of a cache line.
-pub const WORDS_PER_LINE: u32 = LINE_BYTES as u32 / WORD_BYTES;
+/// The bytes of the longest line, and so the bits of a mask.
+pub const LONGEST_LINE: usize = 32;
 
 /// The state of a copy of a line: the four of the MESI protocol, and two of copies that carry marks.
 #[derive(Clone, Copy, Debug, PartialEq, Eq)]
@@ -63,22 +59,50 @@ impl LineState {
 pub struct Marks {
     /// Speculatively loaded: the epoch read a byte of the line that it had not stored itself.
     pub loaded: bool,
-    /// Speculatively modified: bit i is the word at byte `WORD_BYTES * i` of the line.
-    pub words: u8,
+    /// Speculatively modified: bit i is the byte at address i of the line.
+    pub bytes: u32,
 }
 
 impl Marks {
     /// No mark.
     pub const NONE: Marks = Marks {
         loaded: false,
-        words: 0,
+        bytes: 0,
     };
 
-    /// Whether the byte at `offset` of the line belongs to a modified word.
+    /// Whether the byte at `offset` of the line is modified.
     pub fn has(self, offset: u32) -> bool
-        requires { offset < LINE_BYTES }
-        ensures { result ≡ has self.words offset }
+        requires { offset < LONGEST_LINE }
+        ensures { result ≡ has self.bytes offset }
     {
-        self.words >> (offset / WORD_BYTES) & 1 == 1
+        self.bytes >> offset & 1 == 1
     }
+
+    /// Whether the `width` bytes from `offset` on are all modified.
+    pub(crate) fn has_all(self, offset: u32, width: u32) -> bool
+        requires in_line { offset + width ≤ LONGEST_LINE }
+        requires width { IsWidth width }
+        ensures { result ≡ has_all self.bytes offset width }
+    {
+        let accessed = span(offset, width);
+        self.bytes & accessed == accessed
+    }
+
+    /// The mask, and the `width` bytes from `offset` on with it.
+    pub(crate) fn with_bytes(self, offset: u32, width: u32) -> u32
+        requires in_line { offset + width ≤ LONGEST_LINE }
+        requires width { IsWidth width }
+        ensures { result ≡ with_bytes self.bytes offset width }
+    {
+        self.bytes | span(offset, width)
+    }
+}
+
+/// The mask of the `width` bytes from `offset` on.
+fn span(offset: u32, width: u32) -> u32
+    requires in_line { offset + width ≤ LONGEST_LINE }
+    requires width { IsWidth width }
+    ensures { result ≡ 2 ^ (offset + width) - 2 ^ offset }
+{
+    ((1 << width) - 1) << offset
 }

@@ -1,6 +1,6 @@
 ghost use Rattle.std.specs.Prelude.{◌≡◌, true};
 ghost use Rattle.spec_states.specs.Tables.{next, no_marks};
-ghost use Rattle.spec_states.specs.Tables.{to as change_to, violated as change_violated};
+ghost use Rattle.spec_states.specs.Tables.{to as change_to, to_violation};
 
 use crate::line::{LineState, Marks};
 
@@ -46,7 +46,7 @@ impl Next {
 
     /// The owner's epoch is violated, and the copy goes.
     pub(crate) fn violated() -> Next
-        ensures { result ≡ next change_violated no_marks }
+        ensures { result ≡ next to_violation no_marks }
     {
         Next {
             violated: true,

@@ -1,7 +1,7 @@
 ghost use Rattle.std.specs.Prelude.{◌≡◌, ◌&&◌, true, false};
 ghost use Rattle.spec_states.specs.States.{is_speculative};
 ghost use Rattle.spec_states.specs.Copies.{IsMarked, KeepsUpToDate, FollowsPublish};
-ghost use Rattle.spec_states.specs.Rows.{is_later, was_loaded, EntersAsRequired, GivesWay, KeepsMarks, WritesBackModified};
+ghost use Rattle.spec_states.specs.Rows.{is_later, was_loaded, GivesWay};
 ghost use Rattle.spec_states.specs.Tables.{other_load, other_store, other_publish};
 
 use crate::line::{LineState, Marks};
@@ -13,16 +13,13 @@ pub fn after_other_load(state: LineState, marks: Marks) -> Next
     ensures table { result ≡ other_load state marks }
     ensures up_to_date { KeepsUpToDate state marks result }
     ensures violates_none { result.violated ≡ false }
-    ensures keeps_marks { KeepsMarks state marks result }
-    ensures gives_way { GivesWay state result }
-    ensures writes_back { WritesBackModified state result }
-    ensures enters { EntersAsRequired state marks result }
+    ensures gives_way { GivesWay state marks result }
 {
     match state {
         LineState::I => Next::to(LineState::I, marks),
         LineState::S | LineState::E => Next::to(LineState::S, marks),
         LineState::M => Next::to(LineState::S, marks).written_back(),
-        LineState::SpE if marks.words != 0 => Next::to(LineState::SpS, marks).entering(),
+        LineState::SpE if marks.bytes != 0 => Next::to(LineState::SpS, marks).entering(),
         LineState::SpS | LineState::SpE => Next::to(LineState::SpS, marks),
     }
 }
@@ -33,10 +30,7 @@ pub fn after_other_store(state: LineState, marks: Marks, owner: Order) -> Next
     ensures table { result ≡ other_store state marks owner }
     ensures up_to_date { KeepsUpToDate state marks result }
     ensures violates { result.violated ≡ (is_later owner && was_loaded state marks) }
-    ensures keeps_marks { KeepsMarks state marks result }
-    ensures gives_way { GivesWay state result }
-    ensures writes_back { WritesBackModified state result }
-    ensures enters { EntersAsRequired state marks result }
+    ensures gives_way { GivesWay state marks result }
 {
     match state {
         LineState::I | LineState::S | LineState::E => Next::to(LineState::I, marks),
@@ -54,10 +48,7 @@ pub fn after_publish(state: LineState, marks: Marks) -> Next
     ensures table { result ≡ other_publish state marks }
     ensures up_to_date { FollowsPublish state marks result }
     ensures violates { result.violated ≡ was_loaded state marks }
-    ensures keeps_marks { KeepsMarks state marks result }
-    ensures gives_way { GivesWay state result }
-    ensures writes_back { WritesBackModified state result }
-    ensures enters { EntersAsRequired state marks result }
+    ensures gives_way { GivesWay state marks result }
 {
     match state {
         LineState::I | LineState::S | LineState::E => Next::to(LineState::I, marks),

@@ -1,12 +1,13 @@
-ghost use Rattle.std.specs.Prelude.{◌≡◌, ℕ, ◌<◌, ◌⊎◌, ◌%◌, ◌||◌, true, false};
-ghost use Rattle.spec_states.specs.declared.line.TheConstants.{LINE_BYTES};
+ghost use Rattle.std.specs.Prelude.{◌≡◌, ℕ, ◌+◌, ◌<◌, ◌≤◌, ◌%◌, ◌||◌, true, false};
+ghost use Rattle.spec_states.specs.declared.line.TheConstants.{LONGEST_LINE};
 ghost use Rattle.spec_states.specs.Copies.{KeepsUpToDate, FilledIsUpToDate, KeepsUpToDateAtStore, StoredIsUpToDate, Publishes};
-ghost use Rattle.spec_states.specs.Mask.{has, same_word, with_word};
-ghost use Rattle.spec_states.specs.Rows.{EntersAsRequired, GuardsRest, IsExclusiveOnlyAlone, IsCarriedOn, WritesBackModified};
-ghost use Rattle.spec_states.specs.States.{is_speculative, is_valid};
-ghost use Rattle.spec_states.specs.Tables.{next, own_load, own_load_table, own_store, own_store_table, violation, settlement, marked_by_load, marked_by_store, marks_of};
+ghost use Rattle.memory_bytes.specs.Bytes.{IsWidth};
+ghost use Rattle.spec_states.specs.Mask.{has, is_within, IsWithinLine};
+ghost use Rattle.spec_states.specs.Rows.{TakesHold, RollsBack, Settles, MarksRead};
+ghost use Rattle.spec_states.specs.States.{is_valid};
+ghost use Rattle.spec_states.specs.Tables.{next, own_load, own_load_table, own_store, own_store_table, violation, settlement, marks_after_load, marks_after_store, marks_of};
 
-use crate::line::{LINE_BYTES, LineState, Marks, WORD_BYTES};
+use crate::line::{LONGEST_LINE, LineState, Marks};
 use crate::next::Next;
 
 impl Marks {
@@ -21,54 +22,47 @@ impl Marks {
         }
     }
 
-    /// The marks after a load of a byte at `offset`.
-    fn with_load(self, offset: u32) -> Marks
-        requires { offset < LINE_BYTES }
-        ensures { result ≡ marked_by_load self offset }
+    /// The marks after a load of `width` bytes at `offset`.
+    fn with_load(self, offset: u32, width: u32) -> Marks
+        requires in_line { offset + width ≤ LONGEST_LINE }
+        requires width { IsWidth width }
+        ensures { result ≡ marks_after_load self offset width }
     {
         Marks {
-            loaded: self.loaded || !self.has(offset),
-            words: self.words,
+            loaded: self.loaded || !self.has_all(offset, width),
+            bytes: self.bytes,
         }
     }
 
     /// The marks after a store of `width` bytes at `offset`.
     fn with_store(self, offset: u32, width: u32) -> Marks
-        requires { offset < LINE_BYTES }
-        ensures { result ≡ marked_by_store self offset width }
+        requires in_line { offset + width ≤ LONGEST_LINE }
+        requires width { IsWidth width }
+        ensures { result ≡ marks_after_store self offset width }
     {
         Marks {
-            loaded: self.loaded || (width < WORD_BYTES && !self.has(offset)),
-            words: self.with_word(offset),
+            loaded: self.loaded,
+            bytes: self.with_bytes(offset, width),
         }
-    }
-
-    /// The mask, and the word of the byte at `offset` with it.
-    fn with_word(self, offset: u32) -> u8
-        requires { offset < LINE_BYTES }
-        ensures { result ≡ with_word self.words offset }
-    {
-        self.words | 1 << (offset / WORD_BYTES)
     }
 }
 
 /// What the owner's speculative load of `width` bytes at `offset` makes of its copy. `alone` says that no other core
-/// holds the line after the transaction. An aligned access lies in one word, so the width decides nothing else.
+/// holds the line after the transaction.
 pub fn after_own_load(state: LineState, marks: Marks, offset: u32, width: u32, alone: bool) -> Next
-    requires in_line { offset < LINE_BYTES }
-    requires width { (width ≡ 1) ⊎ (width ≡ 2) ⊎ (width ≡ 4) }
+    requires in_line { offset < LONGEST_LINE }
+    requires width { IsWidth width }
     requires aligned { offset % width ≡ 0 }
-    ensures table { result ≡ own_load state marks offset alone }
+    ensures table { result ≡ own_load state marks offset width alone }
     ensures hit { is_valid state ≡ true → KeepsUpToDate state marks result }
     ensures miss { is_valid state ≡ false → FilledIsUpToDate result }
-    ensures marks { result.marks ≡ marked_by_load (marks_of state marks) offset }
-    ensures mask { result.marks.words ≡ (marks_of state marks).words }
-    ensures marked { is_speculative result.state ≡ true }
-    ensures exclusive { IsExclusiveOnlyAlone state alone result }
-    ensures writes_back { WritesBackModified state result }
-    ensures enters { EntersAsRequired state marks result }
+    ensures marks { result.marks ≡ marks_after_load (marks_of state marks) offset width }
+    ensures mask { result.marks.bytes ≡ (marks_of state marks).bytes }
+    ensures read { MarksRead offset width result }
+    ensures takes_hold { TakesHold state marks alone result }
+    ensures enters_none { result.enters ≡ false }
 {
-    let after = marks.carried(state).with_load(offset);
+    let after = marks.carried(state).with_load(offset, width);
     own_load_row(state, alone, after)
 }
 
@@ -87,24 +81,22 @@ fn own_load_row(state: LineState, alone: bool, after: Marks) -> Next
 /// What the owner's speculative store of `width` bytes at `offset` makes of its copy. `alone` says that no other core
 /// holds the line after the transaction.
 pub fn after_own_store(state: LineState, marks: Marks, offset: u32, width: u32, alone: bool) -> Next
-    requires in_line { offset < LINE_BYTES }
-    requires width { (width ≡ 1) ⊎ (width ≡ 2) ⊎ (width ≡ 4) }
+    requires in_line { offset < LONGEST_LINE }
+    requires width { IsWidth width }
     requires aligned { offset % width ≡ 0 }
     ensures table { result ≡ own_store state marks offset width alone }
     ensures hit { is_valid state ≡ true → KeepsUpToDateAtStore state marks result }
     ensures miss { is_valid state ≡ false → StoredIsUpToDate result }
-    ensures marks { result.marks ≡ marked_by_store (marks_of state marks) offset width }
-    ensures mask { (x : ℕ) → has result.marks.words x
-        ≡ (has (marks_of state marks).words x || same_word x offset) }
-    ensures guards { GuardsRest (marks_of state marks) offset width result }
-    ensures marked { is_speculative result.state ≡ true }
-    ensures exclusive { IsExclusiveOnlyAlone state alone result }
-    ensures writes_back { WritesBackModified state result }
-    ensures enters { EntersAsRequired state marks result }
+    ensures marks { result.marks ≡ marks_after_store (marks_of state marks) offset width }
+    ensures mask { (x : ℕ) → has result.marks.bytes x
+        ≡ (has (marks_of state marks).bytes x || is_within offset width x) }
+    ensures within_line { (length : ℕ) → offset + width ≤ length
+        → IsWithinLine length (marks_of state marks).bytes → IsWithinLine length result.marks.bytes }
+    ensures takes_hold { TakesHold state marks alone result }
 {
     let before = marks.carried(state);
     let after = before.with_store(offset, width);
-    own_store_row(state, before.words != 0, alone, after)
+    own_store_row(state, before.bytes != 0, alone, after)
 }
 
 /// The row of an own store, with the marks that it leaves. `modified` says that the mask was not empty before.
@@ -125,10 +117,10 @@ fn own_store_row(state: LineState, modified: bool, alone: bool, after: Marks) ->
 pub fn after_violation(state: LineState, marks: Marks) -> Next
     ensures table { result ≡ violation state marks }
     ensures up_to_date { KeepsUpToDate state marks result }
-    ensures unmarked { is_speculative result.state ≡ false }
+    ensures rolls_back { RollsBack state result }
 {
     let after = match state {
-        LineState::SpS | LineState::SpE if marks.words != 0 => LineState::I,
+        LineState::SpS | LineState::SpE if marks.bytes != 0 => LineState::I,
         LineState::SpS => LineState::S,
         LineState::SpE => LineState::E,
         _ => state,
@@ -141,14 +133,12 @@ pub fn after_violation(state: LineState, marks: Marks) -> Next
 pub fn settled(state: LineState, marks: Marks, alone: bool) -> Next
     ensures table { result ≡ settlement state marks alone }
     ensures up_to_date { Publishes state marks result }
-    ensures unmarked { is_speculative result.state ≡ false }
-    ensures exclusive { IsExclusiveOnlyAlone state alone result }
-    ensures written { IsCarriedOn state marks result }
+    ensures settles { Settles state marks alone result }
 {
     match state {
-        LineState::SpS if marks.words == 0 => Next::to(LineState::S, Marks::NONE),
+        LineState::SpS if marks.bytes == 0 => Next::to(LineState::S, Marks::NONE),
         LineState::SpS if !alone => Next::to(LineState::S, Marks::NONE).written_back(),
-        LineState::SpE if marks.words == 0 => Next::to(LineState::E, Marks::NONE),
+        LineState::SpE if marks.bytes == 0 => Next::to(LineState::E, Marks::NONE),
         LineState::SpS | LineState::SpE => Next::to(LineState::M, Marks::NONE),
         _ => Next::to(state, Marks::NONE),
     }

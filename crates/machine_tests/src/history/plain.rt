@@ -1,7 +1,7 @@
 //! The flat machine as plain lists, by the table of its entries alone. It is slow: each look searches a list.
 
-use crate::{Entry, Illegal, What};
 use rv32_exec::{Arrived, End, Hart, Image, Stop, advance, loaded, start, stored};
+use spec_history::{Entry, Illegal, What};
 use std::alloc::{AllocError, Global};
 use std::test::Fail;
 
@@ -88,6 +88,9 @@ impl PlainFlat {
                 return Ok(Some(Illegal::HurtMissing));
             }
         }
+        if matches!(what, What::Commit) && self.exits(by) && self.another_runs(by) {
+            return Ok(Some(Illegal::NotCancelled));
+        }
         Ok(None)
     }
 
@@ -110,6 +113,10 @@ impl PlainFlat {
                 Some(core) => core.epoch < epoch && self.can_be_hurt(epoch),
                 None => false,
             },
+            What::Cancel(epoch) => match self.running(by) {
+                Some(core) => core.epoch < epoch && self.is_run(epoch),
+                None => false,
+            },
             What::Publish => match self.running(by) {
                 Some(core) => !core.straight,
                 None => false,
@@ -123,6 +130,36 @@ impl PlainFlat {
     fn can_be_hurt(&self, epoch: u32) -> bool {
         for core in self.cores.iter().flatten() {
             if core.epoch == epoch && !core.straight && !core.hurt {
+                return true;
+            }
+        }
+        false
+    }
+
+    fn is_run(&self, epoch: u32) -> bool {
+        for core in self.cores.iter().flatten() {
+            if core.epoch == epoch {
+                return true;
+            }
+        }
+        false
+    }
+
+    /// The epoch of the core ends, and x10 is not 0 where an epoch may exit.
+    fn exits(&self, by: u32) -> bool {
+        match self.running(by) {
+            Some(core) => {
+                let arrived = advance(&self.image, core.hart);
+                arrived.at() == Stop::Ended && arrived.now().exits(&self.image)
+            }
+            None => false,
+        }
+    }
+
+    /// Another core runs an epoch, hurt or not.
+    fn another_runs(&self, by: u32) -> bool {
+        for (k, core) in self.cores.iter().enumerate() {
+            if k != by as usize && core.is_some() {
                 return true;
             }
         }
@@ -157,6 +194,7 @@ impl PlainFlat {
                 ),
             ) => a == addr && w == width && v == value,
             (What::Commit, Some(Stop::Ended)) => true,
+            (What::Cancel(_), Some(Stop::Ended)) => self.exits(by),
             (What::Fault { cause, pc }, Some(Stop::Fault { cause: c, pc: p })) => c == cause
                 && p == pc,
             _ => false,
@@ -165,8 +203,8 @@ impl PlainFlat {
 
     fn is_homefree(&self, by: u32, what: What) -> bool {
         match (what, self.running(by)) {
-            (What::Publish | What::Commit | What::Fault { .. }, Some(core)) => core.epoch
-                == self.homefree,
+            (What::Cancel(_) | What::Publish | What::Commit | What::Fault { .. }, Some(core)) =>
+                core.epoch == self.homefree,
             _ => true,
         }
     }
@@ -223,6 +261,7 @@ impl PlainFlat {
                 *cell = *byte;
             }
         }
+        let exits = self.exits(by);
         match what {
             What::Start(epoch) => {
                 self.next_epoch = self.next_epoch.saturating_add(1);
@@ -230,15 +269,24 @@ impl PlainFlat {
                 self.set(by, Some(core));
             }
             What::Hurt(epoch) => self.hurt(epoch),
-            What::Commit => {
-                self.set(by, None);
-                self.homefree = self.homefree.saturating_add(1);
-                self.published = 0;
-                self.end_the_loop();
-            }
+            What::Cancel(epoch) => self.cancel(epoch),
+            What::Commit => self.commit(by, exits),
             _ => self.perform_on(alloc, by, what)?,
         }
         Ok(())
+    }
+
+    /// The core is idle. The loop is over where its epoch exits, or was the last.
+    fn commit(&mut self, by: u32, exits: bool) {
+        let epoch = self.homefree;
+        self.set(by, None);
+        self.homefree = epoch.saturating_add(1);
+        self.published = 0;
+        if exits {
+            self.end = Some(End::Exit(epoch));
+        } else {
+            self.end_the_loop();
+        }
     }
 
     /// The loop is over once all of its epochs have committed.
@@ -258,6 +306,16 @@ impl PlainFlat {
         for core in self.cores.iter_mut().flatten() {
             if core.epoch == epoch {
                 core.hurt = true;
+            }
+        }
+    }
+
+    fn cancel(&mut self, epoch: u32) {
+        for place in self.cores.iter_mut() {
+            if let Some(core) = place {
+                if core.epoch == epoch {
+                    *place = None;
+                }
             }
         }
     }

@@ -1,32 +1,9 @@
 //! Histories with what comes of them, worked out by hand from the table of entries.
 
-use crate::{Entry, Illegal, What};
 use rv32_exec::End;
+use spec_history::{Entry, What};
 use std::alloc::Global;
 use std::test::Fail;
-
-/// A history that is legal, and the state after it.
-pub struct Legal {
-    pub name: &'static str,
-    pub image: &'static str,
-    pub cores: u32,
-    /// Entries, parted by semicolons: the core, what it did, and decimal numbers.
-    pub entries: &'static str,
-    pub homefree: u32,
-    pub published: u64,
-    pub ended: Option<End>,
-    /// The committed words at 64 and at 68.
-    pub words: [u32; 2],
-}
-
-/// A history whose last entry is the first that is refused, and its refusal.
-pub struct Refused {
-    pub name: &'static str,
-    pub image: &'static str,
-    pub cores: u32,
-    pub entries: &'static str,
-    pub illegal: Illegal,
-}
 
 /// Epoch 0 stores 1 to 64. Epoch 1 loops until it loads it.
 ///
@@ -90,553 +67,252 @@ const CALL_AT_ONE: &str = "size 256\nepochs 2\nlimit 50\ncode 630605008322000473
 /// Nothing is to be run.
 const EMPTY: &str = "size 256\nepochs 0\nlimit 50\ncode 67800000\nat 00000040 05\n";
 
-pub const LEGAL: [Legal; 23] = [
-    Legal {
-        name: "nothing has happened",
-        image: SIGNAL,
-        cores: 2,
-        entries: "",
-        homefree: 0,
-        published: 0,
-        ended: None,
-        words: [0, 0],
-    },
-    Legal {
-        name: "no epochs",
-        image: EMPTY,
-        cores: 2,
-        entries: "",
-        homefree: 0,
-        published: 0,
-        ended: Some(End::Done(0)),
-        words: [5, 0],
-    },
-    Legal {
-        name: "a violation",
-        image: SIGNAL,
-        cores: 2,
-        entries: "0 start 0; 1 start 1; 0 store 64 4 1; 1 load 64 4 0; 0 hurt 1; 0 commit; \
-            1 restart; 1 load 64 4 1; 1 commit",
-        homefree: 2,
-        published: 0,
-        ended: Some(End::Done(2)),
-        words: [1, 0],
-    },
-    Legal {
-        name: "a violation that is told",
-        image: SIGNAL,
-        cores: 2,
-        entries: "0 start 0; 1 start 1; 0 store 64 4 1; 1 load 64 4 0; 0 hurt 1",
-        homefree: 0,
-        published: 0,
-        ended: None,
-        words: [0, 0],
-    },
-    Legal {
-        name: "a load again and again",
-        image: SIGNAL,
-        cores: 2,
-        entries: "0 start 0; 1 start 1; 1 load 64 4 0; 1 load 64 4 0; 0 store 64 4 1; 1 load 64 4 0; 0 hurt 1; 0 commit",
-        homefree: 1,
-        published: 0,
-        ended: None,
-        words: [1, 0],
-    },
-    Legal {
-        name: "one core after the other",
-        image: SUM,
-        cores: 1,
-        entries: "0 start 0; 0 load 64 4 0; 0 store 64 4 0; 0 commit; \
-            0 start 1; 0 load 64 4 0; 0 store 64 4 1; 0 commit; \
-            0 start 2; 0 load 64 4 1; 0 store 64 4 3; 0 commit",
-        homefree: 3,
-        published: 0,
-        ended: Some(End::Done(3)),
-        words: [3, 0],
-    },
-    Legal {
-        name: "two cores are hurt, and begin again without their own bytes",
-        image: ADD,
-        cores: 3,
-        entries: "0 start 0; 1 start 1; 2 start 2; \
-            1 load 64 4 0; 2 load 64 4 0; 1 store 64 4 2; 0 load 64 4 0; 0 store 64 4 1; \
-            0 hurt 1; 0 hurt 2; 0 commit; \
-            1 restart; 2 restart; 2 load 64 4 1; 1 load 64 4 1; 1 store 64 4 3; 1 hurt 2; 1 commit; \
-            2 restart; 2 load 64 4 3; 2 store 64 4 6; 2 commit",
-        homefree: 3,
-        published: 0,
-        ended: Some(End::Done(3)),
-        words: [6, 0],
-    },
-    Legal {
-        name: "a publish with two of six instructions done",
-        image: WIDTHS,
-        cores: 2,
-        entries: "0 start 0; 1 start 1; 1 load 64 1 0; 1 store 66 2 1; 1 load 64 4 65536; \
-            0 load 64 1 0; 0 store 66 2 0; 0 load 64 4 0; 0 store 64 1 1; 0 hurt 1; 0 commit; \
-            1 restart; 1 load 64 1 1; 1 store 66 2 1; 1 publish",
-        homefree: 1,
-        published: 2,
-        ended: None,
-        words: [65537, 0],
-    },
-    Legal {
-        name: "a straight load and a straight store",
-        image: WIDTHS,
-        cores: 2,
-        entries: "0 start 0; 1 start 1; 1 load 64 1 0; 1 store 66 2 1; 1 load 64 4 65536; \
-            0 load 64 1 0; 0 store 66 2 0; 0 load 64 4 0; 0 store 64 1 1; 0 hurt 1; 0 commit; \
-            1 restart; 1 load 64 1 1; 1 store 66 2 1; 1 publish; \
-            1 load 64 4 65537; 1 store 64 1 2",
-        homefree: 1,
-        published: 5,
-        ended: None,
-        words: [65538, 0],
-    },
-    Legal {
-        name: "all widths, to the end",
-        image: WIDTHS,
-        cores: 2,
-        entries: "0 start 0; 1 start 1; 1 load 64 1 0; 1 store 66 2 1; 1 load 64 4 65536; \
-            0 load 64 1 0; 0 store 66 2 0; 0 load 64 4 0; 0 store 64 1 1; 0 hurt 1; 0 commit; \
-            1 restart; 1 load 64 1 1; 1 store 66 2 1; 1 publish; \
-            1 load 64 4 65537; 1 store 64 1 2; 1 commit",
-        homefree: 2,
-        published: 0,
-        ended: Some(End::Done(2)),
-        words: [65538, 0],
-    },
-    Legal {
-        name: "numbers with a sign",
-        image: SIGNS,
-        cores: 1,
-        entries: "0 start 0; 0 load 64 2 65408; 0 load 64 1 128; 0 store 68 4 4294967168; 0 store 72 2 65408; 0 commit",
-        homefree: 1,
-        published: 0,
-        ended: Some(End::Done(1)),
-        words: [65408, 4294967168],
-    },
-    Legal {
-        name: "a byte that was stored in the first attempt alone",
-        image: FORK,
-        cores: 2,
-        entries: "0 start 0; 1 start 1; 1 load 64 4 0; 1 store 68 4 1; 0 store 64 4 1; 0 hurt 1; 0 commit; \
-            1 restart; 1 load 64 4 1; 1 commit",
-        homefree: 2,
-        published: 0,
-        ended: Some(End::Done(2)),
-        words: [1, 0],
-    },
-    Legal {
-        name: "a fault",
-        image: CALL,
-        cores: 2,
-        entries: "0 start 0; 1 start 1; 1 load 64 4 0; 0 load 64 4 0; 0 store 64 4 1; 0 hurt 1; 0 fault 2 12",
-        homefree: 0,
-        published: 3,
-        ended: Some(End::Fault {
-            epoch: 0,
-            cause: 2,
-            pc: 12,
-        }),
-        words: [1, 0],
-    },
-    Legal {
-        name: "a straight fault",
-        image: CALL,
-        cores: 2,
-        entries: "0 start 0; 0 load 64 4 0; 0 publish; 0 store 64 4 1; 0 fault 2 12",
-        homefree: 0,
-        published: 3,
-        ended: Some(End::Fault {
-            epoch: 0,
-            cause: 2,
-            pc: 12,
-        }),
-        words: [1, 0],
-    },
-    Legal {
-        name: "a fault of the second epoch",
-        image: CALL_AT_ONE,
-        cores: 2,
-        entries: "0 start 0; 1 start 1; 1 load 64 4 0; 0 commit; 1 fault 2 8",
-        homefree: 1,
-        published: 2,
-        ended: Some(End::Fault {
-            epoch: 1,
-            cause: 2,
-            pc: 8,
-        }),
-        words: [0, 0],
-    },
-    // While an epoch is straight no other one commits, so nobody can miss what it loads.
-    Legal {
-        name: "a straight load is no outside read",
-        image: STORE_FIRST,
-        cores: 2,
-        entries: "0 start 0; 0 publish; 0 store 64 4 0; 0 load 64 4 0; 1 start 1; 1 store 64 4 1; 1 load 64 4 1; \
-            0 commit; 0 start 2; 1 commit",
-        homefree: 2,
-        published: 0,
-        ended: None,
-        words: [1, 0],
-    },
-    Legal {
-        name: "what an earlier epoch of the core has read is forgotten",
-        image: ADD,
-        cores: 2,
-        entries: "0 start 0; 0 load 64 4 0; 0 store 64 4 1; 1 start 1; 0 commit; 0 start 2; \
-            1 load 64 4 1; 1 store 64 4 3; 1 commit",
-        homefree: 2,
-        published: 0,
-        ended: None,
-        words: [3, 0],
-    },
-    Legal {
-        name: "what was read before a restart is forgotten",
-        image: ADD,
-        cores: 3,
-        entries: "0 start 0; 1 start 1; 2 start 2; \
-            1 load 64 4 0; 2 load 64 4 0; 1 store 64 4 2; 0 load 64 4 0; 0 store 64 4 1; \
-            0 hurt 1; 0 hurt 2; 0 commit; \
-            1 restart; 2 restart; 1 load 64 4 1; 1 store 64 4 3; 1 commit",
-        homefree: 2,
-        published: 0,
-        ended: None,
-        words: [3, 0],
-    },
-    Legal {
-        name: "a straight store of the byte that is there",
-        image: SUM,
-        cores: 2,
-        entries: "0 start 0; 0 publish; 1 start 1; 1 load 64 4 0; 0 load 64 4 0; 0 store 64 4 0; 0 commit",
-        homefree: 1,
-        published: 0,
-        ended: None,
-        words: [0, 0],
-    },
-    Legal {
-        name: "a commit of the byte that is there",
-        image: SUM,
-        cores: 2,
-        entries: "0 start 0; 1 start 1; 1 load 64 4 0; 0 load 64 4 0; 0 store 64 4 0; 0 commit",
-        homefree: 1,
-        published: 0,
-        ended: None,
-        words: [0, 0],
-    },
-    Legal {
-        name: "a load of the core's own bytes",
-        image: STORE_FIRST,
-        cores: 2,
-        entries: "0 start 0; 1 start 1; 1 store 64 4 1; 1 load 64 4 1; 0 store 64 4 0; 0 load 64 4 0; 0 commit",
-        homefree: 1,
-        published: 0,
-        ended: None,
-        words: [0, 0],
-    },
-    Legal {
-        name: "a publish over another core's own byte",
-        image: PART,
-        cores: 2,
-        entries: "0 start 0; 1 start 1; 1 store 64 1 1; 1 load 64 4 1; 0 store 64 1 9; 0 publish",
-        homefree: 0,
-        published: 3,
-        ended: None,
-        words: [9, 0],
-    },
-    Legal {
-        name: "a load of bytes of one's own and of others",
-        image: PART,
-        cores: 2,
-        entries: "0 start 0; 1 start 1; 1 store 64 1 1; 1 load 64 4 1; 0 store 64 1 9; 0 publish; 0 hurt 1; 0 store 65 1 9; 0 commit; \
-            1 restart; 1 store 64 1 1; 1 load 64 4 2305; 1 commit",
-        homefree: 2,
-        published: 0,
-        ended: Some(End::Done(2)),
-        words: [2305, 0],
-    },
-];
+/// Each of three epochs stores its number to 64, and then exits the loop.
+///
+/// `sw x10,64(x0); addi x10,x0,1; jalr x0,0(x1)`
+const EXIT: &str = "size 256\nepochs 3\nlimit 50\nexit\ncode 2320a0041305100067800000\n";
 
-pub const REFUSED: [Refused; 38] = [
-    Refused {
-        name: "Over before NotThere: an idle core",
-        image: SIGNAL,
-        cores: 2,
-        entries: "0 start 0; 1 start 1; 0 store 64 4 1; 1 load 64 4 0; 0 hurt 1; 0 commit; \
-            1 restart; 1 load 64 4 1; 1 commit; \
-            0 publish",
-        illegal: Illegal::Over,
-    },
-    Refused {
-        name: "Over before NotThere: no such core",
-        image: EMPTY,
-        cores: 2,
-        entries: "9 start 0",
-        illegal: Illegal::Over,
-    },
-    Refused {
-        name: "Over before NotNext",
-        image: CALL,
-        cores: 2,
-        entries: "0 start 0; 0 load 64 4 0; 0 store 64 4 1; 0 fault 2 12; 0 commit",
-        illegal: Illegal::Over,
-    },
-    Refused {
-        name: "NotThere before NotNext: an idle core has no next event",
-        image: SIGNAL,
-        cores: 2,
-        entries: "0 load 64 4 0",
-        illegal: Illegal::NotThere,
-    },
-    Refused {
-        name: "NotThere before NotNext: no such core",
-        image: SIGNAL,
-        cores: 2,
-        entries: "2 start 1",
-        illegal: Illegal::NotThere,
-    },
-    Refused {
-        name: "NotThere before NotNext: a core that runs is not to start",
-        image: SIGNAL,
-        cores: 2,
-        entries: "0 start 0; 0 start 7",
-        illegal: Illegal::NotThere,
-    },
-    Refused {
-        name: "NotThere before NotNext: a hurt core",
-        image: SIGNAL,
-        cores: 2,
-        entries: "0 start 0; 1 start 1; 1 load 64 4 0; 0 hurt 1; 1 store 68 4 1",
-        illegal: Illegal::NotThere,
-    },
-    Refused {
-        name: "NotThere before NotHomefree: a hurt core",
-        image: SUM,
-        cores: 2,
-        entries: "0 start 0; 1 start 1; 0 hurt 1; 1 publish",
-        illegal: Illegal::NotThere,
-    },
-    Refused {
-        name: "NotThere before WrongValue: a hurt core",
-        image: SUM,
-        cores: 2,
-        entries: "0 start 0; 1 start 1; 0 hurt 1; 1 load 64 4 7",
-        illegal: Illegal::NotThere,
-    },
-    Refused {
-        name: "NotThere before HurtMissing: a hurt core whose epoch is homefree",
-        image: ADD,
-        cores: 3,
-        entries: "0 start 0; 1 start 1; 2 start 2; \
-            1 load 64 4 0; 2 load 64 4 0; 1 store 64 4 2; 0 load 64 4 0; 0 store 64 4 1; \
-            0 hurt 1; 0 hurt 2; 0 commit; \
-            2 restart; 2 load 64 4 1; 1 commit",
-        illegal: Illegal::NotThere,
-    },
-    Refused {
-        name: "NotThere: an earlier epoch can't be hurt",
-        image: SUM,
-        cores: 3,
-        entries: "0 start 0; 1 start 1; 1 hurt 0",
-        illegal: Illegal::NotThere,
-    },
-    Refused {
-        name: "NotThere: nor one's own",
-        image: SUM,
-        cores: 3,
-        entries: "0 start 0; 1 start 1; 1 hurt 1",
-        illegal: Illegal::NotThere,
-    },
-    Refused {
-        name: "NotThere: nor one that nobody runs",
-        image: SUM,
-        cores: 3,
-        entries: "0 start 0; 1 start 1; 1 hurt 2",
-        illegal: Illegal::NotThere,
-    },
-    Refused {
-        name: "NotThere: nor one that is hurt",
-        image: SUM,
-        cores: 3,
-        entries: "0 start 0; 1 start 1; 0 hurt 1; 0 hurt 1",
-        illegal: Illegal::NotThere,
-    },
-    Refused {
-        name: "NotThere: a core that isn't hurt doesn't restart",
-        image: SUM,
-        cores: 3,
-        entries: "0 start 0; 0 restart",
-        illegal: Illegal::NotThere,
-    },
-    Refused {
-        name: "NotThere: a straight core doesn't publish",
-        image: SUM,
-        cores: 3,
-        entries: "0 start 0; 0 publish; 0 publish",
-        illegal: Illegal::NotThere,
-    },
-    Refused {
-        name: "NotNext: another epoch",
-        image: SIGNAL,
-        cores: 2,
-        entries: "0 start 1",
-        illegal: Illegal::NotNext,
-    },
-    Refused {
-        name: "NotNext: no epoch is left",
-        image: SIGNAL,
-        cores: 3,
-        entries: "0 start 0; 1 start 1; 2 start 2",
-        illegal: Illegal::NotNext,
-    },
-    Refused {
-        name: "NotNext before NotHomefree: a later epoch that hasn't ended",
-        image: SIGNAL,
-        cores: 2,
-        entries: "0 start 0; 1 start 1; 1 commit",
-        illegal: Illegal::NotNext,
-    },
-    Refused {
-        name: "NotNext before NotHomefree: another fault of a later epoch",
-        image: CALL_AT_ONE,
-        cores: 2,
-        entries: "0 start 0; 1 start 1; 1 load 64 4 0; 1 fault 2 4",
-        illegal: Illegal::NotNext,
-    },
-    Refused {
-        name: "NotNext before WrongValue: another address",
-        image: SUM,
-        cores: 2,
-        entries: "0 start 0; 0 load 68 4 7",
-        illegal: Illegal::NotNext,
-    },
-    Refused {
-        name: "NotNext before WrongValue: another width",
-        image: SUM,
-        cores: 2,
-        entries: "0 start 0; 0 load 64 2 7",
-        illegal: Illegal::NotNext,
-    },
-    Refused {
-        name: "NotNext before HurtMissing: a commit of an epoch that faults",
-        image: CALL,
-        cores: 2,
-        entries: "0 start 0; 1 start 1; 1 load 64 4 0; 0 load 64 4 0; 0 store 64 4 1; 0 commit",
-        illegal: Illegal::NotNext,
-    },
-    Refused {
-        name: "NotNext before HurtMissing: a straight store of another value",
-        image: ADD,
-        cores: 2,
-        entries: "0 start 0; 0 publish; 1 start 1; 1 load 64 4 0; 0 load 64 4 0; 0 store 64 4 2",
-        illegal: Illegal::NotNext,
-    },
-    Refused {
-        name: "NotHomefree: a later fault",
-        image: CALL_AT_ONE,
-        cores: 2,
-        entries: "0 start 0; 1 start 1; 1 load 64 4 0; 1 fault 2 8",
-        illegal: Illegal::NotHomefree,
-    },
-    // NotHomefree and WrongValue can't both hold: the one is of Publish, Commit and Fault, the other of Load.
-    Refused {
-        name: "NotHomefree before HurtMissing: a publish",
-        image: SUM,
-        cores: 3,
-        entries: "0 start 0; 1 start 1; 2 start 2; 1 load 64 4 0; 1 store 64 4 1; 2 load 64 4 0; 1 publish",
-        illegal: Illegal::NotHomefree,
-    },
-    Refused {
-        name: "NotHomefree before HurtMissing: a commit",
-        image: SUM,
-        cores: 3,
-        entries: "0 start 0; 1 start 1; 2 start 2; 1 load 64 4 0; 1 store 64 4 1; 2 load 64 4 0; 1 commit",
-        illegal: Illegal::NotHomefree,
-    },
-    // WrongValue and HurtMissing can't both hold: a Load changes no committed byte.
-    Refused {
-        name: "WrongValue: the value of another core",
-        image: SIGNAL,
-        cores: 2,
-        entries: "0 start 0; 1 start 1; 0 store 64 4 1; 1 load 64 4 1",
-        illegal: Illegal::WrongValue,
-    },
-    Refused {
-        name: "WrongValue: the committed byte under one's own",
-        image: STORE_FIRST,
-        cores: 2,
-        entries: "0 start 0; 0 store 64 4 0; 0 load 64 4 255",
-        illegal: Illegal::WrongValue,
-    },
-    Refused {
-        name: "WrongValue: a byte with its sign",
-        image: SIGNS,
-        cores: 1,
-        entries: "0 start 0; 0 load 64 2 4294967168",
-        illegal: Illegal::WrongValue,
-    },
-    Refused {
-        name: "HurtMissing: a commit",
-        image: SIGNAL,
-        cores: 2,
-        entries: "0 start 0; 1 start 1; 0 store 64 4 1; 1 load 64 4 0; 0 commit",
-        illegal: Illegal::HurtMissing,
-    },
-    Refused {
-        name: "HurtMissing: a commit that hurts one of two",
-        image: ADD,
-        cores: 3,
-        entries: "0 start 0; 1 start 1; 2 start 2; 1 load 64 4 0; 2 load 64 4 0; 0 load 64 4 0; 0 store 64 4 1; 0 hurt 1; 0 commit",
-        illegal: Illegal::HurtMissing,
-    },
-    Refused {
-        name: "HurtMissing: a publish",
-        image: ADD,
-        cores: 2,
-        entries: "0 start 0; 1 start 1; 1 load 64 4 0; 0 load 64 4 0; 0 store 64 4 1; 0 publish",
-        illegal: Illegal::HurtMissing,
-    },
-    Refused {
-        name: "HurtMissing: a fault",
-        image: CALL,
-        cores: 2,
-        entries: "0 start 0; 1 start 1; 1 load 64 4 0; 0 load 64 4 0; 0 store 64 4 1; 0 fault 2 12",
-        illegal: Illegal::HurtMissing,
-    },
-    Refused {
-        name: "HurtMissing: a straight store",
-        image: ADD,
-        cores: 2,
-        entries: "0 start 0; 0 publish; 1 start 1; 1 load 64 4 0; 0 load 64 4 0; 0 store 64 4 1",
-        illegal: Illegal::HurtMissing,
-    },
-    Refused {
-        name: "HurtMissing: a byte that the other core has read beside its own",
-        image: PART,
-        cores: 2,
-        entries: "0 start 0; 1 start 1; 1 store 64 1 1; 1 load 64 4 1; 0 store 64 1 9; 0 publish; 0 store 65 1 9",
-        illegal: Illegal::HurtMissing,
-    },
-    Refused {
-        name: "HurtMissing: read again after a restart",
-        image: ADD,
-        cores: 3,
-        entries: "0 start 0; 1 start 1; 2 start 2; \
-            1 load 64 4 0; 2 load 64 4 0; 1 store 64 4 2; 0 load 64 4 0; 0 store 64 4 1; \
-            0 hurt 1; 0 hurt 2; 0 commit; \
-            1 restart; 2 restart; 2 load 64 4 1; 1 load 64 4 1; 1 store 64 4 3; 1 commit",
-        illegal: Illegal::HurtMissing,
-    },
-    Refused {
-        name: "HurtMissing: read in the core's next epoch",
-        image: ADD,
-        cores: 2,
-        entries: "0 start 0; 0 load 64 4 0; 0 store 64 4 1; 1 start 1; 0 commit; 0 start 2; 0 load 64 4 1; \
-            1 load 64 4 1; 1 store 64 4 3; 1 commit",
-        illegal: Illegal::HurtMissing,
-    },
-];
+/// The same loop of two epochs.
+const EXIT_OF_TWO: &str = "exit\nsize 256\nepochs 2\nlimit 50\ncode 2320a0041305100067800000\n";
+
+/// The same loop of one epoch, and of none.
+const EXIT_OF_ONE: &str = "size 256\nepochs 1\nlimit 50\nexit\ncode 2320a0041305100067800000\n";
+
+/// The same loop of no epoch.
+const EXIT_OF_NONE: &str = "size 256\nepochs 0\nlimit 50\nexit\ncode 2320a0041305100067800000\n";
+
+/// The same loop, which no epoch may exit.
+const NO_EXIT: &str = "size 256\nepochs 3\nlimit 50\ncode 2320a0041305100067800000\n";
+
+/// Each of eight epochs stores its number to its word at 64, 68, .. Epoch 2 exits the loop.
+///
+/// `slli x5,x10,2; sw x10,64(x5); xori x10,x10,2; sltiu x10,x10,1; jalr x0,0(x1)`
+const SEARCH: &str =
+    "size 256\nepochs 8\nlimit 50\nexit\ncode 9312250023a0a204134525001335150067800000\n";
+
+/// Each of three epochs counts the word at 64, and then exits the loop.
+///
+/// `lw x5,64(x0); addi x5,x5,1; sw x5,64(x0); addi x10,x0,1; jalr x0,0(x1)`
+const COUNT_AND_EXIT: &str =
+    "size 256\nepochs 3\nlimit 50\nexit\ncode 8322000493821200232050041305100067800000\n";
+
+/// Each of 16 epochs stores the number 4294967292 to the last word of 1,048,576 bytes.
+///
+/// `lui x5,0x100; sw x1,-4(x5); jalr x0,0(x1)`
+pub const LARGE: &str =
+    "version 2\nsize 1048576\nepochs 16\nlimit 50\ncode b702100023ae12fe67800000\n";
+
+/// Row by row the same as `SIGNAL`, in version 2.
+const SIGNAL_2: &str =
+    "version 2\nsize 256\nepochs 2\nlimit 50\ncode 6308050083220004e38e02fe67800000930210002320500467800000\n";
+
+/// Histories that are legal, one a line: a name, the image, the number of cores, the entries, and the state after them. An
+/// entry is the core, what it did, and decimal numbers. The state is the homefree epoch, the published instructions, the
+/// committed words at 64 and at 68, and how the loop has ended.
+pub const LEGAL: &str = "
+nothing has happened | SIGNAL | 2 |  | 0 0 0 0 -
+no epochs | EMPTY | 2 |  | 0 0 5 0 done 0
+a violation | SIGNAL | 2 | 0 start 0; 1 start 1; 0 store 64 4 1; 1 load 64 4 0; 0 hurt 1; 0 commit; 1 restart; 1 load 64 4 1; 1 commit | 2 0 1 0 done 2
+a violation that is told | SIGNAL | 2 | 0 start 0; 1 start 1; 0 store 64 4 1; 1 load 64 4 0; 0 hurt 1 | 0 0 0 0 -
+a load again and again | SIGNAL | 2 | 0 start 0; 1 start 1; 1 load 64 4 0; 1 load 64 4 0; 0 store 64 4 1; 1 load 64 4 0; 0 hurt 1; 0 commit | 1 0 1 0 -
+one core after the other | SUM | 1 | 0 start 0; 0 load 64 4 0; 0 store 64 4 0; 0 commit; 0 start 1; 0 load 64 4 0; 0 store 64 4 1; 0 commit; 0 start 2; 0 load 64 4 1; 0 store 64 4 3; 0 commit | 3 0 3 0 done 3
+two cores are hurt, and begin again without their own bytes | ADD | 3 | 0 start 0; 1 start 1; 2 start 2; 1 load 64 4 0; 2 load 64 4 0; 1 store 64 4 2; 0 load 64 4 0; 0 store 64 4 1; 0 hurt 1; 0 hurt 2; 0 commit; 1 restart; 2 restart; 2 load 64 4 1; 1 load 64 4 1; 1 store 64 4 3; 1 hurt 2; 1 commit; 2 restart; 2 load 64 4 3; 2 store 64 4 6; 2 commit | 3 0 6 0 done 3
+a publish with two of six instructions done | WIDTHS | 2 | 0 start 0; 1 start 1; 1 load 64 1 0; 1 store 66 2 1; 1 load 64 4 65536; 0 load 64 1 0; 0 store 66 2 0; 0 load 64 4 0; 0 store 64 1 1; 0 hurt 1; 0 commit; 1 restart; 1 load 64 1 1; 1 store 66 2 1; 1 publish | 1 2 65537 0 -
+a straight load and a straight store | WIDTHS | 2 | 0 start 0; 1 start 1; 1 load 64 1 0; 1 store 66 2 1; 1 load 64 4 65536; 0 load 64 1 0; 0 store 66 2 0; 0 load 64 4 0; 0 store 64 1 1; 0 hurt 1; 0 commit; 1 restart; 1 load 64 1 1; 1 store 66 2 1; 1 publish; 1 load 64 4 65537; 1 store 64 1 2 | 1 5 65538 0 -
+all widths, to the end | WIDTHS | 2 | 0 start 0; 1 start 1; 1 load 64 1 0; 1 store 66 2 1; 1 load 64 4 65536; 0 load 64 1 0; 0 store 66 2 0; 0 load 64 4 0; 0 store 64 1 1; 0 hurt 1; 0 commit; 1 restart; 1 load 64 1 1; 1 store 66 2 1; 1 publish; 1 load 64 4 65537; 1 store 64 1 2; 1 commit | 2 0 65538 0 done 2
+numbers with a sign | SIGNS | 1 | 0 start 0; 0 load 64 2 65408; 0 load 64 1 128; 0 store 68 4 4294967168; 0 store 72 2 65408; 0 commit | 1 0 65408 4294967168 done 1
+a byte that was stored in the first attempt alone | FORK | 2 | 0 start 0; 1 start 1; 1 load 64 4 0; 1 store 68 4 1; 0 store 64 4 1; 0 hurt 1; 0 commit; 1 restart; 1 load 64 4 1; 1 commit | 2 0 1 0 done 2
+a fault | CALL | 2 | 0 start 0; 1 start 1; 1 load 64 4 0; 0 load 64 4 0; 0 store 64 4 1; 0 hurt 1; 0 fault 2 12 | 0 3 1 0 fault 0 2 12
+a straight fault | CALL | 2 | 0 start 0; 0 load 64 4 0; 0 publish; 0 store 64 4 1; 0 fault 2 12 | 0 3 1 0 fault 0 2 12
+a fault of the second epoch | CALL_AT_ONE | 2 | 0 start 0; 1 start 1; 1 load 64 4 0; 0 commit; 1 fault 2 8 | 1 2 0 0 fault 1 2 8
+# While an epoch is straight no other one commits, so nobody can miss what it loads.
+a straight load is no outside read | STORE_FIRST | 2 | 0 start 0; 0 publish; 0 store 64 4 0; 0 load 64 4 0; 1 start 1; 1 store 64 4 1; 1 load 64 4 1; 0 commit; 0 start 2; 1 commit | 2 0 1 0 -
+what an earlier epoch of the core has read is forgotten | ADD | 2 | 0 start 0; 0 load 64 4 0; 0 store 64 4 1; 1 start 1; 0 commit; 0 start 2; 1 load 64 4 1; 1 store 64 4 3; 1 commit | 2 0 3 0 -
+what was read before a restart is forgotten | ADD | 3 | 0 start 0; 1 start 1; 2 start 2; 1 load 64 4 0; 2 load 64 4 0; 1 store 64 4 2; 0 load 64 4 0; 0 store 64 4 1; 0 hurt 1; 0 hurt 2; 0 commit; 1 restart; 2 restart; 1 load 64 4 1; 1 store 64 4 3; 1 commit | 2 0 3 0 -
+a straight store of the byte that is there | SUM | 2 | 0 start 0; 0 publish; 1 start 1; 1 load 64 4 0; 0 load 64 4 0; 0 store 64 4 0; 0 commit | 1 0 0 0 -
+a commit of the byte that is there | SUM | 2 | 0 start 0; 1 start 1; 1 load 64 4 0; 0 load 64 4 0; 0 store 64 4 0; 0 commit | 1 0 0 0 -
+a load of the core's own bytes | STORE_FIRST | 2 | 0 start 0; 1 start 1; 1 store 64 4 1; 1 load 64 4 1; 0 store 64 4 0; 0 load 64 4 0; 0 commit | 1 0 0 0 -
+a publish over another core's own byte | PART | 2 | 0 start 0; 1 start 1; 1 store 64 1 1; 1 load 64 4 1; 0 store 64 1 9; 0 publish | 0 3 9 0 -
+a load of bytes of one's own and of others | PART | 2 | 0 start 0; 1 start 1; 1 store 64 1 1; 1 load 64 4 1; 0 store 64 1 9; 0 publish; 0 hurt 1; 0 store 65 1 9; 0 commit; 1 restart; 1 store 64 1 1; 1 load 64 4 2305; 1 commit | 2 0 2305 0 done 2
+# Loop exits.
+an exit, with the later epoch cancelled | EXIT_OF_TWO | 2 | 0 start 0; 1 start 1; 0 store 64 4 0; 1 store 64 4 1; 0 cancel 1; 0 commit | 1 0 0 0 exit 0
+a cancel before the later epoch has done anything | EXIT | 2 | 0 start 0; 1 start 1; 0 store 64 4 0; 0 cancel 1; 0 commit | 1 0 0 0 exit 0
+a cancel of an epoch that is hurt | EXIT | 2 | 0 start 0; 1 start 1; 0 store 64 4 0; 0 hurt 1; 0 cancel 1; 0 commit | 1 0 0 0 exit 0
+an exit without a cancel, where no other core runs | EXIT | 2 | 1 start 0; 1 store 64 4 0; 1 commit | 1 0 0 0 exit 0
+two cancels, not in the order of epochs | EXIT | 3 | 0 start 0; 1 start 1; 2 start 2; 0 store 64 4 0; 0 cancel 2; 0 cancel 1; 0 commit | 1 0 0 0 exit 0
+a cancelled core that starts the next epoch, and is cancelled again | EXIT | 2 | 0 start 0; 1 start 1; 0 store 64 4 0; 0 cancel 1; 1 start 2; 0 cancel 2; 0 commit | 1 0 0 0 exit 0
+a cancelled core runs no epoch | EXIT | 3 | 0 start 0; 1 start 1; 0 store 64 4 0; 0 cancel 1; 2 start 2 | 0 0 0 0 -
+an exit of a straight epoch | EXIT | 2 | 0 start 0; 0 publish; 0 store 64 4 0; 1 start 1; 0 cancel 1; 0 commit | 1 0 0 0 exit 0
+the last epoch exits | EXIT_OF_ONE | 1 | 0 start 0; 0 store 64 4 0; 0 commit | 1 0 0 0 exit 0
+no epoch exits where there is none | EXIT_OF_NONE | 1 |  | 0 0 0 0 done 0
+the third epoch exits | SEARCH | 2 | 0 start 0; 1 start 1; 0 store 64 4 0; 0 commit; 1 store 68 4 1; 0 start 2; 1 commit; 0 store 72 4 2; 1 start 3; 0 cancel 3; 0 commit | 3 0 0 1 exit 2
+the epochs before it end without an exit | SEARCH | 2 | 0 start 0; 1 start 1; 0 store 64 4 0; 0 commit; 1 store 68 4 1; 0 start 2; 1 commit | 2 0 0 1 -
+what an exit commits | COUNT_AND_EXIT | 2 | 0 start 0; 1 start 1; 1 load 64 4 0; 0 load 64 4 0; 0 store 64 4 1; 0 hurt 1; 0 cancel 1; 0 commit | 1 0 1 0 exit 0
+what a cancelled epoch has read is missed by nobody | COUNT_AND_EXIT | 2 | 0 start 0; 1 start 1; 1 load 64 4 0; 0 load 64 4 0; 0 store 64 4 1; 0 cancel 1; 0 commit | 1 0 1 0 exit 0
+without the image's word no epoch exits | NO_EXIT | 2 | 0 start 0; 1 start 1; 0 store 64 4 0; 1 store 64 4 1; 0 commit; 1 commit; 0 start 2; 0 store 64 4 2; 0 commit | 3 0 2 0 done 3
+# Images of version 2.
+a violation, in version 2 | SIGNAL_2 | 2 | 0 start 0; 1 start 1; 0 store 64 4 1; 1 load 64 4 0; 0 hurt 1; 0 commit; 1 restart; 1 load 64 4 1; 1 commit | 2 0 1 0 done 2
+16 cores beside 1,048,576 bytes | LARGE | 16 | 0 start 0; 1 start 1; 2 start 2; 3 start 3; 4 start 4; 5 start 5; 6 start 6; 7 start 7; 8 start 8; 9 start 9; 10 start 10; 11 start 11; 12 start 12; 13 start 13; 14 start 14; 15 start 15; 0 store 1048572 4 4294967292; 1 store 1048572 4 4294967292; 2 store 1048572 4 4294967292; 3 store 1048572 4 4294967292; 4 store 1048572 4 4294967292; 5 store 1048572 4 4294967292; 6 store 1048572 4 4294967292; 7 store 1048572 4 4294967292; 8 store 1048572 4 4294967292; 9 store 1048572 4 4294967292; 10 store 1048572 4 4294967292; 11 store 1048572 4 4294967292; 12 store 1048572 4 4294967292; 13 store 1048572 4 4294967292; 14 store 1048572 4 4294967292; 15 store 1048572 4 4294967292; 0 commit; 1 commit; 2 commit; 3 commit; 4 commit; 5 commit; 6 commit; 7 commit; 8 commit; 9 commit; 10 commit; 11 commit; 12 commit; 13 commit; 14 commit; 15 commit | 16 0 0 0 done 16
+";
+
+/// Histories whose last entry is the first that is refused, one a line, each with its refusal.
+pub const REFUSED: &str = "
+Over before NotThere: an idle core | SIGNAL | 2 | 0 start 0; 1 start 1; 0 store 64 4 1; 1 load 64 4 0; 0 hurt 1; 0 commit; 1 restart; 1 load 64 4 1; 1 commit; 0 publish | Over
+Over before NotThere: no such core | EMPTY | 2 | 9 start 0 | Over
+Over before NotNext | CALL | 2 | 0 start 0; 0 load 64 4 0; 0 store 64 4 1; 0 fault 2 12; 0 commit | Over
+NotThere before NotNext: an idle core has no next event | SIGNAL | 2 | 0 load 64 4 0 | NotThere
+NotThere before NotNext: no such core | SIGNAL | 2 | 2 start 1 | NotThere
+NotThere before NotNext: a core that runs is not to start | SIGNAL | 2 | 0 start 0; 0 start 7 | NotThere
+NotThere before NotNext: a hurt core | SIGNAL | 2 | 0 start 0; 1 start 1; 1 load 64 4 0; 0 hurt 1; 1 store 68 4 1 | NotThere
+NotThere before NotHomefree: a hurt core | SUM | 2 | 0 start 0; 1 start 1; 0 hurt 1; 1 publish | NotThere
+NotThere before WrongValue: a hurt core | SUM | 2 | 0 start 0; 1 start 1; 0 hurt 1; 1 load 64 4 7 | NotThere
+NotThere before HurtMissing: a hurt core whose epoch is homefree | ADD | 3 | 0 start 0; 1 start 1; 2 start 2; 1 load 64 4 0; 2 load 64 4 0; 1 store 64 4 2; 0 load 64 4 0; 0 store 64 4 1; 0 hurt 1; 0 hurt 2; 0 commit; 2 restart; 2 load 64 4 1; 1 commit | NotThere
+NotThere: an earlier epoch can't be hurt | SUM | 3 | 0 start 0; 1 start 1; 1 hurt 0 | NotThere
+NotThere: nor one's own | SUM | 3 | 0 start 0; 1 start 1; 1 hurt 1 | NotThere
+NotThere: nor one that nobody runs | SUM | 3 | 0 start 0; 1 start 1; 1 hurt 2 | NotThere
+NotThere: nor one that is hurt | SUM | 3 | 0 start 0; 1 start 1; 0 hurt 1; 0 hurt 1 | NotThere
+NotThere: a core that isn't hurt doesn't restart | SUM | 3 | 0 start 0; 0 restart | NotThere
+NotThere: a straight core doesn't publish | SUM | 3 | 0 start 0; 0 publish; 0 publish | NotThere
+NotNext: another epoch | SIGNAL | 2 | 0 start 1 | NotNext
+NotNext: no epoch is left | SIGNAL | 3 | 0 start 0; 1 start 1; 2 start 2 | NotNext
+NotNext before NotHomefree: a later epoch that hasn't ended | SIGNAL | 2 | 0 start 0; 1 start 1; 1 commit | NotNext
+NotNext before NotHomefree: another fault of a later epoch | CALL_AT_ONE | 2 | 0 start 0; 1 start 1; 1 load 64 4 0; 1 fault 2 4 | NotNext
+NotNext before WrongValue: another address | SUM | 2 | 0 start 0; 0 load 68 4 7 | NotNext
+NotNext before WrongValue: another width | SUM | 2 | 0 start 0; 0 load 64 2 7 | NotNext
+NotNext before HurtMissing: a commit of an epoch that faults | CALL | 2 | 0 start 0; 1 start 1; 1 load 64 4 0; 0 load 64 4 0; 0 store 64 4 1; 0 commit | NotNext
+NotNext before HurtMissing: a straight store of another value | ADD | 2 | 0 start 0; 0 publish; 1 start 1; 1 load 64 4 0; 0 load 64 4 0; 0 store 64 4 2 | NotNext
+NotHomefree: a later fault | CALL_AT_ONE | 2 | 0 start 0; 1 start 1; 1 load 64 4 0; 1 fault 2 8 | NotHomefree
+# NotHomefree and WrongValue can't both hold: the one is of Publish, Commit and Fault, the other of Load.
+NotHomefree before HurtMissing: a publish | SUM | 3 | 0 start 0; 1 start 1; 2 start 2; 1 load 64 4 0; 1 store 64 4 1; 2 load 64 4 0; 1 publish | NotHomefree
+NotHomefree before HurtMissing: a commit | SUM | 3 | 0 start 0; 1 start 1; 2 start 2; 1 load 64 4 0; 1 store 64 4 1; 2 load 64 4 0; 1 commit | NotHomefree
+# WrongValue and HurtMissing can't both hold: a Load changes no committed byte.
+WrongValue: the value of another core | SIGNAL | 2 | 0 start 0; 1 start 1; 0 store 64 4 1; 1 load 64 4 1 | WrongValue
+WrongValue: the committed byte under one's own | STORE_FIRST | 2 | 0 start 0; 0 store 64 4 0; 0 load 64 4 255 | WrongValue
+WrongValue: a byte with its sign | SIGNS | 1 | 0 start 0; 0 load 64 2 4294967168 | WrongValue
+HurtMissing: a commit | SIGNAL | 2 | 0 start 0; 1 start 1; 0 store 64 4 1; 1 load 64 4 0; 0 commit | HurtMissing
+HurtMissing: a commit that hurts one of two | ADD | 3 | 0 start 0; 1 start 1; 2 start 2; 1 load 64 4 0; 2 load 64 4 0; 0 load 64 4 0; 0 store 64 4 1; 0 hurt 1; 0 commit | HurtMissing
+HurtMissing: a publish | ADD | 2 | 0 start 0; 1 start 1; 1 load 64 4 0; 0 load 64 4 0; 0 store 64 4 1; 0 publish | HurtMissing
+HurtMissing: a fault | CALL | 2 | 0 start 0; 1 start 1; 1 load 64 4 0; 0 load 64 4 0; 0 store 64 4 1; 0 fault 2 12 | HurtMissing
+HurtMissing: a straight store | ADD | 2 | 0 start 0; 0 publish; 1 start 1; 1 load 64 4 0; 0 load 64 4 0; 0 store 64 4 1 | HurtMissing
+HurtMissing: a byte that the other core has read beside its own | PART | 2 | 0 start 0; 1 start 1; 1 store 64 1 1; 1 load 64 4 1; 0 store 64 1 9; 0 publish; 0 store 65 1 9 | HurtMissing
+HurtMissing: read again after a restart | ADD | 3 | 0 start 0; 1 start 1; 2 start 2; 1 load 64 4 0; 2 load 64 4 0; 1 store 64 4 2; 0 load 64 4 0; 0 store 64 4 1; 0 hurt 1; 0 hurt 2; 0 commit; 1 restart; 2 restart; 2 load 64 4 1; 1 load 64 4 1; 1 store 64 4 3; 1 commit | HurtMissing
+HurtMissing: read in the core's next epoch | ADD | 2 | 0 start 0; 0 load 64 4 0; 0 store 64 4 1; 1 start 1; 0 commit; 0 start 2; 0 load 64 4 1; 1 load 64 4 1; 1 store 64 4 3; 1 commit | HurtMissing
+# Row by row: the first four entries of a violation, and a publish of the later epoch.
+NotHomefree: a publish of a later epoch | SIGNAL | 2 | 0 start 0; 1 start 1; 0 store 64 4 1; 1 load 64 4 0; 1 publish | NotHomefree
+# Cancels and exits.
+Over before NotThere: a cancel after the exit | EXIT_OF_TWO | 2 | 0 start 0; 1 start 1; 0 store 64 4 0; 0 cancel 1; 0 commit; 0 cancel 1 | Over
+Over: no epoch starts after an exit | EXIT | 2 | 0 start 0; 0 store 64 4 0; 0 commit; 0 start 1 | Over
+NotThere: a cancel by an idle core | EXIT | 2 | 0 start 0; 0 store 64 4 0; 1 cancel 0 | NotThere
+NotThere: an earlier epoch can't be cancelled | EXIT | 2 | 0 start 0; 1 start 1; 1 store 64 4 1; 1 cancel 0 | NotThere
+NotThere: nor one's own | EXIT | 2 | 0 start 0; 0 store 64 4 0; 0 cancel 0 | NotThere
+NotThere: nor one that nobody runs | EXIT | 2 | 0 start 0; 0 store 64 4 0; 0 cancel 1 | NotThere
+NotThere: nor one that was cancelled | EXIT | 2 | 0 start 0; 1 start 1; 0 store 64 4 0; 0 cancel 1; 0 cancel 1 | NotThere
+NotThere before NotNext: a cancel by a hurt core | EXIT | 3 | 0 start 0; 1 start 1; 2 start 2; 0 hurt 1; 1 cancel 2 | NotThere
+NotThere: a cancelled core has nothing to restart | EXIT | 2 | 0 start 0; 1 start 1; 0 hurt 1; 0 store 64 4 0; 0 cancel 1; 1 restart | NotThere
+NotNext: a cancel before the epoch has ended | EXIT | 2 | 0 start 0; 1 start 1; 0 cancel 1 | NotNext
+NotNext: a cancel at an end that is no exit | SEARCH | 2 | 0 start 0; 1 start 1; 0 store 64 4 0; 0 cancel 1 | NotNext
+NotNext: a cancel where no epoch may exit | NO_EXIT | 2 | 0 start 0; 1 start 1; 0 store 64 4 0; 0 cancel 1 | NotNext
+NotNext before NotHomefree: a cancel by a later epoch that has not ended | EXIT | 3 | 0 start 0; 1 start 1; 2 start 2; 1 cancel 2 | NotNext
+NotHomefree: a cancel by a later epoch | EXIT | 3 | 0 start 0; 1 start 1; 2 start 2; 1 store 64 4 1; 1 cancel 2 | NotHomefree
+NotHomefree before NotCancelled: an exit of a later epoch | EXIT | 2 | 0 start 0; 1 start 1; 1 store 64 4 1; 1 commit | NotHomefree
+HurtMissing before NotCancelled | COUNT_AND_EXIT | 2 | 0 start 0; 1 start 1; 1 load 64 4 0; 0 load 64 4 0; 0 store 64 4 1; 0 commit | HurtMissing
+NotCancelled: the later epoch is hurt | COUNT_AND_EXIT | 2 | 0 start 0; 1 start 1; 1 load 64 4 0; 0 load 64 4 0; 0 store 64 4 1; 0 hurt 1; 0 commit | NotCancelled
+NotCancelled: without the cancel | EXIT_OF_TWO | 2 | 0 start 0; 1 start 1; 0 store 64 4 0; 1 store 64 4 1; 0 commit | NotCancelled
+NotCancelled: one of two is cancelled | EXIT | 3 | 0 start 0; 1 start 1; 2 start 2; 0 store 64 4 0; 0 cancel 1; 0 commit | NotCancelled
+NotCancelled: a cancelled core has started the next epoch | EXIT | 2 | 0 start 0; 1 start 1; 0 store 64 4 0; 0 cancel 1; 1 start 2; 0 commit | NotCancelled
+NotCancelled: a straight epoch exits | EXIT | 2 | 0 start 0; 0 publish; 0 store 64 4 0; 1 start 1; 0 commit | NotCancelled
+";
+
+/// A line of a table.
+#[derive(Clone, Copy)]
+pub struct Row<'a> {
+    pub name: &'a str,
+    pub image: &'a str,
+    pub cores: u32,
+    pub entries: &'a str,
+    pub want: &'a str,
+}
+
+/// What a line of a table says.
+pub fn row_of<'a>(line: &'a str) -> Option<Row<'a>> {
+    let mut cells = line.split('|');
+    Some(Row {
+        name: cells.next()?.trim(),
+        image: image_named(cells.next()?.trim())?,
+        cores: cells.next()?.trim().parse().ok()?,
+        entries: cells.next()?.trim(),
+        want: cells.next()?.trim(),
+    })
+}
+
+/// A line that is empty or a remark is no row.
+pub fn is_row(line: &str) -> bool {
+    !line.is_empty() && !line.starts_with('#')
+}
+
+/// The text of an image.
+fn image_named(name: &str) -> Option<&'static str> {
+    match name {
+        "SIGNAL" => Some(SIGNAL),
+        "SUM" => Some(SUM),
+        "ADD" => Some(ADD),
+        "WIDTHS" => Some(WIDTHS),
+        "SIGNS" => Some(SIGNS),
+        "STORE_FIRST" => Some(STORE_FIRST),
+        "PART" => Some(PART),
+        "FORK" => Some(FORK),
+        "CALL" => Some(CALL),
+        "CALL_AT_ONE" => Some(CALL_AT_ONE),
+        "EMPTY" => Some(EMPTY),
+        "EXIT" => Some(EXIT),
+        "EXIT_OF_TWO" => Some(EXIT_OF_TWO),
+        "EXIT_OF_ONE" => Some(EXIT_OF_ONE),
+        "EXIT_OF_NONE" => Some(EXIT_OF_NONE),
+        "NO_EXIT" => Some(NO_EXIT),
+        "SEARCH" => Some(SEARCH),
+        "COUNT_AND_EXIT" => Some(COUNT_AND_EXIT),
+        "LARGE" => Some(LARGE),
+        "SIGNAL_2" => Some(SIGNAL_2),
+        _ => None,
+    }
+}
+
+/// The state after a history.
+#[derive(Clone, Copy)]
+pub struct After {
+    pub homefree: u32,
+    pub published: u64,
+    pub words: [u32; 2],
+    pub ended: Option<End>,
+}
+
+/// The state that these words say.
+pub fn after_of(text: &str) -> Option<After> {
+    let mut words = text.split_whitespace();
+    let homefree = words.next()?.parse().ok()?;
+    let published = words.next()?.parse().ok()?;
+    let first = words.next()?.parse().ok()?;
+    let second = words.next()?.parse().ok()?;
+    let end = words.next()?;
+    let mut numbers = words.map(|word| word.parse::<u32>().ok());
+    let mut number = || numbers.next()?;
+    let ended = match end {
+        "done" => Some(End::Done(number()?)),
+        "exit" => Some(End::Exit(number()?)),
+        "fault" => Some(End::Fault {
+            epoch: number()?,
+            cause: number()?,
+            pc: number()?,
+        }),
+        _ => None,
+    };
+    Some(After {
+        homefree,
+        published,
+        words: [first, second],
+        ended,
+    })
+}
 
 /// The entries of a history.
 pub fn entries_of(alloc: Global, text: &str) -> Result<Vec<Entry>, Fail> {
@@ -669,6 +345,7 @@ pub fn entry_of(words: &str) -> Option<Entry> {
             value: number()?,
         },
         "hurt" => What::Hurt(number()?),
+        "cancel" => What::Cancel(number()?),
         "restart" => What::Restart,
         "publish" => What::Publish,
         "commit" => What::Commit,

@@ -1,8 +1,8 @@
-use Rattle.std.proofs.Common.{◌≡◌, ◌+◌, ◌-◌, ◌*◌, ◌<◌, length, refl, ap, arith}
+use Rattle.std.proofs.Common.{◌≡◌, ◌+◌, ◌-◌, ◌*◌, ◌/◌, ◌<◌, length, refl, ap, ◌∙◌, inl, arith}
 use Rattle.std.proofs.lemmas.Option.{slice_get_read}
 use Rattle.rv32_exec.specs.Interpreter.{hart, after_effect}
-use Rattle.rv32_exec.proofs.Interpreting.{rest-after, event-after}
-use Rattle.rv32_exec.proofs.interpreter.run.Goals.{else-loop-word-test, then-loop-word-test+in-Stop}
+use Rattle.rv32_exec.proofs.Interpreting.{rest-after, event-after, halts, hart-stops, hart-without, kept-stops, kept-without, outside-over, stop-without}
+use Rattle.rv32_exec.proofs.interpreter.run.Goals.{else-loop-word-test, then-loop-word-test+in-Misaligned}
 use Rattle.rv32_exec.proofs.interpreter.run.Goals as goal
 
 pub loop-word-preserved-in-Following : goal.loop-word-preserved-in-Following
@@ -11,10 +11,10 @@ loop-word-preserved-in-Following c =
     let at = slice_get_read c.program-program.result.now _ c.loop-word.word c.index-program-word.result refl inside c.index-program-word.is in
     let done = c.loop-word.word + c.limit-limit.result - c.loop-word.last in
     let goes = c.in-Following.ensures done in record {
-      rest = rest-after c.args.image.now c.program-program.result.now c.loop-word.x c.execute.new.x c.loop-word.word _ _ done _ _ _ c.loop-word.bytes c.execute.new.bytes
+      rest = rest-after c.args.image.now c.program-program.result.now c.loop-word.registers c.execute.new.x c.loop-word.word _ _ done _ _ _ c.loop-word.bytes c.execute.new.bytes
           c.index-program-word.result _ c.limit-limit.ensures.limits c.program-program.ensures.program inside at
           (omega arith) (omega arith) (omega arith) (omega arith) goes.0 c.loop-word.invariant.rest;
-      event = λ none. event-after c.args.image.now c.program-program.result.now c.loop-word.x c.execute.new.x c.loop-word.word _ _ done _
+      event = λ none. event-after c.args.image.now c.program-program.result.now c.loop-word.registers c.execute.new.x c.loop-word.word _ _ done _
           c.index-program-word.result _ c.limit-limit.ensures.limits c.program-program.ensures.program inside at
           (omega arith) (omega arith) (omega arith) (goes.1 (omega (arith, none, c.loop-word.auto.bytes))) (c.loop-word.invariant.event none);
       address = omega arith;
@@ -23,6 +23,7 @@ loop-word-preserved-in-Following c =
       later = omega arith;
       in_code = omega arith;
       in_limit = omega arith;
+      at_end = c.loop-word.invariant.at_end;
     }
 
 pub loop-word-preserved : goal.loop-word-preserved
@@ -32,10 +33,10 @@ loop-word-preserved c =
     let done = c.loop-word.word + c.limit-limit.result - c.loop-word.last in
     let goes = c.in-Jump.ensures done in
     let aligned = goes.2 in record {
-      rest = rw goes.1 (rest-after c.args.image.now c.program-program.result.now c.loop-word.x c.execute.new.x c.loop-word.word _ _ done _ _ _ c.loop-word.bytes c.loop-word.bytes
+      rest = rw goes.1 (rest-after c.args.image.now c.program-program.result.now c.loop-word.registers c.execute.new.x c.loop-word.word _ _ done _ _ _ c.loop-word.bytes c.loop-word.bytes
           c.index-program-word.result _ c.limit-limit.ensures.limits c.program-program.ensures.program inside at
-          (omega arith) (omega arith) (omega arith) (omega arith) (ap (after_effect (hart c.loop-word.x (4 * c.loop-word.word) done) c.loop-word.bytes) goes.0) c.loop-word.invariant.rest);
-      event = λ none. event-after c.args.image.now c.program-program.result.now c.loop-word.x c.execute.new.x c.loop-word.word _ _ done _
+          (omega arith) (omega arith) (omega arith) (omega arith) (ap (after_effect (hart c.loop-word.registers (4 * c.loop-word.word) done) c.loop-word.bytes) goes.0) c.loop-word.invariant.rest);
+      event = λ none. event-after c.args.image.now c.program-program.result.now c.loop-word.registers c.execute.new.x c.loop-word.word _ _ done _
           c.index-program-word.result _ c.limit-limit.ensures.limits c.program-program.ensures.program inside at
           (omega arith) (omega arith) (omega arith) goes.0 (c.loop-word.invariant.event none);
       address = omega arith;
@@ -44,23 +45,61 @@ loop-word-preserved c =
       later = omega arith;
       in_code = omega arith;
       in_limit = omega arith;
+      at_end = grind arith;
     }
+
+-- where the loop is left there is nothing more to execute, or an instruction that isn't executed
+pub stop_of-at-requires-clause-stops : goal.stop_of-at-requires-clause-stops
+stop_of-at-requires-clause-stops c =
+    (outside-over c.args.image.now (hart c.args.x.now (4 * (c.args.pc / 4)) c.args.done) (inl (omega arith))).0
+
+pub stop_of-at-requires-2-clause-stops : goal.stop_of-at-requires-2-clause-stops
+stop_of-at-requires-2-clause-stops c =
+    let done = c.loop-word.word + c.limit-limit.result - c.loop-word.last in
+    elim c.loop-word-test.branch [
+      | else-loop-word-test w ↦
+          (outside-over c.args.image.now (hart c.loop-word-test.registers (4 * c.loop-word.word) done) (grind (arith, w.loop-word-test.false, c.program-program.ensures.program.long))).0
+      | then-loop-word-test+in-Misaligned w ↦
+          let inside : c.loop-word.word < length c.program-program.result.now = omega arith in
+          let at = slice_get_read c.program-program.result.now _ c.loop-word.word w.index-program-word.result refl inside w.index-program-word.is in
+          let halt = halts c.args.image.now (hart c.loop-word.registers (4 * c.loop-word.word) done) c.loop-word.bytes _ _ _ _ (w.execute.ensures done) w.in-Misaligned.is in
+          let stops = kept-stops c.args.image.now c.program-program.result.now c.loop-word.registers c.loop-word.word done w.index-program-word.result _ c.program-program.ensures.program inside at refl halt.stops in
+          rw (w.registers-is, halt.same_x) (hart-stops c.args.image.now c.program-program.result.now c.loop-word.registers c.loop-word.word done c.limit-limit.ensures.limits c.program-program.ensures.program inside (omega arith) stops)
+    ]
+
+pub returns-then-done-limit-clause-whole : goal.returns-then-done-limit-clause-whole
+returns-then-done-limit-clause-whole c = λ whole.
+    stop-without _ _ c.stop_of-at.ensures.effect (outside-over c.args.image.now (hart c.args.x.now (4 * (c.args.pc / 4)) c.args.done) (inl (omega arith))).1
+
+pub returns-clause-whole : goal.returns-clause-whole
+returns-clause-whole c = λ whole.
+    let done = c.loop-word.word + c.limit-limit.result - c.loop-word.last in
+    stop-without _ _ c.stop_of-at-2.ensures.effect (elim c.loop-word-test.branch [
+      | else-loop-word-test w ↦
+          (outside-over c.args.image.now (hart c.loop-word-test.registers (4 * c.loop-word.word) done) (grind (arith, w.loop-word-test.false, c.program-program.ensures.program.long))).1
+      | then-loop-word-test+in-Misaligned w ↦
+          let inside : c.loop-word.word < length c.program-program.result.now = omega arith in
+          let at = slice_get_read c.program-program.result.now _ c.loop-word.word w.index-program-word.result refl inside w.index-program-word.is in
+          let halt = halts c.args.image.now (hart c.loop-word.registers (4 * c.loop-word.word) done) c.loop-word.bytes _ _ _ _ (w.execute.ensures done) w.in-Misaligned.is in
+          let none = kept-without c.args.image.now c.program-program.result.now c.loop-word.registers c.loop-word.word done w.index-program-word.result _ c.program-program.ensures.program inside at refl
+          (halt.whole (c.loop-word.auto.bytes ∙ whole)) in
+          rw (w.registers-is, halt.same_x) (hart-without c.args.image.now c.program-program.result.now c.loop-word.registers c.loop-word.word done c.limit-limit.ensures.limits c.program-program.ensures.program inside (omega arith) none)
+    ])
+
+-- a last instruction that isn't executed leaves all as it was
+kept : (c : goal.After-stop_of-at-2) → (c.loop-word-test.registers ≡ c.loop-word.registers) × (c.loop-word-test.bytes ≡ c.loop-word.bytes)
+kept c =
+    elim c.loop-word-test.branch [
+      | else-loop-word-test w ↦ (w.registers-is, w.bytes-is)
+      | then-loop-word-test+in-Misaligned w ↦
+          let halt = halts c.args.image.now (hart c.loop-word.registers (4 * c.loop-word.word) 0) c.loop-word.bytes _ _ _ _ (w.execute.ensures 0) w.in-Misaligned.is in
+          (w.registers-is ∙ halt.same_x, w.bytes-is ∙ halt.same_memory)
+    ]
 
 pub returns-clause-rest : goal.returns-clause-rest
 returns-clause-rest c =
     let left : c.args.image.now.limit + 1 - (c.loop-word.word + c.limit-limit.result - c.loop-word.last) ≡ c.loop-word.last + 1 - c.loop-word.word = omega arith in
-    elim c.loop-word-test.branch [
-      | else-loop-word-test w ↦ rw (c.new.ensures, c.address.ensures, c.into_array.ensures.same, w.x-is, w.bytes-is, left) c.loop-word.invariant.rest
-      | then-loop-word-test+in-Stop w ↦
-          let stays = w.in-Stop.ensures 0 in
-          rw (c.new.ensures, c.address.ensures, c.into_array.ensures.same, w.x-is, w.bytes-is, stays.0, stays.1, left) c.loop-word.invariant.rest
-    ]
+    rw (c.stop_of-at-2.ensures.kept, c.address-pc.ensures, (kept c).0, (kept c).1, left) c.loop-word.invariant.rest
 
 pub returns-clause-event : goal.returns-clause-event
-returns-clause-event c = λ none.
-    elim c.loop-word-test.branch [
-      | else-loop-word-test w ↦ rw (c.new.ensures, c.address.ensures, c.into_array.ensures.same, w.x-is) (c.loop-word.invariant.event none)
-      | then-loop-word-test+in-Stop w ↦
-          let stays = w.in-Stop.ensures 0 in
-          rw (c.new.ensures, c.address.ensures, c.into_array.ensures.same, w.x-is, stays.0) (c.loop-word.invariant.event none)
-    ]
+returns-clause-event c = λ none. rw (c.stop_of-at-2.ensures.kept, c.address-pc.ensures, (kept c).0) (c.loop-word.invariant.event none)

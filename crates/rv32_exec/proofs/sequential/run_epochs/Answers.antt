@@ -12,15 +12,15 @@ loop-epoch-preserved c =
     let image = c.args.image.now in
     let counted = done_counts image c.loop-epoch.epoch (epoch_outcome image c.loop-epoch.epoch c.loop-epoch.bytes) c.in-Done.field-0 (ap (λ (r : SequentialResult). r.end) c.in-Done.ensures) in
     rw (add-one c.loop-epoch.epoch) (one_more_epoch image c.loop-epoch.epoch c.loop-epoch.epoch c.loop-epoch.bytes c.loop-epoch.invariant
-        ∙ (c.in-Done.ensures ∙ ap (λ n. record { end = Done n; bytes = c.run_epoch.new.bytes }) (rw (← add-one c.loop-epoch.epoch) counted)))
+    ∙ (c.in-Done.ensures ∙ ap (λ n. record { end = Done n; bytes = c.run_epoch.new.bytes }) (rw (← add-one c.loop-epoch.epoch) counted)))
 
 pub returns-in_default : goal.returns-in_default
 returns-in_default c =
     let image = c.args.image.now in
     let within : c.loop-epoch.epoch < image.epochs = omega (arith, c.epochs-epoch-end.ensures.epochs, c.loop-epoch-test.true) in
     let all = sequential_result-last image c.loop-epoch.epoch (record { end = c.run_epoch.result; bytes = c.run_epoch.new.bytes }) within
-        (is_last c.run_epoch.result c.in_default.not-Done)
-        (one_more_epoch image c.loop-epoch.epoch c.loop-epoch.epoch c.loop-epoch.bytes c.loop-epoch.invariant ∙ c.run_epoch.ensures) in
+    (is_last c.run_epoch.result c.in_default.not-Done)
+    (one_more_epoch image c.loop-epoch.epoch c.loop-epoch.epoch c.loop-epoch.bytes c.loop-epoch.invariant ∙ c.run_epoch.ensures) in
     record {
       end = sym (ap (λ (r : SequentialResult). r.end) all);
       bytes = sym (ap (λ (r : SequentialResult). r.bytes) all);

@@ -1,10 +1,9 @@
 use Rattle.std.proofs.Common.{rules, ◌≡◌, ◌<◌, ◌+◌, ◌&&◌, Bool, true, false, cond, length, Some, None, refl, sym, ap, ◌∙◌, arith, eq-eqb, ne_eqb}
 use Rattle.memory_bytes.specs.Maps.{over}
-use Rattle.rv32_exec.specs.declared.sequential.End.TheVariants.{Done, Exit}
+use Rattle.rv32_exec.specs.declared.sequential.End.TheVariants.{Done}
 use Rattle.rv32_exec.specs.NextEvent.{next_event}
 use Rattle.rv32_exec.specs.Sequential.{exits}
 use Rattle.spec_history.specs.declared.entry.What.TheVariants.{Commit}
-use Rattle.spec_history.specs.FlatState.{CoreState, end_at}
 use Rattle.spec_history.specs.Effect.{effect_on}
 use Rattle.spec_history.specs.Refusal.{next_is, is_an_exit, is_the_end}
 use Rattle.spec_history.specs.Machine.{state_of}
@@ -71,4 +70,3 @@ returns-else-self-epochs c =
     (commits m c.args.by f.found.state false f.found.runs exit
     ∙ ap (λ e. record (effect_on m.image (state_of m) c.args.by f.found.state Commit) { end = e })
     (ap (λ b. cond b (Some (Done (m.homefree + 1))) None) (ne_eqb (m.homefree + 1) m.image.epochs (λ e. c.if-self-epochs.false (e ∙ sym c.epochs.ensures.epochs))) ∙ sym f.found.legal.going))
-

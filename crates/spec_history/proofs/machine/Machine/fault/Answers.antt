@@ -1,4 +1,4 @@
-use Rattle.std.proofs.Common.{rules, ◌≡◌, ◌<◌, length, Some, refl, sym, ap, ◌∙◌, arith}
+use Rattle.std.proofs.Common.{rules, ◌<◌, length, Some, refl, sym, ap, ◌∙◌, arith}
 use Rattle.memory_bytes.specs.Maps.{over}
 use Rattle.rv32_exec.specs.declared.sequential.End.TheVariants as end
 use Rattle.rv32_exec.specs.Hart.{HartState}

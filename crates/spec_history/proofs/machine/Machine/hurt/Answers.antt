@@ -1,7 +1,7 @@
 use Rattle.std.proofs.Common.{rules, ◌≡◌, ◌<◌, ◌≤◌, length, refl, sym, ap, ◌∙◌, arith}
 use Rattle.std.specs.Vec.{with_items}
 use Rattle.spec_history.specs.Effect.{hurt_at}
-use Rattle.spec_history.specs.Cores.{core_of, IsCoreOf}
+use Rattle.spec_history.specs.Cores.{core_of}
 use Rattle.spec_history.proofs.Parts.{whole_items}
 use Rattle.spec_history.proofs.Changing.{changing_start, changing_more, changed_becomes}
 use Rattle.spec_history.proofs.machine.Machine.hurt.Goals as goal

@@ -1,10 +1,8 @@
-use Rattle.std.proofs.Common.{rules, ◌≡◌, ◌<◌, ◌==◌, length, false, Some, option_map, refl, sym, ap, ◌∙◌, arith, eqb-true, slice_index}
-use Rattle.rv32_exec.specs.declared.stop.Stop.TheVariants as stop
+use Rattle.std.proofs.Common.{rules, ◌≡◌, ◌<◌, length, Some, option_map, refl, sym, ap, ◌∙◌, arith, slice_index}
 use Rattle.rv32_exec.specs.NextEvent.{next_event}
 use Rattle.rv32_exec.specs.Arrival.{after_number}
 use Rattle.spec_history.specs.declared.entry.What.TheVariants.{Load}
-use Rattle.spec_history.specs.Effect.{by_core, after_load}
-use Rattle.spec_history.specs.Refusal.{is_that_load}
+use Rattle.spec_history.specs.Effect.{after_load}
 use Rattle.spec_history.specs.Cores.{published_by}
 use Rattle.spec_history.specs.Machine.{state_of}
 use Rattle.spec_history.proofs.Legal.{that_load, next_in_memory}

@@ -1,4 +1,4 @@
-use Rattle.std.proofs.Common.{ℕ, ◌≡◌, Bool, false, length, inl, inr, sym, ap, ◌∙◌, rules, arith}
+use Rattle.std.proofs.Common.{false, inl, inr, sym, ap, ◌∙◌, rules, arith}
 use Rattle.spec_history.specs.Cores.{core_of}
 use Rattle.spec_history.specs.Effect.{by_core}
 use Rattle.spec_history.specs.Refusal.{changes_unseen}
@@ -56,6 +56,14 @@ returns-in-Start c =
     let m = c.args.self.now in
     let there = state_there m.cores.items c.args.by c.in-Some.core.now (sym c.in-Some.ensures) in
     let runs = running_state (core_of c.in-Some.core.now) (sym c.if-is_idle.ensures) in
-    let quiet : IsQuiet c.args.what = elim c.in-Start.is [ inl e ↦ rw e.1 tt | inr r ↦ elim r [ inl e ↦ rw e.3 tt | inr q ↦ elim q [ inl e ↦ rw e.1 tt
-      | inr p ↦ elim p [ inl e ↦ rw e.1 tt | inr e ↦ rw e tt ] ] ] ] in
+    let quiet : IsQuiet c.args.what = elim c.in-Start.is [
+      | inl e ↦ rw e.1 tt
+      | inr r ↦ elim r [
+        | inl e ↦ rw e.3 tt
+        | inr q ↦ elim q [
+          | inl e ↦ rw e.1 tt
+          | inr p ↦ elim p [ inl e ↦ rw e.1 tt | inr e ↦ rw e tt ]
+        ]
+      ]
+    ] in
     sym (quiet_misses m.image (count_of_cores m) (state_of m) c.args.by c.args.what runs.0 (there ∙ runs.1) quiet)

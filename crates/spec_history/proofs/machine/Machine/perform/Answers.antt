@@ -1,7 +1,6 @@
-use Rattle.std.proofs.Common.{◌≡◌, sym, ap, ◌∙◌}
-use Rattle.spec_history.specs.declared.entry.What.{What}
+use Rattle.std.proofs.Common.{sym, ◌∙◌}
 use Rattle.spec_history.specs.declared.entry.What.TheVariants.{Hurt, Cancel}
-use Rattle.spec_history.specs.Machine.{state_of, IsLegal, Becomes, after}
+use Rattle.spec_history.specs.Machine.{state_of, IsLegal}
 use Rattle.spec_history.proofs.Performed.{finds}
 use Rattle.spec_history.proofs.Replays.{effect-on}
 use Rattle.spec_history.proofs.machine.Machine.perform.Goals as goal

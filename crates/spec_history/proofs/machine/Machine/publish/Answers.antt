@@ -1,11 +1,11 @@
-use Rattle.std.proofs.Common.{rules, ◌≡◌, ◌<◌, length, true, Some, option_map, refl, sym, ap, ◌∙◌, arith}
+use Rattle.std.proofs.Common.{rules, ◌<◌, length, true, Some, option_map, refl, sym, ap, ◌∙◌, arith}
 use Rattle.memory_bytes.specs.Maps.{over}
 use Rattle.spec_history.specs.declared.entry.What.TheVariants.{Publish}
 use Rattle.spec_history.specs.Effect.{effect_on, after_publish}
 use Rattle.spec_history.specs.Cores.{published_by}
 use Rattle.spec_history.specs.Machine.{state_of}
 use Rattle.spec_history.proofs.CoreStates.{kept_own}
-use Rattle.spec_history.proofs.Performed.{finds, finds_core, published_now, published_still, becomes}
+use Rattle.spec_history.proofs.Performed.{finds, finds_core, published_now, becomes}
 use Rattle.spec_history.proofs.Replays.{effect-on}
 use Rattle.spec_history.proofs.machine.Machine.publish.Goals as goal
 

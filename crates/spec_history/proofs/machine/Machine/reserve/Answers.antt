@@ -1,6 +1,4 @@
-use Rattle.std.proofs.Common.{rules, ◌≡◌, ◌<◌, length, refl, sym, ap, ◌∙◌, arith, length-set, Result, Ok, Err, OnOk}
-use Rattle.spec_history.specs.Cores.{HasRoom}
-use Rattle.spec_history.proofs.CoreStates.{core_there}
+use Rattle.std.proofs.Common.{rules, ◌<◌, length, refl, Result, Ok, Err, OnOk}
 use Rattle.spec_history.proofs.Performed.{as_before, room_at}
 use Rattle.spec_history.proofs.machine.Machine.reserve.Goals as goal
 

@@ -1,4 +1,4 @@
-use Rattle.std.proofs.Common.{rules, ◌<◌, length, Some, IsSome, refl, ap, ◌∙◌, slice_index}
+use Rattle.std.proofs.Common.{rules, ◌<◌, length, Some, refl, ap, ◌∙◌, slice_index}
 use Rattle.spec_history.specs.declared.entry.What.TheVariants.{Restart}
 use Rattle.spec_history.specs.FlatState.{begun}
 use Rattle.spec_history.specs.Machine.{state_of}

@@ -1,4 +1,4 @@
-use Rattle.std.proofs.Common.{rules, ◌<◌, ◌==◌, nat_lt, length, Some, refl, ◌∙◌, arith, eqb-true, ltb-true, slice_index}
+use Rattle.std.proofs.Common.{rules, ◌<◌, ◌==◌, nat_lt, length, Some, refl, arith, eqb-true, ltb-true, slice_index}
 use Rattle.spec_history.specs.declared.entry.What.TheVariants.{Start}
 use Rattle.spec_history.specs.FlatState.{begun}
 use Rattle.spec_history.specs.Machine.{state_of, count_of_cores}

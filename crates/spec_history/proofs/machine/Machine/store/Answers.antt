@@ -1,13 +1,11 @@
-use Rattle.std.proofs.Common.{rules, ◌≡◌, ◌<◌, ◌==◌, length, true, false, Some, option_map, refl, sym, ap, ◌∙◌, arith, eqb-true, slice_index}
-use Rattle.rv32_exec.specs.declared.stop.Stop.TheVariants as stop
+use Rattle.std.proofs.Common.{rules, ◌≡◌, ◌<◌, length, true, false, Some, option_map, refl, sym, ap, ◌∙◌, arith, slice_index}
 use Rattle.rv32_exec.specs.Hart.{stepped}
 use Rattle.rv32_exec.specs.NextEvent.{next_event}
 use Rattle.memory_bytes.specs.Maps.{over, stored}
 use Rattle.memory_bytes.proofs.Bytes.{length-with_number, with_number_bytes}
 use Rattle.memory_bytes.specs.Bytes.{with_number}
 use Rattle.spec_history.specs.declared.entry.What.TheVariants.{Store}
-use Rattle.spec_history.specs.Effect.{by_core, after_store}
-use Rattle.spec_history.specs.Refusal.{is_that_store}
+use Rattle.spec_history.specs.Effect.{after_store}
 use Rattle.spec_history.specs.Cores.{published_by}
 use Rattle.spec_history.specs.Machine.{state_of}
 use Rattle.spec_history.proofs.Legal.{that_store, next_in_memory}

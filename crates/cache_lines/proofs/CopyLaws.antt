@@ -1,0 +1,258 @@
+-- What the calls do to the copies of a cache as the protocol sees them.
+use Rattle.std.proofs.Common.{◌≡◌, ℕ, ◌<◌, ◌==◌, ◌&&◌, Bool, true, false, cond, List, Option, Some, None, slice_index, refl, sym, ap, subst, ◌∙◌, arith}
+use Rattle.std.proofs.Math.Path.{fun_ext}
+use Rattle.std.proofs.lemmas.Bool.Decides.{nat_tests}
+use Rattle.std.proofs.lemmas.Nat.{pow_pos}
+use Rattle.spec_states.specs.declared.line.LineState.{LineState}
+use Rattle.spec_states.specs.declared.line.Marks.{Marks}
+use Rattle.spec_states.specs.Copies.{LineCopy, copy_of, no_copy, merged_line, IsUpToDate}
+use Rattle.spec_states.specs.States.{is_valid, is_speculative}
+use Rattle.spec_states.specs.Tables.{violation, settlement}
+use Rattle.spec_states.proofs.CopyLaws.{IsUpToDate-gone, violation-keeps, settlement-publishes}
+use Rattle.spec_states.proofs.RowLaws.{violation-rolls_back, settlement-settles}
+use Rattle.cache_lines.specs.declared.line.Line.{Line}
+use Rattle.cache_lines.specs.Cells.{cell_of, with_number, line_with_number, refreshed_line}
+use Rattle.cache_lines.specs.Changes.{rolled_back_line, published_line, with_each_line, IsFound, CopiesAreFilled, CopiesChange, CopiesAllChange}
+use Rattle.cache_lines.specs.Lines.{Contents, way_count, line_in, with_line, is_copy_of, held_line}
+use Rattle.cache_lines.specs.Placed.{IsNotElsewhere, IsPlaced, MayStand}
+use Rattle.cache_lines.specs.Protocol.{IsInPlace, copy_of_line, copy_or_none, copy_at, rolled_back_copy, published_copy, copy_with_number, refreshed_copy}
+use Rattle.cache_lines.proofs.LineLaws.{is_copy_of-true, is_copy_of-own, not_true, held_line-own, held_line-with_line}
+use Rattle.cache_lines.proofs.WholeCache.{changed_held, held_line-each, KeepsAddresses, KeepsAddresses-rolled_back, KeepsAddresses-published}
+
+-- ---- one copy
+
+-- a valid line is the cache's copy at its own address
+pub copy_at-line : (cache : Contents) → IsPlaced cache → (addr way other : ℕ) → way < way_count
+    → is_copy_of (line_in cache addr way) other ≡ true → copy_at cache other ≡ copy_of_line (line_in cache addr way)
+copy_at-line cache h addr way other way_way e = ap copy_or_none (held_line-own cache h addr way other way_way e)
+
+pub copy_at-own : (cache : Contents) → IsPlaced cache → (addr way : ℕ) → way < way_count
+    → is_valid (line_in cache addr way).state ≡ true
+    → copy_at cache (line_in cache addr way).addr ≡ copy_of_line (line_in cache addr way)
+copy_at-own cache h addr way way_way v =
+    copy_at-line cache h addr way (line_in cache addr way).addr way_way (is_copy_of-own (line_in cache addr way) v)
+
+-- a copy of this line is one of no other
+pub is_copy_of-other : (line : Line) (addr other : ℕ) → is_copy_of line addr ≡ true → is_copy_of line other ≡ (addr == other)
+is_copy_of-other line addr other e = let p = is_copy_of-true line addr e in rw (p.0, p.1) refl
+
+-- the copy at each address is in its place
+pub copy_at-in_place : (cache : Contents) → IsPlaced cache → (addr : ℕ)
+    → IsInPlace cache.line_length addr (copy_at cache addr)
+copy_at-in_place cache h addr =
+    elim (is_copy_of (line_in cache addr 0) addr) as (λ b. is_copy_of (line_in cache addr 0) addr ≡ b → IsInPlace cache.line_length addr (copy_or_none (cond b (Some (line_in cache addr 0)) (cond (is_copy_of (line_in cache addr 1) addr) (Some (line_in cache addr 1)) None)))) [
+      | true ↦ λ e. held 0 (omega arith) e
+      | false ↦ λ _.
+          elim (is_copy_of (line_in cache addr 1) addr) as (λ b. is_copy_of (line_in cache addr 1) addr ≡ b → IsInPlace cache.line_length addr (copy_or_none (cond b (Some (line_in cache addr 1)) None))) [
+            | true ↦ λ e. held 1 (omega arith) e
+            | false ↦ λ _. record { aligned = λ v. cc; mask = pow_pos cache.line_length; cells = λ x past. refl }
+          ] refl
+    ] refl
+  where
+    held : (way : ℕ) → way < way_count → is_copy_of (line_in cache addr way) addr ≡ true
+        → IsInPlace cache.line_length addr (copy_of_line (line_in cache addr way))
+    held way way_way e =
+        let p = is_copy_of-true (line_in cache addr way) addr e in
+        let fits = h.fits addr way way_way p.0 in
+        record { aligned = λ _. rw p.1 at (h.aligned addr way way_way p.0); mask = fits.mask; cells = fits.cells }
+
+pub IsFound-way : (cache : Contents) (addr way : ℕ) → IsPlaced cache → way < way_count
+    → is_copy_of (line_in cache addr way) addr ≡ true → IsFound cache addr way
+IsFound-way cache addr way h way_way e =
+    let p = is_copy_of-true (line_in cache addr way) addr e in
+    record {
+      in_ways = way_way;
+      copy = copy_at-line cache h addr way addr way_way e;
+      copy_of_it = λ other. is_copy_of-other (line_in cache addr way) addr other e;
+      once = subst (λ (a : ℕ). IsNotElsewhere cache a way) p.1 (h.once addr way way_way p.0);
+      aligned = rw p.1 at (h.aligned addr way way_way p.0);
+    }
+
+-- ---- where one line is replaced
+
+-- by any line that may stand there
+pub copies-filled : (cache : Contents) (way : ℕ) (line : Line) → IsPlaced cache → way < way_count
+    → MayStand cache line.addr way line → CopiesAreFilled cache (with_line cache line.addr way line) way line
+copies-filled cache way line h way_way may other =
+    ap copy_or_none (held_line-with_line cache line.addr way line h way_way may other)
+    ∙ shown (is_copy_of line other) (is_copy_of (line_in cache line.addr way) other) (held_line cache other)
+  where
+    shown : (b d : Bool) (held : Option Line)
+        → copy_or_none (cond b (Some line) (cond d None held)) ≡ cond b (copy_of_line line) (cond d no_copy (copy_or_none held))
+    shown true d held = refl
+    shown false true held = refl
+    shown false false held = refl
+
+-- a line as a copy
+abbrev pub shown_line : Line → LineCopy
+shown_line line = cond (is_valid line.state) (copy_of_line line) no_copy
+
+-- by a line of its address, if that is valid only where it was, and is the changed copy
+pub copies-changed : (cache : Contents) (addr way : ℕ) (line : Line) (change : LineCopy → LineCopy) → IsPlaced cache
+    → way < way_count → MayStand cache addr way line → line.addr ≡ (line_in cache addr way).addr
+    → (is_valid line.state ≡ true → is_valid (line_in cache addr way).state ≡ true)
+    → (is_valid (line_in cache addr way).state ≡ true → shown_line line ≡ change (copy_of_line (line_in cache addr way)))
+    → CopiesChange cache (with_line cache addr way line) addr way change
+copies-changed cache addr way line change h way_way may same no_revival is_changed other =
+    ap copy_or_none (held_line-with_line cache addr way line h way_way may other)
+    ∙ elim (is_copy_of before other) as (λ b. is_copy_of before other ≡ b → copy_or_none (cond (is_copy_of line other) (Some line) (cond b None (held_line cache other))) ≡ cond b (change (copy_at cache other)) (copy_at cache other)) [
+      | true ↦ λ e. replaced e
+      | false ↦ λ e. rw (not_true (is_copy_of line other) (λ t. stays e t)) refl
+    ] refl
+  where
+    before : Line
+    before = line_in cache addr way
+
+    kept : (b : Bool) → is_valid line.state ≡ b → copy_or_none (cond b (Some line) None) ≡ shown_line line
+    kept true e = rw e refl
+    kept false e = rw e refl
+
+    test : (v : Bool) (m n x : ℕ) → m ≡ n → n ≡ x → (v && (m == x)) ≡ v
+    test v m n x e f = grind (arith, nat_tests)
+
+    replaced : is_copy_of before other ≡ true
+        → copy_or_none (cond (is_copy_of line other) (Some line) None) ≡ change (copy_at cache other)
+    replaced e =
+        let p = is_copy_of-true before other e in
+        rw (test (is_valid line.state) line.addr before.addr other same p.1)
+        (kept (is_valid line.state) refl ∙ (is_changed p.0 ∙ ap change (sym (copy_at-line cache h addr way other way_way e))))
+
+    stays : is_copy_of before other ≡ false → is_copy_of line other ≡ true → ⊥
+    stays e t =
+        let p = is_copy_of-true line other t in
+        let own : is_copy_of before before.addr ≡ true = is_copy_of-own before (no_revival p.0) in
+        let own' : is_copy_of before other ≡ true = subst (λ (a : ℕ). is_copy_of before a ≡ true) (sym same ∙ p.1) own in
+        cc
+
+-- by a line with the same state and marks, and with these bytes
+shown_valid : (line before : Line) (cell : ℕ → ℕ) → line.state ≡ before.state → line.marks ≡ before.marks
+    → ((x : ℕ) → cell_of line x ≡ cell x) → is_valid before.state ≡ true
+    → shown_line line ≡ copy_of before.state before.marks cell
+shown_valid line before cell same_state same_marks bytes valid =
+    rw (same_state, valid, same_marks) (ap (λ (c : ℕ → ℕ). copy_of before.state before.marks c) (fun_ext bytes))
+
+-- a store is written into the copy
+pub copies-written : (cache new : Contents) (addr way offset width value : ℕ) (line : Line) → IsPlaced cache
+    → way < way_count → MayStand cache addr way line
+    → line ≡ line_with_number (line_in cache addr way) offset width value
+    → ((x : ℕ) → cell_of line x ≡ with_number (cell_of (line_in cache addr way)) offset width value x)
+    → new ≡ with_line cache addr way line → CopiesChange cache new addr way (copy_with_number offset width value)
+copies-written cache new addr way offset width value line h way_way may is_written bytes is_new =
+    subst (λ (c : Contents). CopiesChange cache c addr way (copy_with_number offset width value)) (sym is_new)
+    (copies-changed cache addr way line (copy_with_number offset width value) h way_way may
+    (ap (λ (l : Line). l.addr) is_written)
+    (λ v. ap (λ (l : Line). is_valid l.state) (sym is_written) ∙ v)
+    (shown_valid line (line_in cache addr way) (with_number (cell_of (line_in cache addr way)) offset width value)
+    (ap (λ (l : Line). l.state) is_written) (ap (λ (l : Line). l.marks) is_written) bytes))
+
+-- a copy takes bytes outside its mask
+pub copies-refreshed : (cache new : Contents) (addr way : ℕ) (cells : List ℕ) (line : Line) → IsPlaced cache
+    → way < way_count → MayStand cache addr way line → line ≡ refreshed_line (line_in cache addr way) cells
+    → ((x : ℕ) → cell_of line x
+    ≡ merged_line (line_in cache addr way).marks.bytes (cell_of (line_in cache addr way)) (slice_index cells) x)
+    → new ≡ with_line cache addr way line → CopiesChange cache new addr way (refreshed_copy (slice_index cells))
+copies-refreshed cache new addr way cells line h way_way may is_refreshed bytes is_new =
+    subst (λ (c : Contents). CopiesChange cache c addr way (refreshed_copy (slice_index cells))) (sym is_new)
+    (copies-changed cache addr way line (refreshed_copy (slice_index cells)) h way_way may
+    (ap (λ (l : Line). l.addr) is_refreshed)
+    (λ v. ap (λ (l : Line). is_valid l.state) (sym is_refreshed) ∙ v)
+    (shown_valid line (line_in cache addr way)
+    (merged_line (line_in cache addr way).marks.bytes (cell_of (line_in cache addr way)) (slice_index cells))
+    (ap (λ (l : Line). l.state) is_refreshed) (ap (λ (l : Line). l.marks) is_refreshed) bytes))
+
+-- a change of a line, seen as one of its copy
+pub record ChangesCopy (change : Line → Line) (shown : LineCopy → LineCopy) : Type 0 where
+  pub keeps : KeepsAddresses change
+  pub seen : (line : Line) → shown_line (change line) ≡ shown (copy_of_line line)
+  pub none : no_copy ≡ shown no_copy
+
+pub ChangesCopy-rolled_back : ChangesCopy rolled_back_line rolled_back_copy
+ChangesCopy-rolled_back = record { keeps = KeepsAddresses-rolled_back; seen = λ line. refl; none = refl }
+
+pub ChangesCopy-published : (alone : Bool) → ChangesCopy (published_line alone) (published_copy alone)
+ChangesCopy-published alone =
+    record { keeps = KeepsAddresses-published alone; seen = λ line. refl; none = refl }
+
+-- one line is changed so
+pub copies-one : (change : Line → Line) (shown : LineCopy → LineCopy) → ChangesCopy change shown
+    → (cache new : Contents) (addr way : ℕ) (line : Line) → IsPlaced cache → way < way_count
+    → MayStand cache addr way line → line ≡ change (line_in cache addr way) → new ≡ with_line cache addr way line
+    → CopiesChange cache new addr way shown
+copies-one change shown h cache new addr way line placed way_way may is_line is_new =
+    subst (λ (c : Contents). CopiesChange cache c addr way shown) (sym is_new)
+    (copies-changed cache addr way line shown placed way_way may
+    (ap (λ (l : Line). l.addr) is_line ∙ h.keeps.addr (line_in cache addr way))
+    (λ v. h.keeps.no_revival (line_in cache addr way) (ap (λ (l : Line). is_valid l.state) (sym is_line) ∙ v))
+    (λ v. ap shown_line is_line ∙ h.seen (line_in cache addr way)))
+
+-- each line is changed so
+pub copies-each : (change : Line → Line) (shown : LineCopy → LineCopy) → ChangesCopy change shown
+    → (cache : Contents) → IsPlaced cache → CopiesAllChange cache (with_each_line change cache) shown
+copies-each change shown h cache placed addr =
+    ap copy_or_none (held_line-each change h.keeps cache placed addr) ∙ one (held_line cache addr)
+  where
+    kept : (line : Line) (b : Bool) → is_valid line.state ≡ b → copy_or_none (cond b (Some line) None) ≡ shown_line line
+    kept line true e = rw e refl
+    kept line false e = rw e refl
+
+    one : (held : Option Line) → copy_or_none (changed_held change held) ≡ shown (copy_or_none held)
+    one None = h.none
+    one (Some line) = kept (change line) (is_valid (change line).state) refl ∙ h.seen line
+
+-- ---- the copies after a violation and after a publish
+
+-- a copy after a change that leaves no marks
+unmarked_copy : (next : LineState) (marks : Marks) (cell : ℕ → ℕ) (b : Bool) → is_speculative next ≡ false
+    → is_speculative (cond b (copy_of next marks cell) no_copy).state ≡ false
+unmarked_copy next marks cell true e = e
+unmarked_copy next marks cell false e = refl
+
+pub unmarked-rolled_back : (copy : LineCopy) → is_speculative (rolled_back_copy copy).state ≡ false
+unmarked-rolled_back copy =
+    unmarked_copy (violation copy.state copy.marks).state (violation copy.state copy.marks).marks copy.cell _
+    (violation-rolls_back copy.state copy.marks).unmarked
+
+pub unmarked-published : (alone : Bool) (copy : LineCopy) → is_speculative (published_copy alone copy).state ≡ false
+unmarked-published alone copy =
+    unmarked_copy (settlement copy.state copy.marks alone).state (settlement copy.state copy.marks alone).marks copy.cell _
+    (settlement-settles copy.state copy.marks alone).unmarked
+
+up_to_date_copy : (copy : LineCopy) (committed : ℕ → ℕ) (b : Bool) → IsUpToDate copy committed
+    → IsUpToDate (cond b copy no_copy) committed
+up_to_date_copy copy committed true h = h
+up_to_date_copy copy committed false h = IsUpToDate-gone (λ _. 0) committed
+
+-- a copy that was up to date stays so, or goes
+pub IsUpToDate-rolled_back : (copy : LineCopy) (committed : ℕ → ℕ) → IsUpToDate copy committed
+    → IsUpToDate (rolled_back_copy copy) committed
+IsUpToDate-rolled_back copy committed h =
+    up_to_date_copy _ committed _ (violation-keeps copy.state copy.marks copy.cell committed h)
+
+-- the copy is up to date with the line as the publish leaves it
+pub IsUpToDate-published : (alone : Bool) (copy : LineCopy) (committed : ℕ → ℕ) → IsUpToDate copy committed
+    → IsUpToDate (published_copy alone copy) (merged_line copy.marks.bytes copy.cell committed)
+IsUpToDate-published alone copy committed h =
+    up_to_date_copy _ _ _ (settlement-publishes copy.state copy.marks alone copy.cell committed h)
+
+-- ---- at the way that `find` gives
+
+-- the copy of its address changes, and no other
+pub copies-found : (old new : Contents) (addr way : ℕ) (change : LineCopy → LineCopy) → IsFound old addr way
+    → CopiesChange old new addr way change → (other : ℕ)
+    → copy_at new other ≡ cond (addr == other) (change (copy_at old other)) (copy_at old other)
+copies-found old new addr way change found changes other = rw (← found.copy_of_it other) (changes other)
+
+-- a line of its address takes its place: it is the copy, or there is none where it is not valid
+pub copies-refilled : (old new : Contents) (addr way : ℕ) (line : Line) → IsFound old addr way → line.addr ≡ addr
+    → CopiesAreFilled old new way line → (other : ℕ)
+    → copy_at new other ≡ cond (addr == other) (shown_line line) (copy_at old other)
+copies-refilled old new addr way line found same filled other =
+    filled other
+    ∙ rw (same, found.copy_of_it other) (choice (is_valid line.state) (addr == other) (copy_at old other))
+  where
+    choice : (v b : Bool) (copy : LineCopy)
+        → cond (v && b) (copy_of_line line) (cond b no_copy copy) ≡ cond b (cond v (copy_of_line line) no_copy) copy
+    choice true true copy = refl
+    choice true false copy = refl
+    choice false true copy = refl
+    choice false false copy = refl

@@ -1,0 +1,7 @@
+use Rattle.cache_lines.proofs.CopyLaws.{copies-filled}
+use Rattle.cache_lines.proofs.cache.Cache.fill.Goals as goal
+
+pub returns-clause-copies : goal.returns-clause-copies
+returns-clause-copies c =
+    rw c.put.ensures.exact
+    (copies-filled c.args.self.now c.args.way c.args.line c.put.ensures.placed c.requires.in_ways c.put.ensures.may_stand)

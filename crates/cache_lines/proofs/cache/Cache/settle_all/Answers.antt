@@ -1,0 +1,32 @@
+use Rattle.std.proofs.Common.{true, sym, subst, ap, ◌∙◌}
+use Rattle.spec_states.specs.Copies.{LineCopy, IsUpToDate, merged_line}
+use Rattle.spec_states.specs.States.{is_speculative}
+use Rattle.cache_lines.specs.Lines.{Contents}
+use Rattle.cache_lines.specs.Changes.{published_line, with_each_line, CopiesAllChange}
+use Rattle.cache_lines.specs.Protocol.{copy_at, published_copy}
+use Rattle.cache_lines.proofs.CopyLaws.{copies-each, ChangesCopy-published, unmarked-published, IsUpToDate-published}
+use Rattle.cache_lines.proofs.WholeCache.{IsPlaced-each}
+use Rattle.cache_lines.proofs.cache.Cache.settle_all.Goals as goal
+
+pub invariant_of-self : goal.invariant_of-self
+invariant_of-self c =
+    rw c.settle_lines.ensures
+    (IsPlaced-each (published_line true) (ChangesCopy-published true).keeps (record { line_length = c.self.inside.line_length; lines = c.self.inside.lines }) c.self.invariant)
+
+pub returns-clause-copies : goal.returns-clause-copies
+returns-clause-copies c =
+    rw c.settle_lines.ensures
+    (subst (λ (cache : Contents). CopiesAllChange cache (with_each_line (published_line true) (record { line_length = c.self.inside.line_length; lines = c.self.inside.lines })) (published_copy true)) c.self.view_is
+    (copies-each (published_line true) (published_copy true) (ChangesCopy-published true) (record { line_length = c.self.inside.line_length; lines = c.self.inside.lines }) c.self.invariant))
+
+pub returns-clause-unmarked : goal.returns-clause-unmarked
+returns-clause-unmarked c =
+    λ addr.
+    ap (λ (copy : LineCopy). is_speculative copy.state) (returns-clause-copies c addr)
+    ∙ unmarked-published true (copy_at c.args.self.now addr)
+
+pub returns-clause-up_to_date : goal.returns-clause-up_to_date
+returns-clause-up_to_date c =
+    λ addr committed h.
+    subst (λ (copy : LineCopy). IsUpToDate copy (merged_line (copy_at c.args.self.now addr).marks.bytes (copy_at c.args.self.now addr).cell committed)) (sym (returns-clause-copies c addr))
+    (IsUpToDate-published true (copy_at c.args.self.now addr) committed h)

@@ -1,0 +1,185 @@
+//! Runs of the loop, and of one hart from event to event.
+
+mod plain;
+mod programs;
+
+ghost use Rattle.std.specs.Prelude.{◌<◌, ◌^◌};
+
+use memory_bytes::{read_number, write_number};
+use programs::{Dice, image_text};
+use rv32_decode::Register;
+use rv32_exec::{
+    EPOCH_END, End, Hart, Image, NoMemory, Stop, advance, image_of, loaded, run_in_order, start,
+    stored,
+};
+use std::test::Fail;
+
+/// Each epoch adds its number to the word at 64, and ends with its number in x10.
+const COUNTER: &str = "size 256\nepochs 4\nlimit 100\ncode 83220004b382a2002320500467800000\n";
+
+/// An access stops a hart, and it goes on from there by `loaded` and `stored`.
+#[test]
+fn goes_from_access_to_access(rt: HostRuntime) -> Result<(), Fail> {
+    let image = image_of(rt.alloc(), COUNTER.as_bytes())?;
+    let begun = start(&image, 3);
+    let arrived = advance(&image, begun);
+    let x5 = Register::new(5);
+    let load = Stop::Load {
+        addr: 64,
+        width: 4,
+        signed: false,
+        rd: x5,
+    };
+    assert_eq!(rt; arrived.at(), load);
+    assert_eq!(rt; (arrived.base(), arrived.now()), (begun, begun));
+    let Stop::Load { width: 4, .. } = arrived.at() else {
+        return Err(Fail::from("a load"));
+    };
+    let arrived = advance(&image, loaded(&arrived, 39));
+    let store = Stop::Store {
+        addr: 64,
+        width: 4,
+        value: 42,
+    };
+    assert_eq!(rt; arrived.at(), store);
+    let Stop::Store { .. } = arrived.at() else {
+        return Err(Fail::from("a store"));
+    };
+    let ended = advance(&image, stored(&arrived));
+    assert_eq!(rt; ended.at(), Stop::Ended);
+    assert_eq!(rt;
+        (ended.now().done(), ended.now().pc(), ended.now().x(x5)),
+        (4, EPOCH_END, 42)
+    );
+    assert!(rt; !ended.now().exits(&image));
+    Ok(())
+}
+
+/// Goes on to the next event of a hart and makes its access to data, or answers the stop that is no access.
+fn go_on(image: &Image, hart: &mut Hart, bytes: &mut [u8]) -> Option<Stop> {
+    let arrived = advance(image, *hart);
+    match arrived.at() {
+        Stop::Load { addr, width, .. } if addr as usize + width as usize <= bytes.len() => {
+            let number = read_number(bytes, addr as usize, width);
+            *hart = loaded(&arrived, number);
+            None
+        }
+        Stop::Store { addr, width, value } if addr as usize + width as usize <= bytes.len() => {
+            write_number(bytes, addr as usize, width, value);
+            *hart = stored(&arrived);
+            None
+        }
+        at => Some(at),
+    }
+}
+
+/// Runs an epoch from event to event, and answers how the loop ends if it is the last.
+fn run_epoch(image: &Image, epoch: u32, bytes: &mut [u8]) -> Option<End>
+    requires { epoch < 2 ^ 16 }
+{
+    let mut hart = start(image, epoch);
+    for _ in 0..1000 {
+        let Some(at) = go_on(image, &mut hart, bytes) else {
+            continue;
+        };
+        return match at {
+            Stop::Ended if advance(image, hart).now().exits(image) => Some(End::Exit(epoch)),
+            Stop::Ended => Some(End::Done(epoch + 1)),
+            Stop::Fault { cause, pc } => Some(End::Fault { epoch, cause, pc }),
+            _ => None,
+        };
+    }
+    None
+}
+
+/// Runs the loop from event to event.
+fn run_by_events(image: &Image, bytes: &mut [u8]) -> Option<End> {
+    for epoch in 0..image.epochs() {
+        match run_epoch(image, epoch, bytes)? {
+            End::Done(_) => (),
+            end => return Some(end),
+        }
+    }
+    Some(End::Done(image.epochs()))
+}
+
+/// How many loops of each end were seen.
+#[derive(Drop)]
+struct Seen {
+    done: u32,
+    exits: u32,
+    faults: u32,
+}
+
+impl Seen {
+    fn count(&mut self, end: End) {
+        let count = match end {
+            End::Done(_) => &mut self.done,
+            End::Exit(_) => &mut self.exits,
+            End::Fault { .. } => &mut self.faults,
+        };
+        *count = count.wrapping_add(1);
+    }
+}
+
+/// `run_in_order`, one instruction after another by the manual's tables, and one event after another are the same.
+#[test]
+fn runs_as_the_plain_machine(rt: HostRuntime) -> Result<(), Fail> {
+    let mut dice = Dice::new(2_463_534_242);
+    let mut seen = Seen {
+        done: 0,
+        exits: 0,
+        faults: 0,
+    };
+    for _ in 0..400 {
+        let text = image_text(rt.alloc(), &mut dice)?;
+        let image = image_of(rt.alloc(), text.as_bytes())?;
+        let ended = run_in_order(rt.alloc(), &image)?;
+        let (end, bytes) = plain::run(rt.alloc(), &image)?;
+        assert_eq!(rt; ended.end(), end, "{text}");
+        assert_eq!(rt; ended.bytes(), bytes.as_slice(), "{text}");
+        let mut bytes = Vec::from_slice(rt.alloc(), image.bytes())?;
+        assert_eq!(rt;
+            run_by_events(&image, bytes.as_mut_slice()),
+            Some(end),
+            "{text}"
+        );
+        assert_eq!(rt; ended.bytes(), bytes.as_slice(), "{text}");
+        seen.count(end);
+    }
+    assert!(rt; seen.done > 40 && seen.exits > 40 && seen.faults > 40);
+    Ok(())
+}
+
+/// An exit is by x10, and only where the image has it.
+#[test]
+fn exits_where_the_image_lets_it(rt: HostRuntime) -> Result<(), Fail> {
+    for (line, end, first) in [("", End::Done(4), 6), ("exit\n", End::Exit(1), 1)] {
+        let text = format!(in rt.alloc(); "{line}{COUNTER}")?;
+        let image = image_of(rt.alloc(), text.as_bytes())?;
+        let ended = run_in_order(rt.alloc(), &image)?;
+        assert_eq!(rt; ended.end(), end);
+        assert_eq!(rt; ended.bytes().get(64).copied(), Some(first));
+    }
+    Ok(())
+}
+
+/// Where the memory for the loop's bytes is refused, it says so, and the next run is as if nothing had been.
+#[test]
+fn tells_want_of_memory(rt: HostRuntime) -> Result<(), Fail> {
+    let Ok(image) = image_of(rt.alloc(), COUNTER.as_bytes()).or_else(|_| image_of(
+        rt.alloc(),
+        COUNTER.as_bytes(),
+    )) else {
+        return Err(Fail::from("an image"));
+    };
+    let ended = match run_in_order(rt.alloc(), &image) {
+        Ok(ended) => ended,
+        Err(NoMemory) => run_in_order(rt.alloc(), &image)?,
+    };
+    assert_eq!(rt;
+        (ended.end(), ended.bytes().get(64).copied()),
+        (End::Done(4), Some(6))
+    );
+    Ok(())
+}
