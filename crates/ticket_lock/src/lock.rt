@@ -19,7 +19,7 @@ use std::sync::Wait;
 /// A lock round one value, for passes that cover the numbers below `numbers`.
 #[derive(Drop)]
 pub struct TicketLock<T: Kept, A: Allocator = Global> {
-    table: Board<T, A>,
+    pub(crate) table: Board<T, A>,
 }
 
 impl<T: Kept, A: Allocator> Model for TicketLock<T, A> {

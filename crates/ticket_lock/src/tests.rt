@@ -2,6 +2,7 @@
 ghost use Rattle.std.specs.Prelude.{◌≡◌, Some, IfOk};
 ghost use Rattle.ticket_lock.specs.Past.{GrowsBy};
 
+use crate::rule::{NEXT, SERVING};
 use crate::{Kept, NoMemory, Pass, Spent, TicketLock};
 use std::alloc::Global;
 use std::sync::Wait;
@@ -76,6 +77,26 @@ fn a_pass_finds_the_entries_of_both(rt: HostRuntime) -> Result<(), Fail> {
     let (list, whole) = lock.close(pass);
     assert_eq!(rt; list.entries.as_slice(), [(0, 'a'), (1, 'b')].as_slice());
     assert_eq!(rt; whole.who(), 0);
+    Ok(())
+}
+
+// `open` starts both words at 0, and `open_at` at `first`.
+#[test]
+fn both_words_start_at_the_first_ticket(rt: HostRuntime) -> Result<(), Fail> {
+    let list = List {
+        entries: Vec::new(rt.alloc()),
+    };
+    let (lock, _pass) = TicketLock::open(rt.alloc(), list, 1)?;
+    let words = &lock.table.shared;
+    assert_eq!(rt; (words.peek(NEXT), words.peek(SERVING)), (0, 0));
+    for first in [7, 1 << 63] {
+        let list = List {
+            entries: Vec::new(rt.alloc()),
+        };
+        let (lock, _pass) = TicketLock::open_at(rt.alloc(), list, 1, first)?;
+        let words = &lock.table.shared;
+        assert_eq!(rt; (words.peek(NEXT), words.peek(SERVING)), (first, first));
+    }
     Ok(())
 }
 
