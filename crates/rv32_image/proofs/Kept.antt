@@ -1,5 +1,5 @@
 -- What is kept of the code's words.
-use Rattle.std.proofs.Common.{◌≡◌, ℕ, ◌+◌, ◌*◌, ◌%◌, ◌<◌, List, length, Some, Result, Ok, Err, slice_get, slice_index, refl, ap, arith}
+use Rattle.std.proofs.Common.{◌≡◌, ℕ, ◌*◌, ◌<◌, List, length, Some, Result, Ok, Err, slice_get, slice_index, ap}
 use Rattle.rv32_decode.specs.declared.instr.Instr.{Instr}
 use Rattle.rv32_decode.specs.declared.instr.Instr.TheVariants.{Jal}
 use Rattle.rv32_decode.specs.declared.refused.Refused.{Refused}

@@ -1,5 +1,5 @@
 -- A draft whose version is settled.
-use Rattle.std.proofs.Common.{◌≡◌, ℕ, Some, refl, sym, subst}
+use Rattle.std.proofs.Common.{◌≡◌, Some, sym, subst}
 use Rattle.rv32_image.specs.declared.version.Version.{Version}
 use Rattle.rv32_image.specs.Version.{IsSize}
 use Rattle.rv32_image.specs.ImageText.{Draft, version_in}

@@ -1,4 +1,4 @@
-use Rattle.std.proofs.Common.{◌≡◌, ◌-◌, ◌+◌, ◌^◌, ◌≤◌, ◌<◌, length, slice_index, sym, ap, ◌∙◌, arith}
+use Rattle.std.proofs.Common.{◌-◌, ◌^◌, sym, ◌∙◌, arith}
 use Rattle.memory_bytes.proofs.shadow.ShadowBytes.reserve.Goals as goal
 
 pub invariant_of-self-2 : goal.invariant_of-self-2
