@@ -1,0 +1,73 @@
+-- Batches of entries: by the register and by the state they are the same, and they are shorter than there are cores.
+use Rattle.std.proofs.Common.{◌≡◌, ◌≤◌, ◌<◌, ℕ, zero, suc, ◌+◌, Bool, true, false, cond, List, [], ◌∷◌, ◌++◌, length, Option, Some, None, option_map, get_or, refl, sym, ap, subst, ◌∙◌, inl, inr, arith, append-nil}
+use Rattle.run_ledger.specs.declared.counts.Counts.{Counts}
+use Rattle.homefree.specs.Steps.{Steps}
+use Rattle.homefree.proofs.Steps.{steps_then}
+use Rattle.std.proofs.Math.Path.{fun_ext}
+use Rattle.std.proofs.lemmas.Bool.{cases_eq}
+use Rattle.std.proofs.lemmas.List.{length-append}
+use Rattle.std.proofs.lemmas.Option.{get_or_from_slice_get, slice_get_read}
+use Rattle.homefree.specs.declared.register.Running.{Running}
+use Rattle.spec_history.specs.declared.entry.Entry.{Entry}
+use Rattle.spec_history.specs.declared.entry.What.{What}
+use Rattle.spec_history.specs.declared.entry.What.TheVariants.{Hurt}
+use Rattle.spec_history.specs.FlatState.{CoreState, FlatState}
+use Rattle.spec_history.specs.Effect.{by_core}
+use Rattle.homefree.specs.declared.register.Register.{Register}
+use Rattle.homefree.specs.Hurts.{entry, entry_for_each, hurts, epoch_on}
+use Rattle.homefree.specs.Kept.{Shows, running_at, kept_of}
+use Rattle.homefree.specs.Noted.{epoch_kept, epoch_in, hurts_noted}
+
+pub epochs_same : (r : Register) (s : FlatState) → Shows r s → epoch_in r.running.items ≡ epoch_on s.cores
+epochs_same r s shows = fun_ext (λ k. ap epoch_kept (shows.running k) ∙ by_it (s.cores k))
+  where
+    by_it : (o : Option CoreState) → epoch_kept (option_map kept_of o) ≡ by_core o 0 (λ c. c.epoch)
+    by_it None = refl
+    by_it (Some c) = refl
+
+-- what the register notes of hurt cores are their entries
+pub hurts_same : (r : Register) (s : FlatState) (by : ℕ) (hurt : ℕ → Bool) → Shows r s
+    → hurts_noted by hurt r.running.items (length r.running.items) ≡ hurts (length r.running.items) s by hurt
+hurts_same r s by hurt shows = ap (λ (e : ℕ → ℕ). entry_for_each by hurt (λ k. Hurt (e k)) (length r.running.items)) (epochs_same r s shows)
+
+one_short : (b : Bool) (x : Entry) (before : List Entry) (n : ℕ) → length before ≤ n → length (before ++ cond b (x ∷ []) []) ≤ suc n
+one_short true x before n less = rw (length-append before (x ∷ [])) (omega (arith, less))
+one_short false x before n less = rw (length-append before []) (omega (arith, less))
+
+pub batch_most : (by : ℕ) (these : ℕ → Bool) (what : ℕ → What) (n : ℕ) → length (entry_for_each by these what n) ≤ n
+batch_most by these what zero = omega arith
+batch_most by these what (suc n) = one_short (these n) _ (entry_for_each by these what n) n (batch_most by these what n)
+
+one_more_short : (b : Bool) (x : Entry) (before : List Entry) (n : ℕ) → suc (length before) ≤ n → suc (length (before ++ cond b (x ∷ []) [])) ≤ suc n
+one_more_short true x before n less = rw (length-append before (x ∷ [])) (omega (arith, less))
+one_more_short false x before n less = rw (length-append before []) (omega (arith, less))
+
+none_here : (b : Bool) (x : Entry) (before : List Entry) (n : ℕ) → b ≡ false → length before ≤ n → suc (length (before ++ cond b (x ∷ []) [])) ≤ suc n
+none_here true x before n is less = absurd cc
+none_here false x before n is less = rw (length-append before []) (omega (arith, less))
+
+-- where one core is not among them, there are fewer entries than cores
+pub batch_fewer : (by : ℕ) (these : ℕ → Bool) (what : ℕ → What) (n j : ℕ) → these j ≡ false → j < n → suc (length (entry_for_each by these what n)) ≤ n
+batch_fewer by these what zero j spared below = absurd (omega arith)
+batch_fewer by these what (suc n) j spared below = elim (cases_eq j n) [
+  | inl e ↦ none_here (these n) _ (entry_for_each by these what n) n (sym (ap these e) ∙ spared) (batch_most by these what n)
+  | inr other ↦ one_more_short (these n) _ (entry_for_each by these what n) n (batch_fewer by these what n j spared (omega arith))
+]
+
+-- what a read of the list gave
+pub running_read : (running : List (Option Running)) (k : ℕ) (x : Option Running) → k < length running → x ≡ get_or running k x → running_at running k ≡ x
+running_read running k x there is = get_or_from_slice_get running k x None (slice_get_read running (length running) k x refl there is)
+
+-- one core more, where it is hurt, and where it is not
+pub one_hurt_more : (old mid new : Register) (shares : Counts) (by k : ℕ) (hurt : ℕ → Bool) → hurt k ≡ true → running_at mid.running.items k ≡ running_at old.running.items k
+    → Steps old mid shares shares (hurts_noted by hurt old.running.items k) → Steps mid new shares shares (entry by (Hurt (epoch_in mid.running.items k)))
+    → Steps old new shares shares (hurts_noted by hurt old.running.items (k + 1))
+one_hurt_more old mid new shares by k hurt is same before one =
+    let epoch : epoch_in mid.running.items k ≡ epoch_in old.running.items k = ap epoch_kept same in
+    let noted = subst (λ n. Steps mid new shares shares (entry by (Hurt n))) epoch one in
+    let next : k + 1 ≡ suc k = omega arith in
+    rw next (rw is (steps_then old mid new shares shares shares (hurts_noted by hurt old.running.items k) (entry by (Hurt (epoch_in old.running.items k))) before noted))
+
+pub no_hurt_more : (old mid : Register) (shares : Counts) (by k : ℕ) (hurt : ℕ → Bool) → hurt k ≡ false
+    → Steps old mid shares shares (hurts_noted by hurt old.running.items k) → Steps old mid shares shares (hurts_noted by hurt old.running.items (k + 1))
+no_hurt_more old mid shares by k hurt is before = let next : k + 1 ≡ suc k = omega arith in rw next (rw is (rw append-nil before))

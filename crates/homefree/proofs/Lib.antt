@@ -1,0 +1,12 @@
+pub mod Legality
+pub mod HurtsReplay
+pub mod CancelsReplay
+pub mod Others
+pub mod Accesses
+pub mod Arms
+pub mod Ends
+pub mod NeverAgain
+pub mod Steps
+pub mod Noting
+pub mod Acting
+pub mod Batches

@@ -1,0 +1,37 @@
+-- What a method of the book's parts did: a case of a turn, after which the fields and the store agree again.
+use Rattle.std.specs.Prelude.{◌≡◌, ℕ, ◌+◌, ◌*◌, ◌<◌, ◌≤◌, ◌^◌, List, length, Option, Some, vec_len, vec_capacity}
+use Rattle.rv32_exec.specs.Arrival.{Arrival}
+use Rattle.run_ledger.specs.declared.counts.Counts.{Counts}
+use Rattle.spec_history.specs.declared.entry.Entry.{Entry}
+use Rattle.spec_history.specs.FlatState.{FlatState}
+use Rattle.spec_history.specs.Replay.{replay}
+use Rattle.violations.specs.View.{StoreView}
+use Rattle.homefree.specs.declared.answer.Answer.{Answer}
+use Rattle.homefree.specs.declared.register.Register.{Register}
+use Rattle.homefree.specs.Kept.{Fits}
+use Rattle.homefree.specs.Steps.{Steps}
+use Rattle.homefree.specs.Turned.{Acts, Turn, does}
+
+abbrev pub turn_of : Register → FlatState → ℕ → Option Arrival → Turn
+turn_of r s core next = record { image = r.image; cores = length r.running.items; state = s; core = core; next = next }
+
+pub record Acted (old new : Register) (v w : StoreView) (shares shares' : Counts) (core : ℕ) (next : Option Arrival) (answer : Answer) : Type 0 where
+  pub entries : List Entry
+  pub steps : Steps old new shares shares' entries
+  -- a batch of hurts or cancels has fewer entries than there are cores, and there are at most two batches
+  pub short : length entries ≤ 2 * length old.running.items
+  pub acts : (s : FlatState) → replay old.image (length old.running.items) old.history.items ≡ Some s → Acts (turn_of old s core next) v w (does entries answer)
+  pub fits : Fits new w
+
+-- there is room for the entries of a turn, and the counts can grow
+pub record MayNote (r : Register) (shares : Counts) : Type 0 where
+  pub room : vec_len r.history + 2 * length r.running.items ≤ vec_capacity r.history
+  pub loads : shares.loads ≤ r.totals.loads
+  pub stores : shares.stores ≤ r.totals.stores
+  pub restarts : shares.restarts ≤ r.totals.restarts
+  pub commits : shares.commits ≤ r.totals.commits
+  -- no count is above the number of entries
+  pub few_loads : r.totals.loads < 2 ^ 63
+  pub few_stores : r.totals.stores < 2 ^ 63
+  pub few_restarts : r.totals.restarts < 2 ^ 63
+  pub few_commits : r.totals.commits < 2 ^ 63

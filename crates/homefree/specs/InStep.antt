@@ -1,0 +1,26 @@
+-- What holds of every book: its history leads to a state with which its store agrees.
+use Rattle.std.specs.Prelude.{◌≡◌, ◌≤◌, length, Some}
+use Rattle.rv32_image.specs.Image.{IsImage}
+use Rattle.spec_history.specs.FlatState.{FlatState}
+use Rattle.spec_history.specs.Replay.{replay}
+use Rattle.violations.specs.View.{StoreView}
+use Rattle.violations.specs.Rule.{IsCoreCount, shape_of}
+use Rattle.homefree.specs.declared.answer.StopCause.TheVariants.{HistoryFull}
+use Rattle.homefree.specs.Agrees.{Agrees}
+use Rattle.homefree.specs.Counted.{counted_in}
+use Rattle.homefree.specs.BookView.{BookView, IsFull}
+
+pub record InStep {S : Type 0} (view : S → StoreView) (b : BookView S) : Type 0 where
+  -- the state that the history leads to
+  pub state : FlatState
+  pub replays : replay b.image b.cores b.history ≡ Some state
+  pub agrees : Agrees state (view b.store)
+  -- the store is for this image and these cores
+  pub shape : (view b.store).shape ≡ shape_of b.image b.cores
+  pub counted : b.totals ≡ counted_in b.history
+  pub is_image : IsImage b.image
+  pub core_count : IsCoreCount b.image b.cores
+  pub within : length b.history ≤ b.room
+  pub most : b.room ≤ 1048576
+  -- a book that was stopped for a full history has a full one
+  pub full : b.stopped ≡ Some HistoryFull → IsFull b

@@ -1,0 +1,14 @@
+//! The book: a history of speculative epochs, kept in step with what the cores run and with the store.
+#![tactic(auto)]
+
+mod answer;
+mod fault;
+mod hurts;
+mod notes;
+mod parts;
+mod register;
+
+pub use answer::{Answer, Cause, StopCause};
+pub use fault::TurnFault;
+pub use parts::Parts;
+pub use register::{Register, Running};

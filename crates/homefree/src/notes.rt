@@ -1,0 +1,234 @@
+//! What the register notes of a core's own deeds: one entry each, counted by the ledger.
+ghost use Rattle.std.specs.Prelude.{◌≡◌, ◌+◌, ◌<◌, ◌≤◌, ◌^◌, ◌++◌, ◌∷◌, [], ◌==◌, ℕ, Bool, true, false, length, vec_len, vec_capacity, Some, None, if◌then◌else◌};
+ghost use Rattle.rv32_image.specs.Image.{IsImage};
+ghost use Rattle.rv32_exec.specs.Hart.{start_of, stepped};
+ghost use Rattle.rv32_exec.specs.Arrival.{after_loading, IsAtLoad};
+ghost use Rattle.run_ledger.specs.declared.counts.Counts.{Counts};
+ghost use Rattle.homefree.specs.Kept.{running_at};
+ghost use Rattle.homefree.specs.AtStop.{IsAtStop};
+ghost use Rattle.homefree.specs.Steps.{Steps};
+ghost use Rattle.spec_history.specs.FlatState as flat;
+ghost use Rattle.homefree.specs.Hurts as spec;
+
+use crate::register::{Register, Running};
+use run_ledger::{Shares, count_commit, count_load, count_restart, count_store};
+use rv32_exec::{Arrived, End, Hart, Image, Stop, loaded, start, stored};
+use spec_history::{Entry, What};
+
+/// Adds an entry, where there is room for it.
+pub fn note(history: &mut Vec<Entry>, by: u32, what: What)
+    requires { vec_len history.old < vec_capacity history.old }
+    ensures items { history.new.items ≡ history.old.items ++ spec.entry by what }
+    ensures room { vec_capacity history.old ≤ vec_capacity history.new }
+    ensures used { vec_len history.new ≡ vec_len history.old + 1 }
+{
+    match history.push(Entry { by, what }) {
+        Ok(()) => (),
+        Err(_) => unreachable!(),
+    }
+}
+
+/// Sets what a core runs.
+pub fn set_running(running: &mut Vec<Option<Running>>, core: u32, now: Option<Running>)
+    requires { core < length running.old.items }
+    ensures len { length running.new.items ≡ length running.old.items }
+    ensures each { (k : ℕ) → running_at running.new.items k ≡ (if k == core then now else running_at running.old.items k) }
+{
+    running[core as usize] = now;
+}
+
+impl Register {
+    /// An idle core starts the next epoch. Answers the hart at its start.
+    pub fn start(&mut self, core: u32) -> Hart
+        requires core { core < length self.old.running.items }
+        requires room { vec_len self.old.history < vec_capacity self.old.history }
+        requires image { IsImage self.old.image }
+        requires left { self.old.next_epoch < self.old.image.epochs }
+        requires idle { running_at self.old.running.items core ≡ None }
+        ensures hart { result ≡ start_of self.old.image self.old.next_epoch }
+        ensures steps { (shares : Counts) → Steps self.old self.new shares shares (spec.entry core (What.Start self.old.next_epoch)) }
+    {
+        let epoch = self.next_epoch;
+        note(&mut self.history, core, What::Start(epoch));
+        let hart = start(&self.image, epoch);
+        let now = Running {
+            epoch,
+            hart,
+            straight: false,
+            hurt: false,
+        };
+        set_running(&mut self.running, core, Some(now));
+        self.next_epoch = epoch + 1;
+        hart
+    }
+
+    /// A core that was hurt begins its epoch again. Answers the hart at its start.
+    pub fn restart(&mut self, shares: &mut Shares, core: u32, epoch: u32) -> Hart
+        requires core { core < length self.old.running.items }
+        requires room { vec_len self.old.history < vec_capacity self.old.history }
+        requires totals { self.old.totals.restarts < 2 ^ 63 }
+        requires shares { shares.old.restarts < 2 ^ 63 }
+        requires runs { (now : Running) × (running_at self.old.running.items core ≡ Some now) × (now.epoch ≡ epoch) }
+        ensures hart { result ≡ start_of self.old.image epoch }
+        ensures steps { Steps self.old self.new shares.old shares.new (spec.entry core What.Restart) }
+    {
+        note(&mut self.history, core, What::Restart);
+        count_restart(&mut self.totals, shares);
+        let hart = start(&self.image, epoch);
+        let now = Running {
+            epoch,
+            hart,
+            straight: false,
+            hurt: false,
+        };
+        set_running(&mut self.running, core, Some(now));
+        hart
+    }
+
+    /// A core loads this value. Answers its hart then.
+    pub fn load(
+        &mut self,
+        shares: &mut Shares,
+        core: u32,
+        now: Running,
+        arrived: &Arrived,
+        addr: u32,
+        width: u32,
+        value: u32,
+    ) -> Hart
+        requires core { core < length self.old.running.items }
+        requires room { vec_len self.old.history < vec_capacity self.old.history }
+        requires totals { self.old.totals.loads < 2 ^ 63 }
+        requires shares { shares.old.loads < 2 ^ 63 }
+        requires at { IsAtStop self.old core now arrived.now arrived.now.at }
+        requires value { IsAtLoad arrived.now.at value }
+        ensures hart { result ≡ after_loading arrived.entry.now value }
+        ensures steps { Steps self.old self.new shares.old shares.new (spec.entry core (What.Load addr width value)) }
+    {
+        note(&mut self.history, core, What::Load { addr, width, value });
+        count_load(&mut self.totals, shares);
+        let hart = loaded(arrived, value);
+        set_running(&mut self.running, core, Some(Running { hart, ..now }));
+        hart
+    }
+
+    /// A core stores a value. Answers its hart then.
+    pub fn store(
+        &mut self,
+        shares: &mut Shares,
+        core: u32,
+        now: Running,
+        arrived: &Arrived,
+        addr: u32,
+        width: u32,
+        value: u32,
+    ) -> Hart
+        requires core { core < length self.old.running.items }
+        requires room { vec_len self.old.history < vec_capacity self.old.history }
+        requires totals { self.old.totals.stores < 2 ^ 63 }
+        requires shares { shares.old.stores < 2 ^ 63 }
+        requires at { IsAtStop self.old core now arrived.now (Stop.Store addr width value) }
+        ensures hart { result ≡ stepped arrived.entry.now.now }
+        ensures steps { Steps self.old self.new shares.old shares.new (spec.entry core (What.Store addr width value)) }
+    {
+        note(&mut self.history, core, What::Store { addr, width, value });
+        count_store(&mut self.totals, shares);
+        let hart = stored(arrived);
+        set_running(&mut self.running, core, Some(Running { hart, ..now }));
+        hart
+    }
+
+    /// The homefree core publishes, and is straight.
+    pub fn publish(&mut self, core: u32, now: Running)
+        requires core { core < length self.old.running.items }
+        requires room { vec_len self.old.history < vec_capacity self.old.history }
+        requires runs { running_at self.old.running.items core ≡ Some now }
+        ensures steps { (shares : Counts) → Steps self.old self.new shares shares (spec.entry core What.Publish) }
+        ensures running { (k : ℕ) → running_at self.new.running.items k ≡ (if k == core then Some (record now { straight = true }) else running_at self.old.running.items k) }
+    {
+        note(&mut self.history, core, What::Publish);
+        set_running(
+            &mut self.running,
+            core,
+            Some(Running {
+                straight: true,
+                ..now
+            }),
+        );
+    }
+
+    /// The homefree core's epoch has ended, and commits: the core is idle, and the next epoch is homefree. Where the epoch
+    /// exits, or was the last, the loop is over.
+    pub fn commit(&mut self, shares: &mut Shares, core: u32, now: Running, arrived: &Arrived)
+        requires core { core < length self.old.running.items }
+        requires room { vec_len self.old.history < vec_capacity self.old.history }
+        requires totals { self.old.totals.commits < 2 ^ 63 }
+        requires shares { shares.old.commits < 2 ^ 63 }
+        requires homefree { self.old.homefree < 2 ^ 16 }
+        requires at { IsAtStop self.old core now arrived.now Stop.Ended }
+        ensures steps { Steps self.old self.new shares.old shares.new (spec.entry core What.Commit) }
+        ensures end { self.new.end ≡ flat.end_after self.old.image arrived.entry.now.now self.old.homefree }
+    {
+        note(&mut self.history, core, What::Commit);
+        count_commit(&mut self.totals, shares);
+        set_running(&mut self.running, core, None);
+        self.end = end_after(&self.image, arrived.now(), self.homefree);
+        self.homefree += 1;
+    }
+
+    /// The homefree core's epoch has faulted: the loop is over.
+    pub fn fault(&mut self, core: u32, now: Running, cause: u32, pc: u32)
+        requires room { vec_len self.old.history < vec_capacity self.old.history }
+        requires runs { running_at self.old.running.items core ≡ Some now }
+        ensures steps { (shares : Counts) → Steps self.old self.new shares shares (spec.entry core (What.Fault cause pc)) }
+        ensures end { self.new.end ≡ Some (End.Fault now.epoch cause pc) }
+    {
+        note(&mut self.history, core, What::Fault { cause, pc });
+        self.end = Some(End::Fault {
+            epoch: now.epoch,
+            cause,
+            pc,
+        });
+    }
+
+    /// The core's turn hurts another one.
+    pub fn hurt(&mut self, by: u32, core: u32, now: Running)
+        requires core { core < length self.old.running.items }
+        requires room { vec_len self.old.history < vec_capacity self.old.history }
+        requires runs { running_at self.old.running.items core ≡ Some now }
+        ensures steps { (shares : Counts) → Steps self.old self.new shares shares (spec.entry by (What.Hurt now.epoch)) }
+        ensures used { vec_len self.new.history ≡ vec_len self.old.history + 1 }
+        ensures running { (k : ℕ) → running_at self.new.running.items k ≡ (if k == core then Some (record now { hurt = true }) else running_at self.old.running.items k) }
+    {
+        note(&mut self.history, by, What::Hurt(now.epoch));
+        set_running(&mut self.running, core, Some(Running { hurt: true, ..now }));
+    }
+
+    /// The core's turn cancels another one, which is idle then.
+    pub fn cancel(&mut self, by: u32, core: u32, now: Running)
+        requires core { core < length self.old.running.items }
+        requires room { vec_len self.old.history < vec_capacity self.old.history }
+        requires runs { running_at self.old.running.items core ≡ Some now }
+        ensures steps { (shares : Counts) → Steps self.old self.new shares shares (spec.entry by (What.Cancel now.epoch)) }
+        ensures used { vec_len self.new.history ≡ vec_len self.old.history + 1 }
+        ensures running { (k : ℕ) → running_at self.new.running.items k ≡ (if k == core then None else running_at self.old.running.items k) }
+    {
+        note(&mut self.history, by, What::Cancel(now.epoch));
+        set_running(&mut self.running, core, None);
+    }
+}
+
+/// How the loop ended, where this epoch, which ended with this hart, was its last.
+pub fn end_after(image: &Image, hart: Hart, epoch: u32) -> Option<End>
+    requires { epoch < 2 ^ 16 }
+    ensures { result ≡ flat.end_after image.now hart epoch }
+{
+    if hart.exits(image) {
+        return Some(End::Exit(epoch));
+    }
+    if epoch + 1 == image.epochs() {
+        Some(End::Done(epoch + 1))
+    } else {
+        None
+    }
+}

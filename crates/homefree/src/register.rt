@@ -1,0 +1,35 @@
+use run_ledger::Totals;
+use rv32_exec::{End, Hart, Image};
+use spec_history::Entry;
+
+/// What a core runs.
+#[derive(Clone, Copy, Debug)]
+pub struct Running {
+    /// The epoch's number.
+    pub epoch: u32,
+    /// Its hart at its last event.
+    pub hart: Hart,
+    /// It has published: its stores are committed at once.
+    pub straight: bool,
+    /// It was violated, and has not restarted.
+    pub hurt: bool,
+}
+
+/// The history, and where it has led, the store aside.
+#[derive(Drop)]
+pub struct Register {
+    /// The image of the loop.
+    pub image: Image,
+    /// What the turns so far did.
+    pub history: Vec<Entry>,
+    /// How many loads, stores, restarts and commits the history has.
+    pub totals: Totals,
+    /// What each core runs.
+    pub running: Vec<Option<Running>>,
+    /// The first epoch that has not committed.
+    pub homefree: u32,
+    /// The next epoch to be started.
+    pub next_epoch: u32,
+    /// How the loop ended, where it is over.
+    pub end: Option<End>,
+}
