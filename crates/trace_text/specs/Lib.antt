@@ -5,3 +5,5 @@ pub mod TraceText
 pub mod Reading
 -- What the code finds.
 pub mod Starts
+-- What the laws say.
+pub mod Laws
