@@ -68,6 +68,14 @@ struct Ran {
     errors: Vec<u8>,
 }
 
+impl Ran {
+    fn is(&self, status: u8, output: &[u8], errors: &str) -> bool {
+        self.status == status
+            && self.output.as_slice() == output
+            && self.errors.as_slice() == errors.as_bytes()
+    }
+}
+
 #[test]
 fn each_command_answers(rt: HostRuntime) {
     for which in [Which::Seq, Which::Audit] {
@@ -75,9 +83,12 @@ fn each_command_answers(rt: HostRuntime) {
         let mut output = Vec::new(rt.alloc());
         let mut errors = Vec::new(rt.alloc());
         let status = which.run(rt.alloc(), &mut reader, &mut output, &mut errors);
-        assert_eq!(rt; status, 0);
-        assert_eq!(rt; output.as_slice(), which.answer().as_bytes());
-        assert_eq!(rt; errors.as_slice(), b"".as_slice());
+        let ran = Ran {
+            status,
+            output,
+            errors,
+        };
+        assert!(rt; ran.is(0, which.answer().as_bytes(), ""));
     }
 }
 
@@ -168,30 +179,34 @@ impl Write for FailingWriter {
 #[test]
 fn stops_at_a_failed_read(rt: HostRuntime) {
     for which in [Which::Seq, Which::Audit] {
-        let text = which.input().as_bytes();
         for kind in [ErrorKind::BrokenPipe, ErrorKind::Interrupted] {
             for fails in [Fails::Once, Fails::Always] {
-                for good in 0..=text.len() {
-                    let (rest, later) = text.split_at(good);
-                    let mut reader = FailingReader {
-                        rest,
-                        later: Some(later),
-                        kind,
-                        fails,
-                    };
-                    let mut output = Vec::new(rt.alloc());
-                    let mut errors = Vec::new(rt.alloc());
-                    let status = which.run(rt.alloc(), &mut reader, &mut output, &mut errors);
-                    assert_eq!(rt; status, 2, "after {good} bytes");
-                    assert_eq!(rt;
-                        errors.as_slice(),
-                        which.read_failed().as_bytes(),
-                        "after {good} bytes"
-                    );
-                    assert_eq!(rt; output.as_slice(), b"".as_slice(), "after {good} bytes");
+                for good in 0..=which.input().len() {
+                    let ran = run_from(rt.alloc(), which, good, kind, fails);
+                    assert!(rt; ran.is(2, b"", which.read_failed()));
                 }
             }
         }
+    }
+}
+
+/// A command on a reader that fails after so many bytes of its input.
+fn run_from(alloc: Global, which: Which, good: usize, kind: ErrorKind, fails: Fails) -> Ran {
+    let text = which.input().as_bytes();
+    let (rest, later) = text.split_at(good.min(text.len()));
+    let mut reader = FailingReader {
+        rest,
+        later: Some(later),
+        kind,
+        fails,
+    };
+    let mut output = Vec::new(alloc);
+    let mut errors = Vec::new(alloc);
+    let status = which.run(alloc, &mut reader, &mut output, &mut errors);
+    Ran {
+        status,
+        output,
+        errors,
     }
 }
 
@@ -204,19 +219,20 @@ fn stops_at_a_failed_write(rt: HostRuntime) -> Result<(), Fail> {
             for fails in [Fails::Once, Fails::Always] {
                 for room in 0..answer.len() {
                     let ran = run_into(rt.alloc(), which, room, stops, fails)?;
-                    assert_eq!(rt; ran.status, 3, "after {room} bytes");
-                    assert_eq!(rt;
-                        ran.errors.as_slice(),
-                        b"stopped Write\n".as_slice(),
-                        "after {room} bytes"
-                    );
-                    assert_eq!(rt; Some(ran.output.as_slice()), answer.get(..room));
+                    assert!(rt; ran.is(3, &answer[..room], "stopped Write\n"));
                 }
             }
             let ran = run_into(rt.alloc(), which, answer.len(), stops, Fails::Always)?;
-            assert_eq!(rt; ran.status, 0);
-            assert_eq!(rt; ran.output.as_slice(), answer);
+            assert!(rt; ran.is(0, answer, ""));
         }
+    }
+    Ok(())
+}
+
+#[test]
+fn stops_at_a_failed_flush(rt: HostRuntime) -> Result<(), Fail> {
+    for which in [Which::Seq, Which::Audit] {
+        let answer = which.answer().as_bytes();
         let ran = run_into(
             rt.alloc(),
             which,
@@ -224,9 +240,7 @@ fn stops_at_a_failed_write(rt: HostRuntime) -> Result<(), Fail> {
             Stops::Unflushed,
             Fails::Always,
         )?;
-        assert_eq!(rt; ran.status, 3);
-        assert_eq!(rt; ran.errors.as_slice(), b"stopped Write\n".as_slice());
-        assert_eq!(rt; ran.output.as_slice(), answer);
+        assert!(rt; ran.is(3, answer, "stopped Write\n"));
     }
     Ok(())
 }
@@ -264,10 +278,7 @@ fn keeps_its_status_without_an_error_stream(rt: HostRuntime) -> Result<(), Fail>
     ] {
         for room in 0..line.len() {
             let ran = refuse_into(rt.alloc(), which, refused, room)?;
-            assert_eq!(rt; ran.status, 2);
-            assert_eq!(rt; ran.output.as_slice(), b"".as_slice());
-            assert_eq!(rt; ran.errors.len(), room);
-            assert!(rt; line.as_bytes().starts_with(ran.errors.as_slice()));
+            assert!(rt; ran.is(2, b"", &line[..room]));
         }
     }
     Ok(())
