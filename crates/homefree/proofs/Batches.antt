@@ -1,8 +1,8 @@
 -- Batches of entries: by the register and by the state they are the same, and they are shorter than there are cores.
-use Rattle.std.proofs.Common.{◌≡◌, ◌≤◌, ◌<◌, ℕ, zero, suc, ◌+◌, Bool, true, false, cond, List, [], ◌∷◌, ◌++◌, length, Option, Some, None, option_map, get_or, refl, sym, ap, subst, ◌∙◌, inl, inr, arith, append-nil}
+use Rattle.std.proofs.Common.{◌≡◌, ◌≤◌, ◌<◌, ℕ, zero, suc, ◌+◌, Bool, true, false, cond, List, [], ◌∷◌, ◌++◌, length, Option, Some, None, option_map, is_some, get_or, refl, sym, ap, subst, ◌∙◌, inl, inr, arith, append-nil, eq-eqb, ne_eqb, ◌≢◌, ◌==◌, ◌&&◌, not}
 use Rattle.run_ledger.specs.declared.counts.Counts.{Counts}
 use Rattle.homefree.specs.Steps.{Steps}
-use Rattle.homefree.proofs.Steps.{steps_then}
+use Rattle.homefree.proofs.Steps.{steps_none, steps_then}
 use Rattle.std.proofs.Math.Path.{fun_ext}
 use Rattle.std.proofs.lemmas.Bool.{cases_eq}
 use Rattle.std.proofs.lemmas.List.{length-append}
@@ -10,13 +10,13 @@ use Rattle.std.proofs.lemmas.Option.{get_or_from_slice_get, slice_get_read}
 use Rattle.homefree.specs.declared.register.Running.{Running}
 use Rattle.spec_history.specs.declared.entry.Entry.{Entry}
 use Rattle.spec_history.specs.declared.entry.What.{What}
-use Rattle.spec_history.specs.declared.entry.What.TheVariants.{Hurt}
+use Rattle.spec_history.specs.declared.entry.What.TheVariants.{Hurt, Cancel}
 use Rattle.spec_history.specs.FlatState.{CoreState, FlatState}
 use Rattle.spec_history.specs.Effect.{by_core}
 use Rattle.homefree.specs.declared.register.Register.{Register}
 use Rattle.homefree.specs.Hurts.{entry, entry_for_each, hurts, epoch_on}
 use Rattle.homefree.specs.Kept.{Shows, running_at, kept_of}
-use Rattle.homefree.specs.Noted.{epoch_kept, epoch_in, hurts_noted}
+use Rattle.homefree.specs.Noted.{epoch_kept, epoch_in, hurts_noted, cancels_noted, cancel_noted}
 
 pub epochs_same : (r : Register) (s : FlatState) → Shows r s → epoch_in r.running.items ≡ epoch_on s.cores
 epochs_same r s shows = fun_ext (λ k. ap epoch_kept (shows.running k) ∙ by_it (s.cores k))
@@ -71,3 +71,28 @@ one_hurt_more old mid new shares by k hurt is same before one =
 pub no_hurt_more : (old mid : Register) (shares : Counts) (by k : ℕ) (hurt : ℕ → Bool) → hurt k ≡ false
     → Steps old mid shares shares (hurts_noted by hurt old.running.items k) → Steps old mid shares shares (hurts_noted by hurt old.running.items (k + 1))
 no_hurt_more old mid shares by k hurt is before = let next : k + 1 ≡ suc k = omega arith in rw next (rw is (rw append-nil before))
+
+-- ---- cancels
+
+-- the entry of a core that runs an epoch, and of one that is idle
+pub cancelled_here : (old new : Register) (shares : Counts) (by k : ℕ) (now : Running) → running_at old.running.items k ≡ Some now
+    → Steps old new shares shares (entry by (Cancel now.epoch)) → Steps old new shares shares (cancel_noted by old.running.items k)
+cancelled_here old new shares by k now at one =
+    subst (λ (o : Option Running). Steps old new shares shares (cond (is_some o) (entry by (Cancel (epoch_kept o))) [])) (sym at) one
+
+pub idle_here : (old : Register) (shares : Counts) (by k : ℕ) → running_at old.running.items k ≡ None → Steps old old shares shares (cancel_noted by old.running.items k)
+idle_here old shares by k at =
+    subst (λ (o : Option Running). Steps old old shares shares (cond (is_some o) (entry by (Cancel (epoch_kept o))) [])) (sym at) (steps_none old shares)
+
+-- one core more
+pub one_cancel_more : (old mid new : Register) (shares : Counts) (by k : ℕ) → k ≢ by → running_at mid.running.items k ≡ running_at old.running.items k
+    → Steps old mid shares shares (cancels_noted by old.running.items k) → Steps mid new shares shares (cancel_noted by mid.running.items k)
+    → Steps old new shares shares (cancels_noted by old.running.items (k + 1))
+one_cancel_more old mid new shares by k other same before one =
+    let noted = subst (λ (o : Option Running). Steps mid new shares shares (cond (is_some o) (entry by (Cancel (epoch_kept o))) [])) same one in
+    let next : k + 1 ≡ suc k = omega arith in
+    rw next (rw (ne_eqb k by other) (steps_then old mid new shares shares shares (cancels_noted by old.running.items k) (cancel_noted by old.running.items k) before noted))
+
+pub no_cancel_more : (old mid : Register) (shares : Counts) (by k : ℕ) → k ≡ by
+    → Steps old mid shares shares (cancels_noted by old.running.items k) → Steps old mid shares shares (cancels_noted by old.running.items (k + 1))
+no_cancel_more old mid shares by k is before = let next : k + 1 ≡ suc k = omega arith in rw next (rw (eq-eqb k by is) (rw append-nil before))

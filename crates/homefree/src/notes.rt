@@ -197,7 +197,6 @@ impl Register {
         requires room { vec_len self.old.history < vec_capacity self.old.history }
         requires runs { running_at self.old.running.items core ≡ Some now }
         ensures steps { (shares : Counts) → Steps self.old self.new shares shares (spec.entry by (What.Hurt now.epoch)) }
-        ensures used { vec_len self.new.history ≡ vec_len self.old.history + 1 }
         ensures running { (k : ℕ) → running_at self.new.running.items k ≡ (if k == core then Some (record now { hurt = true }) else running_at self.old.running.items k) }
     {
         note(&mut self.history, by, What::Hurt(now.epoch));
@@ -210,7 +209,6 @@ impl Register {
         requires room { vec_len self.old.history < vec_capacity self.old.history }
         requires runs { running_at self.old.running.items core ≡ Some now }
         ensures steps { (shares : Counts) → Steps self.old self.new shares shares (spec.entry by (What.Cancel now.epoch)) }
-        ensures used { vec_len self.new.history ≡ vec_len self.old.history + 1 }
         ensures running { (k : ℕ) → running_at self.new.running.items k ≡ (if k == core then None else running_at self.old.running.items k) }
     {
         note(&mut self.history, by, What::Cancel(now.epoch));
