@@ -1,5 +1,5 @@
 -- Batches of entries: by the register and by the state they are the same, and they are shorter than there are cores.
-use Rattle.std.proofs.Common.{◌≡◌, ◌≤◌, ◌<◌, ℕ, zero, suc, ◌+◌, Bool, true, false, cond, List, [], ◌∷◌, ◌++◌, length, Option, Some, None, option_map, is_some, get_or, refl, sym, ap, subst, ◌∙◌, inl, inr, arith, append-nil, eq-eqb, ne_eqb, ◌≢◌, ◌==◌, ◌&&◌, not}
+use Rattle.std.proofs.Common.{◌≡◌, ◌≤◌, ◌<◌, ℕ, zero, suc, ◌+◌, Bool, true, false, cond, List, [], ◌∷◌, ◌++◌, length, Option, Some, None, option_map, is_some, get_or, refl, sym, ap, subst, ◌∙◌, inl, inr, arith, append-nil, eq-eqb, ne_eqb, ◌≢◌, ◌==◌, ◌&&◌, not, true≢false}
 use Rattle.run_ledger.specs.declared.counts.Counts.{Counts}
 use Rattle.homefree.specs.Steps.{Steps}
 use Rattle.homefree.proofs.Steps.{steps_none, steps_then}
@@ -57,6 +57,9 @@ batch_fewer by these what (suc n) j spared below = elim (cases_eq j n) [
 -- what a read of the list gave
 pub running_read : (running : List (Option Running)) (k : ℕ) (x : Option Running) → k < length running → x ≡ get_or running k x → running_at running k ≡ x
 running_read running k x there is = get_or_from_slice_get running k x None (slice_get_read running (length running) k x refl there is)
+
+pub apart_by : (test : ℕ → Bool) (j k : ℕ) → test j ≡ false → test k ≡ true → j ≢ k
+apart_by test j k off on same = true≢false (sym on ∙ (ap test (sym same) ∙ off))
 
 -- one core more, where it is hurt, and where it is not
 pub one_hurt_more : (old mid new : Register) (shares : Counts) (by k : ℕ) (hurt : ℕ → Bool) → hurt k ≡ true → running_at mid.running.items k ≡ running_at old.running.items k

@@ -10,3 +10,5 @@ pub mod Steps
 pub mod Noting
 pub mod Acting
 pub mod Batches
+pub mod Hurting
+pub mod Standing

@@ -16,3 +16,4 @@ pub mod Steps
 pub mod AtStop
 pub mod Acted
 pub mod Noted
+pub mod Arms

@@ -9,4 +9,5 @@ abbrev pub invariant-loop-k : goal.invariant-loop-k
 invariant-loop-k l = record {
   steps : (shares : Counts) → Steps l.fn.self l.self shares shares (cancels_noted l.by l.fn.self.running.items l.k);
   rest : (j : ℕ) → l.k ≤ j → running_at l.self.running.items j ≡ running_at l.fn.self.running.items j;
+  own : running_at l.self.running.items l.by ≡ running_at l.fn.self.running.items l.by;
 }
