@@ -38,27 +38,37 @@ one_state o s t one two = cc
 pub kept_of_fits : (r : Register) (v : StoreView) (f : Fits r v) → r.end ≡ None → IsKept r.image (length r.running.items) f.state
 kept_of_fits r v f going = ((replayed r.image (length r.running.items) r.history.items f.state f.is_image f.replays).going (sym f.shows.end ∙ going)).kept
 
-pub acted : (old new : Register) (v w : StoreView) (shares shares' : Counts) (core : ℕ) (next : Option Arrival) (answer : Answer) (entries : List Entry) (t : FlatState) (f : Fits old v)
-    → Steps old new shares shares' entries → length entries ≤ 2 * length old.running.items → arm.Comes old.image (length old.running.items) f.state entries t w
-    → w.shape ≡ v.shape → Acts (turn_of old f.state core next) v w (does entries answer)
+pub fits_then : (old new : Register) (v w : StoreView) (shares shares' : Counts) (entries : List Entry) (t : FlatState) (f : Fits old v)
+    → Steps old new shares shares' entries → arm.Comes old.image (length old.running.items) f.state entries t w → w.shape ≡ v.shape → Fits new w
+fits_then old new v w shares shares' entries t f steps comes shape = record {
+  state = t;
+  replays = rw (steps.image, steps.cores, steps.history) (history_goes_on old.image (length old.running.items) old.history.items entries f.state t f.replays comes.replays);
+  shows = steps.follows f.state t f.is_image (record { entries = old.history.items; replays = f.replays }) f.shows comes.replays;
+  agrees = comes.agrees;
+  shape = rw (steps.image, steps.cores) (shape ∙ f.shape);
+  counted = rw steps.history (steps.totals ∙ (ap (λ n. sum_of n (counted_in entries)) f.counted ∙ sym (counted_then old.history.items entries)));
+  is_image = rw steps.image f.is_image;
+  core_count = rw (steps.image, steps.cores) f.core_count;
+}
+
+pub acted_by : (old new : Register) (v w : StoreView) (shares shares' : Counts) (core : ℕ) (next : Option Arrival) (answer : Answer) (entries : List Entry) (f : Fits old v)
+    → Steps old new shares shares' entries → length entries ≤ 2 * length old.running.items → Fits new w → Acts (turn_of old f.state core next) v w (does entries answer)
     → Acted old new v w shares shares' core next answer
-acted old new v w shares shares' core next answer entries t f steps short comes shape acts = record {
+acted_by old new v w shares shares' core next answer entries f steps short fits acts = record {
   entries = entries;
   steps = steps;
   short = short;
   acts = λ s replays. subst (λ x. Acts (turn_of old x core next) v w (does entries answer))
       (one_state (replay old.image (length old.running.items) old.history.items) f.state s f.replays replays) acts;
-  fits = record {
-    state = t;
-    replays = rw (steps.image, steps.cores, steps.history) (history_goes_on old.image (length old.running.items) old.history.items entries f.state t f.replays comes.replays);
-    shows = steps.follows f.state t f.is_image (record { entries = old.history.items; replays = f.replays }) f.shows comes.replays;
-    agrees = comes.agrees;
-    shape = rw (steps.image, steps.cores) (shape ∙ f.shape);
-    counted = rw steps.history (steps.totals ∙ (ap (λ n. sum_of n (counted_in entries)) f.counted ∙ sym (counted_then old.history.items entries)));
-    is_image = rw steps.image f.is_image;
-    core_count = rw (steps.image, steps.cores) f.core_count;
-  };
+  fits = fits;
 }
+
+pub acted : (old new : Register) (v w : StoreView) (shares shares' : Counts) (core : ℕ) (next : Option Arrival) (answer : Answer) (entries : List Entry) (t : FlatState) (f : Fits old v)
+    → Steps old new shares shares' entries → length entries ≤ 2 * length old.running.items → arm.Comes old.image (length old.running.items) f.state entries t w
+    → w.shape ≡ v.shape → Acts (turn_of old f.state core next) v w (does entries answer)
+    → Acted old new v w shares shares' core next answer
+acted old new v w shares shares' core next answer entries t f steps short comes shape acts =
+    acted_by old new v w shares shares' core next answer entries f steps short (fits_then old new v w shares shares' entries t f steps comes shape) acts
 
 -- a turn that changes nothing
 pub acted_nothing : (old : Register) (v : StoreView) (shares : Counts) (core : ℕ) (next : Option Arrival) (answer : Answer) (f : Fits old v)

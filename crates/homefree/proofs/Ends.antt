@@ -154,7 +154,7 @@ hurt_runs true None = refl
 hurt_runs true (Some e) = refl
 hurt_runs false o = refl
 
-hurt_epoch : (b : Bool) (o : Option CoreState) → by_core (hurt_if b o) 0 (λ x. x.epoch) ≡ by_core o 0 (λ x. x.epoch)
+pub hurt_epoch : (b : Bool) (o : Option CoreState) → by_core (hurt_if b o) 0 (λ x. x.epoch) ≡ by_core o 0 (λ x. x.epoch)
 hurt_epoch true None = refl
 hurt_epoch true (Some e) = refl
 hurt_epoch false o = refl

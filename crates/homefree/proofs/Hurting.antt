@@ -1,10 +1,10 @@
 -- What the register is after a batch of hurts: its counts are as they were, the caller runs on, and there is room for one
 -- entry more.
-use Rattle.std.proofs.Common.{◌≡◌, ◌<◌, ◌+◌, ◌≤◌, ℕ, Bool, false, List, length, Option, Some, vec_len, vec_capacity, refl, sym, ap, ◌∙◌, arith}
+use Rattle.std.proofs.Common.{◌≡◌, ◌<◌, ◌+◌, ℕ, Bool, false, List, length, vec_len, vec_capacity, ap, ◌∙◌, arith}
 use Rattle.rv32_exec.specs.declared.stop.Stop.{Stop}
 use Rattle.rv32_exec.specs.Arrival.{Arrival}
 use Rattle.run_ledger.specs.declared.counts.Counts.{Counts}
-use Rattle.run_ledger.specs.Counts.{no_counts, sum_of}
+use Rattle.run_ledger.specs.Counts.{no_counts}
 use Rattle.spec_history.specs.declared.entry.Entry.{Entry}
 use Rattle.spec_history.specs.declared.entry.What.TheVariants.{Hurt}
 use Rattle.homefree.specs.declared.register.Register.{Register}

@@ -12,3 +12,5 @@ pub mod Acting
 pub mod Batches
 pub mod Hurting
 pub mod Standing
+pub mod Accessing
+pub mod GoingStraight

@@ -1,6 +1,5 @@
 -- A core that runs its epoch: the state's core behind what the register keeps, and what the store's calls ask.
-use Rattle.std.proofs.Common.{◌≡◌, ◌<◌, ◌+◌, ◌≤◌, ◌*◌, ◌^◌, ◌%◌, ℕ, Bool, true, false, List, length, Option, Some, None, IsSome, option_map, vec_len, vec_capacity, refl, sym, ap, subst, ◌∙◌, arith}
-use Rattle.rv32_image.specs.Image.{LoadedImage, IsImage}
+use Rattle.std.proofs.Common.{◌≡◌, ◌+◌, ◌≤◌, ℕ, Bool, true, false, length, Option, Some, None, IsSome, option_map, vec_len, vec_capacity, refl, sym, ap, subst, ◌∙◌, arith}
 use Rattle.rv32_image.specs.Version.{limits_of}
 use Rattle.rv32_image.specs.declared.version.Version.{Version}
 use Rattle.rv32_image.specs.declared.version.Version.TheVariants.{One, Two}
@@ -64,7 +63,7 @@ runs_by r v core now straight runs is =
     let same : st.c.straight ≡ straight = ap (λ (x : Running). x.straight) st.is ∙ is in
     record { epoch = st.c.epoch; is = st.agrees.attempt ∙ ap (λ b. Some (attempt_of st.c.epoch b)) same }
 
-homefree_is : (r : Register) (v : StoreView) (core : ℕ) (now : Running) (f : Fits r v) (st : Stands r v core now f) → now.epoch ≡ r.homefree → st.c.epoch ≡ f.state.homefree
+pub homefree_is : (r : Register) (v : StoreView) (core : ℕ) (now : Running) (f : Fits r v) (st : Stands r v core now f) → now.epoch ≡ r.homefree → st.c.epoch ≡ f.state.homefree
 homefree_is r v core now f st is = ap (λ (x : Running). x.epoch) st.is ∙ (is ∙ f.shows.homefree)
 
 pub may_publish : (r : Register) (v : StoreView) (core : ℕ) (now : Running) → RunsEpoch r v core now → now.straight ≡ false → now.epoch ≡ r.homefree → MayPublish v core

@@ -1,11 +1,11 @@
 -- What the arms of a turn start from, and how far the homefree core has come once it has published.
-use Rattle.std.specs.Prelude.{◌≡◌, ◌≢◌, ℕ, ◌+◌, ◌*◌, ◌<◌, ◌≤◌, not, Bool, true, false, List, [], ◌++◌, length, Option, Some, None, IsSome, vec_len, vec_capacity, if◌then◌else◌}
+use Rattle.std.specs.Prelude.{◌≡◌, ℕ, ◌+◌, ◌<◌, ◌≤◌, Bool, true, false, List, [], ◌++◌, length, Some, None, IsSome, vec_len, vec_capacity, if◌then◌else◌}
 use Rattle.rv32_exec.specs.declared.stop.Stop.{Stop}
 use Rattle.rv32_exec.specs.Arrival.{Arrival}
 use Rattle.run_ledger.specs.declared.counts.Counts.{Counts}
 use Rattle.spec_history.specs.declared.entry.Entry.{Entry}
 use Rattle.spec_history.specs.declared.entry.What.TheVariants.{Publish}
-use Rattle.violations.specs.View.{StoreView, Runs}
+use Rattle.violations.specs.View.{StoreView}
 use Rattle.homefree.specs.declared.register.Register.{Register}
 use Rattle.homefree.specs.declared.register.Running.{Running}
 use Rattle.homefree.specs.Acted.{MayNote}

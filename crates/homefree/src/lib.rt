@@ -7,6 +7,8 @@ mod hurts;
 mod notes;
 mod parts;
 mod register;
+mod speculative;
+mod straight;
 
 pub use answer::{Answer, Cause, StopCause};
 pub use fault::TurnFault;

@@ -147,14 +147,7 @@ impl Register {
         ensures running { (k : ℕ) → running_at self.new.running.items k ≡ (if k == core then Some (record now { straight = true }) else running_at self.old.running.items k) }
     {
         note(&mut self.history, core, What::Publish);
-        set_running(
-            &mut self.running,
-            core,
-            Some(Running {
-                straight: true,
-                ..now
-            }),
-        );
+        set_running(&mut self.running, core, Some(now.straightened()));
     }
 
     /// The homefree core's epoch has ended, and commits: the core is idle, and the next epoch is homefree. Where the epoch

@@ -1,3 +1,5 @@
+ghost use Rattle.std.specs.Prelude.{◌≡◌, true};
+
 use run_ledger::Totals;
 use rv32_exec::{End, Hart, Image};
 use spec_history::Entry;
@@ -13,6 +15,18 @@ pub struct Running {
     pub straight: bool,
     /// It was violated, and has not restarted.
     pub hurt: bool,
+}
+
+impl Running {
+    /// The same, straight.
+    pub(crate) fn straightened(self) -> Running
+        ensures { result ≡ record self { straight = true } }
+    {
+        Running {
+            straight: true,
+            ..self
+        }
+    }
 }
 
 /// The history, and where it has led, the store aside.

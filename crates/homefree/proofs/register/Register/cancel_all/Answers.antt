@@ -1,4 +1,4 @@
-use Rattle.std.proofs.Common.{◌≡◌, ◌<◌, refl, sym, ◌∙◌, arith, length}
+use Rattle.std.proofs.Common.{◌≡◌, refl, sym, ◌∙◌, arith, length}
 use Rattle.run_ledger.specs.Counts.{no_counts}
 use Rattle.spec_history.specs.declared.entry.What.TheVariants.{Cancel}
 use Rattle.homefree.specs.Noted.{epoch_in, other_kept}

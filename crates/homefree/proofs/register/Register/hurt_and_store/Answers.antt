@@ -1,4 +1,4 @@
-use Rattle.std.proofs.Common.{◌<◌, ◌^◌, ap, sym, subst}
+use Rattle.std.proofs.Common.{◌<◌, ◌^◌, sym, subst}
 use Rattle.run_ledger.specs.declared.counts.Counts.{Counts}
 use Rattle.run_ledger.specs.Counts.{no_counts}
 use Rattle.violations.specs.CoreSet.{is_in}
