@@ -1,5 +1,5 @@
 -- Batches of entries: by the register and by the state they are the same, and they are shorter than there are cores.
-use Rattle.std.proofs.Common.{◌≡◌, ◌≤◌, ◌<◌, ℕ, zero, suc, ◌+◌, Bool, true, false, cond, List, [], ◌∷◌, ◌++◌, length, Option, Some, None, option_map, is_some, get_or, refl, sym, ap, subst, ◌∙◌, inl, inr, arith, append-nil, eq-eqb, ne_eqb, ◌≢◌, true≢false}
+use Rattle.std.proofs.Common.{◌≡◌, ◌≤◌, ◌<◌, ℕ, zero, suc, ◌+◌, Bool, true, false, cond, not, ◌==◌, ◌&&◌, List, [], ◌∷◌, ◌++◌, length, Option, Some, None, option_map, is_some, get_or, refl, sym, ap, subst, ◌∙◌, inl, inr, arith, append-nil, eq-eqb, ne_eqb, ◌≢◌, true≢false}
 use Rattle.run_ledger.specs.declared.counts.Counts.{Counts}
 use Rattle.homefree.specs.Steps.{Steps}
 use Rattle.homefree.proofs.Steps.{steps_none, steps_then}
@@ -14,9 +14,9 @@ use Rattle.spec_history.specs.declared.entry.What.TheVariants.{Hurt, Cancel}
 use Rattle.spec_history.specs.FlatState.{CoreState, FlatState}
 use Rattle.spec_history.specs.Effect.{by_core}
 use Rattle.homefree.specs.declared.register.Register.{Register}
-use Rattle.homefree.specs.Hurts.{entry, entry_for_each, hurts, epoch_on}
+use Rattle.homefree.specs.Hurts.{entry, entry_for_each, hurts, cancels, is_other, epoch_on}
 use Rattle.homefree.specs.Kept.{Shows, running_at, kept_of}
-use Rattle.homefree.specs.Noted.{epoch_kept, epoch_in, hurts_noted, cancels_noted, cancel_noted}
+use Rattle.homefree.specs.Noted.{epoch_kept, epoch_in, hurts_noted, other_kept, cancels_noted, cancel_noted}
 
 pub epochs_same : (r : Register) (s : FlatState) → Shows r s → epoch_in r.running.items ≡ epoch_on s.cores
 epochs_same r s shows = fun_ext (λ k. ap epoch_kept (shows.running k) ∙ by_it (s.cores k))
@@ -29,6 +29,17 @@ epochs_same r s shows = fun_ext (λ k. ap epoch_kept (shows.running k) ∙ by_it
 pub hurts_same : (r : Register) (s : FlatState) (by : ℕ) (hurt : ℕ → Bool) → Shows r s
     → hurts_noted by hurt r.running.items (length r.running.items) ≡ hurts (length r.running.items) s by hurt
 hurts_same r s by hurt shows = ap (λ (e : ℕ → ℕ). entry_for_each by hurt (λ k. Hurt (e k)) (length r.running.items)) (epochs_same r s shows)
+
+-- what the register notes of cancelled cores are their entries
+pub cancels_same : (r : Register) (s : FlatState) (by : ℕ) → Shows r s → cancels_noted by r.running.items (length r.running.items) ≡ cancels (length r.running.items) s by
+cancels_same r s by shows =
+    let others : other_kept r.running.items by ≡ is_other s.cores by = fun_ext (λ k. ap (λ b. not (k == by) && b) (ap is_some (shows.running k) ∙ some_same (s.cores k))) in
+    ap (λ (o : ℕ → Bool). entry_for_each by o (λ k. Cancel (epoch_in r.running.items k)) (length r.running.items)) others
+    ∙ ap (λ (e : ℕ → ℕ). entry_for_each by (is_other s.cores by) (λ k. Cancel (e k)) (length r.running.items)) (epochs_same r s shows)
+  where
+    some_same : (o : Option CoreState) → is_some (option_map kept_of o) ≡ is_some o
+    some_same None = refl
+    some_same (Some c) = refl
 
 one_short : (b : Bool) (x : Entry) (before : List Entry) (n : ℕ) → length before ≤ n → length (before ++ cond b (x ∷ []) []) ≤ suc n
 one_short true x before n less = rw (length-append before (x ∷ [])) (omega (arith, less))

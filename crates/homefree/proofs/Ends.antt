@@ -192,7 +192,7 @@ module _ (image : LoadedImage) (count : ℕ) (s : FlatState) (by : ℕ) (c : Cor
   abbrev hurt_state : FlatState
   hurt_state = with_hurts hurt s
 
-  may_cancel : MayCancel image count hurt_state by c
+  pub may_cancel : MayCancel image count hurt_state by c
   may_cancel = record {
     going = going;
     at = p.at;

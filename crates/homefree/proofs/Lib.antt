@@ -14,3 +14,6 @@ pub mod Hurting
 pub mod Standing
 pub mod Accessing
 pub mod GoingStraight
+pub mod Ending
+pub mod Cancelling
+pub mod Exiting

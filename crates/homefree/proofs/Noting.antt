@@ -164,7 +164,7 @@ published old new shares core now runs image cores history room used totals home
       running = kept_with (running_at old.running.items) (running_at new.running.items) s.cores core (Some (record now { straight = true })) (Some _) each was.running (ap Some kept);
     }))
 
-now_is : (r : Register) (core : ℕ) (now : Running) (arrived : Arrival) (at : Stop) (c : CoreState) → IsAtStop r core now arrived at → kept_of c ≡ now
+pub now_is : (r : Register) (core : ℕ) (now : Running) (arrived : Arrival) (at : Stop) (c : CoreState) → IsAtStop r core now arrived at → kept_of c ≡ now
     → arrived.now ≡ (next_event r.image c.hart).now
 now_is r core now arrived at c is_at is =
     let base : arrived.base ≡ c.hart = is_at.base ∙ ap (λ (x : Running). x.hart) (sym is) in

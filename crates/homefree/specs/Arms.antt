@@ -1,11 +1,12 @@
 -- What the arms of a turn start from, and how far the homefree core has come once it has published.
-use Rattle.std.specs.Prelude.{◌≡◌, ℕ, ◌+◌, ◌<◌, ◌≤◌, Bool, true, false, List, [], ◌++◌, length, Some, None, IsSome, vec_len, vec_capacity, if◌then◌else◌}
+use Rattle.std.specs.Prelude.{◌≡◌, ◌≢◌, ℕ, ◌+◌, ◌<◌, ◌≤◌, Bool, true, false, List, [], ◌++◌, length, Option, Some, None, IsSome, vec_len, vec_capacity, if◌then◌else◌}
 use Rattle.rv32_exec.specs.declared.stop.Stop.{Stop}
 use Rattle.rv32_exec.specs.Arrival.{Arrival}
 use Rattle.run_ledger.specs.declared.counts.Counts.{Counts}
 use Rattle.spec_history.specs.declared.entry.Entry.{Entry}
 use Rattle.spec_history.specs.declared.entry.What.TheVariants.{Publish}
-use Rattle.violations.specs.View.{StoreView}
+use Rattle.violations.specs.View.{StoreView, Runs}
+use Rattle.violations.specs.Rule.{IsSameCore}
 use Rattle.homefree.specs.declared.register.Register.{Register}
 use Rattle.homefree.specs.declared.register.Running.{Running}
 use Rattle.homefree.specs.Acted.{MayNote}
@@ -61,3 +62,21 @@ pub record Settled (old mid : Register) (v x : StoreView) (core : ℕ) (now : Ru
   pub steps : (shares : Counts) → Steps old mid shares shares (hurts_noted core hurt old.running.items (length old.running.items))
   pub runs : running_at mid.running.items core ≡ Some now
   pub short : length (hurts_noted core hurt old.running.items (length old.running.items)) < length old.running.items
+
+-- ---- the attempts of the cores that an exit cancels
+
+-- a core that runs an epoch and isn't hurt has an attempt in the store, which isn't straight; any other has none
+abbrev pub HasAttemptUnless : Bool → StoreView → ℕ → Type 0
+HasAttemptUnless true v k = v.attempt k ≡ None
+HasAttemptUnless false v k = Runs v k false
+
+abbrev pub HasAttempt : StoreView → ℕ → Option Running → Type 0
+HasAttempt v k None = v.attempt k ≡ None
+HasAttempt v k (Some now) = HasAttemptUnless now.hurt v k
+
+-- the core has no attempt, and all else is as it was
+pub record EndsAttempt (v w : StoreView) (core : ℕ) : Type 0 where
+  pub shape : w.shape ≡ v.shape
+  pub committed : (a : ℕ) → w.committed a ≡ v.committed a
+  pub none : w.attempt core ≡ None
+  pub others : (k : ℕ) → k ≢ core → IsSameCore v w k

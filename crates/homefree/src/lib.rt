@@ -2,7 +2,9 @@
 #![tactic(auto)]
 
 mod answer;
+mod attempts;
 mod fault;
+mod finish;
 mod hurts;
 mod notes;
 mod parts;
