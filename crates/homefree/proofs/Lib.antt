@@ -17,3 +17,8 @@ pub mod GoingStraight
 pub mod Ending
 pub mod Cancelling
 pub mod Exiting
+pub mod Tallies
+pub mod Entries
+pub mod Books
+pub mod Following
+pub mod Drives

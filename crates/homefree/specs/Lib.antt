@@ -17,3 +17,7 @@ pub mod AtStop
 pub mod Acted
 pub mod Noted
 pub mod Arms
+pub mod Again
+pub mod Grown
+pub mod BookInside
+pub mod Held

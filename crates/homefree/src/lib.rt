@@ -3,16 +3,21 @@
 
 mod answer;
 mod attempts;
+mod book;
 mod fault;
 mod finish;
 mod hurts;
 mod notes;
+mod opening;
 mod parts;
 mod register;
+mod schedule;
 mod speculative;
 mod straight;
 
 pub use answer::{Answer, Cause, StopCause};
+pub use book::Book;
 pub use fault::TurnFault;
 pub use parts::Parts;
 pub use register::{Register, Running};
+pub use schedule::drive;
