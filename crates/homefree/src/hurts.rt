@@ -19,7 +19,7 @@ use violations::CoreSet;
 
 impl Register {
     /// The core's turn hurts these others.
-    pub fn hurt_all(&mut self, by: u32, hurt: CoreSet)
+    pub(crate) fn hurt_all(&mut self, by: u32, hurt: CoreSet)
         requires few { length self.old.running.items ≤ 16 }
         requires room { vec_len self.old.history + length self.old.running.items ≤ vec_capacity self.old.history }
         requires runs { (k : ℕ) → is_in hurt k ≡ true → IsSome (running_at self.old.running.items k) }
@@ -49,7 +49,7 @@ impl Register {
     }
 
     /// The core's load hurts these others, and gives this value. Answers its hart then.
-    pub fn hurt_and_load(
+    pub(crate) fn hurt_and_load(
         &mut self,
         shares: &mut Shares,
         core: u32,
@@ -73,7 +73,7 @@ impl Register {
     }
 
     /// The core's store hurts these others. Answers its hart then.
-    pub fn hurt_and_store(
+    pub(crate) fn hurt_and_store(
         &mut self,
         shares: &mut Shares,
         core: u32,
@@ -96,7 +96,7 @@ impl Register {
     }
 
     /// The homefree core publishes, which hurts these others.
-    pub fn hurt_and_publish(&mut self, core: u32, now: Running, hurt: CoreSet)
+    pub(crate) fn hurt_and_publish(&mut self, core: u32, now: Running, hurt: CoreSet)
         requires may { MayHurt self.old core now (is_in hurt) }
         ensures steps { (shares : Counts) → Steps self.old self.new shares shares (hurts_noted core (is_in hurt) self.old.running.items (length self.old.running.items) ++ spec.entry core What.Publish) }
         ensures runs { running_at self.new.running.items core ≡ Some (record now { straight = true }) }
@@ -106,7 +106,7 @@ impl Register {
     }
 
     /// The core's turn cancels each other one that runs an epoch.
-    pub fn cancel_all(&mut self, by: u32)
+    pub(crate) fn cancel_all(&mut self, by: u32)
         requires few { length self.old.running.items ≤ 16 }
         requires room { vec_len self.old.history + length self.old.running.items ≤ vec_capacity self.old.history }
         ensures steps { (shares : Counts) → Steps self.old self.new shares shares (cancels_noted by self.old.running.items (length self.old.running.items)) }

@@ -14,5 +14,3 @@ mod straight;
 
 pub use answer::{Answer, Cause, StopCause};
 pub use fault::TurnFault;
-pub use parts::Parts;
-pub use register::{Register, Running};

@@ -16,7 +16,7 @@ use rv32_exec::{Arrived, End, Hart, Image, Stop, loaded, start, stored};
 use spec_history::{Entry, What};
 
 /// Adds an entry, where there is room for it.
-pub fn note(history: &mut Vec<Entry>, by: u32, what: What)
+pub(crate) fn note(history: &mut Vec<Entry>, by: u32, what: What)
     requires { vec_len history.old < vec_capacity history.old }
     ensures items { history.new.items ≡ history.old.items ++ spec.entry by what }
     ensures room { vec_capacity history.old ≤ vec_capacity history.new }
@@ -29,7 +29,7 @@ pub fn note(history: &mut Vec<Entry>, by: u32, what: What)
 }
 
 /// Sets what a core runs.
-pub fn set_running(running: &mut Vec<Option<Running>>, core: u32, now: Option<Running>)
+pub(crate) fn set_running(running: &mut Vec<Option<Running>>, core: u32, now: Option<Running>)
     requires { core < length running.old.items }
     ensures len { length running.new.items ≡ length running.old.items }
     ensures each { (k : ℕ) → running_at running.new.items k ≡ (if k == core then now else running_at running.old.items k) }
@@ -39,7 +39,7 @@ pub fn set_running(running: &mut Vec<Option<Running>>, core: u32, now: Option<Ru
 
 impl Register {
     /// An idle core starts the next epoch. Answers the hart at its start.
-    pub fn start(&mut self, core: u32) -> Hart
+    pub(crate) fn start(&mut self, core: u32) -> Hart
         requires core { core < length self.old.running.items }
         requires room { vec_len self.old.history < vec_capacity self.old.history }
         requires image { IsImage self.old.image }
@@ -63,7 +63,7 @@ impl Register {
     }
 
     /// A core that was hurt begins its epoch again. Answers the hart at its start.
-    pub fn restart(&mut self, shares: &mut Shares, core: u32, epoch: u32) -> Hart
+    pub(crate) fn restart(&mut self, shares: &mut Shares, core: u32, epoch: u32) -> Hart
         requires core { core < length self.old.running.items }
         requires room { vec_len self.old.history < vec_capacity self.old.history }
         requires totals { self.old.totals.restarts < 2 ^ 63 }
@@ -86,7 +86,7 @@ impl Register {
     }
 
     /// A core loads this value. Answers its hart then.
-    pub fn load(
+    pub(crate) fn load(
         &mut self,
         shares: &mut Shares,
         core: u32,
@@ -113,7 +113,7 @@ impl Register {
     }
 
     /// A core stores a value. Answers its hart then.
-    pub fn store(
+    pub(crate) fn store(
         &mut self,
         shares: &mut Shares,
         core: u32,
@@ -139,7 +139,7 @@ impl Register {
     }
 
     /// The homefree core publishes, and is straight.
-    pub fn publish(&mut self, core: u32, now: Running)
+    pub(crate) fn publish(&mut self, core: u32, now: Running)
         requires core { core < length self.old.running.items }
         requires room { vec_len self.old.history < vec_capacity self.old.history }
         requires runs { running_at self.old.running.items core ≡ Some now }
@@ -152,7 +152,7 @@ impl Register {
 
     /// The homefree core's epoch has ended, and commits: the core is idle, and the next epoch is homefree. Where the epoch
     /// exits, or was the last, the loop is over.
-    pub fn commit(&mut self, shares: &mut Shares, core: u32, now: Running, arrived: &Arrived)
+    pub(crate) fn commit(&mut self, shares: &mut Shares, core: u32, now: Running, arrived: &Arrived)
         requires core { core < length self.old.running.items }
         requires room { vec_len self.old.history < vec_capacity self.old.history }
         requires totals { self.old.totals.commits < 2 ^ 63 }
@@ -170,7 +170,7 @@ impl Register {
     }
 
     /// The homefree core's epoch has faulted: the loop is over.
-    pub fn fault(&mut self, core: u32, now: Running, cause: u32, pc: u32)
+    pub(crate) fn fault(&mut self, core: u32, now: Running, cause: u32, pc: u32)
         requires room { vec_len self.old.history < vec_capacity self.old.history }
         requires runs { running_at self.old.running.items core ≡ Some now }
         ensures steps { (shares : Counts) → Steps self.old self.new shares shares (spec.entry core (What.Fault cause pc)) }
@@ -185,7 +185,7 @@ impl Register {
     }
 
     /// The core's turn hurts another one.
-    pub fn hurt(&mut self, by: u32, core: u32, now: Running)
+    pub(crate) fn hurt(&mut self, by: u32, core: u32, now: Running)
         requires core { core < length self.old.running.items }
         requires room { vec_len self.old.history < vec_capacity self.old.history }
         requires runs { running_at self.old.running.items core ≡ Some now }
@@ -197,7 +197,7 @@ impl Register {
     }
 
     /// The core's turn cancels another one, which is idle then.
-    pub fn cancel(&mut self, by: u32, core: u32, now: Running)
+    pub(crate) fn cancel(&mut self, by: u32, core: u32, now: Running)
         requires core { core < length self.old.running.items }
         requires room { vec_len self.old.history < vec_capacity self.old.history }
         requires runs { running_at self.old.running.items core ≡ Some now }
@@ -210,7 +210,7 @@ impl Register {
 }
 
 /// How the loop ended, where this epoch, which ended with this hart, was its last.
-pub fn end_after(image: &Image, hart: Hart, epoch: u32) -> Option<End>
+pub(crate) fn end_after(image: &Image, hart: Hart, epoch: u32) -> Option<End>
     requires { epoch < 2 ^ 16 }
     ensures { result ≡ flat.end_after image.now hart epoch }
 {
