@@ -5,7 +5,10 @@ ghost use Rattle.rv32_exec.specs.Hart.{start_of, stepped};
 ghost use Rattle.rv32_exec.specs.Arrival.{after_loading, IsAtLoad};
 ghost use Rattle.run_ledger.specs.declared.counts.Counts.{Counts};
 ghost use Rattle.homefree.specs.Kept.{running_at};
+ghost use Rattle.homefree.specs.Arms.{MayHurt};
 ghost use Rattle.homefree.specs.AtStop.{IsAtStop};
+ghost use Rattle.homefree.specs.Noted.{hurts_noted};
+ghost use Rattle.violations.specs.CoreSet.{is_in};
 ghost use Rattle.homefree.specs.Steps.{Steps};
 ghost use Rattle.spec_history.specs.FlatState as flat;
 ghost use Rattle.homefree.specs.Hurts as spec;
@@ -14,6 +17,7 @@ use crate::register::{Register, Running};
 use run_ledger::{Shares, count_commit, count_load, count_restart, count_store};
 use rv32_exec::{Arrived, End, Hart, Image, Stop, loaded, start, stored};
 use spec_history::{Entry, What};
+use violations::CoreSet;
 
 /// Adds an entry, where there is room for it.
 pub(crate) fn note(history: &mut Vec<Entry>, by: u32, what: What)
@@ -85,7 +89,7 @@ impl Register {
         hart
     }
 
-    /// A core loads this value. Answers its hart then.
+    /// The core's load hurts these others, and gives this value. Answers its hart then.
     pub(crate) fn load(
         &mut self,
         shares: &mut Shares,
@@ -95,16 +99,17 @@ impl Register {
         addr: u32,
         width: u32,
         value: u32,
+        hurt: CoreSet,
     ) -> Hart
-        requires core { core < length self.old.running.items }
-        requires room { vec_len self.old.history < vec_capacity self.old.history }
+        requires may { MayHurt self.old core now (is_in hurt) }
         requires totals { self.old.totals.loads < 2 ^ 63 }
         requires shares { shares.old.loads < 2 ^ 63 }
         requires at { IsAtStop self.old core now arrived.now arrived.now.at }
         requires value { IsAtLoad arrived.now.at value }
         ensures hart { result ≡ after_loading arrived.entry.now value }
-        ensures steps { Steps self.old self.new shares.old shares.new (spec.entry core (What.Load addr width value)) }
+        ensures steps { Steps self.old self.new shares.old shares.new (hurts_noted core (is_in hurt) self.old.running.items (length self.old.running.items) ++ spec.entry core (What.Load addr width value)) }
     {
+        self.hurt_all(core, hurt);
         note(&mut self.history, core, What::Load { addr, width, value });
         count_load(&mut self.totals, shares);
         let hart = loaded(arrived, value);
@@ -112,7 +117,7 @@ impl Register {
         hart
     }
 
-    /// A core stores a value. Answers its hart then.
+    /// The core's store hurts these others. Answers its hart then.
     pub(crate) fn store(
         &mut self,
         shares: &mut Shares,
@@ -122,15 +127,16 @@ impl Register {
         addr: u32,
         width: u32,
         value: u32,
+        hurt: CoreSet,
     ) -> Hart
-        requires core { core < length self.old.running.items }
-        requires room { vec_len self.old.history < vec_capacity self.old.history }
+        requires may { MayHurt self.old core now (is_in hurt) }
         requires totals { self.old.totals.stores < 2 ^ 63 }
         requires shares { shares.old.stores < 2 ^ 63 }
         requires at { IsAtStop self.old core now arrived.now (Stop.Store addr width value) }
         ensures hart { result ≡ stepped arrived.entry.now.now }
-        ensures steps { Steps self.old self.new shares.old shares.new (spec.entry core (What.Store addr width value)) }
+        ensures steps { Steps self.old self.new shares.old shares.new (hurts_noted core (is_in hurt) self.old.running.items (length self.old.running.items) ++ spec.entry core (What.Store addr width value)) }
     {
+        self.hurt_all(core, hurt);
         note(&mut self.history, core, What::Store { addr, width, value });
         count_store(&mut self.totals, shares);
         let hart = stored(arrived);
@@ -138,14 +144,13 @@ impl Register {
         hart
     }
 
-    /// The homefree core publishes, and is straight.
-    pub(crate) fn publish(&mut self, core: u32, now: Running)
-        requires core { core < length self.old.running.items }
-        requires room { vec_len self.old.history < vec_capacity self.old.history }
-        requires runs { running_at self.old.running.items core ≡ Some now }
-        ensures steps { (shares : Counts) → Steps self.old self.new shares shares (spec.entry core What.Publish) }
-        ensures running { (k : ℕ) → running_at self.new.running.items k ≡ (if k == core then Some (record now { straight = true }) else running_at self.old.running.items k) }
+    /// The homefree core publishes, which hurts these others.
+    pub(crate) fn publish(&mut self, core: u32, now: Running, hurt: CoreSet)
+        requires may { MayHurt self.old core now (is_in hurt) }
+        ensures steps { (shares : Counts) → Steps self.old self.new shares shares (hurts_noted core (is_in hurt) self.old.running.items (length self.old.running.items) ++ spec.entry core What.Publish) }
+        ensures runs { running_at self.new.running.items core ≡ Some (record now { straight = true }) }
     {
+        self.hurt_all(core, hurt);
         note(&mut self.history, core, What::Publish);
         set_running(&mut self.running, core, Some(now.straightened()));
     }
