@@ -18,6 +18,4 @@ mod straight;
 pub use answer::{Answer, Cause, StopCause};
 pub use book::Book;
 pub use fault::TurnFault;
-pub use parts::Parts;
-pub use register::{Register, Running};
 pub use schedule::drive;
