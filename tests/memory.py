@@ -1,10 +1,10 @@
 #!/usr/bin/env python3
-"""Refuses each allocation of `trace_cli seq` in turn.
+"""Refuses each allocation of `trace_cli seq` and `trace_cli audit` in turn.
 
 Usage: tests/memory.py [COMMAND ..]
 
-COMMAND reads an image on standard input and ends with the word `seq`; without
-it `./trace_cli seq` of this repository is tested. Each row runs with its first,
+COMMAND reads its standard input and ends with the word `seq`, in whose place a
+row may put `audit`; without it `./trace_cli seq` of this repository is tested. Each row runs with its first,
 second and so on allocation refused, until a run meets none: a run that was
 refused one says `stopped NoMemory`, writes nothing on standard output and has
 status 3, and the last one answers as if nothing was refused. Where the C
@@ -19,6 +19,7 @@ import sys
 import tempfile
 from pathlib import Path
 
+from audit_rows import EXIT, NINE, SIX, WAIT, illegal, legal, traced, trace_refused, without
 from seq_rows import FOUR, SEARCH, at, done, exited, fault, image, refused
 
 ROOT = Path(__file__).resolve().parent.parent
@@ -54,7 +55,7 @@ void *realloc(void *old, size_t size) {
 """
 
 # (what it shows, image text, (standard output, standard error, status))
-ROWS = [
+RUNS = [
     ("four epochs", FOUR, done(4, at(0x40, "06"))),
     ("an exit", image(SEARCH, epochs=8, more="exit\n"), exited(2, at(0x40, "000000000100000002"))),
     ("a fault", image("00000000"), fault(0, 1, 0)),
@@ -62,6 +63,19 @@ ROWS = [
     ("a larger memory", "version 2\n" + image("b702100023ae12fe67800000", size=1_048_576),
      done(1, at(0xFFFF0, "0" * 24 + "fcffffff"))),
     ("a refused image", FOUR + "at 00000000 00\n", refused(5, "Place")),
+]
+
+# the same, of audits
+AUDITS = [
+    ("a legal trace", traced(WAIT, NINE), legal(9, 2)),
+    ("a legal trace of sixteen cores", traced("version 2\n" + WAIT, NINE, "trace 16"), legal(9, 2)),
+    ("an illegal trace", traced(WAIT, without(NINE, 4)), illegal(4, "HurtMissing")),
+    ("an exit without its cancel", traced(EXIT, without(SIX, 4)), illegal(4, "NotCancelled")),
+    ("a long trace", traced(WAIT, NINE[:5] + ["# " + "x" * 100] * 500), legal(5, 0)),
+    ("many entries", traced(image("6f000000", epochs=9, limit=2), ["0 start 0", "1 start 1", *["0 hurt 1", "1 restart"] * 50]),
+     legal(102, 0)),
+    ("a refused trace", traced(WAIT, NINE + ["x"]), trace_refused(15, "Line")),
+    ("an image that is refused", traced(FOUR + "at 00000000 00\n", NINE), refused(5, "Place")),
 ]
 
 
@@ -107,11 +121,12 @@ def main():
         source, shim = Path(directory, "shim.c"), Path(directory, "shim.so")
         source.write_text(SHIM)
         subprocess.run(["cc", "-shared", "-fPIC", "-O1", "-o", shim, source, "-ldl"], check=True)
-        results = [differences(command, shim, *row) for row in ROWS]
+        results = [differences(command, shim, *row) for row in RUNS]
+        results += [differences(command[:-1] + ["audit"], shim, *row) for row in AUDITS]
     wrong = [text for text, _ in results if text]
     for text in wrong:
         print(f"FAILED {text}")
-    print(f"{sum(number for _, number in results)} runs of {len(ROWS)} rows, {len(wrong)} failed")
+    print(f"{sum(number for _, number in results)} runs of {len(RUNS + AUDITS)} rows, {len(wrong)} failed")
     return 1 if wrong else 0
 
 

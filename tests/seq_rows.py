@@ -237,7 +237,7 @@ ACCEPTED = [
     ("at up to the last byte", FOUR + "at 000000ff 01\n", done(4, at(0x40, "06"))),
 ]
 
-USAGE = [["x"], [], ["help"], ["audit"], ["seq", "--help"], ["seq", "x"], ["SEQ"], ["--help"], ["--version"], ["run"], ["run", "--cores", "9"]]
+USAGE = [["x"], [], ["help"], ["audit", "x"], ["audit", "--help"], ["AUDIT"], ["seq", "audit"], ["seq", "--help"], ["seq", "x"], ["SEQ"], ["--help"], ["--version"], ["run"], ["run", "--cores", "9"]]
 
 
 def run(command, words, text):

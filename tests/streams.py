@@ -1,10 +1,11 @@
 #!/usr/bin/env python3
-"""What `trace_cli seq` does where a stream is slow or fails.
+"""What `trace_cli seq` and `trace_cli audit` do where a stream is slow or fails.
 
 Usage: tests/streams.py [COMMAND ..]
 
-COMMAND reads an image on standard input and ends with the word `seq`; without
-it `./trace_cli seq` of this repository is tested. Needs Linux: /dev/full, on
+COMMAND reads its standard input and ends with the word `seq`, in whose place
+`audit` is put for some checks; without it `./trace_cli seq` of this repository
+is tested. Needs Linux: /dev/full, on
 which each write fails, and /proc/self/mem, whose first read fails. Exits with 1
 where an outcome differs.
 """
@@ -18,6 +19,8 @@ from pathlib import Path
 ROOT = Path(__file__).resolve().parent.parent
 COUNTER = b"size 256\nepochs 4\nlimit 100\ncode 83220004b382a2002320500467800000\n"
 FAULT = b"size 256\nepochs 1\nlimit 100\ncode 00000000\n"
+TRACED = b"size 256\nepochs 1\nlimit 100\ncode 83220004b382a2002320500467800000\ntrace 1\n0 start 0\n"
+VERDICT = b"legal 1 0\n"
 REPORT = b"end done 4\nat 00000040 06000000000000000000000000000000\n"
 
 
@@ -54,12 +57,17 @@ def checks(command):
     yield "text byte by byte", piecewise(command, COUNTER, 1), (REPORT, b"", 0)
     yield "text in pieces of 7", piecewise(command, COUNTER, 7), (REPORT, b"", 0)
     yield "failed read", failing_read(command), (b"", b"image 0 Read\n", 2)
+    yield "trace byte by byte", piecewise(command[:-1] + ["audit"], TRACED, 1), (VERDICT, b"", 0)
+    yield "failed read of an audit", failing_read(command[:-1] + ["audit"]), (b"", b"trace 0 Read\n", 2)
     with open("/dev/full", "wb", buffering=0) as full:
         yield "failed write", outcome(command, COUNTER, stdout=full), (None, b"stopped Write\n", 3)
         yield "failed write after a fault", outcome(command, FAULT, stdout=full), (None, b"stopped Write\n", 3)
         yield "failed write of both", outcome(command, COUNTER, stdout=full, stderr=full), (None, None, 3)
         yield "failed write of a refusal", outcome(command, b"", stderr=full), (b"", None, 2)
         yield "no write to the error stream", outcome(command, COUNTER, stderr=full), (REPORT, None, 0)
+        audit = command[:-1] + ["audit"]
+        yield "failed write of a verdict", outcome(audit, TRACED, stdout=full), (None, b"stopped Write\n", 3)
+        yield "failed write of a refused trace", outcome(audit, COUNTER, stderr=full), (b"", None, 2)
         words = command[:-1] + ["x"]
         yield "failed write of usage", outcome(words, COUNTER, stderr=full), (b"", None, 2)
 

@@ -1,14 +1,16 @@
-//! The audit of a long history: `audit_bench TIMES` reads it from standard input, audits it so many times, and prints how
-//! many entries it has and the homefree epoch after it. The processor time of the audits goes to the error stream.
+//! The audit of a long history, and its text: `audit_bench TIMES` reads the history from standard input, audits it so many times,
+//! and prints how many entries it has and the homefree epoch after it. `audit_bench TIMES text` prints it as a trace so many times
+//! in place of that, reads that trace back, and prints how many bytes it has. Processor times go to the error stream.
 #![tactic(auto)]
 
 mod history;
 
 use history::{entries_of, homefree_after};
-use rv32_exec::{Image, image_of, read_input};
+use rv32_exec::{Image, Version, image_of, read_input};
 use spec_history::Entry;
 use std::time::CpuClock;
 use std::{env, io};
+use trace_text::{print_trace, read_trace};
 
 /// A histogram loop: each epoch counts eight words of the table at 1024. Which ones follows from its number.
 ///
@@ -26,9 +28,13 @@ const CORES: u32 = 4;
 const LONGEST: usize = 1 << 30;
 
 fn main(rt: HostRuntime) -> io::Result<()> {
-    let word = env::args(&rt)?.nth(1);
-    let Some(times) = word.and_then(|word| word.as_str().parse::<u32>().ok()) else {
-        return eprintln!(rt; "usage: audit_bench TIMES");
+    let mut words = env::args(&rt)?;
+    let times = words
+        .nth(1)
+        .and_then(|word| word.as_str().parse::<u32>().ok());
+    let is_text = words.next().is_some();
+    let Some(times) = times else {
+        return eprintln!(rt; "usage: audit_bench TIMES [text]");
     };
     let Ok(bytes) = read_input(rt.alloc(), &mut rt.stdin(), LONGEST) else {
         return eprintln!(rt; "no input");
@@ -36,15 +42,23 @@ fn main(rt: HostRuntime) -> io::Result<()> {
     let Some(entries) = entries_of(rt.alloc(), bytes.as_slice()) else {
         return eprintln!(rt; "no history");
     };
+    let count = entries.len();
+    println!(rt; "{count} entries")?;
+    if is_text {
+        measure_text(&rt, entries.as_slice(), times)
+    } else {
+        measure_audit(&rt, entries.as_slice(), times)
+    }
+}
+
+fn measure_audit(rt: &HostRuntime, entries: &[Entry], times: u32) -> io::Result<()> {
     let Ok(image) = image_of(rt.alloc(), IMAGE.as_bytes()) else {
         return eprintln!(rt; "no image");
     };
-    let count = entries.len();
-    println!(rt; "{count} entries")?;
     let begun = rt.thread_cpu_time()?;
     let mut answer = None;
     for _ in 0..times {
-        answer = Some(homefree_after(rt.alloc(), &image, CORES, entries.as_slice()));
+        answer = Some(homefree_after(rt.alloc(), &image, CORES, entries));
     }
     let taken = rt.thread_cpu_time()?.saturating_sub(begun).as_nanos();
     match answer {
@@ -53,4 +67,27 @@ fn main(rt: HostRuntime) -> io::Result<()> {
         None => {}
     }
     eprintln!(rt; "{taken} ns")
+}
+
+fn measure_text(rt: &HostRuntime, entries: &[Entry], times: u32) -> io::Result<()> {
+    let mut text = Vec::new(rt.alloc());
+    let begun = rt.thread_cpu_time()?;
+    for _ in 0..times {
+        let Ok(printed) = print_trace(rt.alloc(), CORES, entries) else {
+            return eprintln!(rt; "no memory");
+        };
+        text = printed;
+    }
+    let printing = rt.thread_cpu_time()?.saturating_sub(begun).as_nanos();
+    let begun = rt.thread_cpu_time()?;
+    for _ in 0..times {
+        match read_trace(rt.alloc(), text.as_slice(), Version::One) {
+            Ok((_, read)) if read.as_slice() == entries => {}
+            _ => return eprintln!(rt; "another history"),
+        }
+    }
+    let reading = rt.thread_cpu_time()?.saturating_sub(begun).as_nanos();
+    let length = text.len();
+    println!(rt; "{length} bytes")?;
+    eprintln!(rt; "{printing} ns to print, {reading} ns to read")
 }

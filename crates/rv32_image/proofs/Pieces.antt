@@ -1,8 +1,8 @@
 -- A text has one piece at least.
-use Rattle.std.proofs.Common.{◌≡◌, ℕ, ◌==◌, Bool, true, false, cond, List, [], ◌∷◌, Err, refl}
+use Rattle.std.proofs.Common.{ℕ, ◌==◌, Bool, true, false, cond, List, [], ◌∷◌}
 use Rattle.std.specs.List.{slice_split, onto_first}
-use Rattle.rv32_image.specs.declared.fault.ImageFaultKind.TheVariants.{Line}
-use Rattle.rv32_image.specs.ImageText.{Draft, pieces, words_read}
+use Rattle.rv32_image.specs.ImageText.{pieces}
+use Rattle.rv32_image.specs.WordsOf.{AreMany}
 
 -- the list begins with some piece
 abbrev pub HasFirst : List (List ℕ) → Type 0
@@ -24,10 +24,10 @@ begins : (p : ℕ → Bool) (text : List ℕ) → Begins (slice_split p text)
 begins p [] = record { first = tt }
 begins p (x ∷ text) = either_begins (p x) ([] ∷ slice_split p text) _ (record { first = tt }) (onto_begins x (slice_split p text))
 
-refuses : (draft : Draft) (a b c : List ℕ) (parts : List (List ℕ)) → HasFirst parts → words_read draft (a ∷ b ∷ c ∷ parts) ≡ Err Line
-refuses draft a b c [] h = absurd h
-refuses draft a b c (piece ∷ others) h = refl
+four_are_many : (a b c : List ℕ) (parts : List (List ℕ)) → HasFirst parts → AreMany (a ∷ b ∷ c ∷ parts)
+four_are_many a b c [] h = absurd h
+four_are_many a b c (piece ∷ others) h = tt
 
--- more than three words are no line
-pub words_read-four : (draft : Draft) (a b c rest : List ℕ) → words_read draft (a ∷ b ∷ c ∷ pieces 32 rest) ≡ Err Line
-words_read-four draft a b c rest = refuses draft a b c (pieces 32 rest) (begins (λ x. x == 32) rest).first
+-- three words and a separator after them
+pub are_many : (a b c rest : List ℕ) → AreMany (a ∷ b ∷ c ∷ pieces 32 rest)
+are_many a b c rest = four_are_many a b c (pieces 32 rest) (begins (λ x. x == 32) rest).first

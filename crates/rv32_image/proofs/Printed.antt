@@ -23,7 +23,7 @@ all_digits_append (x ∷ xs) ys a b = head_and (is_ascii_digit x) (list_all is_a
 digit_is_ascii : (d : ℕ) → d < 10 → list_all is_ascii_digit ((48 + d) ∷ []) ≡ true
 digit_is_ascii d small = grind (arith, nat_tests)
 
-decimal_all_digits : (n : ℕ) → n < 2 ^ 64 → list_all is_ascii_digit (decimal n) ≡ true
+pub decimal_all_digits : (n : ℕ) → n < 2 ^ 64 → list_all is_ascii_digit (decimal n) ≡ true
 decimal_all_digits n fits =
     decimal_by_steps (λ n ds. list_all is_ascii_digit ds ≡ true) digit_is_ascii
     (λ n ds big before. all_digits_append ds ((48 + n % 10) ∷ []) before (digit_is_ascii (n % 10) (omega arith))) n fits
@@ -58,7 +58,7 @@ four_small a b c d p q r s (suc (suc zero)) = r
 four_small a b c d p q r s (suc (suc (suc zero))) = s
 four_small a b c d p q r s (suc (suc (suc (suc i)))) = omega arith
 
-be_bytes_small : (n : ℕ) → IsBytes (to_be_bytes w32 n)
+pub be_bytes_small : (n : ℕ) → IsBytes (to_be_bytes w32 n)
 be_bytes_small n i = four_small (n / 16777216 % 256) (n / 65536 % 256) (n / 256 % 256) (n % 256) (omega arith) (omega arith) (omega arith) (omega arith) i
 
 pub word_in-hex : (n : ℕ) → n < 2 ^ 32 → word_in (encode_lower (to_be_bytes w32 n)) ≡ Ok n

@@ -15,3 +15,4 @@ pub use image::{Image, NoMemory};
 pub use input::{InputFault, read_input};
 pub use text::{image_of, read_image};
 pub use version::{Limits, Version};
+pub use words::{Words, cut, number_in, word_in, words_of};

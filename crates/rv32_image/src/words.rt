@@ -22,9 +22,13 @@ pub fn cut(text: &[u8], separator: u8) -> (&[u8], Option<&[u8]>)
 /// The words of a line, where it has one, two or three.
 #[derive(Clone, Copy)]
 pub enum Words<'a> {
+    /// The whole line.
     One(&'a [u8]),
+    /// Two words.
     Two(&'a [u8], &'a [u8]),
+    /// Three words.
     Three(&'a [u8], &'a [u8], &'a [u8]),
+    /// More than three words.
     Other,
 }
 
@@ -54,7 +58,8 @@ fn position_of(text: &[u8], separator: u8) -> Option<usize>
     text.iter().position(|b| *b == separator)
 }
 
-/// The number that a word of one to ten decimal digits writes.
+/// The number that a word of one to ten decimal digits writes, with no leading 0 except 0 itself. `Line`: the word is no such
+/// number.
 pub fn number_in(word: &[u8]) -> Result<u64, ImageFaultKind>
     ensures { result ≡ spec.number_in word.now }
 {
@@ -91,7 +96,8 @@ pub fn bytes_in(alloc: Global, word: &[u8]) -> Result<Vec<u8>, ImageFaultKind>
     }
 }
 
-/// The number that eight hexadecimal digits write.
+/// The number that just eight hexadecimal digits write, of either case, the most significant first. `Hex`: the word is no
+/// such number.
 pub fn word_in(digits: &[u8]) -> Result<u32, ImageFaultKind>
     ensures { result ≡ spec.word_in digits.now }
 {

@@ -1,9 +1,13 @@
 -- What the program answers.
-use Rattle.std.specs.Prelude.{◌≡◌, ◌⊎◌, ℕ, List, Option}
+use Rattle.std.specs.Prelude.{◌≡◌, ◌⊎◌, ℕ, ◌+◌, List, Option}
 use Rattle.std.specs.Io.KnownBytes.{Keeps}
+use Rattle.rv32_image.specs.ImageText.{longest_image_text}
+use Rattle.rv32_image.specs.Input.{TakesAtMost}
+use Rattle.trace_text.specs.TraceText.{longest_trace_text}
 use Rattle.trace_commands.specs.declared.outcome.Outcome.{Outcome}
 use Rattle.trace_commands.specs.declared.outcome.Outcome.TheVariants.{Usage, Stopped}
 use Rattle.trace_commands.specs.declared.outcome.StopCause.TheVariants.{NoMemory}
+use Rattle.trace_commands.specs.Audit.{IsAuditOutcome}
 use Rattle.trace_commands.specs.Outcome.{AppendsPrefix, IsSeqOutcome, error_line, status_of}
 
 -- the bytes of a stream before and after a call, where it tells them
@@ -15,9 +19,16 @@ pub record Stream : Type 0 where
 abbrev pub IsNoCommand : Stream → Stream → Outcome → Type 0
 IsNoCommand input output outcome = ((outcome ≡ Usage) ⊎ (outcome ≡ Stopped NoMemory)) × Keeps input.old input.new × Keeps output.old output.new
 
--- what the program answers for a text: what `seq` does, or that no command was run; with its status, and its line or a
--- prefix of it on the error stream
+-- `seq` was run: what it came to is right for the text, and of the input no more than it may be long, and one byte, was taken
+abbrev pub IsSeq : List ℕ → Stream → Stream → Outcome → Type 0
+IsSeq text input output outcome = IsSeqOutcome text output.old output.new outcome × TakesAtMost input.old input.new (longest_image_text + 1)
+
+-- `audit` was run
+abbrev pub IsAudit : List ℕ → Stream → Stream → Outcome → Type 0
+IsAudit text input output outcome = IsAuditOutcome text output.old output.new outcome × TakesAtMost input.old input.new (longest_trace_text + 1)
+
+-- what the program answers for a text: one of these, with its status, and its line or a prefix of it on the error stream
 abbrev pub WorkAnswers : List ℕ → Stream → Stream → Stream → ℕ → Type 0
 WorkAnswers text input output errors status =
-    (outcome : Outcome) × (IsSeqOutcome text output.old output.new outcome ⊎ IsNoCommand input output outcome) × (status ≡ status_of outcome)
-    × AppendsPrefix errors.old errors.new (error_line outcome)
+    (outcome : Outcome) × (IsSeq text input output outcome ⊎ (IsAudit text input output outcome ⊎ IsNoCommand input output outcome))
+    × (status ≡ status_of outcome) × AppendsPrefix errors.old errors.new (error_line outcome)

@@ -1,4 +1,5 @@
-//! Runs the iterations of a loop as epochs over RV32I: `trace_cli seq` runs the image on standard input in order.
+//! Runs the iterations of a loop as epochs over RV32I: `trace_cli seq` runs the image on standard input in order, and
+//! `trace_cli audit` replays a trace below its image.
 #![tactic(auto)]
 
 use std::alloc::Global;

@@ -8,6 +8,8 @@ use std::convert::AsStr;
 pub enum Request {
     /// `seq`: run the image in order.
     Seq,
+    /// `audit`: replay a trace below its image.
+    Audit,
 }
 
 /// Why words ask for nothing.
@@ -35,6 +37,7 @@ pub fn request_of<'a, S: AsStr>(alloc: Global, words: &'a [S]) -> Result<Request
     match command(alloc)?.try_get_matches_from(words) {
         Ok(matches) => match matches.subcommand_name() {
             Some("seq") => Ok(Request::Seq),
+            Some("audit") => Ok(Request::Audit),
             _ => Err(WordsFault::Usage),
         },
         Err(error) if error.kind() == ErrorKind::OutOfMemory => Err(WordsFault::NoMemory),
@@ -43,5 +46,7 @@ pub fn request_of<'a, S: AsStr>(alloc: Global, words: &'a [S]) -> Result<Request
 }
 
 fn command<'a>(alloc: Global) -> Result<Command<'a>, AllocError> {
-    Command::new(alloc, "trace_cli").subcommand(Command::new(alloc, "seq"))
+    Command::new(alloc, "trace_cli")
+        .subcommand(Command::new(alloc, "seq"))?
+        .subcommand(Command::new(alloc, "audit"))
 }

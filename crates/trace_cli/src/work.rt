@@ -1,6 +1,3 @@
-ghost use Rattle.std.specs.Prelude.{◌≡◌, ◌+◌};
-ghost use Rattle.rv32_image.specs.ImageText.{longest_image_text};
-ghost use Rattle.rv32_image.specs.Input.{TakesAtMost};
 ghost use Rattle.rv32_image.specs.Reading.{ForText};
 ghost use Rattle.trace_cli.specs.Work as spec;
 
@@ -8,11 +5,11 @@ use crate::words::{Request, WordsFault, request_of};
 use std::alloc::Global;
 use std::convert::AsStr;
 use std::io::{Read, Write};
-use trace_commands::{Outcome, StopCause, do_seq};
+use trace_commands::{Outcome, StopCause, do_audit, do_seq};
 
 /// The whole program: does what the words ask for, the first of which is the program's name, and answers its status.
 ///
-/// `seq` is `do_seq`. Any other words are refused as `usage`, with status 2, and nothing is read or written.
+/// `seq` is `do_seq`, and `audit` is `do_audit`. Any other words are refused as `usage`, with status 2, and nothing is read or written.
 pub fn work<'a, S: AsStr, R: Read, W: Write, E: Write>(
     alloc: Global,
     words: &'a [S],
@@ -20,14 +17,14 @@ pub fn work<'a, S: AsStr, R: Read, W: Write, E: Write>(
     writer: &mut W,
     errors: &mut E,
 ) -> u8
-    ensures outcome { ForText (R.remaining reader.old) (λ text. spec.WorkAnswers text
+    ensures { ForText (R.remaining reader.old) (λ text. spec.WorkAnswers text
         (record { old = R.remaining reader.old; new = R.remaining reader.new })
         (record { old = W.contents writer.old; new = W.contents writer.new })
         (record { old = E.contents errors.old; new = E.contents errors.new }) result) }
-    ensures taken { TakesAtMost (R.remaining reader.old) (R.remaining reader.new) (longest_image_text + 1) }
 {
     match request_of(alloc, words) {
         Ok(Request::Seq) => do_seq(alloc, reader, writer, errors),
+        Ok(Request::Audit) => do_audit(alloc, reader, writer, errors),
         Err(WordsFault::Usage) => Outcome::Usage.conclude(errors),
         Err(WordsFault::NoMemory) => Outcome::Stopped(StopCause::NoMemory).conclude(errors),
     }

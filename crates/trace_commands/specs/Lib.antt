@@ -2,3 +2,4 @@
 pub mod Report
 -- Words of contracts: what a command comes to, and what it reads.
 pub mod Outcome
+pub mod Audit

@@ -11,8 +11,14 @@ use Rattle.rv32_image.specs.Image.{LoadedImage}
 use Rattle.rv32_image.specs.ImageText.{image_text}
 use Rattle.rv32_image.specs.Reading.{name_of, IsReadFaultOf}
 use Rattle.rv32_exec.specs.Sequential.{sequential_result}
+use Rattle.trace_text.specs.declared.fault.TraceFault.{TraceFault}
+use Rattle.trace_text.specs.declared.fault.TraceFaultKind.{TraceFaultKind}
+use Rattle.trace_text.specs.declared.fault.TraceFaultKind.TheVariants as trace
+use Rattle.trace_text.specs.Reading.{name_of as trace_name_of}
 use Rattle.trace_commands.specs.declared.outcome.Outcome.{Outcome}
-use Rattle.trace_commands.specs.declared.outcome.Outcome.TheVariants.{Reported, Usage, BadImage, Stopped}
+use Rattle.trace_commands.specs.declared.outcome.Outcome.TheVariants.{Reported, Audited, Usage, BadImage, BadTrace, Stopped}
+use Rattle.trace_commands.specs.declared.outcome.Verdict.{Verdict}
+use Rattle.trace_commands.specs.declared.outcome.Verdict.TheVariants.{Legal, Illegal}
 use Rattle.trace_commands.specs.declared.outcome.StopCause.{StopCause}
 use Rattle.trace_commands.specs.declared.outcome.StopCause.TheVariants.{Write, NoMemory}
 use Rattle.trace_commands.specs.Report.{report_of}
@@ -26,14 +32,23 @@ status_of_end (end.Done epochs) = 0
 status_of_end (end.Exit epoch) = 0
 status_of_end (end.Fault epoch cause pc) = 1
 
+abbrev pub status_of_verdict : Verdict → ℕ
+status_of_verdict (Legal entries homefree) = 0
+status_of_verdict (Illegal place refusal) = 4
+
 abbrev pub status_of : Outcome → ℕ
 status_of (Reported end) = status_of_end end
+status_of (Audited verdict) = status_of_verdict verdict
 status_of Usage = 2
 status_of (BadImage fault) = 2
+status_of (BadTrace fault) = 2
 status_of (Stopped cause) = 3
 
 abbrev pub image_line : ImageFault → List ℕ
 image_line fault = codes "image " ++ decimal fault.line ++ codes " " ++ name_of fault.kind ++ codes "\n"
+
+abbrev pub trace_line : TraceFault → List ℕ
+trace_line fault = codes "trace " ++ decimal fault.line ++ codes " " ++ trace_name_of fault.kind ++ codes "\n"
 
 abbrev pub stopped_line : StopCause → List ℕ
 stopped_line cause = codes "stopped " ++ cause_name cause ++ codes "\n"
@@ -41,8 +56,10 @@ stopped_line cause = codes "stopped " ++ cause_name cause ++ codes "\n"
 -- the line on the error stream, or nothing
 abbrev pub error_line : Outcome → List ℕ
 error_line (Reported end) = []
+error_line (Audited verdict) = []
 error_line Usage = codes "usage\n"
 error_line (BadImage fault) = image_line fault
+error_line (BadTrace fault) = trace_line fault
 error_line (Stopped cause) = stopped_line cause
 
 -- known bytes grow by some of the first of these
@@ -60,8 +77,10 @@ IsSeqOutcome text old new (Reported end) =
     MatchResult (image_text text)
     (λ image. (end ≡ (sequential_result image).end) × Appends old new (report_of image (sequential_result image)))
     (λ fault. ⊥)
+IsSeqOutcome text old new (Audited verdict) = ⊥
 IsSeqOutcome text old new Usage = ⊥
 IsSeqOutcome text old new (BadImage fault) = IsRefusal fault.kind fault (image_text text) × Keeps old new
+IsSeqOutcome text old new (BadTrace fault) = ⊥
 IsSeqOutcome text old new (Stopped NoMemory) = Keeps old new
 IsSeqOutcome text old new (Stopped Write) =
     MatchResult (image_text text) (λ image. AppendsPrefix old new (report_of image (sequential_result image))) (λ fault. ⊥)
@@ -71,14 +90,18 @@ abbrev pub outcome_of_fault : ImageFaultKind → ImageFault → Outcome
 outcome_of_fault kind.NoMemory fault = Stopped NoMemory
 outcome_of_fault other fault = BadImage fault
 
+-- what a fault of the trace comes to
+abbrev pub outcome_of_trace_fault : TraceFaultKind → TraceFault → Outcome
+outcome_of_trace_fault trace.NoMemory fault = Stopped NoMemory
+outcome_of_trace_fault other fault = BadTrace fault
+
 -- what running this image came to is right, and this was written
 abbrev pub IsImageOutcome : LoadedImage → Option (List ℕ) → Option (List ℕ) → Outcome → Type 0
 IsImageOutcome image old new (Reported end) =
     (end ≡ (sequential_result image).end) × Appends old new (report_of image (sequential_result image))
 IsImageOutcome image old new (Stopped Write) = AppendsPrefix old new (report_of image (sequential_result image))
 IsImageOutcome image old new (Stopped NoMemory) = Keeps old new
-IsImageOutcome image old new Usage = ⊥
-IsImageOutcome image old new (BadImage fault) = ⊥
+IsImageOutcome image old new other = ⊥
 
 -- what `seq` answers for an input: an outcome that is right, with its status, and its line or a prefix on the error stream
 abbrev pub SeqAnswers : List ℕ → Option (List ℕ) → Option (List ℕ) → Option (List ℕ) → Option (List ℕ) → ℕ → Type 0

@@ -2,17 +2,13 @@
 -- Source: this project.
 use Rattle.std.specs.Prelude.{ℕ, zero, suc, ◌+◌, ◌*◌, ◌/◌, List, [], ◌++◌, codes, slice_range, if◌then◌else◌}
 use Rattle.std.specs.Fmt.{decimal}
-use Rattle.std.specs.Int.{w32, to_be_bytes}
 use Rattle.std.specs.Str.{bytes_eq}
 use Rattle.hex.specs.Hex.{encode_lower}
 use Rattle.rv32_exec.specs.declared.sequential.End.{End}
 use Rattle.rv32_exec.specs.declared.sequential.End.TheVariants.{Done, Exit, Fault}
 use Rattle.rv32_image.specs.Image.{LoadedImage}
 use Rattle.rv32_exec.specs.Sequential.{SequentialResult}
-
--- eight hexadecimal digits
-abbrev pub hex_word : ℕ → List ℕ
-hex_word n = encode_lower (to_be_bytes w32 n)
+use Rattle.trace_text.specs.Printing.{hex_word}
 
 abbrev pub end_line : End → List ℕ
 end_line (Done epochs) = codes "end done " ++ decimal epochs ++ codes "\n"

@@ -1,11 +1,13 @@
-ghost use Rattle.std.specs.Prelude.{◌≡◌, ◌≤◌, [], MatchOption, codes, length};
+ghost use Rattle.std.specs.Prelude.{◌≡◌, ◌≤◌, ◌++◌, [], MatchOption, codes, decimal, length};
 ghost use Rattle.trace_commands.specs.Outcome as spec;
 
 use crate::write::write_whole;
 use arrayvec::ArrayString;
 use itoa::Buffer;
 use rv32_exec::{End, ImageFault, ImageFaultKind};
+use spec_history::Illegal;
 use std::io::Write;
+use trace_text::{TraceFault, TraceFaultKind};
 
 /// Why a command stopped before its end.
 #[derive(Clone, Copy, Debug, PartialEq, Eq)]
@@ -29,15 +31,28 @@ impl StopCause {
     }
 }
 
+/// What an audit found.
+#[derive(Clone, Copy, Debug, PartialEq, Eq)]
+pub enum Verdict {
+    /// All entries are legal: how many there are, and the homefree epoch after them.
+    Legal { entries: usize, homefree: u32 },
+    /// The place of the first entry that the flat machine refuses, counted from 0, and its refusal.
+    Illegal { place: usize, refusal: Illegal },
+}
+
 /// What a command came to.
 #[derive(Clone, Copy, Debug, PartialEq, Eq)]
 pub enum Outcome {
     /// The loop ran, and its report was written.
     Reported(End),
+    /// The trace was audited, and the verdict was written.
+    Audited(Verdict),
     /// The words are no command.
     Usage,
     /// The image was refused.
     BadImage(ImageFault),
+    /// The trace was refused.
+    BadTrace(TraceFault),
     /// The command stopped.
     Stopped(StopCause),
 }
@@ -53,14 +68,26 @@ impl Outcome {
         }
     }
 
-    /// The status: 0 done or exited, 1 an epoch faulted, 2 refused, 3 stopped.
+    /// What a trace that could not be read comes to: want of memory is no fault of the trace.
+    pub fn of_trace_fault(fault: TraceFault) -> Outcome
+        ensures { result ≡ spec.outcome_of_trace_fault fault.kind fault }
+    {
+        match fault.kind {
+            TraceFaultKind::NoMemory => Outcome::Stopped(StopCause::NoMemory),
+            _ => Outcome::BadTrace(fault),
+        }
+    }
+
+    /// The status: 0 done, exited or legal, 1 an epoch faulted, 2 refused, 3 stopped, 4 illegal.
     pub fn status(self) -> u8
         ensures { result ≡ spec.status_of self }
     {
         match self {
             Outcome::Reported(End::Done(_) | End::Exit(_)) => 0,
             Outcome::Reported(End::Fault { .. }) => 1,
-            Outcome::Usage | Outcome::BadImage(_) => 2,
+            Outcome::Audited(Verdict::Legal { .. }) => 0,
+            Outcome::Audited(Verdict::Illegal { .. }) => 4,
+            Outcome::Usage | Outcome::BadImage(_) | Outcome::BadTrace(_) => 2,
             Outcome::Stopped(_) => 3,
         }
     }
@@ -70,9 +97,10 @@ impl Outcome {
         ensures { MatchOption result (spec.error_line self ≡ []) (λ line. line.bytes ≡ spec.error_line self) }
     {
         match self {
-            Outcome::Reported(_) => None,
+            Outcome::Reported(_) | Outcome::Audited(_) => None,
             Outcome::Usage => Some(usage_line()),
-            Outcome::BadImage(fault) => Some(image_line(fault)),
+            Outcome::BadImage(fault) => Some(refused_line("image ", fault.line, fault.name())),
+            Outcome::BadTrace(fault) => Some(refused_line("trace ", fault.line, fault.name())),
             Outcome::Stopped(cause) => Some(stopped_line(cause)),
         }
     }
@@ -97,15 +125,18 @@ fn usage_line() -> ArrayString<64>
     line
 }
 
-fn image_line(fault: ImageFault) -> ArrayString<64>
-    ensures { result.bytes ≡ spec.image_line fault }
+/// The line that tells a fault: whose it is, on which line, and its name.
+fn refused_line(whose: &str, number: u32, name: &str) -> ArrayString<64>
+    requires whose { length whose.now ≤ 6 }
+    requires name { length name.now ≤ 17 }
+    ensures { result.bytes ≡ whose.now ++ decimal number ++ codes " " ++ name.now ++ codes "\n" }
 {
     let mut line = ArrayString::new();
-    let mut number = Buffer::new();
-    line.push_str("image ");
-    line.push_str(number.format(fault.line));
+    let mut digits = Buffer::new();
+    line.push_str(whose);
+    line.push_str(digits.format(number));
     line.push_str(" ");
-    line.push_str(fault.name());
+    line.push_str(name);
     line.push_str("\n");
     line
 }

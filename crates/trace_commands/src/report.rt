@@ -1,10 +1,9 @@
-ghost use Rattle.std.specs.Prelude.{◌≡◌, ◌++◌, ◌+◌, ◌*◌, ◌≤◌, ◌/◌, ◌^◌, ◌<◌, IfOk, OnOk, decimal, length, slice_range};
-ghost use Rattle.hex.specs.Hex.{encode_lower};
+ghost use Rattle.std.specs.Prelude.{◌≡◌, ◌++◌, ◌+◌, ◌*◌, ◌≤◌, ◌^◌, ◌<◌, IfOk, OnOk, length, slice_range};
 ghost use Rattle.trace_commands.specs.Report as spec;
 
-use itoa::Buffer;
 use rv32_exec::{End, Image, SeqEnd};
 use std::alloc::{AllocError, Global};
+use trace_text::{push_hex, push_number};
 
 /// The report of a run of the loop: its end, and each 16 bytes of memory that are not as they were loaded.
 #[tactic(auto, unfolding(crate::specs::Report::report_of))]
@@ -85,21 +84,4 @@ fn row_at(bytes: &[u8], address: u32) -> &[u8]
 {
     let at = address as usize;
     &bytes[at..at + 16]
-}
-
-fn push_number(text: &mut Vec<u8>, n: u32) -> Result<(), AllocError>
-    ensures { OnOk result (text.new.items ≡ text.old.items ++ decimal n) }
-{
-    text.extend_from_slice(Buffer::new().format(n).as_bytes())
-}
-
-/// Bytes as hexadecimal digits of lower case.
-fn push_hex(text: &mut Vec<u8>, bytes: &[u8]) -> Result<(), AllocError>
-    requires { length bytes.now ≤ 16 }
-    ensures { OnOk result (text.new.items ≡ text.old.items ++ encode_lower bytes.now) }
-{
-    let mut digits = [0; 32];
-    let digits = &mut digits[..2 * bytes.len()];
-    hex::encode_to_slice(bytes, digits).unwrap();
-    text.extend_from_slice(digits)
 }

@@ -11,6 +11,55 @@ const COUNTER: &str = "size 256\nepochs 4\nlimit 100\ncode 83220004b382a20023205
 
 const COUNTED: &str = "end done 4\nat 00000040 06000000000000000000000000000000\n";
 
+/// An image whose second epoch waits for the first one's store, and a legal trace of it.
+const TRACED: &str =
+    "size 256\nepochs 2\nlimit 50\ncode 6308050083220004e38e02fe67800000930210002320500467800000\ntrace 2\n0 start 0\n1 start 1\n0 store 00000040 4 00000001\n1 load 00000040 4 00000000\n0 hurt 1\n0 commit\n1 restart\n1 load 00000040 4 00000001\n1 commit\n";
+
+const LEGAL: &str = "legal 9 2\n";
+
+/// A command, with an input that it takes and what it answers.
+#[derive(Clone, Copy)]
+enum Which {
+    Seq,
+    Audit,
+}
+
+impl Which {
+    fn input(self) -> &'static str {
+        match self {
+            Which::Seq => COUNTER,
+            Which::Audit => TRACED,
+        }
+    }
+
+    fn answer(self) -> &'static str {
+        match self {
+            Which::Seq => COUNTED,
+            Which::Audit => LEGAL,
+        }
+    }
+
+    fn read_failed(self) -> &'static str {
+        match self {
+            Which::Seq => "image 0 Read\n",
+            Which::Audit => "trace 0 Read\n",
+        }
+    }
+
+    fn run<R: Read, W: Write, E: Write>(
+        self,
+        alloc: Global,
+        reader: &mut R,
+        writer: &mut W,
+        errors: &mut E,
+    ) -> u8 {
+        match self {
+            Which::Seq => do_seq(alloc, reader, writer, errors),
+            Which::Audit => do_audit(alloc, reader, writer, errors),
+        }
+    }
+}
+
 /// What a run of the program left: its status, and the texts on standard output and standard error.
 #[derive(Drop)]
 struct Ran {
@@ -19,15 +68,28 @@ struct Ran {
     errors: Vec<u8>,
 }
 
+impl Ran {
+    fn is(&self, status: u8, output: &[u8], errors: &str) -> bool {
+        self.status == status
+            && self.output.as_slice() == output
+            && self.errors.as_slice() == errors.as_bytes()
+    }
+}
+
 #[test]
-fn runs_the_counter(rt: HostRuntime) {
-    let mut reader = COUNTER.as_bytes();
-    let mut output = Vec::new(rt.alloc());
-    let mut errors = Vec::new(rt.alloc());
-    let status = do_seq(rt.alloc(), &mut reader, &mut output, &mut errors);
-    assert_eq!(rt; status, 0);
-    assert_eq!(rt; output.as_slice(), COUNTED.as_bytes());
-    assert_eq!(rt; errors.as_slice(), b"".as_slice());
+fn each_command_answers(rt: HostRuntime) {
+    for which in [Which::Seq, Which::Audit] {
+        let mut reader = which.input().as_bytes();
+        let mut output = Vec::new(rt.alloc());
+        let mut errors = Vec::new(rt.alloc());
+        let status = which.run(rt.alloc(), &mut reader, &mut output, &mut errors);
+        let ran = Ran {
+            status,
+            output,
+            errors,
+        };
+        assert!(rt; ran.is(0, which.answer().as_bytes(), ""));
+    }
 }
 
 /// How often a stream fails where it does.
@@ -116,62 +178,82 @@ impl Write for FailingWriter {
 /// A read that fails ends the command, also where a second one would give the rest of a good text.
 #[test]
 fn stops_at_a_failed_read(rt: HostRuntime) {
-    let text = COUNTER.as_bytes();
-    for kind in [ErrorKind::BrokenPipe, ErrorKind::Interrupted] {
-        for fails in [Fails::Once, Fails::Always] {
-            for good in 0..=text.len() {
-                let (rest, later) = text.split_at(good);
-                let mut reader = FailingReader {
-                    rest,
-                    later: Some(later),
-                    kind,
-                    fails,
-                };
-                let mut output = Vec::new(rt.alloc());
-                let mut errors = Vec::new(rt.alloc());
-                let status = do_seq(rt.alloc(), &mut reader, &mut output, &mut errors);
-                assert_eq!(rt; status, 2, "after {good} bytes");
-                assert_eq!(rt;
-                    errors.as_slice(),
-                    b"image 0 Read\n".as_slice(),
-                    "after {good} bytes"
-                );
-                assert_eq!(rt; output.as_slice(), b"".as_slice(), "after {good} bytes");
+    for which in [Which::Seq, Which::Audit] {
+        for kind in [ErrorKind::BrokenPipe, ErrorKind::Interrupted] {
+            for fails in [Fails::Once, Fails::Always] {
+                for good in 0..=which.input().len() {
+                    let ran = run_from(rt.alloc(), which, good, kind, fails);
+                    assert!(rt; ran.is(2, b"", which.read_failed()));
+                }
             }
         }
+    }
+}
+
+/// A command on a reader that fails after so many bytes of its input.
+fn run_from(alloc: Global, which: Which, good: usize, kind: ErrorKind, fails: Fails) -> Ran {
+    let text = which.input().as_bytes();
+    let (rest, later) = text.split_at(good.min(text.len()));
+    let mut reader = FailingReader {
+        rest,
+        later: Some(later),
+        kind,
+        fails,
+    };
+    let mut output = Vec::new(alloc);
+    let mut errors = Vec::new(alloc);
+    let status = which.run(alloc, &mut reader, &mut output, &mut errors);
+    Ran {
+        status,
+        output,
+        errors,
     }
 }
 
 /// A write that fails ends the command, also where a second one would take the rest.
 #[test]
 fn stops_at_a_failed_write(rt: HostRuntime) -> Result<(), Fail> {
-    for stops in [Stops::Errs, Stops::Interrupted, Stops::TakesNone] {
-        for fails in [Fails::Once, Fails::Always] {
-            for room in 0..COUNTED.len() {
-                let ran = run_into(rt.alloc(), room, stops, fails)?;
-                assert_eq!(rt; ran.status, 3, "after {room} bytes");
-                assert_eq!(rt;
-                    ran.errors.as_slice(),
-                    b"stopped Write\n".as_slice(),
-                    "after {room} bytes"
-                );
-                assert_eq!(rt; Some(ran.output.as_slice()), COUNTED.as_bytes().get(..room));
+    for which in [Which::Seq, Which::Audit] {
+        let answer = which.answer().as_bytes();
+        for stops in [Stops::Errs, Stops::Interrupted, Stops::TakesNone] {
+            for fails in [Fails::Once, Fails::Always] {
+                for room in 0..answer.len() {
+                    let ran = run_into(rt.alloc(), which, room, stops, fails)?;
+                    assert!(rt; ran.is(3, &answer[..room], "stopped Write\n"));
+                }
             }
+            let ran = run_into(rt.alloc(), which, answer.len(), stops, Fails::Always)?;
+            assert!(rt; ran.is(0, answer, ""));
         }
-        let ran = run_into(rt.alloc(), COUNTED.len(), stops, Fails::Always)?;
-        assert_eq!(rt; ran.status, 0);
-        assert_eq!(rt; ran.output.as_slice(), COUNTED.as_bytes());
     }
-    let ran = run_into(rt.alloc(), COUNTED.len(), Stops::Unflushed, Fails::Always)?;
-    assert_eq!(rt; ran.status, 3);
-    assert_eq!(rt; ran.errors.as_slice(), b"stopped Write\n".as_slice());
-    assert_eq!(rt; ran.output.as_slice(), COUNTED.as_bytes());
     Ok(())
 }
 
-/// The counter's image into a writer with so much room.
-fn run_into(alloc: Global, room: usize, stops: Stops, fails: Fails) -> Result<Ran, Fail> {
-    let mut reader = COUNTER.as_bytes();
+#[test]
+fn stops_at_a_failed_flush(rt: HostRuntime) -> Result<(), Fail> {
+    for which in [Which::Seq, Which::Audit] {
+        let answer = which.answer().as_bytes();
+        let ran = run_into(
+            rt.alloc(),
+            which,
+            answer.len(),
+            Stops::Unflushed,
+            Fails::Always,
+        )?;
+        assert!(rt; ran.is(3, answer, "stopped Write\n"));
+    }
+    Ok(())
+}
+
+/// A command's input into a writer with so much room.
+fn run_into(
+    alloc: Global,
+    which: Which,
+    room: usize,
+    stops: Stops,
+    fails: Fails,
+) -> Result<Ran, Fail> {
+    let mut reader = which.input().as_bytes();
     let mut writer = FailingWriter {
         taken: Vec::new(alloc),
         room,
@@ -179,7 +261,7 @@ fn run_into(alloc: Global, room: usize, stops: Stops, fails: Fails) -> Result<Ra
         fails,
     };
     let mut errors = Vec::new(alloc);
-    let status = do_seq(alloc, &mut reader, &mut writer, &mut errors);
+    let status = which.run(alloc, &mut reader, &mut writer, &mut errors);
     Ok(Ran {
         status,
         output: writer.taken,
@@ -190,21 +272,21 @@ fn run_into(alloc: Global, room: usize, stops: Stops, fails: Fails) -> Result<Ra
 /// A failed write of the line on the error stream changes no status, and no output.
 #[test]
 fn keeps_its_status_without_an_error_stream(rt: HostRuntime) -> Result<(), Fail> {
-    let refused = "size 24\n";
-    let line = "image 1 Range\n";
-    for room in 0..line.len() {
-        let ran = refuse_into(rt.alloc(), refused, room)?;
-        assert_eq!(rt; ran.status, 2);
-        assert_eq!(rt; ran.output.as_slice(), b"".as_slice());
-        assert_eq!(rt; ran.errors.len(), room);
-        assert!(rt; line.as_bytes().starts_with(ran.errors.as_slice()));
+    for (which, refused, line) in [
+        (Which::Seq, "size 24\n", "image 1 Range\n"),
+        (Which::Audit, COUNTER, "trace 0 Head\n"),
+    ] {
+        for room in 0..line.len() {
+            let ran = refuse_into(rt.alloc(), which, refused, room)?;
+            assert!(rt; ran.is(2, b"", &line[..room]));
+        }
     }
     Ok(())
 }
 
-/// An image into an error stream with so much room.
-fn refuse_into(alloc: Global, image: &str, room: usize) -> Result<Ran, Fail> {
-    let mut reader = image.as_bytes();
+/// An input into an error stream with so much room.
+fn refuse_into(alloc: Global, which: Which, input: &str, room: usize) -> Result<Ran, Fail> {
+    let mut reader = input.as_bytes();
     let mut output = Vec::new(alloc);
     let mut errors = FailingWriter {
         taken: Vec::new(alloc),
@@ -212,7 +294,7 @@ fn refuse_into(alloc: Global, image: &str, room: usize) -> Result<Ran, Fail> {
         stops: Stops::Errs,
         fails: Fails::Once,
     };
-    let status = do_seq(alloc, &mut reader, &mut output, &mut errors);
+    let status = which.run(alloc, &mut reader, &mut output, &mut errors);
     Ok(Ran {
         status,
         output,

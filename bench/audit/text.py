@@ -1,0 +1,68 @@
+#!/usr/bin/env python3
+"""Megabytes per second of printing and of reading a trace, and the time and memory of `trace_cli audit` on it.
+
+Build the programs first: `rt run` in crates/audit_bench and in crates/trace_cli leaves them in out/ there. The histories, of 10,000, 100,000
+and 1,000,000 entries, are made here by history.py, from a seed. `audit_bench` prints each as a trace and has to read the same history back;
+the audit has to find it legal, with the homefree epoch that it was made with. Needs GNU time, /usr/bin/time.
+"""
+import pathlib
+import re
+import statistics
+import subprocess
+import tempfile
+
+from history import encoded, history
+
+ROOT = pathlib.Path(__file__).resolve().parents[2]
+BENCH = ROOT / "crates" / "audit_bench" / "out" / "audit_bench"
+PROGRAM = ROOT / "crates" / "trace_cli" / "out" / "trace_cli"
+IMAGE = re.search(r'const IMAGE: &str =\s*"(.*?)";', (ROOT / "crates/audit_bench/src/main.rt").read_text(), re.S).group(1).replace("\\n", "\n")
+SEED = "histogram"
+ROUNDS = 9
+# entries, and how often a run prints and reads them
+CASES = [(10_000, 100), (100_000, 10), (1_000_000, 1)]
+LINES = ["{} start {}", "{} load {:08x} {} {:08x}", "{} store {:08x} {} {:08x}", "{} hurt {}", "{} restart", "{} publish", "{} commit"]
+
+
+def trace_of(entries):
+    """The image and the trace below it."""
+    lines = "".join(LINES[kind].format(by, *numbers) + "\n" for by, kind, *numbers in entries)
+    return f"{IMAGE}trace 4\n{lines}"
+
+
+def text_rates(file, count, size, times):
+    """Megabytes per second of printing and of reading."""
+    with open(file, "rb") as stdin:
+        done = subprocess.run([BENCH, str(times), "text"], stdin=stdin, capture_output=True, text=True)
+    assert done.returncode == 0 and done.stdout == f"{count} entries\n{size} bytes\n", (done.stdout, done.stderr)
+    return [size * times / int(taken) * 1e3 for taken in re.findall(r"(\d+) ns", done.stderr)]
+
+
+def audit(file, count, homefree):
+    """The processor seconds of the program, and the most memory that it held, in kilobytes."""
+    with open(file, "rb") as stdin:
+        done = subprocess.run(["/usr/bin/time", "-f", "%U %S %M", PROGRAM, "audit"], stdin=stdin, capture_output=True, text=True)
+    assert done.returncode == 0 and done.stdout == f"legal {count} {homefree}\n", (done.stdout, done.stderr)
+    user, system, most = done.stderr.split()
+    return float(user) + float(system), int(most)
+
+
+def main():
+    print("  entries     MB    MB/s printed    MB/s read    audit, s    audit, MB")
+    with tempfile.TemporaryDirectory() as folder:
+        for count, times in CASES:
+            entries, homefree = history(count, SEED)
+            text = trace_of(entries)
+            size = len(text) - len(IMAGE)
+            records, traced = pathlib.Path(folder, "records"), pathlib.Path(folder, "trace")
+            records.write_bytes(encoded(entries))
+            traced.write_text(text)
+            rates = [text_rates(records, count, size, times) for _ in range(ROUNDS)]
+            audits = [audit(traced, count, homefree) for _ in range(ROUNDS)]
+            printed, read = (statistics.median(column) for column in zip(*rates))
+            seconds, most = statistics.median(a for a, _ in audits), max(b for _, b in audits)
+            print(f"{count:9,}{size / 1e6:7.1f}{printed:16.0f}{read:13.0f}{seconds:12.3f}{most / 1024:13.1f}")
+
+
+if __name__ == "__main__":
+    main()

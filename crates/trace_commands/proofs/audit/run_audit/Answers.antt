@@ -1,0 +1,14 @@
+use Rattle.std.proofs.Common.{ap, Err}
+use Rattle.trace_commands.specs.Audit.{IsAuditOutcome}
+use Rattle.trace_commands.proofs.Audits.{for_input, refused_input}
+use Rattle.trace_commands.proofs.audit.run_audit.Goals as goal
+
+pub returns-in-Ok-clause-outcome : goal.returns-in-Ok-clause-outcome
+returns-in-Ok-clause-outcome g c =
+    for_input (λ text. IsAuditOutcome text (g.W.Write.contents c.args.writer.now) _ c.audit_text.result) (g.R.Read.remaining c.args.reader.now) c.as_slice.result.now
+    (rw c.as_slice.ensures.value c.in-Ok.ensures.whole) c.audit_text.ensures
+
+pub returns-in-Err-clause-outcome : goal.returns-in-Err-clause-outcome
+returns-in-Err-clause-outcome g c =
+    rw (c.of_trace_fault.ensures, c.from.ensures)
+    (refused_input (g.R.Read.remaining c.args.reader.now) c.in-Err.fault (g.W.Write.contents c.args.writer.now) (λ e. c.in-Err.ensures.long (ap Err e)))

@@ -1,0 +1,6 @@
+pub mod Lengths
+pub mod Lines
+pub mod FaultKinds
+pub mod Words
+pub mod ReadsBack
+pub mod Above

@@ -1,0 +1,145 @@
+ghost use Rattle.std.specs.Prelude.{◌≡◌, ◌<◌, ◌+◌, ◌^◌, MatchOption, length, Ok};
+ghost use Rattle.rv32_image.specs.ImageText.{pieces};
+ghost use Rattle.rv32_image.specs.Cutting.{pieces_after};
+ghost use Rattle.trace_text.specs.TraceText as spec;
+ghost use Rattle.trace_text.specs.Reading.{Answers};
+ghost use Rattle.trace_text.specs.Starts.{IsStart, HasNoStart};
+
+use crate::entry::{entry_in, number};
+use crate::fault::{LONGEST_TRACE_TEXT, TraceFault, TraceFaultKind};
+use rv32_image::{Version, Words, cut, words_of};
+use spec_history::Entry;
+use std::alloc::Global;
+
+/// The image of a text: all before the first line that begins with `trace` and a space, and without such a line the whole text.
+#[tactic(auto, unfolding(crate::specs::TraceText::image_part))]
+pub fn image_part(text: &[u8]) -> &[u8]
+    ensures { result.now ≡ spec.image_part text.now }
+{
+    match find_start(text) {
+        Some(at) => &text[..at.start],
+        None => text,
+    }
+}
+
+/// The trace below an image of this version: how many cores, and the entries. Lines are counted over the whole text.
+///
+/// The fault is the first one in line order: `Head` where no line begins with `trace` and a space (line 0), or where the
+/// first that does has another form than `trace CORES`, with 1 to 8 cores, in version 2 to 16; `Line` where a line below it
+/// is no entry. A text of more than 33,554,432 bytes is `TooLong`, on line 0. `NoMemory`, on line 0, ends the reading where
+/// memory was refused. It never answers `Read`.
+#[tactic(auto, unfolding(crate::specs::TraceText::trace_text))]
+pub fn read_trace(
+    alloc: Global,
+    text: &[u8],
+    version: Version,
+) -> Result<(u32, Vec<Entry>), TraceFault>
+    ensures { Answers (λ read. record { cores = read.0; entries = read.1.items }) result (spec.trace_text version text.now) }
+{
+    if text.len() > LONGEST_TRACE_TEXT {
+        return Err(TraceFault {
+            line: 0,
+            kind: TraceFaultKind::TooLong,
+        });
+    }
+    let Some(at) = find_start(text) else {
+        return Err(TraceFault {
+            line: 0,
+            kind: TraceFaultKind::Head,
+        });
+    };
+    let line = at.number as u32;
+    let Some(cores) = cores_in(version, at.head) else {
+        return Err(TraceFault {
+            line,
+            kind: TraceFaultKind::Head,
+        });
+    };
+    let entries = read_lines(alloc, at.rest, line + 1)?;
+    Ok((cores, entries))
+}
+
+/// The first line of a text that begins with `trace` and a space: where it starts, its number, the line, and what follows it.
+#[derive(Clone, Copy)]
+pub(crate) struct TraceStart<'a> {
+    start: usize,
+    number: usize,
+    head: &'a [u8],
+    rest: Option<&'a [u8]>,
+}
+
+fn find_start(text: &[u8]) -> Option<TraceStart<'_>>
+    ensures { MatchOption result (HasNoStart text.now) (IsStart text.now) }
+{
+    let mut start = 0;
+    let mut number = 1;
+    let mut rest = Some(text);
+    while let Some(text) = rest {
+        let (line, next) = cut(text, b'\n');
+        if line.starts_with(b"trace ") {
+            return Some(TraceStart {
+                start,
+                number,
+                head: line,
+                rest: next,
+            });
+        }
+        start += line.len() + 1;
+        number += 1;
+        rest = next;
+    }
+    None
+}
+
+/// How many cores a head gives, which the version allows.
+#[tactic(auto, unfolding(crate::specs::TraceText::cores_in))]
+fn cores_in(version: Version, head: &[u8]) -> Option<u32>
+    ensures { result ≡ spec.cores_in version (pieces 32 head.now) }
+{
+    let Words::Two(_, word) = words_of(head) else {
+        return None;
+    };
+    let cores = number(word)?;
+    if 1 <= cores && cores <= version.limits().most_cores {
+        Some(cores)
+    } else {
+        None
+    }
+}
+
+/// The entries of the lines from this one on.
+fn read_lines(alloc: Global, lines: Option<&[u8]>, first: u32) -> Result<Vec<Entry>, TraceFault>
+    requires { first + length (pieces_after 10 lines) < 2 ^ 32 }
+    ensures { Answers (λ entries. entries.items) result (spec.lines_read first (pieces_after 10 lines.entry)) }
+{
+    let mut entries = Vec::new(alloc);
+    let mut number = first;
+    let mut rest = lines;
+    while let Some(text) = rest {
+        let (line, next) = cut(text, b'\n');
+        push_line(&mut entries, number, line)?;
+        number += 1;
+        rest = next;
+    }
+    Ok(entries)
+}
+
+/// Adds the entry of a line; a remark has none.
+#[tactic(auto, unfolding(crate::specs::TraceText::line_read))]
+fn push_line(entries: &mut Vec<Entry>, number: u32, line: &[u8]) -> Result<(), TraceFault>
+    ensures { Answers (λ _. entries.new.items) result (spec.joined (Ok entries.old.items) (spec.line_read number line.now)) }
+{
+    if line.is_empty() || line[0] == b'#' {
+        return Ok(());
+    }
+    let Some(entry) = entry_in(line) else {
+        return Err(TraceFault {
+            line: number,
+            kind: TraceFaultKind::Line,
+        });
+    };
+    entries.push(entry).map_err(|_| TraceFault {
+        line: 0,
+        kind: TraceFaultKind::NoMemory,
+    })
+}
