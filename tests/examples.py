@@ -6,11 +6,12 @@ Usage: tests/examples.py [COMMAND ..]
 COMMAND reads an image on standard input and ends with the word `seq`; without
 it `./trace_cli seq` of this repository is tested. An example gives its report
 in the lines that begin with `#> `, and its assembly, where it was written in
-assembly, in those that begin with `#: `. Where the cross compiler of Debian's
-gcc-riscv64-unknown-elf is installed, the assembly is compared with the code,
-and the examples in C are compiled again: twice to the same image, with the
-report that the source gives. Where it isn't, these checks are skipped, and a
-line says so. Exits with 1 where a check failed.
+assembly, in those that begin with `#: `. Where Debian's gcc-riscv64-unknown-elf
+is installed, the assembly is compared with the code. Where tools/image-of-c
+finds a compiler, the examples in C are compiled again: twice to the same image,
+and where that has the code of the image here, with the report that the source
+gives (c_programs.py compares the others). Where there is none, these checks
+are skipped, and a line says so. Exits with 1 where a check failed.
 """
 
 import shutil
@@ -21,7 +22,7 @@ from pathlib import Path
 
 ROOT = Path(__file__).resolve().parent.parent
 EXAMPLES = ROOT / "examples"
-IMAGE_OF_C = EXAMPLES / "c" / "image_of_c.py"
+IMAGE_OF_C = ROOT / "tools" / "image-of-c"
 TOOL = "riscv64-unknown-elf-"
 FEWEST = 10
 
@@ -80,45 +81,19 @@ def image_of(source):
 
 def compiled(command):
     """The C sources, compiled twice and run."""
+    others = []
     for source in sorted((EXAMPLES / "c").glob("*.c")):
         text, errors = image_of(source)
-        if errors or not text:
+        if not text:
             yield f"image of {source.name}", errors or "nothing was printed"
             continue
         yield f"second image of {source.name}", None if image_of(source)[0] == text else "another image"
-        if text != (EXAMPLES / f"{source.stem}.image").read_text():
-            print(f"NOTE: {source.stem}.image was made by another compiler or from another source")
-        expected = cut_out(source.read_text(), "//> ")
-        yield f"report of {source.name}", differences(command, text, expected)
-
-
-REFUSED = [
-    ("unsigned a[4]; void body(unsigned e) { a[e] = e * e; }", [], "undefined: __mulsi3;"),
-    ("unsigned a[4]; void loop(unsigned e) { a[e] = e; }", [], "undefined: body;"),
-    ("unsigned a[4], g(unsigned); void body(unsigned e) { a[e] = g(e); }", ["--stack", "64"], "undefined: g"),
-    ("unsigned a[4], g(unsigned); void body(unsigned e) { a[e] = g(e) + g(1); }\n"
-     "__attribute__((noinline)) unsigned g(unsigned e) { return e + a[e]; }", [], "the code needs a stack;"),
-    ("unsigned a[9999]; void body(unsigned e) { a[e] = e; }", ["--size", "1024"], "more than the 1024 bytes"),
-    ("unsigned a[99999]; void body(unsigned e) { a[e] = e; }", [], "more than 65536 bytes"),
-    ("unsigned a[4]; void body(unsigned e) { a[e] = e; }", ["--stack", "24"], "--stack takes powers of two"),
-    ("unsigned a[4]; void body(unsigned e) { volatile unsigned b[99]; b[e] = e; a[e] = b[1]; }",
-     ["--stack", "64"], "the compiler refuses the source"),
-    ("unsigned a[4]; __attribute__((constructor)) void before(void) { a[0] = 1; }\n"
-     "void body(unsigned e) { a[e] = e; }", [], "no place for the sections"),
-    ("unsigned a[4]; void body(unsigned e) { a[e] = e }", [], "the compiler refuses the source"),
-]
-
-
-def refusals():
-    """Sources that can't be an image, each with the reason that is told."""
-    for source, options, reason in REFUSED:
-        with tempfile.TemporaryDirectory() as directory:
-            path = Path(directory, "refused.c")
-            path.write_text(source + "\n")
-            words = [sys.executable, str(IMAGE_OF_C), "--epochs", "4", *options, str(path)]
-            done = subprocess.run(words, capture_output=True, text=True, check=False)
-        right = done.returncode == 1 and done.stdout == "" and reason in done.stderr
-        yield f"refusal: {reason}", None if right else f"got {done.stdout!r}, {done.stderr!r}"
+        if cut_out(text, "code ") != cut_out((EXAMPLES / f"{source.stem}.image").read_text(), "code "):
+            others.append(source.stem)
+            continue
+        yield f"report of {source.name}", differences(command, text, cut_out(source.read_text(), "//> "))
+    if others:
+        print("NOTE: made by another compiler than the one here: " + ", ".join(others))
 
 
 def main():
@@ -127,9 +102,13 @@ def main():
     if len(checks) < FEWEST:
         checks.append(("number of examples", f"{len(checks)}, fewer than {FEWEST}"))
     if all(shutil.which(TOOL + name) for name in ("gcc", "as", "ld", "objcopy")):
-        checks += [*listings(), *compiled(command), *refusals()]
+        checks += listings()
     else:
-        print(f"SKIPPED: listings and C sources, since {TOOL}gcc isn't installed")
+        print(f"SKIPPED: listings, since {TOOL}gcc isn't installed")
+    if "no compiler is installed" in image_of(EXAMPLES / "c" / "histogram.c")[1]:
+        print("SKIPPED: C sources, since no compiler for RISC-V is installed")
+    else:
+        checks += compiled(command)
     failed = [(name, wrong) for name, wrong in checks if wrong]
     for name, wrong in failed:
         print(f"FAILED {name}\n  {wrong}")

@@ -104,8 +104,16 @@ def differences(command, shim, name, text, expected):
     return f"{name}: still an allocation after 1000", 1000
 
 
+def without_the_wrapper(command):
+    """The command with the built program in the place of ./trace_cli, whose shell would meet the refused allocations."""
+    if Path(command[0]).resolve() != ROOT / "trace_cli":
+        return command
+    subprocess.run(command, input=b"", capture_output=True, check=False)
+    return [str(ROOT / "crates" / "trace_cli" / "out" / "trace_cli"), *command[1:]]
+
+
 def main():
-    command = sys.argv[1:] or [str(ROOT / "trace_cli"), "seq"]
+    command = without_the_wrapper(sys.argv[1:] or [str(ROOT / "trace_cli"), "seq"])
     if shutil.which("cc") is None:
         print("SKIPPED: refused allocations, since cc isn't installed")
         return 0

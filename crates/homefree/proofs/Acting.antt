@@ -1,8 +1,11 @@
 -- From what the register noted and what the store did to a case of the turn.
-use Rattle.std.proofs.Common.{◌≡◌, ◌≢◌, ◌≤◌, ◌<◌, ◌*◌, ℕ, true, List, [], length, Option, Some, None, refl, sym, ap, subst, ◌∙◌, inl, inr, arith}
+use Rattle.std.proofs.Common.{◌≡◌, ◌≢◌, ◌≤◌, ◌<◌, ◌*◌, ℕ, true, false, List, [], length, Option, Some, None, option_copied, Bor, eq-eqb, true≢false, ◌&&◌, ◌∷◌, refl, sym, ap, subst, ◌∙◌, inl, inr, arith}
+use lib.Pointwise.{pointwise}
+use Rattle.std.proofs.Math.Dec.{eqb}
 use Rattle.std.proofs.lemmas.Bool.{cases_Bool}
 use Rattle.rv32_exec.specs.Arrival.{Arrival}
-use Rattle.rv32_exec.specs.Hart.{start_of}
+use Rattle.rv32_exec.specs.Hart.{HartState, start_of}
+use Rattle.rv32_exec.specs.declared.arrived.Arrived.{Arrived}
 use Rattle.run_ledger.specs.declared.counts.Counts.{Counts}
 use Rattle.run_ledger.specs.Counts.{sum_of}
 use Rattle.spec_history.specs.declared.entry.Entry.{Entry}
@@ -38,27 +41,37 @@ one_state o s t one two = cc
 pub kept_of_fits : (r : Register) (v : StoreView) (f : Fits r v) → r.end ≡ None → IsKept r.image (length r.running.items) f.state
 kept_of_fits r v f going = ((replayed r.image (length r.running.items) r.history.items f.state f.is_image f.replays).going (sym f.shows.end ∙ going)).kept
 
-pub acted : (old new : Register) (v w : StoreView) (shares shares' : Counts) (core : ℕ) (next : Option Arrival) (answer : Answer) (entries : List Entry) (t : FlatState) (f : Fits old v)
-    → Steps old new shares shares' entries → length entries ≤ 2 * length old.running.items → arm.Comes old.image (length old.running.items) f.state entries t w
-    → w.shape ≡ v.shape → Acts (turn_of old f.state core next) v w (does entries answer)
+pub fits_then : (old new : Register) (v w : StoreView) (shares shares' : Counts) (entries : List Entry) (t : FlatState) (f : Fits old v)
+    → Steps old new shares shares' entries → arm.Comes old.image (length old.running.items) f.state entries t w → w.shape ≡ v.shape → Fits new w
+fits_then old new v w shares shares' entries t f steps comes shape = record {
+  state = t;
+  replays = rw (steps.image, steps.cores, steps.history) (history_goes_on old.image (length old.running.items) old.history.items entries f.state t f.replays comes.replays);
+  shows = steps.follows f.state t f.is_image (record { entries = old.history.items; replays = f.replays }) f.shows comes.replays;
+  agrees = comes.agrees;
+  shape = rw (steps.image, steps.cores) (shape ∙ f.shape);
+  counted = rw steps.history (steps.totals ∙ (ap (λ n. sum_of n (counted_in entries)) f.counted ∙ sym (counted_then old.history.items entries)));
+  is_image = rw steps.image f.is_image;
+  core_count = rw (steps.image, steps.cores) f.core_count;
+}
+
+pub acted_by : (old new : Register) (v w : StoreView) (shares shares' : Counts) (core : ℕ) (next : Option Arrival) (answer : Answer) (entries : List Entry) (f : Fits old v)
+    → Steps old new shares shares' entries → length entries ≤ 2 * length old.running.items → Fits new w → Acts (turn_of old f.state core next) v w (does entries answer)
     → Acted old new v w shares shares' core next answer
-acted old new v w shares shares' core next answer entries t f steps short comes shape acts = record {
+acted_by old new v w shares shares' core next answer entries f steps short fits acts = record {
   entries = entries;
   steps = steps;
   short = short;
   acts = λ s replays. subst (λ x. Acts (turn_of old x core next) v w (does entries answer))
       (one_state (replay old.image (length old.running.items) old.history.items) f.state s f.replays replays) acts;
-  fits = record {
-    state = t;
-    replays = rw (steps.image, steps.cores, steps.history) (history_goes_on old.image (length old.running.items) old.history.items entries f.state t f.replays comes.replays);
-    shows = steps.follows f.state t f.is_image (record { entries = old.history.items; replays = f.replays }) f.shows comes.replays;
-    agrees = comes.agrees;
-    shape = rw (steps.image, steps.cores) (shape ∙ f.shape);
-    counted = rw steps.history (steps.totals ∙ (ap (λ n. sum_of n (counted_in entries)) f.counted ∙ sym (counted_then old.history.items entries)));
-    is_image = rw steps.image f.is_image;
-    core_count = rw (steps.image, steps.cores) f.core_count;
-  };
+  fits = fits;
 }
+
+pub acted : (old new : Register) (v w : StoreView) (shares shares' : Counts) (core : ℕ) (next : Option Arrival) (answer : Answer) (entries : List Entry) (t : FlatState) (f : Fits old v)
+    → Steps old new shares shares' entries → length entries ≤ 2 * length old.running.items → arm.Comes old.image (length old.running.items) f.state entries t w
+    → w.shape ≡ v.shape → Acts (turn_of old f.state core next) v w (does entries answer)
+    → Acted old new v w shares shares' core next answer
+acted old new v w shares shares' core next answer entries t f steps short comes shape acts =
+    acted_by old new v w shares shares' core next answer entries f steps short (fits_then old new v w shares shares' entries t f steps comes shape) acts
 
 -- a turn that changes nothing
 pub acted_nothing : (old : Register) (v : StoreView) (shares : Counts) (core : ℕ) (next : Option Arrival) (answer : Answer) (f : Fits old v)
@@ -180,3 +193,39 @@ may_restart r v core now f going there runs hurt =
   where
     no_attempt : (o : Option Attempt) (x : Attempt) → o ≡ Some x → o ≡ None → ⊥
     no_attempt o x some none = cc
+
+-- ---- a core that is told its hart
+
+pub told : (old : Register) (v : StoreView) (shares : Counts) (core : ℕ) (next : Option Arrival) (now : Running) (f : Fits old v) → running_at old.running.items core ≡ Some now → now.hurt ≡ false
+    → turn.IsStale next now.hart → Acted old old v v shares shares core next (Go now.hart)
+told old v shares core next now f runs unhurt stale =
+    let found = core_of old f.state core now f.shows runs in
+    let hart : now.hart ≡ (found.0).hart = ap (λ (r : Running). r.hart) (sym found.2) in
+    acted_nothing old v shares core next (Go now.hart) f
+    (turn.is_told (record {
+      core = found.0;
+      runs = found.1;
+      unhurt = ap (λ (r : Running). r.hurt) found.2 ∙ unhurt;
+      stale = subst (turn.IsStale next) hart stale;
+      store = refl;
+      out_is = ap (λ h. does [] (Go h)) hart;
+    }))
+
+pub none_stale : (next : Option (Bor Arrived)) (hart : HartState) → next ≡ None → turn.IsStale (option_copied next) hart
+none_stale None hart is = tt
+none_stale (Some a) hart is = absurd cc
+
+pub other_stale : (next : Option (Bor Arrived)) (arrived : Bor Arrived) (hart : HartState) → next ≡ Some arrived → arrived.now.base ≢ hart → turn.IsStale (option_copied next) hart
+other_stale None arrived hart is other = absurd cc
+other_stale (Some a) arrived hart is other = let same : a ≡ arrived = cc in subst (λ (x : Bor Arrived). x.now.base ≢ hart) (sym same) other
+
+-- harts that differ by the test
+pointwise_same : (xs : List ℕ) → pointwise eqb xs xs ≡ true
+pointwise_same [] = refl
+pointwise_same (x ∷ xs) = rw (eq-eqb x x refl) (pointwise_same xs)
+
+hart_same : (x : HartState) → (pointwise eqb x.x x.x && (eqb x.pc x.pc && eqb x.done x.done)) ≡ true
+hart_same x = rw (pointwise_same x.x, eq-eqb x.pc x.pc refl, eq-eqb x.done x.done refl) refl
+
+pub differs : (x y : HartState) → (pointwise eqb x.x y.x && (eqb x.pc y.pc && eqb x.done y.done)) ≡ false → x ≢ y
+differs x y is same = true≢false (sym (hart_same x) ∙ (ap (λ (z : HartState). pointwise eqb x.x z.x && (eqb x.pc z.pc && eqb x.done z.done)) same ∙ is))

@@ -1,8 +1,8 @@
 -- Batches of entries: by the register and by the state they are the same, and they are shorter than there are cores.
-use Rattle.std.proofs.Common.{◌≡◌, ◌≤◌, ◌<◌, ℕ, zero, suc, ◌+◌, Bool, true, false, cond, List, [], ◌∷◌, ◌++◌, length, Option, Some, None, option_map, get_or, refl, sym, ap, subst, ◌∙◌, inl, inr, arith, append-nil}
+use Rattle.std.proofs.Common.{◌≡◌, ◌≤◌, ◌<◌, ℕ, zero, suc, ◌+◌, Bool, true, false, cond, not, ◌==◌, ◌&&◌, List, [], ◌∷◌, ◌++◌, length, Option, Some, None, option_map, is_some, get_or, refl, sym, ap, subst, ◌∙◌, inl, inr, arith, append-nil, eq-eqb, ne_eqb, ◌≢◌, true≢false}
 use Rattle.run_ledger.specs.declared.counts.Counts.{Counts}
 use Rattle.homefree.specs.Steps.{Steps}
-use Rattle.homefree.proofs.Steps.{steps_then}
+use Rattle.homefree.proofs.Steps.{steps_none, steps_then}
 use Rattle.std.proofs.Math.Path.{fun_ext}
 use Rattle.std.proofs.lemmas.Bool.{cases_eq}
 use Rattle.std.proofs.lemmas.List.{length-append}
@@ -10,13 +10,13 @@ use Rattle.std.proofs.lemmas.Option.{get_or_from_slice_get, slice_get_read}
 use Rattle.homefree.specs.declared.register.Running.{Running}
 use Rattle.spec_history.specs.declared.entry.Entry.{Entry}
 use Rattle.spec_history.specs.declared.entry.What.{What}
-use Rattle.spec_history.specs.declared.entry.What.TheVariants.{Hurt}
+use Rattle.spec_history.specs.declared.entry.What.TheVariants.{Hurt, Cancel}
 use Rattle.spec_history.specs.FlatState.{CoreState, FlatState}
 use Rattle.spec_history.specs.Effect.{by_core}
 use Rattle.homefree.specs.declared.register.Register.{Register}
-use Rattle.homefree.specs.Hurts.{entry, entry_for_each, hurts, epoch_on}
+use Rattle.homefree.specs.Hurts.{entry, entry_for_each, hurts, cancels, is_other, epoch_on}
 use Rattle.homefree.specs.Kept.{Shows, running_at, kept_of}
-use Rattle.homefree.specs.Noted.{epoch_kept, epoch_in, hurts_noted}
+use Rattle.homefree.specs.Noted.{epoch_kept, epoch_in, hurts_noted, other_kept, cancels_noted, cancel_noted}
 
 pub epochs_same : (r : Register) (s : FlatState) → Shows r s → epoch_in r.running.items ≡ epoch_on s.cores
 epochs_same r s shows = fun_ext (λ k. ap epoch_kept (shows.running k) ∙ by_it (s.cores k))
@@ -29,6 +29,17 @@ epochs_same r s shows = fun_ext (λ k. ap epoch_kept (shows.running k) ∙ by_it
 pub hurts_same : (r : Register) (s : FlatState) (by : ℕ) (hurt : ℕ → Bool) → Shows r s
     → hurts_noted by hurt r.running.items (length r.running.items) ≡ hurts (length r.running.items) s by hurt
 hurts_same r s by hurt shows = ap (λ (e : ℕ → ℕ). entry_for_each by hurt (λ k. Hurt (e k)) (length r.running.items)) (epochs_same r s shows)
+
+-- what the register notes of cancelled cores are their entries
+pub cancels_same : (r : Register) (s : FlatState) (by : ℕ) → Shows r s → cancels_noted by r.running.items (length r.running.items) ≡ cancels (length r.running.items) s by
+cancels_same r s by shows =
+    let others : other_kept r.running.items by ≡ is_other s.cores by = fun_ext (λ k. ap (λ b. not (k == by) && b) (ap is_some (shows.running k) ∙ some_same (s.cores k))) in
+    ap (λ (o : ℕ → Bool). entry_for_each by o (λ k. Cancel (epoch_in r.running.items k)) (length r.running.items)) others
+    ∙ ap (λ (e : ℕ → ℕ). entry_for_each by (is_other s.cores by) (λ k. Cancel (e k)) (length r.running.items)) (epochs_same r s shows)
+  where
+    some_same : (o : Option CoreState) → is_some (option_map kept_of o) ≡ is_some o
+    some_same None = refl
+    some_same (Some c) = refl
 
 one_short : (b : Bool) (x : Entry) (before : List Entry) (n : ℕ) → length before ≤ n → length (before ++ cond b (x ∷ []) []) ≤ suc n
 one_short true x before n less = rw (length-append before (x ∷ [])) (omega (arith, less))
@@ -58,6 +69,9 @@ batch_fewer by these what (suc n) j spared below = elim (cases_eq j n) [
 pub running_read : (running : List (Option Running)) (k : ℕ) (x : Option Running) → k < length running → x ≡ get_or running k x → running_at running k ≡ x
 running_read running k x there is = get_or_from_slice_get running k x None (slice_get_read running (length running) k x refl there is)
 
+pub apart_by : (test : ℕ → Bool) (j k : ℕ) → test j ≡ false → test k ≡ true → j ≢ k
+apart_by test j k off on same = true≢false (sym on ∙ (ap test (sym same) ∙ off))
+
 -- one core more, where it is hurt, and where it is not
 pub one_hurt_more : (old mid new : Register) (shares : Counts) (by k : ℕ) (hurt : ℕ → Bool) → hurt k ≡ true → running_at mid.running.items k ≡ running_at old.running.items k
     → Steps old mid shares shares (hurts_noted by hurt old.running.items k) → Steps mid new shares shares (entry by (Hurt (epoch_in mid.running.items k)))
@@ -71,3 +85,28 @@ one_hurt_more old mid new shares by k hurt is same before one =
 pub no_hurt_more : (old mid : Register) (shares : Counts) (by k : ℕ) (hurt : ℕ → Bool) → hurt k ≡ false
     → Steps old mid shares shares (hurts_noted by hurt old.running.items k) → Steps old mid shares shares (hurts_noted by hurt old.running.items (k + 1))
 no_hurt_more old mid shares by k hurt is before = let next : k + 1 ≡ suc k = omega arith in rw next (rw is (rw append-nil before))
+
+-- ---- cancels
+
+-- the entry of a core that runs an epoch, and of one that is idle
+pub cancelled_here : (old new : Register) (shares : Counts) (by k : ℕ) (now : Running) → running_at old.running.items k ≡ Some now
+    → Steps old new shares shares (entry by (Cancel now.epoch)) → Steps old new shares shares (cancel_noted by old.running.items k)
+cancelled_here old new shares by k now at one =
+    subst (λ (o : Option Running). Steps old new shares shares (cond (is_some o) (entry by (Cancel (epoch_kept o))) [])) (sym at) one
+
+pub idle_here : (old : Register) (shares : Counts) (by k : ℕ) → running_at old.running.items k ≡ None → Steps old old shares shares (cancel_noted by old.running.items k)
+idle_here old shares by k at =
+    subst (λ (o : Option Running). Steps old old shares shares (cond (is_some o) (entry by (Cancel (epoch_kept o))) [])) (sym at) (steps_none old shares)
+
+-- one core more
+pub one_cancel_more : (old mid new : Register) (shares : Counts) (by k : ℕ) → k ≢ by → running_at mid.running.items k ≡ running_at old.running.items k
+    → Steps old mid shares shares (cancels_noted by old.running.items k) → Steps mid new shares shares (cancel_noted by mid.running.items k)
+    → Steps old new shares shares (cancels_noted by old.running.items (k + 1))
+one_cancel_more old mid new shares by k other same before one =
+    let noted = subst (λ (o : Option Running). Steps mid new shares shares (cond (is_some o) (entry by (Cancel (epoch_kept o))) [])) same one in
+    let next : k + 1 ≡ suc k = omega arith in
+    rw next (rw (ne_eqb k by other) (steps_then old mid new shares shares shares (cancels_noted by old.running.items k) (cancel_noted by old.running.items k) before noted))
+
+pub no_cancel_more : (old mid : Register) (shares : Counts) (by k : ℕ) → k ≡ by
+    → Steps old mid shares shares (cancels_noted by old.running.items k) → Steps old mid shares shares (cancels_noted by old.running.items (k + 1))
+no_cancel_more old mid shares by k is before = let next : k + 1 ≡ suc k = omega arith in rw next (rw (eq-eqb k by is) (rw append-nil before))

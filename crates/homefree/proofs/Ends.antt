@@ -154,7 +154,7 @@ hurt_runs true None = refl
 hurt_runs true (Some e) = refl
 hurt_runs false o = refl
 
-hurt_epoch : (b : Bool) (o : Option CoreState) → by_core (hurt_if b o) 0 (λ x. x.epoch) ≡ by_core o 0 (λ x. x.epoch)
+pub hurt_epoch : (b : Bool) (o : Option CoreState) → by_core (hurt_if b o) 0 (λ x. x.epoch) ≡ by_core o 0 (λ x. x.epoch)
 hurt_epoch true None = refl
 hurt_epoch true (Some e) = refl
 hurt_epoch false o = refl
@@ -192,7 +192,7 @@ module _ (image : LoadedImage) (count : ℕ) (s : FlatState) (by : ℕ) (c : Cor
   abbrev hurt_state : FlatState
   hurt_state = with_hurts hurt s
 
-  may_cancel : MayCancel image count hurt_state by c
+  pub may_cancel : MayCancel image count hurt_state by c
   may_cancel = record {
     going = going;
     at = p.at;

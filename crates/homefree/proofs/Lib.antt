@@ -10,3 +10,15 @@ pub mod Steps
 pub mod Noting
 pub mod Acting
 pub mod Batches
+pub mod Hurting
+pub mod Standing
+pub mod Accessing
+pub mod GoingStraight
+pub mod Ending
+pub mod Cancelling
+pub mod Exiting
+pub mod Tallies
+pub mod Entries
+pub mod Books
+pub mod Following
+pub mod Drives

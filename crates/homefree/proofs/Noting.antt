@@ -1,5 +1,5 @@
 -- What each note makes of the fields: what its entry makes of the flat machine's state.
-use Rattle.std.proofs.Common.{◌≡◌, ◌≤◌, ℕ, ◌+◌, ◌==◌, ◌≢◌, ◌||◌, Bool, true, false, cond, ◌++◌, length, Option, Some, None, option_map, vec_capacity, refl, sym, ap, subst, ◌∙◌, inl, inr, arith, eq-eqb, ne_eqb}
+use Rattle.std.proofs.Common.{◌≡◌, ◌≤◌, ℕ, ◌+◌, ◌==◌, ◌≢◌, ◌||◌, Bool, true, false, cond, ◌++◌, length, Option, Some, None, option_map, vec_len, vec_capacity, refl, sym, ap, subst, ◌∙◌, inl, inr, arith, eq-eqb, ne_eqb}
 use Rattle.std.proofs.lemmas.Bool.{cases_eq}
 use Rattle.rv32_exec.specs.declared.stop.Stop.{Stop}
 use Rattle.rv32_exec.specs.declared.stop.Stop.TheVariants as stop
@@ -43,12 +43,12 @@ one_commit a = four_same _ _ _ _ _ _ _ _ (omega arith) (omega arith) (omega arit
 
 pub started : (old new : Register) (shares : Counts) (core : ℕ) → running_at old.running.items core ≡ None
     → new.image ≡ old.image → length new.running.items ≡ length old.running.items → new.history.items ≡ old.history.items ++ entry core (Start old.next_epoch)
-    → vec_capacity old.history ≤ vec_capacity new.history → new.totals ≡ old.totals
+    → vec_capacity old.history ≤ vec_capacity new.history → vec_len new.history ≡ vec_len old.history + 1 → new.totals ≡ old.totals
     → new.homefree ≡ old.homefree → new.next_epoch ≡ old.next_epoch + 1 → new.end ≡ old.end
     → ((k : ℕ) → running_at new.running.items k ≡ cond (k == core) (Some (kept_of (begun old.image old.next_epoch))) (running_at old.running.items k))
     → Steps old new shares shares (entry core (Start old.next_epoch))
-started old new shares core idle image cores history room totals homefree next_epoch end each =
-    step old new shares shares (record { by = core; what = Start old.next_epoch }) image cores history room (totals ∙ sym (sum_none old.totals)) (sym (sum_none shares))
+started old new shares core idle image cores history room used totals homefree next_epoch end each =
+    step old new shares shares (record { by = core; what = Start old.next_epoch }) image cores history room used (totals ∙ sym (sum_none old.totals)) (sym (sum_none shares))
     (λ s whole legal was.
     let idle_s = none_kept (s.cores core) (sym (was.running core) ∙ idle) in
     subst (Shows new) (sym (effect-idle old.image s core (Start old.next_epoch) idle_s)) (record {
@@ -61,12 +61,12 @@ started old new shares core idle image cores history room totals homefree next_e
 
 pub restarted : (old new : Register) (shares shares' : Counts) (core epoch : ℕ) → (now : Running) × (running_at old.running.items core ≡ Some now) × (now.epoch ≡ epoch)
     → new.image ≡ old.image → length new.running.items ≡ length old.running.items → new.history.items ≡ old.history.items ++ entry core Restart
-    → vec_capacity old.history ≤ vec_capacity new.history → new.totals ≡ record old.totals { restarts = old.totals.restarts + 1 } → shares' ≡ record shares { restarts = shares.restarts + 1 }
+    → vec_capacity old.history ≤ vec_capacity new.history → vec_len new.history ≡ vec_len old.history + 1 → new.totals ≡ record old.totals { restarts = old.totals.restarts + 1 } → shares' ≡ record shares { restarts = shares.restarts + 1 }
     → new.homefree ≡ old.homefree → new.next_epoch ≡ old.next_epoch → new.end ≡ old.end
     → ((k : ℕ) → running_at new.running.items k ≡ cond (k == core) (Some (kept_of (begun old.image epoch))) (running_at old.running.items k))
     → Steps old new shares shares' (entry core Restart)
-restarted old new shares shares' core epoch runs image cores history room totals held homefree next_epoch end each =
-    step old new shares shares' (record { by = core; what = Restart }) image cores history room (totals ∙ one_restart old.totals) (held ∙ one_restart shares)
+restarted old new shares shares' core epoch runs image cores history room used totals held homefree next_epoch end each =
+    step old new shares shares' (record { by = core; what = Restart }) image cores history room used (totals ∙ one_restart old.totals) (held ∙ one_restart shares)
     (λ s whole legal was.
     let found = core_of old s core runs.0 was runs.1 in
     let same : epoch ≡ (found.0).epoch = sym (ap (λ (r : Running). r.epoch) found.2 ∙ runs.2) in
@@ -100,12 +100,12 @@ stored_is r core now arrived at c is_at is =
 pub loaded : (old new : Register) (shares shares' : Counts) (core : ℕ) (now : Running) (arrived : Arrival) (at : Stop) (address width value : ℕ) (hart : HartState) → IsAtStop old core now arrived at
     → hart ≡ after_loading arrived value
     → new.image ≡ old.image → length new.running.items ≡ length old.running.items → new.history.items ≡ old.history.items ++ entry core (Load address width value)
-    → vec_capacity old.history ≤ vec_capacity new.history → new.totals ≡ record old.totals { loads = old.totals.loads + 1 } → shares' ≡ record shares { loads = shares.loads + 1 }
+    → vec_capacity old.history ≤ vec_capacity new.history → vec_len new.history ≡ vec_len old.history + 1 → new.totals ≡ record old.totals { loads = old.totals.loads + 1 } → shares' ≡ record shares { loads = shares.loads + 1 }
     → new.homefree ≡ old.homefree → new.next_epoch ≡ old.next_epoch → new.end ≡ old.end
     → ((k : ℕ) → running_at new.running.items k ≡ cond (k == core) (Some (record now { hart = hart })) (running_at old.running.items k))
     → Steps old new shares shares' (entry core (Load address width value))
-loaded old new shares shares' core now arrived at address width value hart is_at hart_at image cores history room totals held homefree next_epoch end each =
-    step old new shares shares' (record { by = core; what = Load address width value }) image cores history room (totals ∙ one_load old.totals address width value) (held ∙ one_load shares address width value)
+loaded old new shares shares' core now arrived at address width value hart is_at hart_at image cores history room used totals held homefree next_epoch end each =
+    step old new shares shares' (record { by = core; what = Load address width value }) image cores history room used (totals ∙ one_load old.totals address width value) (held ∙ one_load shares address width value)
     (λ s whole legal was.
     let found = core_of old s core now was is_at.runs in
     let c = found.0 in
@@ -121,12 +121,12 @@ loaded old new shares shares' core now arrived at address width value hart is_at
 pub stored_on : (old new : Register) (shares shares' : Counts) (core : ℕ) (now : Running) (arrived : Arrival) (address width value : ℕ) (hart : HartState) → IsAtStop old core now arrived (stop.Store address width value)
     → hart ≡ stepped arrived.now
     → new.image ≡ old.image → length new.running.items ≡ length old.running.items → new.history.items ≡ old.history.items ++ entry core (Store address width value)
-    → vec_capacity old.history ≤ vec_capacity new.history → new.totals ≡ record old.totals { stores = old.totals.stores + 1 } → shares' ≡ record shares { stores = shares.stores + 1 }
+    → vec_capacity old.history ≤ vec_capacity new.history → vec_len new.history ≡ vec_len old.history + 1 → new.totals ≡ record old.totals { stores = old.totals.stores + 1 } → shares' ≡ record shares { stores = shares.stores + 1 }
     → new.homefree ≡ old.homefree → new.next_epoch ≡ old.next_epoch → new.end ≡ old.end
     → ((k : ℕ) → running_at new.running.items k ≡ cond (k == core) (Some (record now { hart = hart })) (running_at old.running.items k))
     → Steps old new shares shares' (entry core (Store address width value))
-stored_on old new shares shares' core now arrived address width value hart is_at hart_at image cores history room totals held homefree next_epoch end each =
-    step old new shares shares' (record { by = core; what = Store address width value }) image cores history room (totals ∙ one_store old.totals address width value) (held ∙ one_store shares address width value)
+stored_on old new shares shares' core now arrived address width value hart is_at hart_at image cores history room used totals held homefree next_epoch end each =
+    step old new shares shares' (record { by = core; what = Store address width value }) image cores history room used (totals ∙ one_store old.totals address width value) (held ∙ one_store shares address width value)
     (λ s whole legal was.
     let found = core_of old s core now was is_at.runs in
     let c = found.0 in
@@ -147,12 +147,12 @@ goes_straight c now is = rw (← is) refl
 
 pub published : (old new : Register) (shares : Counts) (core : ℕ) (now : Running) → running_at old.running.items core ≡ Some now
     → new.image ≡ old.image → length new.running.items ≡ length old.running.items → new.history.items ≡ old.history.items ++ entry core Publish
-    → vec_capacity old.history ≤ vec_capacity new.history → new.totals ≡ old.totals
+    → vec_capacity old.history ≤ vec_capacity new.history → vec_len new.history ≡ vec_len old.history + 1 → new.totals ≡ old.totals
     → new.homefree ≡ old.homefree → new.next_epoch ≡ old.next_epoch → new.end ≡ old.end
     → ((k : ℕ) → running_at new.running.items k ≡ cond (k == core) (Some (record now { straight = true })) (running_at old.running.items k))
     → Steps old new shares shares (entry core Publish)
-published old new shares core now runs image cores history room totals homefree next_epoch end each =
-    step old new shares shares (record { by = core; what = Publish }) image cores history room (totals ∙ sym (sum_none old.totals)) (sym (sum_none shares))
+published old new shares core now runs image cores history room used totals homefree next_epoch end each =
+    step old new shares shares (record { by = core; what = Publish }) image cores history room used (totals ∙ sym (sum_none old.totals)) (sym (sum_none shares))
     (λ s whole legal was.
     let found = core_of old s core now was runs in
     let c = found.0 in
@@ -164,7 +164,7 @@ published old new shares core now runs image cores history room totals homefree 
       running = kept_with (running_at old.running.items) (running_at new.running.items) s.cores core (Some (record now { straight = true })) (Some _) each was.running (ap Some kept);
     }))
 
-now_is : (r : Register) (core : ℕ) (now : Running) (arrived : Arrival) (at : Stop) (c : CoreState) → IsAtStop r core now arrived at → kept_of c ≡ now
+pub now_is : (r : Register) (core : ℕ) (now : Running) (arrived : Arrival) (at : Stop) (c : CoreState) → IsAtStop r core now arrived at → kept_of c ≡ now
     → arrived.now ≡ (next_event r.image c.hart).now
 now_is r core now arrived at c is_at is =
     let base : arrived.base ≡ c.hart = is_at.base ∙ ap (λ (x : Running). x.hart) (sym is) in
@@ -172,12 +172,12 @@ now_is r core now arrived at c is_at is =
 
 pub committed : (old new : Register) (shares shares' : Counts) (core : ℕ) (now : Running) (arrived : Arrival) → IsAtStop old core now arrived stop.Ended
     → new.image ≡ old.image → length new.running.items ≡ length old.running.items → new.history.items ≡ old.history.items ++ entry core Commit
-    → vec_capacity old.history ≤ vec_capacity new.history → new.totals ≡ record old.totals { commits = old.totals.commits + 1 } → shares' ≡ record shares { commits = shares.commits + 1 }
+    → vec_capacity old.history ≤ vec_capacity new.history → vec_len new.history ≡ vec_len old.history + 1 → new.totals ≡ record old.totals { commits = old.totals.commits + 1 } → shares' ≡ record shares { commits = shares.commits + 1 }
     → new.homefree ≡ old.homefree + 1 → new.next_epoch ≡ old.next_epoch → new.end ≡ end_after old.image arrived.now old.homefree
     → ((k : ℕ) → running_at new.running.items k ≡ cond (k == core) None (running_at old.running.items k))
     → Steps old new shares shares' (entry core Commit)
-committed old new shares shares' core now arrived is_at image cores history room totals held homefree next_epoch end each =
-    step old new shares shares' (record { by = core; what = Commit }) image cores history room (totals ∙ one_commit old.totals) (held ∙ one_commit shares)
+committed old new shares shares' core now arrived is_at image cores history room used totals held homefree next_epoch end each =
+    step old new shares shares' (record { by = core; what = Commit }) image cores history room used (totals ∙ one_commit old.totals) (held ∙ one_commit shares)
     (λ s whole legal was.
     let found = core_of old s core now was is_at.runs in
     let c = found.0 in
@@ -191,11 +191,11 @@ committed old new shares shares' core now arrived is_at image cores history room
 
 pub faulted : (old new : Register) (shares : Counts) (core : ℕ) (now : Running) (cause pc : ℕ) → running_at old.running.items core ≡ Some now
     → new.image ≡ old.image → new.running ≡ old.running → new.history.items ≡ old.history.items ++ entry core (Fault cause pc)
-    → vec_capacity old.history ≤ vec_capacity new.history → new.totals ≡ old.totals
+    → vec_capacity old.history ≤ vec_capacity new.history → vec_len new.history ≡ vec_len old.history + 1 → new.totals ≡ old.totals
     → new.homefree ≡ old.homefree → new.next_epoch ≡ old.next_epoch → new.end ≡ Some (end_is.Fault now.epoch cause pc)
     → Steps old new shares shares (entry core (Fault cause pc))
-faulted old new shares core now cause pc runs image running history room totals homefree next_epoch end =
-    step old new shares shares (record { by = core; what = Fault cause pc }) image (ap (λ xs. length xs.items) running) history room (totals ∙ sym (sum_none old.totals)) (sym (sum_none shares))
+faulted old new shares core now cause pc runs image running history room used totals homefree next_epoch end =
+    step old new shares shares (record { by = core; what = Fault cause pc }) image (ap (λ xs. length xs.items) running) history room used (totals ∙ sym (sum_none old.totals)) (sym (sum_none shares))
     (λ s whole legal was.
     let found = core_of old s core now was runs in
     let c = found.0 in
@@ -242,12 +242,12 @@ at_by k core set other want here there = elim (cases_eq k core) [
 
 pub hurt_noted : (old new : Register) (shares : Counts) (by core : ℕ) (now : Running) → running_at old.running.items core ≡ Some now
     → new.image ≡ old.image → length new.running.items ≡ length old.running.items → new.history.items ≡ old.history.items ++ entry by (Hurt now.epoch)
-    → vec_capacity old.history ≤ vec_capacity new.history → new.totals ≡ old.totals
+    → vec_capacity old.history ≤ vec_capacity new.history → vec_len new.history ≡ vec_len old.history + 1 → new.totals ≡ old.totals
     → new.homefree ≡ old.homefree → new.next_epoch ≡ old.next_epoch → new.end ≡ old.end
     → ((k : ℕ) → running_at new.running.items k ≡ cond (k == core) (Some (record now { hurt = true })) (running_at old.running.items k))
     → Steps old new shares shares (entry by (Hurt now.epoch))
-hurt_noted old new shares by core now runs image cores history room totals homefree next_epoch end each =
-    step old new shares shares (record { by = by; what = Hurt now.epoch }) image cores history room (totals ∙ sym (sum_none old.totals)) (sym (sum_none shares))
+hurt_noted old new shares by core now runs image cores history room used totals homefree next_epoch end each =
+    step old new shares shares (record { by = by; what = Hurt now.epoch }) image cores history room used (totals ∙ sym (sum_none old.totals)) (sym (sum_none shares))
     (λ s whole legal was.
     let found = core_of old s core now was runs in
     let d = found.0 in
@@ -266,12 +266,12 @@ hurt_noted old new shares by core now runs image cores history room totals homef
 
 pub cancel_noted : (old new : Register) (shares : Counts) (by core : ℕ) (now : Running) → running_at old.running.items core ≡ Some now
     → new.image ≡ old.image → length new.running.items ≡ length old.running.items → new.history.items ≡ old.history.items ++ entry by (Cancel now.epoch)
-    → vec_capacity old.history ≤ vec_capacity new.history → new.totals ≡ old.totals
+    → vec_capacity old.history ≤ vec_capacity new.history → vec_len new.history ≡ vec_len old.history + 1 → new.totals ≡ old.totals
     → new.homefree ≡ old.homefree → new.next_epoch ≡ old.next_epoch → new.end ≡ old.end
     → ((k : ℕ) → running_at new.running.items k ≡ cond (k == core) None (running_at old.running.items k))
     → Steps old new shares shares (entry by (Cancel now.epoch))
-cancel_noted old new shares by core now runs image cores history room totals homefree next_epoch end each =
-    step old new shares shares (record { by = by; what = Cancel now.epoch }) image cores history room (totals ∙ sym (sum_none old.totals)) (sym (sum_none shares))
+cancel_noted old new shares by core now runs image cores history room used totals homefree next_epoch end each =
+    step old new shares shares (record { by = by; what = Cancel now.epoch }) image cores history room used (totals ∙ sym (sum_none old.totals)) (sym (sum_none shares))
     (λ s whole legal was.
     let found = core_of old s core now was runs in
     let d = found.0 in

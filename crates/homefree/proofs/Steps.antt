@@ -1,6 +1,7 @@
 -- Notes one after another, and what a method's notes make of a turn.
-use Rattle.std.proofs.Common.{◌≡◌, ◌≤◌, ℕ, ◌==◌, Bool, true, false, cond, List, [], ◌∷◌, ◌++◌, length, Option, Some, None, option_map, vec_capacity, refl, sym, ap, subst, ◌∙◌, arith}
+use Rattle.std.proofs.Common.{◌≡◌, ◌≤◌, ◌+◌, ℕ, ◌==◌, Bool, true, false, cond, List, [], ◌∷◌, ◌++◌, length, Option, Some, None, option_map, vec_len, vec_capacity, refl, sym, ap, subst, ◌∙◌, arith}
 use Rattle.std.proofs.Common.{append_assoc}
+use Rattle.std.proofs.lemmas.List.{length-append}
 use Rattle.rv32_image.specs.Image.{LoadedImage}
 use Rattle.run_ledger.specs.declared.counts.Counts.{Counts}
 use Rattle.run_ledger.specs.Counts.{sum_of}
@@ -84,6 +85,7 @@ steps_none r shares = record {
   totals = sym (sum_none r.totals);
   held = sym (sum_none shares);
   room = omega arith;
+  used = omega arith;
   follows = λ s t is_image reached shows replays. let same : s ≡ t = one_state s t (sym (no_entry r.image (length r.running.items) s) ∙ replays) in subst (Shows r) same shows;
 }
   where
@@ -94,6 +96,9 @@ steps_none r shares = record {
     append_nil_of [] = refl
     append_nil_of (x ∷ xs) = ap (λ (ys : List Entry). x ∷ ys) (append_nil_of xs)
 
+used_then : (a b c : ℕ) (first later : List Entry) → b ≡ a + length first → c ≡ b + length later → c ≡ a + length (first ++ later)
+used_then a b c first later one two = rw (length-append first later) (omega (arith, one, two))
+
 pub steps_then : (old mid new : Register) (a b c : Counts) (first later : List Entry) → Steps old mid a b first → Steps mid new b c later → Steps old new a c (first ++ later)
 steps_then old mid new a b c first later one two = record {
   image = two.image ∙ one.image;
@@ -102,6 +107,7 @@ steps_then old mid new a b c first later one two = record {
   totals = two.totals ∙ (ap (λ n. sum_of n (counted_in later)) one.totals ∙ sum_then old.totals first later);
   held = two.held ∙ (ap (λ n. sum_of n (counted_in later)) one.held ∙ sum_then a first later);
   room = let r1 = one.room in let r2 = two.room in omega (arith, r1, r2);
+  used = used_then (vec_len old.history) (vec_len mid.history) (vec_len new.history) first later one.used two.used;
   follows = λ s t is_image reached shows replays.
       let parts = between old.image (length old.running.items) first later s t replays in
       let mid_reached = reached_then old.image (length old.running.items) s parts.state first reached parts.first_replays in
@@ -121,17 +127,18 @@ unfolding replay_from
 one_is image count s t x replays = one_legal image count s t x (refusal_of image count s x) refl replays
 
 pub step : (old new : Register) (shares shares' : Counts) (x : Entry) → new.image ≡ old.image → length new.running.items ≡ length old.running.items
-    → new.history.items ≡ old.history.items ++ x ∷ [] → vec_capacity old.history ≤ vec_capacity new.history
+    → new.history.items ≡ old.history.items ++ x ∷ [] → vec_capacity old.history ≤ vec_capacity new.history → vec_len new.history ≡ vec_len old.history + 1
     → new.totals ≡ sum_of old.totals (as_counts (count_of x.what)) → shares' ≡ sum_of shares (as_counts (count_of x.what))
     → ((s : FlatState) → Whole old.image (length old.running.items) s → refusal_of old.image (length old.running.items) s x ≡ None → Shows old s → Shows new (effect old.image s x))
     → Steps old new shares shares' (x ∷ [])
-step old new shares shares' x image cores history room totals held shows = record {
+step old new shares shares' x image cores history room used totals held shows = record {
   image = image;
   cores = cores;
   history = history;
   totals = totals ∙ ap (sum_of old.totals) (sym (counted_one x));
   held = held ∙ ap (sum_of shares) (sym (counted_one x));
   room = room;
+  used = used;
   follows = λ s t is_image reached was replays.
       let one = one_is old.image (length old.running.items) s t x replays in
       subst (Shows new) one.1 (shows s (replayed old.image (length old.running.items) reached.entries s is_image reached.replays) one.0 was);

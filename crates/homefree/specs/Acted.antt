@@ -1,6 +1,8 @@
 -- What a method of the book's parts did: a case of a turn, after which the fields and the store agree again.
-use Rattle.std.specs.Prelude.{◌≡◌, ℕ, ◌+◌, ◌*◌, ◌<◌, ◌≤◌, ◌^◌, List, length, Option, Some, vec_len, vec_capacity}
+use Rattle.std.specs.Prelude.{◌≡◌, ℕ, ◌+◌, ◌*◌, ◌<◌, ◌≤◌, ◌^◌, List, length, Option, Some, None, vec_len, vec_capacity}
+use Rattle.rv32_image.specs.Image.{LoadedImage}
 use Rattle.rv32_exec.specs.Arrival.{Arrival}
+use Rattle.rv32_exec.specs.NextEvent.{next_event}
 use Rattle.run_ledger.specs.declared.counts.Counts.{Counts}
 use Rattle.spec_history.specs.declared.entry.Entry.{Entry}
 use Rattle.spec_history.specs.FlatState.{FlatState}
@@ -35,3 +37,8 @@ pub record MayNote (r : Register) (shares : Counts) : Type 0 where
   pub few_stores : r.totals.stores < 2 ^ 63
   pub few_restarts : r.totals.restarts < 2 ^ 63
   pub few_commits : r.totals.commits < 2 ^ 63
+
+-- where a core hands in a stop, it is the next event of its base
+abbrev pub IfArrived : LoadedImage → Option Arrival → Type 0
+IfArrived image None = Unit {0}
+IfArrived image (Some arrival) = (arrival.now ≡ (next_event image arrival.base).now) × (arrival.at ≡ (next_event image arrival.base).at)

@@ -1,5 +1,5 @@
 -- What contracts see of a book.
-use Rattle.std.specs.Prelude.{ℕ, ◌+◌, ◌<◌, List, length, Option}
+use Rattle.std.specs.Prelude.{◌≡◌, ℕ, ◌+◌, ◌<◌, List, length, Option}
 use Rattle.rv32_image.specs.Image.{LoadedImage}
 use Rattle.rv32_image.specs.Version.{limits_of}
 use Rattle.run_ledger.specs.declared.counts.Counts.{Counts}
@@ -26,3 +26,9 @@ free_entries b = (limits_of b.image.version).free_entries
 -- the history has no room for a turn
 abbrev pub IsFull : {S : Type 0} → BookView S → Type 0
 IsFull b = b.room < length b.history + free_entries b
+
+-- the book is of the same image, cores and room
+pub record IsOfSameLoop {S : Type 0} (old new : BookView S) : Type 0 where
+  pub image : new.image ≡ old.image
+  pub cores : new.cores ≡ old.cores
+  pub room : new.room ≡ old.room

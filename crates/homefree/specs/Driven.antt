@@ -5,8 +5,10 @@ use Rattle.rv32_exec.specs.declared.sequential.End.{End}
 use Rattle.rv32_exec.specs.Hart.{HartState}
 use Rattle.rv32_exec.specs.Arrival.{Arrival}
 use Rattle.rv32_exec.specs.NextEvent.{next_event}
+use Rattle.rv32_exec.specs.Sequential.{sequential_result}
 use Rattle.run_ledger.specs.declared.counts.Counts.{Counts}
 use Rattle.spec_history.specs.FlatState.{FlatState}
+use Rattle.spec_history.specs.Laws.{Holds}
 use Rattle.spec_history.specs.Replay.{replay}
 use Rattle.violations.specs.View.{StoreView}
 use Rattle.homefree.specs.declared.answer.Answer.{Answer}
@@ -36,6 +38,9 @@ pub record Driver (S : Type 0) : Type 0 where
   pub book : BookView S
   pub shares : Counts
 
+abbrev pub driver : {S : Type 0} → BookView S → Counts → Driver S
+driver book shares = record { book = book; shares = shares }
+
 -- the turn of a core with this hart in hand
 abbrev pub TurnedWith : {S : Type 0} → (S → StoreView) → Driver S → ℕ → Option HartState → Result Answer TurnFault → Driver S → Type 0
 TurnedWith view old core held answer new = (s : FlatState) → replay old.book.image old.book.cores old.book.history ≡ Some s
@@ -55,3 +60,14 @@ abbrev pub Driven : {S : Type 0} → (S → StoreView) → (ℕ → Option HartS
 Driven view held old [] result new = (new ≡ old) × (result ≡ Ok None)
 Driven {S} view held old (core ∷ rest) result new = (mid : Driver S) × (answer : Result Answer TurnFault) × TurnedWith view old core (held core) answer mid
     × EndsOrGoes answer (λ r. (new ≡ mid) × (result ≡ r)) (λ a. Driven view (with_held held core (held_after a (held core))) mid rest result new)
+
+-- the loop has ended as the sequential loop does, with its memory
+pub record IsInOrder (image : LoadedImage) (end : End) (committed : ℕ → ℕ) : Type 0 where
+  pub end_is : end ≡ (sequential_result image).end
+  pub holds : Holds image committed (sequential_result image).bytes
+
+-- so where the drive gives an end
+abbrev pub IfEnded : Result (Option End) TurnFault → (End → Type 0) → Type 0
+IfEnded (Ok (Some end)) P = P end
+IfEnded (Ok None) P = Unit {0}
+IfEnded (Err fault) P = Unit {0}

@@ -1,5 +1,5 @@
 -- What holds of every book: its history leads to a state with which its store agrees.
-use Rattle.std.specs.Prelude.{◌≡◌, ◌≤◌, length, Some}
+use Rattle.std.specs.Prelude.{◌≡◌, ◌<◌, ◌≤◌, All, length, Some}
 use Rattle.rv32_image.specs.Image.{IsImage}
 use Rattle.spec_history.specs.FlatState.{FlatState}
 use Rattle.spec_history.specs.Replay.{replay}
@@ -17,6 +17,8 @@ pub record InStep {S : Type 0} (view : S → StoreView) (b : BookView S) : Type 
   pub agrees : Agrees state (view b.store)
   -- the store is for this image and these cores
   pub shape : (view b.store).shape ≡ shape_of b.image b.cores
+  -- each entry was made by a turn of one of the cores
+  pub by_cores : All (λ e. e.by < b.cores) b.history
   pub counted : b.totals ≡ counted_in b.history
   pub is_image : IsImage b.image
   pub core_count : IsCoreCount b.image b.cores

@@ -16,3 +16,8 @@ pub mod Steps
 pub mod AtStop
 pub mod Acted
 pub mod Noted
+pub mod Arms
+pub mod Again
+pub mod Grown
+pub mod BookInside
+pub mod Held

@@ -1,5 +1,5 @@
 -- What the methods of the book's register do: they note entries, and follow the flat machine.
-use Rattle.std.specs.Prelude.{◌≡◌, ◌≤◌, ◌++◌, List, length, Some, vec_capacity}
+use Rattle.std.specs.Prelude.{◌≡◌, ◌≤◌, ◌+◌, ◌++◌, List, length, Some, vec_len, vec_capacity}
 use Rattle.rv32_image.specs.Image.{IsImage}
 use Rattle.run_ledger.specs.declared.counts.Counts.{Counts}
 use Rattle.run_ledger.specs.Counts.{sum_of}
@@ -20,5 +20,6 @@ pub record Steps (old new : Register) (shares shares' : Counts) (entries : List 
   pub totals : new.totals ≡ sum_of old.totals (counted_in entries)
   pub held : shares' ≡ sum_of shares (counted_in entries)
   pub room : vec_capacity old.history ≤ vec_capacity new.history
+  pub used : vec_len new.history ≡ vec_len old.history + length entries
   pub follows : (s t : FlatState) → IsImage old.image → IsReached old.image (length old.running.items) s → Shows old s
       → replay_from old.image (length old.running.items) s entries ≡ Some t → Shows new t

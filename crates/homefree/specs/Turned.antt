@@ -326,13 +326,17 @@ pub record HasNoRoom {S : Type 0} (old : BookView S) (s : FlatState) (answer : R
   pub full : IsFull old
   pub answer_is : answer ≡ Err HistoryFull
 
+-- the turn of a core that hands this in, of a book whose history leads to the state s
+abbrev pub turn_at : {S : Type 0} → BookView S → FlatState → ℕ → Option Arrival → Turn
+turn_at b s core next = record { image = b.image; cores = b.cores; state = s; core = core; next = next }
+
 -- the turn is taken, over a store that has room for it
 pub record Acting {S : Type 0} (view : S → StoreView) (old new : BookView S) (s : FlatState) (shares shares' : Counts) (core : ℕ) (next : Option Arrival) (answer : Result Answer TurnFault) : Type 0 where
   pub may : MayAct old s
   pub reserved : StoreView
   pub same : IsSameView (view old.store) reserved
   pub out : Outcome
-  pub acts : Acts (record { image = old.image; cores = old.cores; state = s; core = core; next = next }) reserved (view new.store) out
+  pub acts : Acts (turn_at old s core next) reserved (view new.store) out
   pub grows : Grows old new shares shares' out.entries
   pub answer_is : answer ≡ Ok out.answer
 

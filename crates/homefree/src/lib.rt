@@ -2,13 +2,20 @@
 #![tactic(auto)]
 
 mod answer;
+mod attempts;
+mod book;
 mod fault;
+mod finish;
 mod hurts;
 mod notes;
+mod opening;
 mod parts;
 mod register;
+mod schedule;
+mod speculative;
+mod straight;
 
 pub use answer::{Answer, Cause, StopCause};
+pub use book::Book;
 pub use fault::TurnFault;
-pub use parts::Parts;
-pub use register::{Register, Running};
+pub use schedule::drive;

@@ -1,17 +1,18 @@
 //! The book's register and store, which may be out of step within a turn: one method for each case of a turn.
 ghost use Rattle.std.specs.Prelude.{◌≡◌, ◌<◌, ◌≤◌, ℕ, length, None, Some, true, option_copied};
-ghost use Rattle.homefree.specs.Acted.{Acted, MayNote};
+ghost use Rattle.homefree.specs.Acted.{Acted, MayNote, IfArrived};
+ghost use Rattle.homefree.specs.Arms.{Arrives};
 ghost use Rattle.homefree.specs.Kept.{Fits, running_at};
 
 use crate::answer::{Answer, Cause};
 use crate::register::{Register, Running};
 use run_ledger::Shares;
-use rv32_exec::Arrived;
+use rv32_exec::{Arrived, Stop};
 use violations::EpochStore;
 
 /// The register and the store.
 #[derive(Drop)]
-pub struct Parts<S: EpochStore> {
+pub(crate) struct Parts<S: EpochStore> {
     /// The history, and where it has led.
     pub register: Register,
     /// The store of the cores' attempts.
@@ -19,8 +20,71 @@ pub struct Parts<S: EpochStore> {
 }
 
 impl<S: EpochStore> Parts<S> {
+    /// A turn of a core, with the stop that it hands in, where the loop isn't over and there is room for the turn.
+    pub(crate) fn turn(&mut self, shares: &mut Shares, core: u32, next: Option<&Arrived>) -> Answer
+        requires core { core < length self.old.register.running.items }
+        requires budget { 4 ≤ S.budget self.old.store }
+        requires notes { MayNote self.old.register shares.old }
+        requires fits { Fits self.old.register (S.view self.old.store) }
+        requires going { self.old.register.end ≡ None }
+        requires next { IfArrived self.old.register.image (option_copied next) }
+        ensures { Acted self.old.register self.new.register (S.view self.old.store) (S.view self.new.store) shares.old shares.new core (option_copied next.entry) result }
+    {
+        match self.register.running[core as usize] {
+            None => self.start(shares, core, next),
+            Some(now) => {
+                if now.hurt {
+                    self.restart(shares, core, now, next)
+                } else {
+                    match next {
+                        None => Answer::Go(now.hart),
+                        Some(arrived) => {
+                            if arrived.base() == now.hart {
+                                self.run(shares, core, now, arrived)
+                            } else {
+                                Answer::Go(now.hart)
+                            }
+                        }
+                    }
+                }
+            }
+        }
+    }
+
+    /// A core that runs its epoch hands in its next event.
+    fn run(&mut self, shares: &mut Shares, core: u32, now: Running, arrived: &Arrived) -> Answer
+        requires budget { 2 ≤ S.budget self.old.store }
+        requires arrives { Arrives self.old.register (S.view self.old.store) shares.old core now arrived.now arrived.now.at }
+        ensures { Acted self.old.register self.new.register (S.view self.old.store) (S.view self.new.store) shares.old shares.new core (Some arrived.entry.now) result }
+    {
+        let at = arrived.at();
+        match at {
+            Stop::Load {
+                addr,
+                width,
+                signed: _,
+                rd: _,
+            } => {
+                if now.straight {
+                    self.straight_load(shares, core, now, arrived, addr, width)
+                } else {
+                    self.load(shares, core, now, arrived, addr, width)
+                }
+            }
+            Stop::Store { addr, width, value } => {
+                if now.straight {
+                    self.straight_store(shares, core, now, arrived, addr, width, value)
+                } else {
+                    self.store(shares, core, now, arrived, addr, width, value)
+                }
+            }
+            Stop::Ended => self.finish(shares, core, now, arrived),
+            Stop::Fault { cause, pc } => self.fault(shares, core, now, arrived, cause, pc),
+        }
+    }
+
     /// An idle core begins the next epoch, if one is left.
-    pub fn start(&mut self, shares: &mut Shares, core: u32, next: Option<&Arrived>) -> Answer
+    pub(crate) fn start(&mut self, shares: &mut Shares, core: u32, next: Option<&Arrived>) -> Answer
         requires core { core < length self.old.register.running.items }
         requires budget { 1 ≤ S.budget self.old.store }
         requires notes { MayNote self.old.register shares.old }
@@ -41,7 +105,7 @@ impl<S: EpochStore> Parts<S> {
     }
 
     /// A core that was hurt begins its epoch again.
-    pub fn restart(
+    pub(crate) fn restart(
         &mut self,
         shares: &mut Shares,
         core: u32,

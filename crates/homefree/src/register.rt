@@ -1,10 +1,12 @@
+ghost use Rattle.std.specs.Prelude.{◌≡◌, true};
+
 use run_ledger::Totals;
 use rv32_exec::{End, Hart, Image};
 use spec_history::Entry;
 
 /// What a core runs.
 #[derive(Clone, Copy, Debug)]
-pub struct Running {
+pub(crate) struct Running {
     /// The epoch's number.
     pub epoch: u32,
     /// Its hart at its last event.
@@ -15,9 +17,21 @@ pub struct Running {
     pub hurt: bool,
 }
 
+impl Running {
+    /// The same, straight.
+    pub(crate) fn straightened(self) -> Running
+        ensures { result ≡ record self { straight = true } }
+    {
+        Running {
+            straight: true,
+            ..self
+        }
+    }
+}
+
 /// The history, and where it has led, the store aside.
 #[derive(Drop)]
-pub struct Register {
+pub(crate) struct Register {
     /// The image of the loop.
     pub image: Image,
     /// What the turns so far did.

@@ -56,6 +56,37 @@ impl Arrived {
     {
         self.at
     }
+
+    /// Makes the load at which it stopped, and advances from there. `number` is that of the bytes that are loaded, little
+    /// endian; its upper bytes are 0.
+    pub fn advance_past_load(&mut self, image: &Image, number: u32)
+        requires { spec.IsAtLoad self.old.at number }
+        ensures base { self.new.base ≡ spec.after_loading self.old number }
+        ensures now { self.new.now ≡ (next_event image.now (spec.after_loading self.old number)).now }
+        ensures at { self.new.at ≡ (next_event image.now (spec.after_loading self.old number)).at }
+        ensures stop { IsStopOf image.now self.new.now self.new.at }
+        ensures later { self.old.now.done ≤ self.new.now.done }
+    {
+        let Arrived { base, now, at } = self;
+        complete_load(now, *at, number);
+        *base = *now;
+        *at = run_on(image, now);
+    }
+
+    /// Makes the store at which it stopped, and advances from there.
+    pub fn advance_past_store(&mut self, image: &Image)
+        requires { spec.IsAtStore self.old.at }
+        ensures base { self.new.base ≡ stepped self.old.now }
+        ensures now { self.new.now ≡ (next_event image.now (stepped self.old.now)).now }
+        ensures at { self.new.at ≡ (next_event image.now (stepped self.old.now)).at }
+        ensures stop { IsStopOf image.now self.new.now self.new.at }
+        ensures later { self.old.now.done ≤ self.new.now.done }
+    {
+        let Arrived { base, now, at } = self;
+        now.go_on();
+        *base = *now;
+        *at = run_on(image, now);
+    }
 }
 
 /// Runs a hart to its next access to data, its end or its fault.
@@ -68,9 +99,20 @@ pub fn advance(image: &Image, hart: Hart) -> Arrived
 {
     let base = hart;
     let mut now = hart;
-    // With no memory at hand it stops at an access to data.
-    let at = now.run(image, &mut []);
+    let at = run_on(image, &mut now);
     Arrived { base, now, at }
+}
+
+/// Runs a hart on, and answers where it stops.
+fn run_on(image: &Image, hart: &mut Hart) -> Stop
+    ensures now { hart.new ≡ (next_event image.now hart.old).now }
+    ensures at { result ≡ (next_event image.now hart.old).at }
+    ensures stop { IsStopOf image.now hart.new result }
+    ensures room { spec.HasRoom hart.new result }
+    ensures later { hart.old.done ≤ hart.new.done }
+{
+    // With no memory at hand it stops at an access to data.
+    hart.run(image, &mut [])
 }
 
 /// The hart after the load at which it stopped. `number` is that of the bytes that were loaded, little endian; its
@@ -80,16 +122,26 @@ pub fn loaded(arrived: &Arrived, number: u32) -> Hart
     ensures { result ≡ spec.after_loading arrived.entry.now number }
 {
     let mut hart = arrived.now;
+    complete_load(&mut hart, arrived.at, number);
+    hart
+}
+
+/// Completes the load at which a hart has stopped.
+#[inline]
+fn complete_load(hart: &mut Hart, at: Stop, number: u32)
+    requires at { spec.IsAtLoad at number }
+    requires room { spec.HasRoom hart.old at }
+    ensures { hart.new ≡ spec.after_number hart.old at number }
+{
     if let Stop::Load {
         width,
         signed,
         rd,
         ..
-    } = arrived.at
+    } = at
     {
         hart.complete_load(width, signed, rd, number);
     }
-    hart
 }
 
 /// The hart after the store at which it stopped.

@@ -125,7 +125,7 @@ fn branch(word: usize, taken: bool, offset: u32) -> Next
 }
 
 /// Loads the number of this width at the address into the register, unless it is misaligned or past these bytes.
-#[inline]
+#[inline(always)]
 fn load(bytes: &[u8], x: &mut Registers, addr: u32, width: u32, signed: bool, rd: Register) -> Next
     requires width { IsWidth width }
     requires words { length bytes.now % 4 ≡ 0 }
@@ -145,7 +145,7 @@ fn load(bytes: &[u8], x: &mut Registers, addr: u32, width: u32, signed: bool, rd
 }
 
 /// Stores the low `width` bytes of the value, unless the address is misaligned, past these bytes or in the code.
-#[inline]
+#[inline(always)]
 fn store(image: &Image, bytes: &mut [u8], addr: u32, width: u32, value: u32) -> Next
     requires width { IsWidth width }
     requires size { length bytes.old ≤ image.now.size }

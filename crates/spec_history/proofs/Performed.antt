@@ -252,9 +252,9 @@ as_before m m' by core new fit below is image c h p n e cores same keeps =
       };
     }
 
-pub room_at : (m m' : Machine) (by address width : ℕ) (new : Core) → by < length m.cores.items → m'.cores.items ≡ set m.cores.items by new → HasRoom address width new
-    → HasRoomAt m' by address width
-room_at m m' by address width new below cores room = record {
+pub room_at : (m m' : Machine) (by : ℕ) (what : What) (new : Core) → by < length m.cores.items → m'.cores.items ≡ set m.cores.items by new → HasRoom what new
+    → HasRoomAt m' by what
+room_at m m' by what new below cores room = record {
   room = λ core at.
       let there = get_set_same m.cores.items by new below in
       let same : new ≡ core = same_there (slice_get m'.cores.items by) new core (ap (λ xs. slice_get xs by) cores ∙ there) at in rw (← same) room;

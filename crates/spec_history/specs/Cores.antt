@@ -1,11 +1,13 @@
 -- What the code keeps of a core, and the core that it stands for.
 use Rattle.std.specs.Prelude.{◌≡◌, ℕ, ◌+◌, ◌≤◌, List, length, Option, Some, None, option_map, option_and_then, slice_get, if◌then◌else◌}
-use Rattle.memory_bytes.specs.Shadow.{byte_in}
+use Rattle.memory_bytes.specs.Shadow.{ShadowView, byte_in}
 use Rattle.rv32_image.specs.Image.{LoadedImage}
 use Rattle.rv32_exec.specs.NextEvent.{next_event}
 use Rattle.rv32_exec.specs.Arrival.{Arrival}
 use Rattle.spec_history.specs.declared.cores.Attempt.{Attempt}
 use Rattle.spec_history.specs.declared.cores.Core.{Core}
+use Rattle.spec_history.specs.declared.entry.What.{What}
+use Rattle.spec_history.specs.declared.entry.What.TheVariants.{Load, Store}
 use Rattle.spec_history.specs.FlatState.{CoreState}
 
 abbrev pub core_with : List (Option ℕ) → List (Option ℕ) → Attempt → CoreState
@@ -32,12 +34,16 @@ pub record IsCoreOf (image : LoadedImage) (core : Core) : Type 0 where
   pub outside : length core.outside.cells ≤ image.size
   pub next : (t : Attempt) → core.attempt ≡ Some t → IsNext image t.next
 
--- it can note the bytes of an access without taking memory
-pub record HasRoom (address width : ℕ) (core : Core) : Type 0 where
-  pub own_cells : address + width ≤ length core.own.cells
-  pub own_room : width ≤ core.own.room
-  pub outside_cells : address + width ≤ length core.outside.cells
-  pub outside_room : width ≤ core.outside.room
+-- the bytes of an access can be noted without taking memory
+pub record HasRoomFor (address width : ℕ) (bytes : ShadowView) : Type 0 where
+  pub cells : address + width ≤ length bytes.cells
+  pub room : width ≤ bytes.room
+
+-- so can those that it loads from outside, and those that it stores; other entries note nothing
+abbrev pub HasRoom : What → Core → Type 0
+HasRoom (Load address width value) core = HasRoomFor address width core.outside
+HasRoom (Store address width value) core = HasRoomFor address width core.own
+HasRoom what core = Unit {0}
 
 -- how many instructions of a straight core's epoch are published
 abbrev pub published_by : Option CoreState → Option ℕ

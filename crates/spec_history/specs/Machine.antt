@@ -49,15 +49,9 @@ abbrev pub IsNumber : What → Type 0
 IsNumber (Load address width value) = value < 256 ^ width
 IsNumber what = Unit {0}
 
--- the core can note the bytes of an access without taking memory
-pub record HasRoomAt (m : Machine) (by address width : ℕ) : Type 0 where
-  pub room : (core : Core) → slice_get m.cores.items by ≡ Some core → HasRoom address width core
-
--- where the entry notes bytes
-abbrev pub HasRoomFor : Machine → ℕ → What → Type 0
-HasRoomFor m by (Load address width value) = HasRoomAt m by address width
-HasRoomFor m by (Store address width value) = HasRoomAt m by address width
-HasRoomFor m by what = Unit {0}
+-- the core can note the bytes of the entry without taking memory
+pub record HasRoomAt (m : Machine) (by : ℕ) (what : What) : Type 0 where
+  pub room : (core : Core) → slice_get m.cores.items by ≡ Some core → HasRoom what core
 
 abbrev pub IsLegal : Machine → ℕ → What → Type 0
 IsLegal m by what = refusal_of m.image (count_of_cores m) (state_of m) (record { by = by; what = what }) ≡ None

@@ -3,6 +3,8 @@ ghost use Rattle.memory_bytes.specs.Bytes.{IsWidth, number_at};
 ghost use Rattle.memory_bytes.specs.Maps.{over};
 ghost use Rattle.memory_bytes.specs.Shadow.{byte_in};
 ghost use Rattle.rv32_image.specs.Image.{LoadedImage};
+ghost use Rattle.rv32_exec.specs.Arrival.{IsAtLoad, IsAtStore, after_loading};
+ghost use Rattle.rv32_exec.specs.Hart.{stepped};
 ghost use Rattle.rv32_exec.specs.NextEvent.{next_event};
 ghost use Rattle.spec_history.specs.FlatState.{begun};
 ghost use Rattle.spec_history.specs.Effect as effect;
@@ -10,7 +12,7 @@ ghost use Rattle.spec_history.specs.Refusal as refusal;
 ghost use Rattle.spec_history.specs.Cores as spec;
 
 use memory_bytes::ShadowBytes;
-use rv32_exec::{Arrived, Hart, Image, NoMemory, Stop, advance, start};
+use rv32_exec::{Arrived, Image, NoMemory, Stop, advance, start};
 use std::alloc::Global;
 
 /// What a core runs: an epoch, its next event with the hart at its last one, whether it has published, and whether it was
@@ -179,15 +181,24 @@ impl Core {
         self.own.number(committed, addr, width)
     }
 
-    /// Makes room for the bytes of an access.
-    pub(crate) fn reserve(&mut self, addr: u32, width: u32) -> Result<(), NoMemory>
+    /// Makes room for the bytes that a load reads from outside.
+    pub(crate) fn reserve_load(&mut self, addr: u32, width: u32) -> Result<(), NoMemory>
         requires { addr + width < 2 ^ 32 }
         ensures core { spec.core_of self.new ≡ spec.core_of self.old }
         ensures fit { (image : LoadedImage) → addr + width ≤ image.size → spec.IsCoreOf image self.old → spec.IsCoreOf image self.new }
-        ensures room { OnOk result (spec.HasRoom addr width self.new) }
+        ensures room { OnOk result (spec.HasRoomFor addr width self.new.outside) }
     {
-        self.own.reserve(addr, width).map_err(|_| NoMemory)?;
         self.outside.reserve(addr, width).map_err(|_| NoMemory)
+    }
+
+    /// Makes room for the bytes of a store.
+    pub(crate) fn reserve_store(&mut self, addr: u32, width: u32) -> Result<(), NoMemory>
+        requires { addr + width < 2 ^ 32 }
+        ensures core { spec.core_of self.new ≡ spec.core_of self.old }
+        ensures fit { (image : LoadedImage) → addr + width ≤ image.size → spec.IsCoreOf image self.old → spec.IsCoreOf image self.new }
+        ensures room { OnOk result (spec.HasRoomFor addr width self.new.own) }
+    {
+        self.own.reserve(addr, width).map_err(|_| NoMemory)
     }
 
     /// Keeps no bytes.
@@ -216,45 +227,42 @@ impl Core {
         });
     }
 
-    /// Goes on with this hart after a load.
-    pub(crate) fn finish_load(
+    /// Makes the load at which its epoch stopped, and goes on.
+    pub(crate) fn load(
         &mut self,
         image: &Image,
         committed: &[u8],
         addr: u32,
         width: u32,
-        hart: Hart,
+        value: u32,
     )
+        requires at { (t : Attempt) → self.old.attempt ≡ Some t → IsAtLoad t.next.at value }
         requires small { addr + width < 2 ^ 32 }
         requires committed { addr + width ≤ length committed.now }
-        requires room { spec.HasRoom addr width self.old }
-        ensures core { spec.core_of self.new ≡ option_map (effect.after_load (λ a. slice_index committed.now a) addr width hart) (spec.core_of self.old) }
+        requires room { spec.HasRoomFor addr width self.old.outside }
+        ensures core { (t : Attempt) → self.old.attempt ≡ Some t
+            → spec.core_of self.new ≡ option_map (effect.after_load (λ a. slice_index committed.now a) addr width (after_loading t.next value)) (spec.core_of self.old) }
         ensures fit { spec.IsCoreOf image.now self.old → spec.IsCoreOf image.now self.new }
     {
         if let Some(attempt) = &mut self.attempt {
-            attempt.next = advance(image, hart);
+            attempt.next.advance_past_load(image, value);
             if !attempt.straight {
                 self.outside.note(&self.own, committed, addr, width);
             }
         }
     }
 
-    /// Goes on with this hart after a store.
-    pub(crate) fn finish_store(
-        &mut self,
-        image: &Image,
-        addr: u32,
-        width: u32,
-        value: u32,
-        hart: Hart,
-    )
+    /// Makes the store at which its epoch stopped, and goes on.
+    pub(crate) fn store(&mut self, image: &Image, addr: u32, width: u32, value: u32)
+        requires at { (t : Attempt) → self.old.attempt ≡ Some t → IsAtStore t.next.at }
         requires small { addr + width < 2 ^ 32 }
-        requires room { spec.HasRoom addr width self.old }
-        ensures core { spec.core_of self.new ≡ option_map (effect.after_store addr width value hart) (spec.core_of self.old) }
+        requires room { spec.HasRoomFor addr width self.old.own }
+        ensures core { (t : Attempt) → self.old.attempt ≡ Some t
+            → spec.core_of self.new ≡ option_map (effect.after_store addr width value (stepped t.next.now)) (spec.core_of self.old) }
         ensures fit { spec.IsCoreOf image.now self.old → spec.IsCoreOf image.now self.new }
     {
         if let Some(attempt) = &mut self.attempt {
-            attempt.next = advance(image, hart);
+            attempt.next.advance_past_store(image);
             if !attempt.straight {
                 self.own.keep(addr, width, value);
             }

@@ -6,7 +6,7 @@ ghost use Rattle.spec_history.specs.Effect as effect;
 use crate::entry::{Entry, What};
 use crate::machine::Machine;
 use memory_bytes::write_number;
-use rv32_exec::{End, loaded, stored};
+use rv32_exec::End;
 
 impl Machine {
     ghost use Rattle.spec_history.specs.Machine as spec;
@@ -15,7 +15,7 @@ impl Machine {
     pub(crate) fn perform(&mut self, entry: Entry)
         requires fit { spec.IsFit self.old }
         requires homefree { self.old.homefree ≤ 65535 }
-        requires room { spec.HasRoomFor self.old entry.by entry.what }
+        requires room { spec.HasRoomAt self.old entry.by entry.what }
         requires number { spec.IsNumber entry.what }
         requires legal { spec.IsLegal self.old entry.by entry.what }
         ensures { spec.Becomes self.old self.new (spec.after self.old entry.by entry.what) }
@@ -48,14 +48,13 @@ impl Machine {
     /// The core's epoch loads.
     fn load(&mut self, by: u32, addr: u32, width: u32, value: u32)
         requires fit { spec.IsFit self.old }
-        requires room { spec.HasRoomAt self.old by addr width }
+        requires room { spec.HasRoomAt self.old by (What.Load addr width value) }
         requires number { value < 256 ^ width }
         requires legal { spec.IsLegal self.old by (What.Load addr width value) }
         ensures { spec.Becomes self.old self.new (spec.after self.old by (What.Load addr width value)) }
     {
         let core = &mut self.cores[by as usize];
-        let hart = loaded(&core.attempt().next, value);
-        core.finish_load(&self.image, self.committed.as_slice(), addr, width, hart);
+        core.load(&self.image, self.committed.as_slice(), addr, width, value);
         if let Some(done) = core.published() {
             self.published = done;
         }
@@ -64,13 +63,12 @@ impl Machine {
     /// The core's epoch stores.
     fn store(&mut self, by: u32, addr: u32, width: u32, value: u32)
         requires fit { spec.IsFit self.old }
-        requires room { spec.HasRoomAt self.old by addr width }
+        requires room { spec.HasRoomAt self.old by (What.Store addr width value) }
         requires legal { spec.IsLegal self.old by (What.Store addr width value) }
         ensures { spec.Becomes self.old self.new (spec.after self.old by (What.Store addr width value)) }
     {
         let core = &mut self.cores[by as usize];
-        let hart = stored(&core.attempt().next);
-        core.finish_store(&self.image, addr, width, value, hart);
+        core.store(&self.image, addr, width, value);
         if let Some(done) = core.published() {
             self.published = done;
             write_number(&mut self.committed, addr as usize, width, value);

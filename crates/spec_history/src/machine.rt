@@ -1,4 +1,4 @@
-ghost use Rattle.std.specs.Prelude.{◌≡◌, ◌+◌, ◌≤◌, IfOk, OnErr, OnOk, length, option_copied, slice_get, true};
+ghost use Rattle.std.specs.Prelude.{◌≡◌, ◌+◌, IfOk, OnErr, OnOk, length, option_copied, slice_get, true};
 ghost use Rattle.spec_history.specs.Cores.{AreIdle};
 ghost use Rattle.spec_history.specs.FlatState.{first_state};
 ghost use Rattle.spec_history.specs.View.{is_access};
@@ -56,34 +56,23 @@ impl Machine {
         self.cores.get(by as usize)
     }
 
-    /// Makes room for what the entry notes. Only a load and a store note anything.
+    /// Makes room for the bytes that the entry notes. Only a load and a store note any.
     pub(crate) fn prepare(&mut self, by: u32, what: What) -> Result<(), NoMemory>
         requires fit { spec.IsFit self.old }
         requires within { spec.IsInMemory self.old.image.size what }
         ensures same { spec.IsAsBefore self.old self.new }
-        ensures room { OnOk result (spec.HasRoomFor self.new by what) }
+        ensures room { OnOk result (spec.HasRoomAt self.new by what) }
         ensures accesses { OnErr result (is_access what ≡ true) }
-    {
-        match what {
-            What::Load { addr, width, .. } | What::Store { addr, width, .. } => self.reserve(
-                by, addr, width,
-            ),
-            _ => Ok(()),
-        }
-    }
-
-    /// Makes room for the bytes of an access of this core.
-    fn reserve(&mut self, by: u32, addr: u32, width: u32) -> Result<(), NoMemory>
-        requires fit { spec.IsFit self.old }
-        requires within { addr + width ≤ self.old.image.size }
-        ensures same { spec.IsAsBefore self.old self.new }
-        ensures room { OnOk result (spec.HasRoomAt self.new by addr width) }
     {
         if by as usize >= self.cores.len() {
             return Ok(());
         }
         let core = &mut self.cores[by as usize];
-        core.reserve(addr, width)
+        match what {
+            What::Load { addr, width, .. } => core.reserve_load(addr, width),
+            What::Store { addr, width, .. } => core.reserve_store(addr, width),
+            _ => Ok(()),
+        }
     }
 }
 

@@ -1,4 +1,4 @@
-use Rattle.std.proofs.Common.{◌≡◌, ◌+◌, ◌≤◌, ℕ, vec_len}
+use Rattle.std.proofs.Common.{◌≡◌, ◌≤◌, ℕ, false}
 use Rattle.run_ledger.specs.declared.counts.Counts.{Counts}
 use Rattle.violations.specs.CoreSet.{is_in}
 use Rattle.homefree.specs.Kept.{running_at}
@@ -10,5 +10,5 @@ abbrev pub invariant-loop-k : goal.invariant-loop-k
 invariant-loop-k l = record {
   steps : (shares : Counts) → Steps l.fn.self l.self shares shares (hurts_noted l.by (is_in l.hurt) l.fn.self.running.items l.k);
   rest : (j : ℕ) → l.k ≤ j → running_at l.self.running.items j ≡ running_at l.fn.self.running.items j;
-  used : vec_len l.self.history ≤ vec_len l.fn.self.history + l.k;
+  spared : (j : ℕ) → is_in l.hurt j ≡ false → running_at l.self.running.items j ≡ running_at l.fn.self.running.items j;
 }

@@ -1,0 +1,14 @@
+pub mod Addresses
+pub mod Committed
+pub mod Copies
+pub mod Replies
+pub mod Cores
+pub mod Coherence
+pub mod Heard
+pub mod Sending
+pub mod Quiet
+pub mod QuietCalls
+pub mod Accesses
+pub mod Publishing
+pub mod StraightAccesses
+pub mod Opening

@@ -1,0 +1,287 @@
+-- Straight loads and stores keep the bus coherent; a straight store commits its bytes.
+use Rattle.std.proofs.Common.{◌≡◌, ◌≢◌, ℕ, ◌+◌, ◌%◌, ◌^◌, ◌<◌, ◌≤◌, ◌==◌, ◌&&◌, ◌||◌, inr, not, Bool, true, false, cond, Option, None, refl, sym, subst, ◌∙◌, arith}
+use Rattle.std.proofs.Math.Path.{fun_ext}
+use Rattle.std.proofs.lemmas.Bool.Decides.{nat_tests}
+use Rattle.std.proofs.lemmas.Nat.{pow_pos}
+use Rattle.spec_states.specs.declared.next.Next.{Next}
+use Rattle.spec_states.specs.declared.line.Marks.{Marks}
+use Rattle.spec_states.specs.declared.line.LineState.{LineState}
+use Rattle.spec_states.specs.declared.line.LineState.TheVariants.{I, S, E, M, SpS, SpE}
+use Rattle.spec_states.specs.Copies.{LineCopy, copy_of, IsUpToDate}
+use Rattle.spec_states.specs.Rows.{requires_ownership}
+use Rattle.spec_states.specs.States.{is_valid, is_exclusive, is_speculative}
+use Rattle.spec_states.specs.Tables.{no_marks}
+use Rattle.cache_lines.specs.declared.line.Line.{Line}
+use Rattle.cache_lines.specs.Cells.{with_number}
+use Rattle.cache_lines.specs.Protocol.{changed_copy, copy_with_number}
+use Rattle.orb.specs.Lines.{is_full}
+use Rattle.bus_states.specs.declared.notice.Notice.TheVariants.{Load, Publish}
+use Rattle.bus_states.specs.Bus.{Bus, committed, sees, is_later}
+use Rattle.bus_states.specs.Coherent.{IsCoherent, speculates}
+use Rattle.bus_states.specs.Messages.{Message, message_of, reply, holds_up, is_busy, is_alone, leaves, with_copy, after_message}
+use Rattle.bus_states.specs.Speculative.{own, holds_line, room_for}
+use Rattle.bus_states.specs.Straight.{unmarked_next, after_straight_load, stores_alone, straight_store_message, after_straight_store}
+use Rattle.bus_states.proofs.Accesses.{Takes, taken-with, not_leaving, none-room}
+use Rattle.bus_states.proofs.Coherence.{IsCoherentWith, with-itself, by_core, none_at_all, sees-past, sees-held, sees-unmodified}
+use Rattle.bus_states.proofs.Copies.{itself, unrequired}
+use Rattle.bus_states.proofs.Cores.{with_copy-coherent}
+use Rattle.bus_states.proofs.Heard.{message-gives_way}
+use Rattle.bus_states.proofs.Quiet.{quiet-with}
+use Rattle.bus_states.proofs.QuietCalls.{ChangesOne, one-quietly, one_line, same-lines, number-past}
+use Rattle.bus_states.proofs.Sending.{IsRoom}
+
+-- ---- nobody holds a straight core up
+
+-- every core that runs a speculative attempt runs a later epoch
+pub record IsFirst (bus : Bus) (core : ℕ) : Type 0 where
+  pub later : (k : ℕ) → k ≢ core → speculates (bus.core k).attempt ≡ true → is_later bus core k ≡ true
+
+clash : (b : Bool) → b ≡ true → b ≡ false → ⊥
+clash b e f = cc
+
+-- a copy that has to enter a buffer is one of a speculative attempt
+pub enters-speculates : (bus : Bus) (message : Message) (k : ℕ) → IsCoherent bus → message.addr % bus.line_length ≡ 0
+    → (reply bus message k).enters ≡ true → speculates (bus.core k).attempt ≡ true
+enters-speculates bus message k h aligned enters =
+    let row = message-gives_way bus message k h aligned in
+    pick (speculates (bus.core k).attempt) refl
+    (required (reply bus message k).state (reply bus message k).marks (left _ _ (sym row.enters ∙ enters))) row.unmarked
+  where
+    left : (b d : Bool) → (b && d) ≡ true → b ≡ true
+    left true d e = refl
+    left false d e = e
+
+    required : (s : LineState) (marks : Marks) → requires_ownership s marks ≡ true → is_speculative s ≡ true
+    required I marks e = e
+    required S marks e = e
+    required E marks e = e
+    required M marks e = e
+    required SpS marks e = refl
+    required SpE marks e = refl
+
+    pick : (b : Bool) → speculates (bus.core k).attempt ≡ b → is_speculative (reply bus message k).state ≡ true
+        → (is_speculative ((bus.core k).copy message.addr).state ≡ false → is_speculative (reply bus message k).state ≡ false) → b ≡ true
+    pick true e s f = refl
+    pick false e s f = absurd (clash (is_speculative (reply bus message k).state) s (f ((h.cores k).unmarked message.addr e)))
+
+pub first-free : (bus : Bus) (message : Message) → IsCoherent bus → message.addr % bus.line_length ≡ 0 → IsFirst bus message.sender
+    → is_busy bus message ≡ false
+first-free bus message h aligned first =
+    none_at_all bus.shape.cores (holds_up bus message)
+    (λ k lt. by_core (λ (k : ℕ). holds_up bus message k ≡ false) message.sender k
+    (rw (itself message.sender) refl)
+    (λ away. quiet (k == message.sender) (reply bus message k).enters (is_full (bus.core k).buffer) (is_later bus message.sender k)
+    (λ e. first.later k away (enters-speculates bus message k h aligned e))))
+  where
+    quiet : (same enters full later : Bool) → (enters ≡ true → later ≡ true) → (not same && ((enters && full) && not later)) ≡ false
+    quiet same true full later up = let l : later ≡ true = up refl in grind (arith, nat_tests)
+    quiet same false full later up = grind (arith, nat_tests)
+
+-- ---- conditions
+
+-- a straight core may access a line of memory
+pub record MayAccessStraight (bus : Bus) (core addr : ℕ) (room : Option Line) : Type 0 where
+  pub aligned : addr % bus.line_length ≡ 0
+  pub inside : addr + bus.line_length ≤ bus.shape.size
+  pub in_cores : core < bus.shape.cores
+  pub straight : speculates (bus.core core).attempt ≡ false
+  pub first : IsFirst bus core
+  pub victim : IsRoom (bus.core core) room
+
+own-unmarked : (bus : Bus) (core addr : ℕ) (room : Option Line) → IsCoherent bus → MayAccessStraight bus core addr room
+    → is_speculative (own bus core addr).state ≡ false
+own-unmarked bus core addr room h may = (h.cores core).unmarked addr may.straight
+
+own-empty : (bus : Bus) (core addr : ℕ) (room : Option Line) → IsCoherent bus → MayAccessStraight bus core addr room
+    → (own bus core addr).marks.bytes ≡ 0
+own-empty bus core addr room h may =
+    ((h.lines addr may.aligned).up_to_date core).not_modified (own-unmarked bus core addr room h may)
+
+-- an unmarked copy of a line
+unmarked-fresh : (s : LineState) (line : ℕ → ℕ) → is_speculative s ≡ false → IsUpToDate (copy_of s (unmarked_next s).marks line) line
+unmarked-fresh s line e =
+    record {
+      not_loaded = λ _. pick-loaded (is_speculative s);
+      not_modified = λ _. pick-bytes (is_speculative s);
+      marked = λ m. absurd (clash (is_speculative s) m e);
+      agrees = λ x v out. refl;
+    }
+  where
+    pick-loaded : (b : Bool) → (cond b no_marks no_marks).loaded ≡ false
+    pick-loaded true = refl
+    pick-loaded false = refl
+
+    pick-bytes : (b : Bool) → (cond b no_marks no_marks).bytes ≡ 0
+    pick-bytes true = refl
+    pick-bytes false = refl
+
+-- a straight core takes a line by a message, in an unmarked state
+straight-takes : (bus : Bus) (message : Message) (room room2 : Option Line) (s : LineState) → IsCoherent bus
+    → MayAccessStraight bus message.sender message.addr room → is_valid s ≡ true → is_speculative s ≡ false
+    → ((x : ℕ) → bus.line_length ≤ x → message.line x ≡ 0)
+    → (message.notice ≢ Publish → message.line ≡ committed bus message.addr)
+    → IsRoom (bus.core message.sender) room2 → leaves room2 message.addr ≡ false
+    → (is_exclusive s ≡ true → is_alone bus message ≡ true)
+    → Takes bus message room2 (unmarked_next s)
+straight-takes bus message room room2 s h may valid calm past same_line victim apart alone =
+    let required : requires_ownership (own bus message.sender message.addr).state (own bus message.sender message.addr).marks ≡ false =
+    unrequired (own bus message.sender message.addr).state (own bus message.sender message.addr).marks (own-unmarked bus message.sender message.addr room h may) in
+    record {
+      aligned = may.aligned;
+      inside = may.inside;
+      in_cores = may.in_cores;
+      free = first-free bus message h may.aligned may.first;
+      past = past;
+      same_line = same_line;
+      victim = victim;
+      apart = apart;
+      valid = valid;
+      unmarked = λ _. calm;
+      within = within (is_speculative s);
+      up_to_date = unmarked-fresh s message.line calm;
+      exclusive = λ e. or_right (is_exclusive (own bus message.sender message.addr).state) (is_alone bus message) (alone e);
+      enters = sym (rw (unrequired s (unmarked_next s).marks calm) refl);
+      stays_required = λ r. absurd (clash _ r required);
+      has_room = refl;
+    }
+  where
+    or_right : (b d : Bool) → d ≡ true → (b || d) ≡ true
+    or_right true d e = refl
+    or_right false d e = e
+
+    within : (b : Bool) → (cond b no_marks no_marks).bytes < 2 ^ bus.line_length
+    within true = pow_pos bus.line_length
+    within false = pow_pos bus.line_length
+
+-- ---- loads
+
+pub straight_load-with : (bus : Bus) (core addr : ℕ) (room : Option Line) → IsCoherent bus → MayAccessStraight bus core addr room
+    → IsCoherentWith (after_straight_load bus core addr room) (committed bus)
+straight_load-with bus core addr room h may = pick (holds_line bus core addr) refl
+  where
+    state : (b : Bool) → LineState
+    state b = cond b E S
+
+    valid : (b : Bool) → is_valid (cond b E S) ≡ true
+    valid true = refl
+    valid false = refl
+
+    calm : (b : Bool) → is_speculative (cond b E S) ≡ false
+    calm true = refl
+    calm false = refl
+
+    alone : (b : Bool) → is_exclusive (cond b E S) ≡ true → b ≡ true
+    alone true e = refl
+    alone false e = cc
+
+    pick : (b : Bool) → holds_line bus core addr ≡ b
+        → IsCoherentWith (cond b bus (after_message bus (message_of bus Load core addr) room (unmarked_next (cond (is_alone bus (message_of bus Load core addr)) E S)))) (committed bus)
+    pick true e = with-itself bus h
+    pick false e =
+        let message : Message = message_of bus Load core addr in
+        let same : sees bus core addr ≡ committed bus addr = fun_ext (sees-unmodified bus core addr (own-empty bus core addr room h may)) in
+        let next : Next = unmarked_next (cond (is_alone bus message) E S) in
+        same-lines bus (after_message bus message room next) addr (sees bus core addr) same
+        (taken-with bus message room next h
+        (straight-takes bus message room room (cond (is_alone bus message) E S) h may (valid (is_alone bus message)) (calm (is_alone bus message))
+        (λ x le. sees-past bus core addr x h le) (λ _. same) may.victim (not_leaving (bus.core core) room addr may.victim e) (alone (is_alone bus message))))
+
+-- ---- stores
+
+-- the lines that are committed after a store
+abbrev pub stored_lines : Bus → ℕ → ℕ → ℕ → ℕ → ℕ → ℕ → ℕ → ℕ
+stored_lines bus core addr offset width value = one_line bus addr (with_number (sees bus core addr) offset width value)
+
+store-alone : (bus : Bus) (core addr offset width value : ℕ) (room : Option Line) → IsCoherent bus
+    → MayAccessStraight bus core addr room → offset + width ≤ bus.line_length → stores_alone (own bus core addr).state ≡ true
+    → ChangesOne bus core addr (changed_copy (copy_with_number offset width value (own bus core addr)) (unmarked_next M)) bus.memory
+    (with_number (own bus core addr).cell offset width value)
+store-alone bus core addr offset width value room h may inside alone =
+    let mine : LineCopy = own bus core addr in
+    let exclusive : is_exclusive mine.state ≡ true = by_state mine.state alone in
+    record {
+      in_cores = may.in_cores;
+      held = valid mine.state alone;
+      stays =
+          with_copy-coherent (bus.core core) addr (copy_of M no_marks (with_number mine.cell offset width value)) (h.cores core)
+          (sym (unrequired mine.state mine.marks (own-unmarked bus core addr room h may))) (λ _. refl);
+      in_place = record {
+        aligned = λ _. may.aligned;
+        mask = pow_pos bus.line_length;
+        cells = λ x le. number-past mine.cell bus.line_length offset width value x inside le ((h.in_place core addr).cells x le);
+      };
+      exclusive = λ _. exclusive;
+      up_to_date = unmarked-fresh M (with_number mine.cell offset width value) refl;
+      same_line = inr exclusive;
+      in_memory = λ m others x. cc;
+      elsewhere = λ a aligned e x. refl;
+    }
+  where
+    by_state : (s : LineState) → stores_alone s ≡ true → is_exclusive s ≡ true
+    by_state I e = e
+    by_state S e = e
+    by_state E e = refl
+    by_state M e = refl
+    by_state SpS e = e
+    by_state SpE e = refl
+
+    valid : (s : LineState) → stores_alone s ≡ true → is_valid s ≡ true
+    valid I e = e
+    valid S e = refl
+    valid E e = refl
+    valid M e = refl
+    valid SpS e = refl
+    valid SpE e = refl
+
+pub straight_store-with : (bus : Bus) (core addr offset width value : ℕ) (room : Option Line) → IsCoherent bus
+    → MayAccessStraight bus core addr room → offset + width ≤ bus.line_length
+    → IsCoherentWith (after_straight_store bus core addr offset width value room) (stored_lines bus core addr offset width value)
+straight_store-with bus core addr offset width value room h may inside = pick (stores_alone (own bus core addr).state) refl
+  where
+    valid : (b : Bool) → is_valid (cond b M S) ≡ true
+    valid true = refl
+    valid false = refl
+
+    calm : (b : Bool) → is_speculative (cond b M S) ≡ false
+    calm true = refl
+    calm false = refl
+
+    alone : (b : Bool) → is_exclusive (cond b M S) ≡ true → b ≡ true
+    alone true e = refl
+    alone false e = cc
+
+    held : (s : LineState) → stores_alone s ≡ true → is_valid s ≡ true
+    held I e = e
+    held S e = refl
+    held E e = refl
+    held M e = refl
+    held SpS e = refl
+    held SpE e = refl
+
+    victim : (b : Bool) → IsRoom (bus.core core) (cond b None room)
+    victim true = none-room (bus.core core)
+    victim false = may.victim
+
+    apart : (b : Bool) → holds_line bus core addr ≡ b → leaves (cond b None room) addr ≡ false
+    apart true e = refl
+    apart false e = not_leaving (bus.core core) room addr may.victim e
+
+    pick : (b : Bool) → stores_alone (own bus core addr).state ≡ b
+        → IsCoherentWith (cond b
+        (record bus { core = λ k. cond (k == core) (with_copy addr (changed_copy (copy_with_number offset width value (own bus core addr)) (unmarked_next M)) (bus.core core)) (bus.core k) })
+        (after_message bus (straight_store_message bus core addr offset width value) (room_for bus core addr room) (unmarked_next (cond (is_alone bus (straight_store_message bus core addr offset width value)) M S))))
+        (stored_lines bus core addr offset width value)
+    pick true e =
+        let seen : (own bus core addr).cell ≡ sees bus core addr = fun_ext (sees-held bus core addr h may.aligned (held (own bus core addr).state e)) in
+        subst (λ (line : ℕ → ℕ). IsCoherentWith (record bus { core = λ k. cond (k == core) (with_copy addr (changed_copy (copy_with_number offset width value (own bus core addr)) (unmarked_next M)) (bus.core core)) (bus.core k) }) (one_line bus addr (with_number line offset width value)))
+        seen
+        (quiet-with bus core (with_copy addr (changed_copy (copy_with_number offset width value (own bus core addr)) (unmarked_next M)) (bus.core core)) bus.memory
+        (one_line bus addr (with_number (own bus core addr).cell offset width value)) h
+        (one-quietly bus core addr (changed_copy (copy_with_number offset width value (own bus core addr)) (unmarked_next M)) bus.memory (with_number (own bus core addr).cell offset width value) h
+        (store-alone bus core addr offset width value room h may inside e)))
+    pick false e =
+        let message : Message = straight_store_message bus core addr offset width value in
+        taken-with bus message (room_for bus core addr room) (unmarked_next (cond (is_alone bus message) M S)) h
+        (straight-takes bus message room (room_for bus core addr room) (cond (is_alone bus message) M S) h may (valid (is_alone bus message)) (calm (is_alone bus message))
+        (λ x le. number-past (sees bus core addr) bus.line_length offset width value x inside le (sees-past bus core addr x h le))
+        (λ n. absurd (n refl)) (victim (holds_line bus core addr)) (apart (holds_line bus core addr) refl) (alone (is_alone bus message)))

@@ -1,0 +1,9 @@
+use Rattle.std.proofs.Common.{◌≡◌}
+use Rattle.homefree.proofs.Cancelling.{CancelsBelow}
+use Rattle.homefree.proofs.attempts.cancel_attempts.Given as goal
+
+abbrev pub invariant-loop-k : goal.invariant-loop-k
+invariant-loop-k g l = record {
+  below : CancelsBelow (g.S.EpochStore.view l.fn.store) (g.S.EpochStore.view l.store) l.by l.k;
+  budget : g.S.EpochStore.budget l.store ≡ g.S.EpochStore.budget l.fn.store;
+}

@@ -1,0 +1,20 @@
+use Rattle.std.proofs.Common.{◌≢◌, option_copied, sym, ◌∙◌}
+use Rattle.homefree.proofs.Batches.{running_read}
+use Rattle.homefree.proofs.Acting.{told, none_stale, other_stale, differs}
+use Rattle.homefree.proofs.parts.Parts.turn.Goals as goal
+
+pub returns-in-None-next : goal.returns-in-None-next
+returns-in-None-next g c =
+    let old = c.args.self.now in
+    let now = c.in-Some.now in
+    let runs = running_read old.register.running.items c.args.core c.index.result.now c.requires.core c.index.ensures ∙ c.in-Some.is in
+    told old.register (g.S.EpochStore.view old.store) c.args.shares.now c.args.core (option_copied c.args.next) now c.requires.fits runs c.if-now.false (none_stale c.args.next now.hart c.in-None-next.is)
+
+pub returns-else-eq : goal.returns-else-eq
+returns-else-eq g c =
+    let old = c.args.self.now in
+    let now = c.in-Some.now in
+    let runs = running_read old.register.running.items c.args.core c.index.result.now c.requires.core c.index.ensures ∙ c.in-Some.is in
+    let other : c.in-Some-next.arrived.now.base ≢ now.hart = λ same. differs c.base.result now.hart (sym c.eq.ensures ∙ c.if-eq.false) (c.base.ensures ∙ same) in
+    told old.register (g.S.EpochStore.view old.store) c.args.shares.now c.args.core (option_copied c.args.next) now c.requires.fits runs c.if-now.false
+    (other_stale c.args.next c.in-Some-next.arrived now.hart c.in-Some-next.is other)

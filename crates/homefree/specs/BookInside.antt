@@ -1,0 +1,26 @@
+-- What a book keeps: its fields and its store fit, its history is within its room and of its cores, and a stop for a full
+-- history is true.
+use Rattle.std.specs.Prelude.{◌≡◌, ℕ, ◌+◌, ◌<◌, ◌≤◌, All, length, Option, Some}
+use Rattle.rv32_image.specs.Version.{limits_of}
+use Rattle.violations.specs.View.{StoreView}
+use Rattle.homefree.specs.declared.answer.StopCause.{StopCause}
+use Rattle.homefree.specs.declared.answer.StopCause.TheVariants.{HistoryFull}
+use Rattle.homefree.specs.declared.register.Register.{Register}
+use Rattle.homefree.specs.Kept.{Fits}
+
+pub record IsBook (r : Register) (v : StoreView) (room : ℕ) (stopped : Option StopCause) : Type 0 where
+  pub fits : Fits r v
+  pub by_cores : All (λ e. e.by < length r.running.items) r.history.items
+  pub within : length r.history.items ≤ room
+  pub most : room ≤ 1048576
+  pub full : stopped ≡ Some HistoryFull → room < length r.history.items + (limits_of r.image.version).free_entries
+
+-- the fields are as they were, room aside
+pub record IsAsBefore (old new : Register) : Type 0 where
+  pub image : new.image ≡ old.image
+  pub history : new.history.items ≡ old.history.items
+  pub totals : new.totals ≡ old.totals
+  pub running : new.running ≡ old.running
+  pub homefree : new.homefree ≡ old.homefree
+  pub next_epoch : new.next_epoch ≡ old.next_epoch
+  pub end : new.end ≡ old.end

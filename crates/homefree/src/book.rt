@@ -1,0 +1,265 @@
+ghost use Rattle.std.specs.Prelude.{true, false, Bool, ◌≡◌, ◌≢◌, ◌+◌, ◌<◌, ◌≤◌, ◌++◌, [], ℕ, length, IfOk, IfSome, Some, None, option_copied, OnOk, vec_len, vec_capacity, is_none, ◌&&◌, slice_get, nat_lt, if◌then◌else◌};
+ghost use Rattle.rv32_image.specs.Version.{limits_of};
+ghost use Rattle.run_ledger.specs.Counts.{no_counts};
+ghost use Rattle.spec_history.specs.FlatState.{FlatState, CoreState};
+ghost use Rattle.spec_history.specs.Replay.{replay};
+ghost use Rattle.violations.specs.Rule.{IsCoreCount, IsFresh};
+ghost use Rattle.violations.specs.Rule.{IsSameView};
+ghost use Rattle.homefree.specs.BookView.{IsFull};
+ghost use Rattle.homefree.specs.BookInside.{IsAsBefore};
+ghost use Rattle.homefree.specs.InStep.{InStep};
+ghost use Rattle.homefree.specs.Turned.{Turned, turn_at};
+ghost use Rattle.homefree.specs.Grown.{GrowsBy};
+ghost use Rattle.homefree.specs.Again.{IfAgain, IsWhy};
+ghost use Rattle.homefree.specs.Acted.{IfArrived};
+ghost use Rattle.homefree.specs.Counted.{IsNoMore};
+
+use crate::answer::{Answer, Cause, StopCause};
+use crate::fault::TurnFault;
+use crate::opening::{end_at_first, idle_cores};
+use crate::parts::Parts;
+use crate::register::Register;
+use run_ledger::{Counts, Shares, open};
+use rv32_exec::{Arrived, End, Image, NoMemory};
+use spec_history::Entry;
+use std::alloc::Global;
+use std::marker::Model;
+use violations::EpochStore;
+
+/// A history of speculative epochs, with the store and the cores that it has led to.
+#[derive(Drop)]
+pub struct Book<S: EpochStore> {
+    parts: Parts<S>,
+    room: u32,
+    stopped: Option<StopCause>,
+}
+
+impl<S: EpochStore> Model for Book<S> {
+    ghost use Rattle.std.specs.Prelude.{length};
+    ghost use Rattle.homefree.specs.BookView.{BookView};
+    ghost use Rattle.homefree.specs.BookInside.{IsBook};
+
+    ghost Value = { BookView S };
+
+    ghost view = { λ b. record { image = b.parts.register.image; cores = length b.parts.register.running.items; room = b.room; history = b.parts.register.history.items; totals = b.parts.register.totals; store = b.parts.store; stopped = b.stopped } };
+
+    ghost invariant = { λ b. IsBook b.parts.register (S.view b.parts.store) b.room b.stopped };
+}
+
+impl<S: EpochStore> Book<S> {
+    /// An empty history over a fresh store, and the shares that hold its counts. It keeps a copy of the image. The cores are 1 to
+    /// the most that the image's version allows, and the room is 16 to 1,048,576 entries.
+    ///
+    /// `NoMemory`: there was no memory for it, and nothing was made.
+    pub fn new(
+        alloc: Global,
+        image: &Image,
+        cores: u32,
+        room: u32,
+    ) -> Result<(Book<S>, Shares), NoMemory>
+        requires cores { IsCoreCount image.now cores }
+        requires least { 16 ≤ room }
+        requires most { room ≤ 1048576 }
+        ensures image { IfOk result (λ made. made.0.image ≡ image.now) }
+        ensures cores { IfOk result (λ made. made.0.cores ≡ cores) }
+        ensures room { IfOk result (λ made. made.0.room ≡ room) }
+        ensures history { IfOk result (λ made. made.0.history ≡ []) }
+        ensures totals { IfOk result (λ made. made.0.totals ≡ no_counts) }
+        ensures shares { IfOk result (λ made. made.1 ≡ no_counts) }
+        ensures store { IfOk result (λ made. IsFresh image.now cores (S.view made.0.store)) }
+        ensures stopped { IfOk result (λ made. made.0.stopped ≡ None) }
+    {
+        let store: S = S::fresh(alloc, image, cores)?;
+        let running = idle_cores(alloc, cores)?;
+        let image = image.copy(alloc)?;
+        let (totals, shares) = open();
+        let end = end_at_first(&image);
+        let book = Book {
+            parts: Parts {
+                register: Register {
+                    image,
+                    history: Vec::new(alloc),
+                    totals,
+                    running,
+                    homefree: 0,
+                    next_epoch: 0,
+                    end,
+                },
+                store,
+            },
+            room,
+            stopped: None,
+        };
+        Ok((book, shares))
+    }
+
+    /// What holds of every book: this call does nothing, and its contract is the law.
+    pub fn look(&self)
+        ensures { InStep S.view self.now }
+    {
+        let _ = &self.parts;
+    }
+
+    /// One turn of a core, with the hart that it has in hand gone on to its next access, end or fault.
+    ///
+    /// `HistoryFull`: the history has fewer free entries than the image's version asks for, and nothing has changed. `NoMemory`:
+    /// memory ran out, and nothing has changed but what the store can do without asking for it.
+    pub fn turn(
+        &mut self,
+        core: u32,
+        next: Option<&Arrived>,
+        shares: &mut Shares,
+    ) -> Result<Answer, TurnFault>
+        requires core { core < self.old.cores }
+        requires next { IfArrived self.old.image (option_copied next) }
+        requires shares { IsNoMore shares.old self.old.totals }
+        ensures turned { (s : FlatState) → replay self.old.image self.old.cores self.old.history ≡ Some s
+            → Turned S.view self.old s shares.old core (option_copied next.entry) result self.new shares.new }
+        ensures grows { GrowsBy core self.old self.new shares.old shares.new }
+        ensures shares { IsNoMore shares.new self.new.totals }
+        ensures again { (s : FlatState) → replay self.old.image self.old.cores self.old.history ≡ Some s
+            → IfAgain result (IsWhy (turn_at self.old s core (option_copied next.entry))) }
+        ensures homefree { (s : FlatState) (c : CoreState) (cause : Cause) → replay self.old.image self.old.cores self.old.history ≡ Some s
+            → s.cores core ≡ Some c → c.epoch ≡ s.homefree → result ≢ Ok (Answer.Again cause) }
+        ensures over { (end : End) (s : FlatState) → result ≡ Ok (Answer.Over end) → replay self.new.image self.new.cores self.new.history ≡ Some s
+            → s.end ≡ Some end }
+    {
+        self.look();
+        self.take_turn(core, next, shares)
+    }
+
+    /// One turn of a core, as `turn` has it.
+    fn take_turn(
+        &mut self,
+        core: u32,
+        next: Option<&Arrived>,
+        shares: &mut Shares,
+    ) -> Result<Answer, TurnFault>
+        requires core { core < self.old.cores }
+        requires next { IfArrived self.old.image (option_copied next) }
+        requires shares { IsNoMore shares.old self.old.totals }
+        ensures { (s : FlatState) → replay self.old.image self.old.cores self.old.history ≡ Some s
+            → Turned S.view self.old s shares.old core (option_copied next.entry) result self.new shares.new }
+    {
+        if let Some(end) = self.parts.register.end {
+            return Ok(Answer::Over(end));
+        }
+        if let Some(cause) = self.stopped {
+            return Ok(Answer::Stopped(cause));
+        }
+        let free = free_entries(&self.parts.register.image);
+        if self.room - (self.parts.register.history.len() as u32) < free {
+            return Err(TurnFault::HistoryFull);
+        }
+        let Ok(()) = make_room(&mut self.parts, free) else {
+            return Err(TurnFault::NoMemory);
+        };
+        Ok(self.parts.turn(shares, core, next))
+    }
+
+    /// Takes no more turns, for this cause, and answers true. Where the loop is over, or the book is stopped already, it answers
+    /// false and changes nothing. `HistoryFull` is handed in only where the history has no room for a turn.
+    pub fn stop(&mut self, cause: StopCause) -> bool
+        requires { cause ≡ StopCause.HistoryFull → IsFull self.old }
+        ensures answer { (s : FlatState) → replay self.old.image self.old.cores self.old.history ≡ Some s
+            → result ≡ (is_none s.end && is_none self.old.stopped) }
+        ensures book { self.new ≡ (if result then record self.old { stopped = Some cause } else self.old) }
+    {
+        if self.parts.register.end.is_some() || self.stopped.is_some() {
+            return false;
+        }
+        self.stopped = Some(cause);
+        true
+    }
+}
+
+impl<S: EpochStore> Book<S> {
+    /// The committed byte at an address, if it lies in memory.
+    pub fn committed(&self, addr: u32) -> Option<u8>
+        ensures { result ≡ (if nat_lt addr self.now.image.size then Some ((S.view self.now.store).committed addr) else None) }
+    {
+        if addr < self.parts.register.image.size() {
+            Some(self.parts.store.committed_byte(addr))
+        } else {
+            None
+        }
+    }
+
+    /// The entry at a place of the history, counted from 0, if it is there.
+    pub fn entry(&self, place: usize) -> Option<Entry>
+        ensures { result ≡ slice_get self.now.history place }
+    {
+        self.parts.register.history.get(place).copied()
+    }
+
+    /// The store.
+    pub fn store(&self) -> &S
+        ensures { result.now ≡ self.now.store }
+    {
+        &self.parts.store
+    }
+
+    /// How many entries the history has.
+    pub fn len(&self) -> usize
+        ensures { result ≡ length self.now.history }
+    {
+        self.parts.register.history.len()
+    }
+
+    /// The homefree epoch: the first that has not committed.
+    pub fn homefree(&self) -> u32
+        ensures homefree { (s : FlatState) → replay self.now.image self.now.cores self.now.history ≡ Some s → result ≡ s.homefree }
+        ensures step { InStep S.view self.now }
+    {
+        self.parts.register.homefree
+    }
+
+    /// How the loop ended, where it is over.
+    pub fn ended(&self) -> Option<End>
+        ensures end { (s : FlatState) → replay self.now.image self.now.cores self.now.history ≡ Some s → result ≡ s.end }
+        ensures step { InStep S.view self.now }
+    {
+        self.parts.register.end
+    }
+
+    /// Why the book takes no more turns, where it was stopped.
+    pub fn stopped(&self) -> Option<StopCause>
+        ensures { result ≡ self.now.stopped }
+    {
+        self.stopped
+    }
+
+    /// How many loads, stores, restarts and commits the history has.
+    pub fn totals(&self) -> Counts
+        ensures { result ≡ self.now.totals }
+    {
+        self.parts.register.totals.counts()
+    }
+
+    /// The image of the loop.
+    pub(crate) fn image(&self) -> &Image
+        ensures { result.now ≡ self.now.image }
+    {
+        &self.parts.register.image
+    }
+}
+
+/// How many entries of the history a turn has to find free.
+fn free_entries(image: &Image) -> u32
+    ensures { result ≡ (limits_of image.now.version).free_entries }
+{
+    image.version().limits().free_entries
+}
+
+/// Makes room for so many entries, and for the calls of the store that a turn makes.
+fn make_room<S: EpochStore>(parts: &mut Parts<S>, entries: u32) -> Result<(), NoMemory>
+    ensures register { IsAsBefore parts.old.register parts.new.register }
+    ensures store { IsSameView (S.view parts.old.store) (S.view parts.new.store) }
+    ensures room { OnOk result (vec_len parts.new.register.history + entries ≤ vec_capacity parts.new.register.history) }
+    ensures budget { OnOk result (4 ≤ S.budget parts.new.store) }
+{
+    if parts.register.history.reserve(entries as usize).is_err() {
+        return Err(NoMemory);
+    }
+    parts.store.reserve()
+}

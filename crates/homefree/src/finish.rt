@@ -1,0 +1,126 @@
+//! Epochs that have ended or faulted.
+ghost use Rattle.std.specs.Prelude.{◌≡◌, ◌≢◌, ◌+◌, ◌≤◌, ℕ, true, false, length, vec_len, vec_capacity, Some};
+ghost use Rattle.rv32_exec.specs.Sequential as spec;
+ghost use Rattle.homefree.specs.Acted.{Acted};
+ghost use Rattle.homefree.specs.Arms.{Arrives, RunsEpoch, Settled};
+ghost use Rattle.homefree.specs.Turned as turn;
+
+use crate::answer::{Answer, Cause};
+use crate::attempts::cancel_attempts;
+use crate::parts::Parts;
+use crate::register::Running;
+use run_ledger::Shares;
+use rv32_exec::{Arrived, End, Stop};
+use violations::EpochStore;
+
+impl<S: EpochStore> Parts<S> {
+    /// The end of an epoch: the homefree one commits, and any other core has to come again.
+    pub(crate) fn finish(
+        &mut self,
+        shares: &mut Shares,
+        core: u32,
+        now: Running,
+        arrived: &Arrived,
+    ) -> Answer
+        requires budget { 2 ≤ S.budget self.old.store }
+        requires arrives { Arrives self.old.register (S.view self.old.store) shares.old core now arrived.now arrived.now.at }
+        requires ended { arrived.now.at ≡ Stop.Ended }
+        ensures { Acted self.old.register self.new.register (S.view self.old.store) (S.view self.new.store) shares.old shares.new core (Some arrived.entry.now) result }
+    {
+        if now.epoch != self.register.homefree {
+            return Answer::Again(Cause::NotHomefree);
+        }
+        if arrived.now().exits(&self.register.image) {
+            self.exit(shares, core, now, arrived)
+        } else {
+            self.commit(shares, core, now, arrived)
+        }
+    }
+
+    /// The homefree core publishes, unless it is straight, and notes whom that hurts.
+    fn settle(&mut self, core: u32, now: Running)
+        requires budget { 1 ≤ S.budget self.old.store }
+        requires runs { RunsEpoch self.old.register (S.view self.old.store) core now }
+        requires room { vec_len self.old.register.history + length self.old.register.running.items ≤ vec_capacity self.old.register.history }
+        requires homefree { now.epoch ≡ self.old.register.homefree }
+        ensures settled { Settled self.old.register self.new.register (S.view self.old.store) (S.view self.new.store) core now }
+        ensures budget { S.budget self.old.store ≤ S.budget self.new.store + 1 }
+    {
+        if now.straight {
+            return;
+        }
+        let hurt = self.store.publish(core);
+        self.register.hurt_all(core, hurt);
+    }
+
+    /// The homefree epoch commits, and is left.
+    fn commit(&mut self, shares: &mut Shares, core: u32, now: Running, arrived: &Arrived) -> Answer
+        requires budget { 2 ≤ S.budget self.old.store }
+        requires arrives { Arrives self.old.register (S.view self.old.store) shares.old core now arrived.now arrived.now.at }
+        requires ended { arrived.now.at ≡ Stop.Ended }
+        requires homefree { now.epoch ≡ self.old.register.homefree }
+        requires stays { spec.exits self.old.register.image arrived.now.now ≡ false }
+        ensures { Acted self.old.register self.new.register (S.view self.old.store) (S.view self.new.store) shares.old shares.new core (Some arrived.entry.now) result }
+    {
+        let run = now;
+        self.settle(core, run);
+        self.register.commit(shares, core, now, arrived);
+        self.store.leave(core);
+        left_or_over(self.register.end)
+    }
+
+    /// The homefree epoch exits the loop: all other cores are cancelled, and it commits.
+    fn exit(&mut self, shares: &mut Shares, core: u32, now: Running, arrived: &Arrived) -> Answer
+        requires budget { 2 ≤ S.budget self.old.store }
+        requires arrives { Arrives self.old.register (S.view self.old.store) shares.old core now arrived.now arrived.now.at }
+        requires ended { arrived.now.at ≡ Stop.Ended }
+        requires homefree { now.epoch ≡ self.old.register.homefree }
+        requires exits { spec.exits self.old.register.image arrived.now.now ≡ true }
+        ensures { Acted self.old.register self.new.register (S.view self.old.store) (S.view self.new.store) shares.old shares.new core (Some arrived.entry.now) result }
+    {
+        let run = now;
+        self.settle(core, run);
+        cancel_attempts(&mut self.store, &self.register.running, core);
+        self.register.cancel_all(core);
+        self.register.commit(shares, core, now, arrived);
+        self.store.leave(core);
+        left_or_over(self.register.end)
+    }
+
+    /// A fault: where the homefree epoch faults the loop is over, and any other core has to come again.
+    pub(crate) fn fault(
+        &mut self,
+        shares: &mut Shares,
+        core: u32,
+        now: Running,
+        arrived: &Arrived,
+        cause: u32,
+        pc: u32,
+    ) -> Answer
+        requires budget { 2 ≤ S.budget self.old.store }
+        requires arrives { Arrives self.old.register (S.view self.old.store) shares.old core now arrived.now arrived.now.at }
+        requires faulted { arrived.now.at ≡ Stop.Fault cause pc }
+        ensures { Acted self.old.register self.new.register (S.view self.old.store) (S.view self.new.store) shares.old shares.new core (Some arrived.entry.now) result }
+    {
+        let _ = shares;
+        let _ = arrived;
+        let epoch = now.epoch;
+        if epoch != self.register.homefree {
+            return Answer::Again(Cause::NotHomefree);
+        }
+        let run = now;
+        self.settle(core, run);
+        self.register.fault(core, now, cause, pc);
+        Answer::Over(End::Fault { epoch, cause, pc })
+    }
+}
+
+/// The answer after a commit.
+fn left_or_over(end: Option<End>) -> Answer
+    ensures { result ≡ turn.left_or_over end }
+{
+    match end {
+        Some(end) => Answer::Over(end),
+        None => Answer::Left,
+    }
+}

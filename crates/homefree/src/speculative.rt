@@ -1,0 +1,92 @@
+//! Accesses of a core that isn't straight.
+ghost use Rattle.std.specs.Prelude.{◌≡◌, ◌≤◌, ℕ, Bool, false, Some};
+ghost use Rattle.homefree.specs.Acted.{Acted};
+ghost use Rattle.homefree.specs.Arms.{Arrives};
+ghost use Rattle.homefree.specs.Turned as turn;
+
+use crate::answer::{Answer, Cause};
+use crate::parts::Parts;
+use crate::register::Running;
+use run_ledger::Shares;
+use rv32_exec::{Arrived, Stop};
+use violations::{EpochStore, Step, WaitCause};
+
+impl<S: EpochStore> Parts<S> {
+    /// A load. Where the store waits, the homefree core goes straight, and any other has to come again.
+    pub(crate) fn load(
+        &mut self,
+        shares: &mut Shares,
+        core: u32,
+        now: Running,
+        arrived: &Arrived,
+        addr: u32,
+        width: u32,
+    ) -> Answer
+        requires budget { 2 ≤ S.budget self.old.store }
+        requires arrives { Arrives self.old.register (S.view self.old.store) shares.old core now arrived.now arrived.now.at }
+        requires speculates { now.straight ≡ false }
+        requires load { (signed : Bool) × (rd : ℕ) × (arrived.now.at ≡ Stop.Load addr width signed rd) }
+        ensures { Acted self.old.register self.new.register (S.view self.old.store) (S.view self.new.store) shares.old shares.new core (Some arrived.entry.now) result }
+    {
+        match self.store.load(core, addr, width) {
+            Step::Done { value, hurt } => {
+                let hart = self
+                    .register
+                    .load(shares, core, now, arrived, addr, width, value, hurt);
+                Answer::Go(hart)
+            }
+            Step::Wait(cause) => {
+                if now.epoch == self.register.homefree {
+                    self.straight_load(shares, core, now, arrived, addr, width)
+                } else {
+                    Answer::Again(cause_of(cause))
+                }
+            }
+        }
+    }
+
+    /// A store. Where the store of epochs waits, the homefree core goes straight, and any other has to come again.
+    pub(crate) fn store(
+        &mut self,
+        shares: &mut Shares,
+        core: u32,
+        now: Running,
+        arrived: &Arrived,
+        addr: u32,
+        width: u32,
+        value: u32,
+    ) -> Answer
+        requires budget { 2 ≤ S.budget self.old.store }
+        requires arrives { Arrives self.old.register (S.view self.old.store) shares.old core now arrived.now arrived.now.at }
+        requires speculates { now.straight ≡ false }
+        requires store { arrived.now.at ≡ Stop.Store addr width value }
+        ensures { Acted self.old.register self.new.register (S.view self.old.store) (S.view self.new.store) shares.old shares.new core (Some arrived.entry.now) result }
+    {
+        match self.store.store(core, addr, width, value) {
+            Step::Done { value: _, hurt } => {
+                let hart = self
+                    .register
+                    .store(shares, core, now, arrived, addr, width, value, hurt);
+                Answer::Go(hart)
+            }
+            Step::Wait(cause) => {
+                if now.epoch == self.register.homefree {
+                    self.straight_store(shares, core, now, arrived, addr, width, value)
+                } else {
+                    Answer::Again(cause_of(cause))
+                }
+            }
+        }
+    }
+}
+
+/// Why the core has to come again.
+fn cause_of(cause: WaitCause) -> Cause
+    ensures { result ≡ turn.cause_of cause }
+{
+    match cause {
+        WaitCause::NoWay => Cause::NoWay,
+        WaitCause::OrbFull => Cause::OrbFull,
+        WaitCause::OrbBusy => Cause::OrbBusy,
+    }
+}

@@ -1,0 +1,84 @@
+//! Accesses of the homefree core once it has published.
+ghost use Rattle.std.specs.Prelude.{◌≡◌, ◌+◌, ◌*◌, ◌≤◌, ℕ, Bool, length, vec_len, vec_capacity, Some};
+ghost use Rattle.homefree.specs.Acted.{Acted};
+ghost use Rattle.homefree.specs.Arms.{Arrives, RunsEpoch, WentStraight};
+
+use crate::answer::Answer;
+use crate::parts::Parts;
+use crate::register::Running;
+use run_ledger::Shares;
+use rv32_exec::{Arrived, Stop};
+use violations::EpochStore;
+
+impl<S: EpochStore> Parts<S> {
+    /// The homefree core publishes, unless it is straight. Answers what it runs then.
+    fn go_straight(&mut self, core: u32, now: Running) -> Running
+        requires budget { 1 ≤ S.budget self.old.store }
+        requires runs { RunsEpoch self.old.register (S.view self.old.store) core now }
+        requires room { vec_len self.old.register.history + length self.old.register.running.items ≤ vec_capacity self.old.register.history }
+        requires homefree { now.epoch ≡ self.old.register.homefree }
+        ensures straight { WentStraight self.old.register self.new.register (S.view self.old.store) (S.view self.new.store) core now result }
+        ensures budget { S.budget self.old.store ≤ S.budget self.new.store + 1 }
+    {
+        if now.straight {
+            return now;
+        }
+        let run = now;
+        let straight = run.straightened();
+        let hurt = self.store.publish(core);
+        self.store.look();
+        self.register.publish(core, now, hurt);
+        straight
+    }
+
+    /// A load of the homefree core, which publishes first unless it is straight.
+    pub(crate) fn straight_load(
+        &mut self,
+        shares: &mut Shares,
+        core: u32,
+        now: Running,
+        arrived: &Arrived,
+        addr: u32,
+        width: u32,
+    ) -> Answer
+        requires budget { 2 ≤ S.budget self.old.store }
+        requires arrives { Arrives self.old.register (S.view self.old.store) shares.old core now arrived.now arrived.now.at }
+        requires homefree { now.epoch ≡ self.old.register.homefree }
+        requires load { (signed : Bool) × (rd : ℕ) × (arrived.now.at ≡ Stop.Load addr width signed rd) }
+        ensures { Acted self.old.register self.new.register (S.view self.old.store) (S.view self.new.store) shares.old shares.new core (Some arrived.entry.now) result }
+    {
+        let straight = self.go_straight(core, now);
+        let (value, hurt) = self.store.straight_load(core, addr, width);
+        self.store.look();
+        let hart = self
+            .register
+            .load(shares, core, straight, arrived, addr, width, value, hurt);
+        Answer::Go(hart)
+    }
+
+    /// A store of the homefree core, which publishes first unless it is straight.
+    pub(crate) fn straight_store(
+        &mut self,
+        shares: &mut Shares,
+        core: u32,
+        now: Running,
+        arrived: &Arrived,
+        addr: u32,
+        width: u32,
+        value: u32,
+    ) -> Answer
+        requires budget { 2 ≤ S.budget self.old.store }
+        requires arrives { Arrives self.old.register (S.view self.old.store) shares.old core now arrived.now arrived.now.at }
+        requires homefree { now.epoch ≡ self.old.register.homefree }
+        requires store { arrived.now.at ≡ Stop.Store addr width value }
+        ensures { Acted self.old.register self.new.register (S.view self.old.store) (S.view self.new.store) shares.old shares.new core (Some arrived.entry.now) result }
+    {
+        let straight = self.go_straight(core, now);
+        let hurt = self.store.straight_store(core, addr, width, value);
+        self.store.look();
+        let hart = self
+            .register
+            .store(shares, core, straight, arrived, addr, width, value, hurt);
+        Answer::Go(hart)
+    }
+}
