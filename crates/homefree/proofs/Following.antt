@@ -26,9 +26,10 @@ use Rattle.homefree.specs.declared.answer.Answer.TheVariants.{Go, Again, Left, O
 use Rattle.homefree.specs.declared.answer.Cause.{Cause}
 use Rattle.homefree.specs.declared.answer.StopCause.{StopCause}
 use Rattle.homefree.specs.declared.fault.TurnFault.{TurnFault}
+use Rattle.homefree.specs.declared.fault.TurnFault.TheVariants.{HistoryFull, NoMemory}
 use Rattle.homefree.specs.Again.{IsWhy, IfAgain, IsLaterAt}
 use Rattle.homefree.specs.Agrees.{Agrees}
-use Rattle.homefree.specs.BookView.{BookView, free_entries}
+use Rattle.homefree.specs.BookView.{BookView, free_entries, IsFull}
 use Rattle.homefree.specs.Grown.{GrowsBy}
 use Rattle.homefree.specs.InStep.{InStep}
 use Rattle.homefree.specs.Turned as turn
@@ -268,3 +269,11 @@ module _ {S : Type 0} (view : S → StoreView) (old new : BookView S) (s : FlatS
       let goes : replay new.image new.cores new.history ≡ Some ended.0 = rw (a.grows.image, a.grows.cores, a.grows.history)
       (history_goes_on old.image old.cores old.history a.out.entries s ended.0 replays ended.1) in
       ap (λ (x : FlatState). x.end) (one_state (replay new.image new.cores new.history) u ended.0 leads goes) ∙ ended.2
+
+  -- a history that is said to be full is
+  pub turn_full : Turned view old s shares core next answer new shares' → answer ≡ Err HistoryFull → IsFull new
+  turn_full (turn.over o same held) is = let e = o.answer_is in absurd cc
+  turn_full (turn.stopped o same held) is = let e = o.answer_is in absurd cc
+  turn_full (turn.full o same held) is = subst (λ b. IsFull b) (sym same) o.full
+  turn_full (turn.no_memory may same grows e) is = absurd cc
+  turn_full (turn.acts a) is = let e = a.answer_is in absurd cc

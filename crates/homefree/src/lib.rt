@@ -16,7 +16,7 @@ mod speculative;
 mod straight;
 
 pub use answer::{Answer, Cause, StopCause};
-pub use book::Book;
+pub use book::{Book, Loop};
 pub use fault::TurnFault;
 pub use parts::Parts;
 pub use register::{Register, Running};
