@@ -21,9 +21,10 @@ use crate::parts::Parts;
 use crate::register::Register;
 use run_ledger::{Counts, Shares, open};
 use rv32_exec::{Arrived, End, Image, NoMemory};
-use spec_history::Entry;
+use spec_history::{Entry, What};
 use std::alloc::Global;
 use std::marker::Model;
+use ticket_lock::Kept;
 use violations::EpochStore;
 
 /// A history of speculative epochs, with the store and the cores that it has led to.
@@ -44,6 +45,28 @@ impl<S: EpochStore> Model for Book<S> {
     ghost view = { λ b. record { image = b.parts.register.image; cores = length b.parts.register.running.items; room = b.room; history = b.parts.register.history.items; totals = b.parts.register.totals; store = b.parts.store; stopped = b.stopped } };
 
     ghost invariant = { λ b. IsBook b.parts.register (S.view b.parts.store) b.room b.stopped };
+}
+
+/// What stays as it was while turns are taken. No value of it is made.
+pub struct Loop {
+    /// The image of the loop.
+    pub image: Image,
+    /// How many cores there are.
+    pub cores: u32,
+    /// How many entries the history may have.
+    pub room: u32,
+}
+
+impl<S: EpochStore> Kept for Book<S> {
+    ghost use Rattle.homefree.specs.LockView.{loop_of, past_of};
+
+    type Fixed = Loop;
+
+    type What = What;
+
+    ghost fixed = { λ b. loop_of b };
+
+    ghost past = { λ b. past_of b.history };
 }
 
 impl<S: EpochStore> Book<S> {
@@ -123,6 +146,7 @@ impl<S: EpochStore> Book<S> {
             → s.cores core ≡ Some c → c.epoch ≡ s.homefree → result ≢ Ok (Answer.Again cause) }
         ensures over { (end : End) (s : FlatState) → result ≡ Ok (Answer.Over end) → replay self.new.image self.new.cores self.new.history ≡ Some s
             → s.end ≡ Some end }
+        ensures full { result ≡ Err TurnFault.HistoryFull → IsFull self.new }
     {
         self.look();
         self.take_turn(core, next, shares)

@@ -16,6 +16,6 @@ mod speculative;
 mod straight;
 
 pub use answer::{Answer, Cause, StopCause};
-pub use book::Book;
+pub use book::{Book, Loop};
 pub use fault::TurnFault;
 pub use schedule::drive;
