@@ -10,6 +10,7 @@ mod hurts;
 mod notes;
 mod opening;
 mod parts;
+mod readers;
 mod register;
 mod schedule;
 mod speculative;
