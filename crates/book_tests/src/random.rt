@@ -1,4 +1,5 @@
 //! Random images and schedules.
+ghost use Rattle.std.specs.Prelude.{◌<◌};
 
 use std::alloc::{AllocError, Global};
 
@@ -15,14 +16,17 @@ impl Random {
         }
     }
 
-    /// A number below this one, which is not 0.
-    pub fn below(&mut self, count: u32) -> u32 {
+    /// A number below this one.
+    pub fn below(&mut self, count: u32) -> u32
+        requires { 0 < count }
+        ensures { result < count }
+    {
         // xorshift64* of Vigna, "An experimental exploration of Marsaglia's xorshift generators, scrambled".
         self.state ^= self.state >> 12;
         self.state ^= self.state << 25;
         self.state ^= self.state >> 27;
         let high = self.state.wrapping_mul(0x2545_f491_4f6c_dd1d) >> 32;
-        (high as u32).checked_rem(count).unwrap_or(0)
+        high as u32 % count
     }
 
     /// One of the registers x5 to x10.
@@ -34,15 +38,11 @@ impl Random {
     fn instruction(&mut self) -> u32 {
         let (rd, rs1, rs2) = (self.register(), self.register(), self.register());
         let size = self.below(3);
-        let offset = 64 + (self.below(16) >> size << size);
+        let offset = 64_u32.wrapping_add(self.below(16) >> size << size);
+        let unsigned = if size < 2 { 4 * self.below(2) } else { 0 };
         let zero = 0;
         match self.below(40) {
-            0..=9 => load(
-                rd,
-                zero,
-                offset,
-                size + 4 * self.below(2) % 8 * u32::from(size < 2),
-            ),
+            0..=9 => load(rd, zero, offset, size + unsigned),
             10..=21 => store(rs2, zero, offset, size),
             // Most of these fault, or load what another epoch stores.
             22 => load(rd, rs1, offset, 2),
@@ -77,7 +77,9 @@ impl Random {
     }
 
     /// Up to 150 core numbers.
-    pub fn schedule(&mut self, alloc: Global, cores: u32) -> Result<Vec<u32>, AllocError> {
+    pub fn schedule(&mut self, alloc: Global, cores: u32) -> Result<Vec<u32>, AllocError>
+        requires { 0 < cores }
+    {
         let mut schedule = Vec::new(alloc);
         for _ in 0..self.below(150) {
             schedule.push(self.below(cores))?;

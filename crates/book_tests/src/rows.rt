@@ -180,7 +180,8 @@ pub fn counts_in(text: &str) -> Option<Counts> {
 }
 
 /// How the loop has ended, as these words say: `done`, `exit` or `fault` with its numbers, or another word where it isn't over.
-pub fn end_of<'a>(mut words: impl Iterator<Item = &'a str>) -> Option<Option<End>> {
+pub fn end_of(text: &str) -> Option<Option<End>> {
+    let mut words = text.split_whitespace();
     let end = words.next()?;
     let mut numbers = words.map(|word| word.parse::<u32>().ok());
     let mut number = || numbers.next()?;
