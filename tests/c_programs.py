@@ -8,9 +8,9 @@ COMMAND reads an image on standard input and ends with the word `seq`; without i
 Each program of tests/c says in the lines that begin with `//> ` how its loop ends and which bytes its variables have then. They
 were printed by the same C, compiled by `cc` for this machine and called epoch by epoch, and are compared with that again where
 `cc` is there. The program's image stands beside it. The report has to be exactly the rows in which those bytes differ from the
-loaded ones, but for what calls left on stacks. Where a compiler for RISC-V is there, as tools/image-of-c says, all programs are
-compiled again and run too, with those of examples/c, and the sources that can't be an image are tried; else a line says that this
-was left out. `--make` writes the lines and the images anew. Exits with 1 where a check failed.
+loaded ones, but for what calls left on stacks. By each compiler for RISC-V that is there, as tools/image-of-c says, all programs
+are compiled again and run too, with those of examples/c, and the sources that can't be an image are tried; a line says which
+compiler was left out. `--make` writes the lines and the images anew. Exits with 1 where a check failed.
 """
 
 import re
@@ -182,24 +182,24 @@ REFUSED = [
 ]
 
 
-def refusals():
+def refusals(compiler):
     """Sources that can't be an image, each with the reason that is told in one line."""
     for source, options, reason in REFUSED:
         with tempfile.TemporaryDirectory() as folder:
             path = Path(folder, "refused.c")
             path.write_bytes(source if isinstance(source, bytes) else source.encode() + b"\n")
-            text, errors, status = image_of(["--epochs", "4", *options, path])
+            text, errors, status = image_of(["--compiler", compiler, "--epochs", "4", *options, path])
         right = status == 1 and text == "" and any(reason in line for line in errors.splitlines())
-        yield f"refusal: {reason}", None if right else f"got {text!r}, {errors!r}"
+        yield f"refusal by {compiler}: {reason}", None if right else f"got {text!r}, {errors!r}"
 
 
-def warnings():
+def warnings(compiler):
     """What the compiler warns of is shown and refuses nothing."""
-    text, errors, status = image_of([PROGRAMS / "counter.c"])
+    text, errors, status = image_of(["--compiler", compiler, PROGRAMS / "counter.c"])
     right = status == 0 and "warning: unused parameter" in errors and "\nepochs 10\n" in text
-    yield "warnings are shown", None if right else f"got {text!r}, {errors!r}"
-    text, errors, status = image_of([PROGRAMS / "search.c"])
-    yield "no warning", None if (errors, status) == ("", 0) else f"got {errors!r}"
+    yield f"warnings of {compiler} are shown", None if right else f"got {text!r}, {errors!r}"
+    text, errors, status = image_of(["--compiler", compiler, PROGRAMS / "search.c"])
+    yield f"no warning of {compiler}", None if (errors, status) == ("", 0) else f"got {errors!r}"
 
 
 def help_text():
@@ -225,15 +225,15 @@ def as_they_stand(command):
         yield f"report of c/{name}.image", wrong_report(command, image, told_in(PROGRAMS / f"{name}.c"))
 
 
-def compiled_anew(command, with_cc):
+def compiled_anew(command, with_cc, compiler):
     for name, further in SOURCES.items():
         source = PROGRAMS / f"{name}.c"
-        text, errors, status = image_of([source, *further])
-        yield f"report of {name}.c", errors if status else wrong_report(command, text, told_in(source))
+        text, errors, status = image_of(["--compiler", compiler, source, *further])
+        yield f"report of {name}.c by {compiler}", errors if status else wrong_report(command, text, told_in(source))
     for source in sorted((ROOT / "examples" / "c").glob("*.c")) if with_cc else []:
         if source.stem != WITH_POINTERS:
-            text, errors, status = image_of([source])
-            yield f"report of {source.name}", errors if status else wrong_report(command, text, told(*native(source, [])))
+            text, errors, status = image_of(["--compiler", compiler, source])
+            yield f"report of {source.name} by {compiler}", errors if status else wrong_report(command, text, told(*native(source, [])))
 
 
 def make():
@@ -262,10 +262,11 @@ def main():
         checks += natively()
     else:
         print("SKIPPED: the programs of tests/c on this machine, since cc or nm isn't installed")
-    if "no compiler is installed" in image_of([PROGRAMS / "search.c"])[1]:
-        print("SKIPPED: C sources to images, since neither gcc-riscv64-unknown-elf nor clang and lld are installed")
-    else:
-        checks += [*compiled_anew(command, with_cc), *refusals(), *warnings()]
+    for compiler, packages in (("gcc", "gcc-riscv64-unknown-elf isn't"), ("clang", "clang and lld aren't")):
+        if "no compiler is installed" in image_of(["--compiler", compiler, PROGRAMS / "search.c"])[1]:
+            print(f"SKIPPED: C sources to images by {compiler}, since {packages} installed")
+        else:
+            checks += [*compiled_anew(command, with_cc, compiler), *refusals(compiler), *warnings(compiler)]
     failed = [(name, wrong) for name, wrong in checks if wrong]
     for name, wrong in failed:
         print(f"FAILED {name}\n  {wrong}")

@@ -129,6 +129,15 @@ def definitions():
         yield f"{crate}: {path}.{name}", wrong
 
 
+def stale():
+    """The rows of the list whose definition has gone from its file."""
+    page = DOCS / "cited-definitions.md"
+    for name, crate, path in re.findall(r"(?m)^\| `([^`]+)` \| \[`[^`]*`\]\(\.\./crates/(\w+)/specs/([\w/]+)\.antt\)", page.read_text()):
+        file = file_of(crate, path)
+        there = file.is_file() and re.search(rf"(?m)^ *(?:[a-z]+ )*{re.escape(name)}(?=[ :]|$)", file.read_text())
+        yield f"{page.name}: {crate}, {path}, {name}", None if there else "has gone from its file"
+
+
 # --- Links and lengths ------------------------------------------------------
 
 def pages():
@@ -169,7 +178,7 @@ def main():
         for name, wrong in definitions():
             print(name, wrong or "")
         return 0
-    checks = [*definitions(), *links(), *lengths()]
+    checks = [*definitions(), *stale(), *links(), *lengths()]
     failed = [(name, wrong) for name, wrong in checks if wrong]
     for name, wrong in failed:
         print(f"FAILED {name} {wrong}")

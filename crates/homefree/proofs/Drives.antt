@@ -1,16 +1,11 @@
 -- The turns of a list of core numbers, one after another, and the end that they come to.
-use Rattle.std.proofs.Common.{◌≡◌, ◌≢◌, ℕ, suc, ◌+◌, ◌<◌, ◌==◌, Bool, true, false, cond, List, [], ◌∷◌, length, get_or, drop, Option, Some, None, Result, Ok, Err, option_map, refl, sym, ap, subst, ◌∙◌, arith, add-one, drop-cons, eq-eqb}
+use Rattle.std.proofs.Common.{◌≡◌, ◌≢◌, ℕ, ◌+◌, ◌<◌, List, ◌∷◌, length, get_or, drop, Option, Some, None, Result, Ok, Err, option_map, refl, sym, ap, subst, ◌∙◌, arith, add-one, drop-cons}
 use Rattle.std.proofs.Math.Path.{fun_ext}
 use Rattle.std.proofs.lemmas.List.{get_or-replicate, get_or_past}
 use native.Mathlib.Decide.{dec_lt}
 use Rattle.std.proofs.Math.ListN.{replicate, length-replicate}
-use Rattle.rv32_exec.specs.Arrival.{Arrival}
-use Rattle.rv32_image.specs.Image.{LoadedImage}
 use Rattle.rv32_exec.specs.declared.sequential.End.{End}
 use Rattle.rv32_exec.specs.Hart.{HartState}
-use Rattle.spec_history.specs.FlatState.{FlatState}
-use Rattle.spec_history.specs.Laws.{Holds}
-use Rattle.spec_history.specs.Replay.{replay}
 use Rattle.spec_history.proofs.Replays.{replayed}
 use Rattle.violations.specs.View.{StoreView}
 use Rattle.homefree.specs.declared.answer.Answer.{Answer}

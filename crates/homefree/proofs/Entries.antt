@@ -1,12 +1,12 @@
 -- The entries of a turn are all of the core that takes it.
-use Rattle.std.proofs.Common.{◌≡◌, ℕ, zero, suc, ◌<◌, Bool, true, false, cond, All, List, [], ◌∷◌, ◌++◌, refl, sym, ap, subst, ◌∙◌}
+use Rattle.std.proofs.Common.{◌≡◌, ℕ, zero, suc, ◌<◌, Bool, true, false, cond, All, List, [], ◌++◌, refl, sym, subst}
 use Rattle.std.proofs.lemmas.List.Elements.{All-nil, All-cons, All-append, All-weaker}
 use Rattle.spec_history.specs.declared.entry.Entry.{Entry}
 use Rattle.spec_history.specs.declared.entry.What.{What}
 use Rattle.spec_history.specs.FlatState.{CoreState}
 use Rattle.violations.specs.View.{StoreView}
 use Rattle.homefree.specs.declared.answer.Answer.{Answer}
-use Rattle.homefree.specs.Hurts.{entry, entry_for_each, hurts, cancels}
+use Rattle.homefree.specs.Hurts.{entry, entry_for_each, hurts}
 use Rattle.homefree.specs.Turned.{Turn, Outcome, does, publish_of}
 use Rattle.homefree.specs.Turned as turn
 

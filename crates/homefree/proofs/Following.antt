@@ -1,19 +1,14 @@
 -- What follows from a turn, over the definitions alone: how the history grows, why a core has to come again, and that an end
 -- which a turn answers is that of its history.
-use Rattle.std.proofs.Common.{◌≡◌, ◌≢◌, ◌≤◌, ◌<◌, ◌*◌, ℕ, ◌+◌, Bool, true, false, cond, All, List, [], ◌++◌, length, Option, Some, None, Result, Ok, Err, refl, sym, ap, subst, ◌∙◌, arith, append-nil, length-append}
+use Rattle.std.proofs.Common.{◌≡◌, ◌≢◌, ◌≤◌, ◌<◌, ℕ, ◌+◌, Bool, true, false, cond, List, [], Option, Some, None, Result, Ok, Err, refl, sym, ap, subst, ◌∙◌, arith, append-nil}
 use Rattle.std.proofs.lemmas.List.Elements.{All-nil}
-use Rattle.rv32_image.specs.Image.{LoadedImage}
-use Rattle.rv32_exec.specs.declared.stop.Stop.{Stop}
 use Rattle.rv32_exec.specs.declared.sequential.End.{End}
 use Rattle.rv32_exec.specs.declared.sequential.End.TheVariants.{Exit}
 use Rattle.rv32_exec.specs.Arrival.{Arrival}
 use Rattle.rv32_exec.specs.Hart.{HartState}
-use Rattle.rv32_exec.specs.NextEvent.{next_event}
 use Rattle.run_ledger.specs.declared.counts.Counts.{Counts}
 use Rattle.spec_history.specs.declared.entry.Entry.{Entry}
-use Rattle.spec_history.specs.declared.entry.What.TheVariants.{Commit, Fault}
 use Rattle.spec_history.specs.FlatState.{CoreState, FlatState, end_at}
-use Rattle.spec_history.specs.Effect.{effect_on}
 use Rattle.spec_history.specs.Replay.{replay, replay_from}
 use Rattle.spec_history.specs.Laws.{IsKept}
 use Rattle.spec_history.proofs.Joining.{history_goes_on}
@@ -22,13 +17,14 @@ use Rattle.violations.specs.View.{StoreView}
 use Rattle.violations.specs.declared.step.WaitCause.{WaitCause}
 use Rattle.violations.specs.declared.step.WaitCause.TheVariants as wait
 use Rattle.homefree.specs.declared.answer.Answer.{Answer}
-use Rattle.homefree.specs.declared.answer.Answer.TheVariants.{Go, Again, Left, Over, Stopped}
+use Rattle.homefree.specs.declared.answer.Answer.TheVariants.{Go, Again, Over, Stopped}
 use Rattle.homefree.specs.declared.answer.Cause.{Cause}
 use Rattle.homefree.specs.declared.answer.StopCause.{StopCause}
 use Rattle.homefree.specs.declared.fault.TurnFault.{TurnFault}
+use Rattle.homefree.specs.declared.fault.TurnFault.TheVariants.{HistoryFull}
 use Rattle.homefree.specs.Again.{IsWhy, IfAgain, IsLaterAt}
 use Rattle.homefree.specs.Agrees.{Agrees}
-use Rattle.homefree.specs.BookView.{BookView, free_entries}
+use Rattle.homefree.specs.BookView.{BookView, IsFull}
 use Rattle.homefree.specs.Grown.{GrowsBy}
 use Rattle.homefree.specs.InStep.{InStep}
 use Rattle.homefree.specs.Turned as turn
@@ -268,3 +264,11 @@ module _ {S : Type 0} (view : S → StoreView) (old new : BookView S) (s : FlatS
       let goes : replay new.image new.cores new.history ≡ Some ended.0 = rw (a.grows.image, a.grows.cores, a.grows.history)
       (history_goes_on old.image old.cores old.history a.out.entries s ended.0 replays ended.1) in
       ap (λ (x : FlatState). x.end) (one_state (replay new.image new.cores new.history) u ended.0 leads goes) ∙ ended.2
+
+  -- a history that is said to be full is
+  pub turn_full : Turned view old s shares core next answer new shares' → answer ≡ Err HistoryFull → IsFull new
+  turn_full (turn.over o same held) is = let e = o.answer_is in absurd cc
+  turn_full (turn.stopped o same held) is = let e = o.answer_is in absurd cc
+  turn_full (turn.full o same held) is = subst (λ b. IsFull b) (sym same) o.full
+  turn_full (turn.no_memory may same grows e) is = absurd cc
+  turn_full (turn.acts a) is = let e = a.answer_is in absurd cc

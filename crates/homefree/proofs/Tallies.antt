@@ -1,5 +1,5 @@
 -- The counts of a history: none is above its length, and shares that count no more than the totals still do after a turn.
-use Rattle.std.proofs.Common.{◌≡◌, ◌≤◌, ◌<◌, ◌^◌, ℕ, suc, ◌+◌, List, [], ◌∷◌, length, refl, sym, subst, arith}
+use Rattle.std.proofs.Common.{◌≡◌, List, [], ◌∷◌, length, arith}
 use Rattle.run_ledger.specs.declared.counts.Counts.{Counts}
 use Rattle.run_ledger.specs.Counts.{sum_of, IsAtMost}
 use Rattle.spec_history.specs.declared.entry.Entry.{Entry}

@@ -1,5 +1,5 @@
 -- Why a core has to come again.
-use Rattle.std.specs.Prelude.{◌≡◌, ◌<◌, ◌≤◌, false, Option, Some, None, Result, Ok, Err}
+use Rattle.std.specs.Prelude.{◌≡◌, ◌<◌, ◌≤◌, false, Some, None, Result, Ok, Err}
 use Rattle.rv32_exec.specs.declared.stop.Stop.{Stop}
 use Rattle.rv32_exec.specs.NextEvent.{next_event}
 use Rattle.spec_history.specs.FlatState.{CoreState}

@@ -1,5 +1,5 @@
 -- What the drive keeps of each core: where `advance` came to from the hart that the core has in hand.
-use Rattle.std.specs.Prelude.{◌≡◌, ℕ, ◌<◌, List, Option, Some, None, Result, Ok, Err, option_map}
+use Rattle.std.specs.Prelude.{ℕ, List, Option, None, Result, Ok, Err, option_map}
 use Rattle.std.specs.List.{slice_index_or}
 use Rattle.rv32_image.specs.Image.{LoadedImage}
 use Rattle.rv32_exec.specs.Arrival.{Arrival}

@@ -7,8 +7,9 @@ pub mod Counted
 pub mod Turned
 pub mod InStep
 pub mod Driven
--- Words of contracts: BookView (what contracts see of a book) and Names (printed names).
+-- Words of contracts: BookView (what contracts see of a book), LockView (what a lock keeps of it) and Names (printed names).
 pub mod BookView
+pub mod LockView
 pub mod Names
 -- What the code keeps.
 pub mod Kept

@@ -10,12 +10,13 @@ mod hurts;
 mod notes;
 mod opening;
 mod parts;
+mod readers;
 mod register;
 mod schedule;
 mod speculative;
 mod straight;
 
 pub use answer::{Answer, Cause, StopCause};
-pub use book::Book;
+pub use book::{Book, Loop};
 pub use fault::TurnFault;
 pub use schedule::drive;

@@ -1,4 +1,4 @@
-use Rattle.std.proofs.Common.{ℕ, None, Option, Result, drop}
+use Rattle.std.proofs.Common.{None, Option, Result, drop}
 use Rattle.rv32_exec.specs.declared.sequential.End.{End}
 use Rattle.homefree.specs.declared.fault.TurnFault.{TurnFault}
 use Rattle.homefree.specs.BookView.{IsOfSameLoop}

@@ -1,5 +1,4 @@
-use Rattle.std.proofs.Common.{◌≡◌, ◌≤◌, ◌+◌, length, option_copied, arith}
-use Rattle.rv32_image.specs.Version.{limits_of}
+use Rattle.std.proofs.Common.{option_copied}
 use Rattle.homefree.proofs.Books.{fits_same, book_same, turned_refused, turned_acts, may_note, book_acts, has_free, has_room, asked_shares, asked_core}
 use Rattle.homefree.proofs.book.Book.take_turn.Goals as goal
 

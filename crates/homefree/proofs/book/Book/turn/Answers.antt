@@ -1,7 +1,7 @@
 use Rattle.std.proofs.Common.{option_copied}
 use Rattle.homefree.specs.Counted.{counted_in}
 use Rattle.homefree.proofs.Tallies.{shares_still}
-use Rattle.homefree.proofs.Following.{turn_grows, turn_why, turn_never_again, turn_ends}
+use Rattle.homefree.proofs.Following.{turn_grows, turn_why, turn_never_again, turn_ends, turn_full}
 use Rattle.homefree.proofs.book.Book.turn.Goals as goal
 
 pub returns-clause-grows : goal.returns-clause-grows
@@ -32,3 +32,9 @@ returns-clause-over g c = λ end u is leads.
     let i = c.look.ensures in
     turn_ends g.S.EpochStore.view c.args.self.now c.take_turn.new.self i.state c.args.shares.now c.take_turn.new.shares c.args.core (option_copied c.args.next) c.take_turn.result i.replays
     i (c.take_turn.ensures i.state i.replays) end is u leads
+
+pub returns-clause-full : goal.returns-clause-full
+returns-clause-full g c = λ is.
+    let i = c.look.ensures in
+    turn_full g.S.EpochStore.view c.args.self.now c.take_turn.new.self i.state c.args.shares.now c.take_turn.new.shares c.args.core (option_copied c.args.next) c.take_turn.result i.replays
+    (c.take_turn.ensures i.state i.replays) is

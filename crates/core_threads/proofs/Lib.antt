@@ -1,0 +1,4 @@
+pub mod Counting
+pub mod Passing
+pub mod Turning
+pub mod Results

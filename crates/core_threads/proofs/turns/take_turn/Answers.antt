@@ -1,0 +1,9 @@
+use Rattle.std.proofs.Common.{Ok, ap, ◌∙◌}
+use Rattle.core_threads.proofs.Turning.{over_past}
+use Rattle.core_threads.proofs.turns.take_turn.Goals as goal
+
+pub returns-in-Ok-clause-over : goal.returns-in-Ok-clause-over
+returns-in-Ok-clause-over g c = λ is.
+    let i = c.look-in-Ok.ensures in
+    let ended = c.goes_on.ensures.over is in
+    over_past c.turn.new.self i.state ended.0 i.replays (c.turn.ensures.over ended.0 i.state (c.in-Ok.is ∙ ap Ok ended.1) i.replays)

@@ -1,0 +1,8 @@
+-- Definitions to believe: Sentence (what holds of the book that a run gives back) and Passes (what a pass knows and has
+-- counted after turns).
+pub mod Sentence
+pub mod Passes
+-- Words of contracts: Faults (which fault, and its printed name).
+pub mod Faults
+-- What the code keeps.
+pub mod Adds

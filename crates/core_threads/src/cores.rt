@@ -1,0 +1,122 @@
+//! One thread for each core, by a recursion over the pass and the shares.
+ghost use Rattle.std.specs.Prelude.{◌≡◌, ◌+◌, ◌<◌, ◌≤◌, Some, [], length};
+ghost use denote.Param.Send.{IsSync, IsSend};
+ghost use Rattle.run_ledger.specs.Counts.{no_counts};
+ghost use Rattle.ticket_lock.specs.Known.{mine};
+ghost use Rattle.core_threads.specs.Passes.{IsLater, IsCounted};
+
+use crate::gate::Gate;
+use crate::turns::{LoopEnd, core_loop, halt};
+use homefree::{Book, StopCause};
+use run_ledger::{Shares, gather};
+use rv32_exec::Image;
+use std::snapshot::Snapshot;
+use std::sync::Wait;
+use std::thread::{self, Promise, Scope, Threads};
+use ticket_lock::{Pass, TicketLock};
+use violations::EpochStore;
+
+/// What the thread of a core gives back: its pass, later, and shares that are the counts of the pass's own entries.
+#[derive(Drop)]
+struct Counted<S: EpochStore>(Snapshot<Pass<Book<S>>>);
+
+impl<S: EpochStore> Promise<(Pass<Book<S>>, Shares, LoopEnd)> for Counted<S> {
+    ghost use Rattle.core_threads.specs.Passes.{IsLater, IsCounted};
+
+    ghost kept_by = { λ p r. IsLater p.0.value r.0 × IsCounted r.0 r.1 };
+}
+
+/// A thread for each core, in a scope of their own, and their passes and shares together once all are joined.
+pub(crate) fn run_threads<'x, S: EpochStore, G: Gate, R: Threads + Wait + Sync>(
+    rt: &'x R,
+    lock: &'x TicketLock<Book<S>>,
+    pass: Pass<Book<S>>,
+    shares: Shares,
+    image: &'x Image,
+    gate: &'x G,
+    cores: u32,
+) -> (Pass<Book<S>>, Shares)
+    requires own { pass.lock ≡ Some lock.now }
+    requires image { lock.now.fixed.image ≡ image.now }
+    requires cores { (pass.lo < pass.hi) × (pass.hi ≡ cores + 1) × (cores ≡ lock.now.fixed.cores) × (cores ≤ 16) }
+    requires new { (mine pass ≡ []) × (length pass.seen ≤ 1048576) × (shares ≡ no_counts) }
+    ensures later { IsLater pass result.0 }
+    ensures counted { IsCounted result.0 result.1 }
+{
+    thread::scope(
+        thread::scope_env(),
+        rt,
+        move |scope| -> (Pass<Book<S>>, Shares)
+            requires own { pass.lock ≡ Some lock.now }
+            requires image { lock.now.fixed.image ≡ image.now }
+            requires cores { (pass.lo < pass.hi) × (pass.hi ≡ cores + 1) × (cores ≡ lock.now.fixed.cores) × (cores ≤ 16) }
+            requires new { (mine pass ≡ []) × (length pass.seen ≤ 1048576) × (shares ≡ no_counts) }
+            requires sync { IsSync R.row × IsSync G.row × IsSend S.row }
+            ensures later { IsLater pass result.0 }
+            ensures counted { IsCounted result.0 result.1 }
+        { start(rt, scope, lock, pass, shares, image, gate, cores) },
+    )
+}
+
+/// Starts a thread for each number of the pass but its last, and joins them. Where a thread is refused, the book is stopped, and
+/// what the thread was to run is run here, so that its pass and its shares come back.
+fn start<'s, E, S: EpochStore + 's, G: Gate + 's, R: Threads + Wait + Sync>(
+    rt: &'s R,
+    scope: &Scope<'s, E>,
+    lock: &'s TicketLock<Book<S>>,
+    pass: Pass<Book<S>>,
+    shares: Shares,
+    image: &'s Image,
+    gate: &'s G,
+    cores: u32,
+) -> (Pass<Book<S>>, Shares)
+    requires own { pass.lock ≡ Some lock.now }
+    requires image { lock.now.fixed.image ≡ image.now }
+    requires cores { (pass.lo < pass.hi) × (pass.hi ≡ cores + 1) × (cores ≡ lock.now.fixed.cores) × (cores ≤ 16) }
+    requires new { (mine pass ≡ []) × (length pass.seen ≤ 1048576) × (shares ≡ no_counts) }
+    ensures later { IsLater pass result.0 }
+    ensures counted { IsCounted result.0 result.1 }
+{
+    if pass.who() >= cores as u64 {
+        return (pass, shares);
+    }
+    let (first, ours, rest, theirs) = split_off(lock, pass, shares);
+    let promise = Counted(Snapshot::of(&first));
+    let job = move || -> (Pass<Book<S>>, Shares, LoopEnd)
+        requires { (first.lock ≡ Some lock.now) × (first.lo < lock.now.fixed.cores) × (lock.now.fixed.cores ≤ 16) × (lock.now.fixed.image ≡ image.now) × IsCounted first ours }
+        ensures { IsLater first result.0 × IsCounted result.0 result.1 }
+    { core_loop(rt, lock, first, ours, image, gate) };
+    match scope.spawn_with(promise, job) {
+        Ok(thread) => {
+            let (rest, theirs) = start(rt, scope, lock, rest, theirs, image, gate, cores);
+            let (first, ours, _) = thread.join(rt);
+            (lock.join(first, rest), gather(ours, theirs))
+        }
+        Err(refused) => {
+            let (rest, _) = halt(rt, lock, rest, StopCause::NoThread);
+            let (first, ours, _) = (refused.value)();
+            let (rest, theirs) = start(rt, scope, lock, rest, theirs, image, gate, cores);
+            (lock.join(first, rest), gather(ours, theirs))
+        }
+    }
+}
+
+/// The first number of a pass that has made no entry, with its part of the shares, and the rest of both.
+fn split_off<S: EpochStore>(
+    lock: &TicketLock<Book<S>>,
+    pass: Pass<Book<S>>,
+    shares: Shares,
+) -> (Pass<Book<S>>, Shares, Pass<Book<S>>, Shares)
+    requires own { pass.lock ≡ Some lock.now }
+    requires more { (pass.lo + 1 < pass.hi) × (pass.hi ≤ 17) }
+    requires new { (mine pass ≡ []) × (length pass.seen ≤ 1048576) × (shares ≡ no_counts) }
+    ensures first { result.0 ≡ record pass { hi = pass.lo + 1 } }
+    ensures counted { IsCounted result.0 result.1 }
+    ensures rest { result.2 ≡ record pass { lo = pass.lo + 1 } }
+    ensures new { (mine result.2 ≡ []) × (length result.2.seen ≤ 1048576) × (result.3 ≡ no_counts) }
+{
+    let at = pass.who() + 1;
+    let (first, rest) = lock.split(pass, at);
+    let (ours, theirs) = shares.split();
+    (first, ours, rest, theirs)
+}

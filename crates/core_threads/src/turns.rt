@@ -1,0 +1,216 @@
+//! The turns of one core.
+ghost use Rattle.std.specs.Prelude.{◌≡◌, ◌≢◌, ◌<◌, ◌≤◌, Some, true, length, option_copied};
+ghost use Rattle.ticket_lock.specs.Known.{mine};
+ghost use Rattle.homefree.specs.Acted.{IfArrived};
+ghost use Rattle.homefree.specs.BookView.{IsFull, IsOfSameLoop};
+ghost use Rattle.homefree.specs.Counted.{IsNoMore, counted_in};
+ghost use Rattle.homefree.specs.LockView.{loop_of, past_of};
+ghost use Rattle.core_threads.specs.Adds.{Adds};
+ghost use Rattle.core_threads.specs.Passes.{IsLater, IsCounted, IsOver};
+
+use crate::gate::Gate;
+use crossbeam_utils::Backoff;
+use homefree::{Answer, Book, StopCause, TurnFault};
+use run_ledger::Shares;
+use rv32_exec::{Arrived, End, Hart, Image, advance};
+use std::sync::Wait;
+use ticket_lock::{Pass, TicketLock};
+use violations::EpochStore;
+
+/// How the turns of a core ended.
+#[derive(Clone, Copy, Debug, PartialEq, Eq)]
+pub enum LoopEnd {
+    /// The loop is over.
+    Over,
+    /// The book was stopped.
+    Stopped,
+    /// All tickets of the lock have been drawn.
+    Spent,
+}
+
+/// What comes of a turn.
+enum After {
+    /// The core goes on from this hart.
+    Goes(Hart),
+    /// It has to come again with what it has.
+    Waits,
+    /// It is idle.
+    Leaves,
+    /// It takes no more turns.
+    Ends(LoopEnd),
+}
+
+/// Turns of one core, whose number is the first that the pass covers, until the loop is over, the book is stopped or the tickets are
+/// spent. Before each turn it passes the gate and goes on to its next access, end or fault, and both with the lock free; where the
+/// gate is shut, it stops the book.
+///
+/// The pass is one of this lock, the image is the book's, and the shares are the counts of the pass's own entries.
+pub fn core_loop<S: EpochStore, G: Gate, R: Wait>(
+    rt: &R,
+    lock: &TicketLock<Book<S>>,
+    pass: Pass<Book<S>>,
+    shares: Shares,
+    image: &Image,
+    gate: &G,
+) -> (Pass<Book<S>>, Shares, LoopEnd)
+    requires own { pass.lock ≡ Some lock.now }
+    requires core { (pass.lo < lock.now.fixed.cores) × (lock.now.fixed.cores ≤ 16) }
+    requires image { lock.now.fixed.image ≡ image.now }
+    requires counted { IsCounted pass shares }
+    ensures later { IsLater pass result.0 }
+    ensures counted { IsCounted result.0 result.1 }
+    ensures over { result.2 ≡ LoopEnd.Over → IsOver lock.now.fixed result.0.seen }
+    ensures spent { result.2 ≡ LoopEnd.Spent → result.0.out ≡ true }
+{
+    let core = pass.who() as u32;
+    let backoff = Backoff::new();
+    let mut pass = pass;
+    let mut shares = shares;
+    let mut next = None;
+    let mut turn = 0u64;
+    for _ in rt.forever() {
+        if gate.pass(core, turn, next.as_ref()).is_err() {
+            let (later, end) = halt(rt, lock, pass, StopCause::Shut);
+            return (later, shares, end);
+        }
+        turn = turn.saturating_add(1);
+        let (later, counted, after) = one_turn(rt, lock, pass, shares, next.as_ref());
+        pass = later;
+        shares = counted;
+        match after {
+            After::Goes(hart) => {
+                backoff.reset();
+                next = Some(advance(image, hart));
+            }
+            After::Waits => backoff.snooze(),
+            After::Leaves => next = None,
+            After::Ends(end) => return (pass, shares, end),
+        }
+    }
+    unreachable!()
+}
+
+/// Takes the lock for one turn.
+fn one_turn<S: EpochStore, R: Wait>(
+    rt: &R,
+    lock: &TicketLock<Book<S>>,
+    pass: Pass<Book<S>>,
+    shares: Shares,
+    next: Option<&Arrived>,
+) -> (Pass<Book<S>>, Shares, After)
+    requires own { pass.lock ≡ Some lock.now }
+    requires core { (pass.lo < lock.now.fixed.cores) × (lock.now.fixed.cores ≤ 16) }
+    requires next { IfArrived lock.now.fixed.image (option_copied next) }
+    requires counted { IsCounted pass shares }
+    ensures later { IsLater pass result.0 }
+    ensures counted { IsCounted result.0 result.1 }
+    ensures over { result.2 ≡ After.Ends LoopEnd.Over → IsOver lock.now.fixed result.0.seen }
+    ensures spent { result.2 ≡ After.Ends LoopEnd.Spent → result.0.out ≡ true }
+{
+    let core = pass.who() as u32;
+    let mut shares = shares;
+    match lock.lock(rt, pass) {
+        Ok(mut held) => {
+            let after = take_turn(held.value(), core, next, &mut shares);
+            (held.release(), shares, after)
+        }
+        Err((_, pass)) => (pass, shares, After::Ends(LoopEnd::Spent)),
+    }
+}
+
+/// One turn of a core at the book. Where it fails, the book is stopped for that.
+fn take_turn<S: EpochStore>(
+    book: &mut Book<S>,
+    core: u32,
+    next: Option<&Arrived>,
+    shares: &mut Shares,
+) -> After
+    requires core { core < book.old.cores }
+    requires next { IfArrived book.old.image (option_copied next) }
+    requires shares { IsNoMore shares.old (counted_in book.old.history) }
+    ensures adds { Adds core book.old book.new shares.old shares.new }
+    ensures few { length book.new.history ≤ 1048576 }
+    ensures over { result ≡ After.Ends LoopEnd.Over → IsOver (loop_of book.new) (past_of book.new.history) }
+    ensures spent { result ≢ After.Ends LoopEnd.Spent }
+{
+    book.look();
+    match book.turn(core, next, shares) {
+        Ok(answer) => {
+            book.look();
+            goes_on(answer)
+        }
+        Err(fault) => {
+            book.look();
+            stop_for(book, fault);
+            After::Ends(LoopEnd::Stopped)
+        }
+    }
+}
+
+/// What comes of an answer.
+fn goes_on(answer: Answer) -> After
+    ensures over { result ≡ After.Ends LoopEnd.Over → (end : End) × (answer ≡ Answer.Over end) }
+    ensures spent { result ≢ After.Ends LoopEnd.Spent }
+{
+    match answer {
+        Answer::Go(hart) => After::Goes(hart),
+        Answer::Again(_) => After::Waits,
+        Answer::Left => After::Leaves,
+        Answer::Over(_) => After::Ends(LoopEnd::Over),
+        Answer::Stopped(_) => After::Ends(LoopEnd::Stopped),
+    }
+}
+
+/// Stops a book at which a turn failed.
+fn stop_for<S: EpochStore>(book: &mut Book<S>, fault: TurnFault)
+    requires { fault ≡ TurnFault.HistoryFull → IsFull book.old }
+    ensures same { IsOfSameLoop book.old book.new }
+    ensures history { book.new.history ≡ book.old.history }
+{
+    match fault {
+        TurnFault::HistoryFull => book.stop(StopCause::HistoryFull),
+        TurnFault::NoMemory => book.stop(StopCause::NoMemory),
+    };
+}
+
+/// Takes the lock once more to stop the book, and adds no entry.
+pub(crate) fn halt<S: EpochStore, R: Wait>(
+    rt: &R,
+    lock: &TicketLock<Book<S>>,
+    pass: Pass<Book<S>>,
+    cause: StopCause,
+) -> (Pass<Book<S>>, LoopEnd)
+    requires own { pass.lock ≡ Some lock.now }
+    requires few { length pass.seen ≤ 1048576 }
+    requires cause { cause ≢ StopCause.HistoryFull }
+    ensures later { IsLater pass result.0 }
+    ensures same { mine result.0 ≡ mine pass }
+    ensures few { length result.0.seen ≤ 1048576 }
+    ensures over { result.1 ≡ LoopEnd.Over → IsOver lock.now.fixed result.0.seen }
+    ensures spent { result.1 ≡ LoopEnd.Spent → result.0.out ≡ true }
+{
+    match lock.lock(rt, pass) {
+        Ok(mut held) => {
+            let end = stop(held.value(), cause);
+            (held.release(), end)
+        }
+        Err((_, pass)) => (pass, LoopEnd::Spent),
+    }
+}
+
+/// Stops the book, unless its loop is over.
+fn stop<S: EpochStore>(book: &mut Book<S>, cause: StopCause) -> LoopEnd
+    requires { cause ≢ StopCause.HistoryFull }
+    ensures same { IsOfSameLoop book.old book.new }
+    ensures history { book.new.history ≡ book.old.history }
+    ensures few { length book.new.history ≤ 1048576 }
+    ensures over { result ≡ LoopEnd.Over → IsOver (loop_of book.new) (past_of book.new.history) }
+    ensures spent { result ≢ LoopEnd.Spent }
+{
+    book.look();
+    if !book.stop(cause) && book.ended().is_some() {
+        LoopEnd::Over
+    } else {
+        LoopEnd::Stopped
+    }
+}
