@@ -21,13 +21,13 @@ use Rattle.bus_states.specs.declared.notice.Notice.{Notice}
 use Rattle.bus_states.specs.declared.notice.Notice.TheVariants.{Load, Store, Publish}
 use Rattle.bus_states.specs.Bus.{CoreState, Bus, committed, sees}
 use Rattle.bus_states.specs.Coherent.{IsCoherent, speculates}
-use Rattle.bus_states.specs.Messages.{Message, message_of, is_busy, is_alone, changed_core, with_copy, without_line, leaves, after_message}
+use Rattle.bus_states.specs.Messages.{IsRoom, Message, message_of, is_busy, is_alone, changed_core, with_copy, without_line, leaves, after_message}
 use Rattle.bus_states.specs.Speculative.{own, holds_line, room_for, no_room, kept_line, load_next, after_load, load_wait, store_next, owns, after_claim, with_bytes, after_store, store_wait}
 use Rattle.bus_states.proofs.Coherence.{IsCoherentWith, committed-with, coherent-with, with-same, sees-past, sees-held, sees-unmodified}
 use Rattle.bus_states.proofs.Copies.{itself, made, made-state, made-up_to_date, made-in_place}
 use Rattle.bus_states.proofs.Cores.{changed-coherent, without_line-coherent}
 use Rattle.bus_states.proofs.QuietCalls.{kept-with, written-with, same-lines}
-use Rattle.bus_states.proofs.Sending.{IsRoom, leaves-held, Sends, sent_lines, sent-with, at_sender}
+use Rattle.bus_states.proofs.Sending.{leaves-held, Sends, sent_lines, sent-with, at_sender}
 
 -- ---- a core takes a line by a message
 
@@ -168,7 +168,7 @@ fetches-takes bus notice core addr room room2 next access h may free t =
 no-entry : (enters full : Bool) → enters ≡ false → (enters && full) ≡ false
 no-entry enters full e = rw e refl
 
-invalid-unmarked : (s : LineState) → is_valid s ≡ false → is_speculative s ≡ false
+pub invalid-unmarked : (s : LineState) → is_valid s ≡ false → is_speculative s ≡ false
 invalid-unmarked I e = refl
 invalid-unmarked S e = cc
 invalid-unmarked E e = cc
@@ -258,7 +258,7 @@ load-with bus core addr offset width room h may widths goes = pick (holds_line b
 
 -- ---- stores
 
-store-within : (bus : Bus) (core addr offset width : ℕ) → IsCoherent bus → offset + width ≤ bus.line_length
+pub store-within : (bus : Bus) (core addr offset width : ℕ) → IsCoherent bus → offset + width ≤ bus.line_length
     → IsWithinLine bus.line_length (store_next bus core addr offset width).marks.bytes
 store-within bus core addr offset width h inside =
     let mine : LineCopy = own bus core addr in
@@ -277,7 +277,7 @@ store-masked bus core addr offset width x within =
     or_true b d e = grind (arith, nat_tests)
 
 -- a core that does not own the line has modified nothing of it
-unowned-unmodified : (copy : LineCopy) (c : ℕ → ℕ) → IsUpToDate copy c → owns_line copy.state copy.marks ≡ false → copy.marks.bytes ≡ 0
+pub unowned-unmodified : (copy : LineCopy) (c : ℕ → ℕ) → IsUpToDate copy c → owns_line copy.state copy.marks ≡ false → copy.marks.bytes ≡ 0
 unowned-unmodified copy c h e = by_state copy.state copy.marks e h.not_modified
   where
     empty : (n : ℕ) → not (n == 0) ≡ false → n ≡ 0

@@ -128,14 +128,27 @@ none-reply Store owner next e = pick owner e
     pick Later e = rw e (refl, refl, refl)
 none-reply Publish owner next e = rw e (refl, refl, refl)
 
+none-violated : (same hit enters full later : Bool) → hit ≡ false → enters ≡ false
+    → (not same && (hit || ((enters && full) && later))) ≡ false
+none-violated same hit enters full later e f = grind (arith, nat_tests)
+
+none-here : (bus : Bus) (message : Message) (k : ℕ) → bus.core k ≡ no_core
+    → (is_valid (reply bus message k).state ≡ false) × ((reply bus message k).enters ≡ false) × ((reply bus message k).violated ≡ false)
+none-here bus message k e =
+    none-reply message.notice (order (is_later bus message.sender k)) (reply bus message k)
+    (ap (λ (core : CoreState). reply_to message.notice (core.copy message.addr).state (core.copy message.addr).marks (order (is_later bus message.sender k))) e)
+
+-- nobody is violated there
+pub absent-unviolated : (bus : Bus) (message : Message) (k : ℕ) → bus.core k ≡ no_core → violates bus message k ≡ false
+absent-unviolated bus message k e =
+    let r = none-here bus message k e in
+    none-violated (k == message.sender) _ _ (is_full (bus.core k).buffer) (is_later bus message.sender k) r.2 r.1
+
 pub heard-absent : (bus : Bus) (message : Message) (k : ℕ) → bus.core k ≡ no_core → heard_core bus message k ≡ no_core
 heard-absent bus message k e =
-    let r = none-reply message.notice (order (is_later bus message.sender k)) (reply bus message k) (ap (λ (core : CoreState). reply_to message.notice (core.copy message.addr).state (core.copy message.addr).marks (order (is_later bus message.sender k))) e) in
+    let r = none-here bus message k e in
     ap (λ (core : CoreState). heard message.addr (violates bus message k) (reply bus message k) (bytes_after message.notice (reply bus message k).marks.bytes ((bus.core k).copy message.addr).cell message.line) core) e
-    ∙ absent-core message.addr (violates bus message k) (reply bus message k) _ (quiet (k == message.sender) _ _ (is_full (bus.core k).buffer) (is_later bus message.sender k) r.2 r.1) r.0 r.1
-  where
-    quiet : (same hit enters full later : Bool) → hit ≡ false → enters ≡ false → (not same && (hit || ((enters && full) && later))) ≡ false
-    quiet same hit enters full later e f = grind (arith, nat_tests)
+    ∙ absent-core message.addr (violates bus message k) (reply bus message k) _ (absent-unviolated bus message k e) r.0 r.1
 
 unviolated : (same hit over later : Bool) → same ≡ false → (not same && (hit || (over && later))) ≡ false → hit ≡ false
 unviolated same hit over later e v = grind (arith, nat_tests)
@@ -161,7 +174,7 @@ message-coherent bus message k h aligned free away =
           (subst (λ (core : CoreState). IsCoherentCore core) (h.absent k past) (h.cores k))
     ] refl
 
-merged-past : (notice : Notice) (mask : ℕ) (cell line : ℕ → ℕ) (x : ℕ) → cell x ≡ 0 → line x ≡ 0 → bytes_after notice mask cell line x ≡ 0
+pub merged-past : (notice : Notice) (mask : ℕ) (cell line : ℕ → ℕ) (x : ℕ) → cell x ≡ 0 → line x ≡ 0 → bytes_after notice mask cell line x ≡ 0
 merged-past Load mask cell line x e f = e
 merged-past Store mask cell line x e f = e
 merged-past Publish mask cell line x e f = pick (has mask x)

@@ -11,18 +11,13 @@ use Rattle.cache_lines.specs.Protocol.{IsInPlace, copy_of_line}
 use Rattle.bus_states.specs.declared.notice.Notice.TheVariants.{Publish}
 use Rattle.bus_states.specs.Bus.{CoreState, Bus, committed, memory_line, some_core, is_later}
 use Rattle.bus_states.specs.Coherent.{IsCoherent, IsCoherentLine, IsCoherentCore}
-use Rattle.bus_states.specs.Messages.{Message, reply, order, violates, remains, heard_core, is_busy, is_alone, leaves, with_line, with_victim}
+use Rattle.bus_states.specs.Messages.{IsRoom, Message, reply, order, violates, remains, heard_core, is_busy, is_alone, leaves, with_line, with_victim}
 use Rattle.bus_states.proofs.Addresses.{with_line-here, with_line-elsewhere}
 use Rattle.bus_states.proofs.Coherence
 use Rattle.bus_states.proofs.Coherence.{IsCoherentWith, committed-with, coherent-with, by_core, none_below}
 use Rattle.bus_states.proofs.Copies.{itself, not_so, none-in_place, Fades, Fades-same, Fades-none}
 use Rattle.bus_states.proofs.Heard
 use Rattle.bus_states.proofs.Replies.{reply-follows}
-
--- the line that leaves is one that the core holds, without marks
-pub record IsRoom (core : CoreState) (room : Option Line) : Type 0 where
-  pub held : (line : Line) → room ≡ Some line → is_valid line.state ≡ true → core.copy line.addr ≡ copy_of_line line
-  pub unmarked : (line : Line) → room ≡ Some line → is_speculative line.state ≡ false
 
 never : (b d : Bool) → d ≡ false → (b && d) ≡ true → ⊥
 never true d e f = cc

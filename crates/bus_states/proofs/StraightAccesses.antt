@@ -18,7 +18,7 @@ use Rattle.orb.specs.Lines.{is_full}
 use Rattle.bus_states.specs.declared.notice.Notice.TheVariants.{Load, Publish}
 use Rattle.bus_states.specs.Bus.{Bus, committed, sees, is_later}
 use Rattle.bus_states.specs.Coherent.{IsCoherent, speculates}
-use Rattle.bus_states.specs.Messages.{Message, message_of, reply, holds_up, is_busy, is_alone, leaves, with_copy, after_message}
+use Rattle.bus_states.specs.Messages.{IsRoom, Message, message_of, reply, holds_up, is_busy, is_alone, leaves, with_copy, after_message}
 use Rattle.bus_states.specs.Speculative.{own, holds_line, room_for}
 use Rattle.bus_states.specs.Straight.{unmarked_next, after_straight_load, stores_alone, straight_store_message, after_straight_store}
 use Rattle.bus_states.proofs.Accesses.{Takes, taken-with, not_leaving, none-room}
@@ -28,7 +28,6 @@ use Rattle.bus_states.proofs.Cores.{with_copy-coherent}
 use Rattle.bus_states.proofs.Heard.{message-gives_way}
 use Rattle.bus_states.proofs.Quiet.{quiet-with}
 use Rattle.bus_states.proofs.QuietCalls.{ChangesOne, one-quietly, one_line, same-lines, number-past}
-use Rattle.bus_states.proofs.Sending.{IsRoom}
 
 -- ---- nobody holds a straight core up
 

@@ -1,5 +1,5 @@
 -- A message on the bus, and what it makes of the cores.
-use Rattle.std.specs.Prelude.{ℕ, ◌-◌, ◌==◌, ◌&&◌, ◌||◌, Bool, true, false, not, if◌then◌else◌, [], ◌∷◌, ◌++◌, Option, Some, None}
+use Rattle.std.specs.Prelude.{◌≡◌, ℕ, ◌-◌, ◌==◌, ◌&&◌, ◌||◌, Bool, true, false, not, if◌then◌else◌, [], ◌∷◌, ◌++◌, Option, Some, None}
 use Rattle.spec_states.specs.declared.line.LineState.{LineState}
 use Rattle.spec_states.specs.declared.line.Marks.{Marks}
 use Rattle.spec_states.specs.declared.next.Next.{Next}
@@ -7,12 +7,12 @@ use Rattle.spec_states.specs.declared.next.Order.{Order}
 use Rattle.spec_states.specs.declared.next.Order.TheVariants.{Earlier, Later}
 use Rattle.spec_states.specs.Copies.{LineCopy, no_copy, merged_line}
 use Rattle.spec_states.specs.Mask.{is_within}
-use Rattle.spec_states.specs.States.{is_valid, is_modified}
+use Rattle.spec_states.specs.States.{is_valid, is_modified, is_speculative}
 use Rattle.spec_states.specs.Tables.{other_load, other_store, other_publish}
 use Rattle.cache_lines.specs.declared.line.Line.{Line}
 use Rattle.cache_lines.specs.Cells.{cell_of}
 use Rattle.cache_lines.specs.Lines.{is_copy_of}
-use Rattle.cache_lines.specs.Protocol.{changed_copy, rolled_back_copy}
+use Rattle.cache_lines.specs.Protocol.{copy_of_line, changed_copy, rolled_back_copy}
 use Rattle.orb.specs.Lines.{Buffer, is_full}
 use Rattle.bus_states.specs.declared.notice.Notice.{Notice}
 use Rattle.bus_states.specs.declared.notice.Notice.TheVariants.{Load, Store, Publish}
@@ -116,6 +116,11 @@ heard_core bus message k =
 
 -- "Room" is the line in the way that a new line takes, and none where every way of its set carries marks. A valid line
 -- there leaves the cache.
+
+-- the line that leaves is one that the core holds, without marks
+pub record IsRoom (core : CoreState) (room : Option Line) : Type 0 where
+  pub held : (line : Line) → room ≡ Some line → is_valid line.state ≡ true → core.copy line.addr ≡ copy_of_line line
+  pub unmarked : (line : Line) → room ≡ Some line → is_speculative line.state ≡ false
 
 abbrev pub leaves : Option Line → ℕ → Bool
 leaves None addr = false

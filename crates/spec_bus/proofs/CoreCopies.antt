@@ -1,0 +1,139 @@
+-- What a core holds after its parts change.
+use Rattle.std.proofs.Common.{◌≡◌, ◌≢◌, ℕ, ◌<◌, ◌≤◌, nat_lt, ◌==◌, ◌&&◌, length, slice_get, slice_set, subst, IfSome, IfNone, Bool, true, false, cond, List, Option, Some, None, slice_index, refl, sym, ap, ◌∙◌, arith}
+use Rattle.std.proofs.Math.Path.{fun_ext}
+use Rattle.std.proofs.lemmas.Bool.Decides.{nat_tests}
+use Rattle.spec_states.specs.declared.next.Next.{Next}
+use Rattle.spec_states.specs.Copies.{LineCopy, no_copy}
+use Rattle.spec_states.specs.States.{is_valid}
+use Rattle.cache_lines.specs.declared.line.Line.{Line}
+use Rattle.cache_lines.specs.Changes.{IsFound, IsAbsent, CopiesAreFilled, CopiesChange}
+use Rattle.cache_lines.specs.Lines.{Contents, line_in}
+use Rattle.cache_lines.specs.Protocol.{copy_at, copy_of_line, copy_with_number}
+use Rattle.cache_lines.proofs.CopyLaws.{copies-refilled, copies-found}
+use Rattle.orb.specs.Lines.{Buffer}
+use Rattle.violations.specs.declared.attempt.Attempt.{Attempt}
+use Rattle.std.proofs.lemmas.List.{length-set, get_or-set_other}
+use Rattle.std.proofs.lemmas.Grind.{get_or-set_at}
+use Rattle.std.proofs.lemmas.Option.{slice_get_past, slice_get-get_or}
+use Rattle.std.proofs.Math.ListN.{get_or}
+use Rattle.bus_states.specs.Bus.{CoreState}
+use Rattle.spec_bus.specs.declared.bus_core.Core.{Core}
+use Rattle.spec_bus.specs.CoreStates.{state_of}
+use Rattle.spec_bus.specs.Parts.{state_or_none, core_at, line_or_none, line_at}
+use Rattle.bus_states.specs.Messages.{with_entry, changed_core, with_copy, without_line, leaves}
+use Rattle.bus_states.proofs.Copies.{made, itself}
+
+abbrev pub state_record : ℕ → (ℕ → LineCopy) → Buffer → Option Attempt → CoreState
+state_record line_length copy buffer attempt =
+    record { line_length = line_length; copy = copy; buffer = buffer; attempt = attempt }
+
+pub same_state : (length length2 : ℕ) (copy copy2 : ℕ → LineCopy) (buffer buffer2 : Buffer) (attempt attempt2 : Option Attempt)
+    → length ≡ length2 → ((a : ℕ) → copy a ≡ copy2 a) → buffer ≡ buffer2 → attempt ≡ attempt2
+    → state_record length copy buffer attempt ≡ state_record length2 copy2 buffer2 attempt2
+same_state length length2 copy copy2 buffer buffer2 attempt attempt2 e f g h = rw (e, fun_ext f, g, h) refl
+
+-- the copies of a cache in which one line changes
+pub changed_found : (old new : Contents) (addr way : ℕ) (next : Next) (cells : List ℕ) → IsFound old addr way
+    → CopiesAreFilled old new way (record { addr = addr; state = next.state; marks = next.marks; cells = cells }) → (a : ℕ)
+    → copy_at new a ≡ cond (addr == a) (made next.state next.marks (slice_index cells)) (copy_at old a)
+changed_found old new addr way next cells found filled =
+    copies-refilled old new addr way (record { addr = addr; state = next.state; marks = next.marks; cells = cells }) found refl filled
+
+-- of a cache that does not hold it
+pub changed_absent : (old : Contents) (addr : ℕ) (next : Next) (cell : ℕ → ℕ) → IsAbsent old addr
+    → (is_valid next.state ≡ true → is_valid (copy_at old addr).state ≡ true) → (a : ℕ)
+    → copy_at old a ≡ cond (addr == a) (made next.state next.marks cell) (copy_at old a)
+changed_absent old addr next cell absent held a =
+    elim (addr == a) as (λ b. (addr == a) ≡ b → copy_at old a ≡ cond b (made next.state next.marks cell) (copy_at old a)) [
+      | true ↦ λ e.
+          let at : addr ≡ a = grind (arith, nat_tests) in
+          rw (← at) (absent.copy ∙ none (is_valid next.state) (λ v. ap (λ (copy : LineCopy). is_valid copy.state) (sym absent.copy) ∙ held v))
+      | false ↦ λ e. refl
+    ] refl
+  where
+    none : (b : Bool) → (b ≡ true → false ≡ true) → no_copy ≡ cond b (record { state = next.state; marks = next.marks; cell = cell }) no_copy
+    none true f = let x : false ≡ true = f refl in cc
+    none false f = refl
+
+-- bytes are written into a copy
+pub written_found : (old new : Contents) (addr way offset width value : ℕ) → IsFound old addr way
+    → CopiesChange old new addr way (copy_with_number offset width value) → (a : ℕ)
+    → copy_at new a ≡ cond (addr == a) (copy_with_number offset width value (copy_at old addr)) (copy_at old a)
+written_found old new addr way offset width value found changes a =
+    copies-found old new addr way (copy_with_number offset width value) found changes a
+    ∙ elim (addr == a) as (λ b. (addr == a) ≡ b → cond b (copy_with_number offset width value (copy_at old a)) (copy_at old a) ≡ cond b (copy_with_number offset width value (copy_at old addr)) (copy_at old a)) [
+      | true ↦ λ e. let at : addr ≡ a = grind (arith, nat_tests) in ap (λ a. copy_with_number offset width value (copy_at old a)) (sym at)
+      | false ↦ λ e. refl
+    ] refl
+
+-- a search for a line that the cache does not hold
+pub absent_here : (cache : Contents) (addr : ℕ) (way : Option ℕ) → IfSome way (IsFound cache addr) → IfNone way (IsAbsent cache addr)
+    → is_valid (copy_at cache addr).state ≡ false → IsAbsent cache addr
+absent_here cache addr None found absent e = absent
+absent_here cache addr (Some way) found absent e =
+    absurd (clash (is_valid (line_in cache addr way).state) (addr == addr) (itself addr) (found.copy_of_it addr)
+    (ap (λ (copy : LineCopy). is_valid copy.state) (sym found.copy) ∙ e))
+  where
+    clash : (v b : Bool) → b ≡ true → (v && ((line_in cache addr way).addr == addr)) ≡ b → v ≡ false → ⊥
+    clash true b e f g = cc
+    clash false b e f g = cc
+
+-- the copies of a cache into which a line comes
+pub filled_absent : (old new : Contents) (addr way : ℕ) (next : Next) (cells : List ℕ) → is_valid next.state ≡ true
+    → CopiesAreFilled old new way (record { addr = addr; state = next.state; marks = next.marks; cells = cells }) → (a : ℕ)
+    → copy_at new a ≡ cond (addr == a) (made next.state next.marks (slice_index cells))
+    (cond (leaves (Some (line_in old addr way)) a) no_copy (copy_at old a))
+filled_absent old new addr way next cells valid filled a = rw valid (rw valid at (filled a))
+
+-- ---- a list of cores
+
+-- a core that stands there
+pub state_get : (cores : List Core) (k : ℕ) (core : Core) → k < length cores → core ≡ get_or cores k core → state_of core ≡ core_at cores k
+state_get cores k core lt e = ap state_of e ∙ ap state_or_none (sym (slice_get-get_or cores k core lt))
+
+pub line_get : (cores : List Core) (k addr way : ℕ) (core : Core) → k < length cores → core ≡ get_or cores k core
+    → Some (line_in core.cache addr way) ≡ line_at cores k addr (Some way)
+line_get cores k addr way core lt e =
+    ap (λ (core : Core). Some (line_in core.cache addr way)) e
+    ∙ ap (λ (core : Option Core). line_or_none core addr (Some way)) (sym (slice_get-get_or cores k core lt))
+
+get_set : (xs : List Core) (p i : ℕ) (y : Core) → p < length xs
+    → slice_get (slice_set xs p y) i ≡ cond (i == p) (Some y) (slice_get xs i)
+get_set xs p i y h =
+    elim (i == p) as (λ b. (i == p) ≡ b → slice_get (slice_set xs p y) i ≡ cond b (Some y) (slice_get xs i)) [
+      | true ↦ λ e.
+          let at : i ≡ p = grind (arith, nat_tests) in
+          rw at
+          (slice_get-get_or (slice_set xs p y) p y (omega (arith, length-set xs p y))
+          ∙ ap (λ x. Some x) (get_or-set_at xs p p y y refl h))
+      | false ↦ λ e.
+          let away : i ≢ p = grind (arith, nat_tests) in
+          elim (nat_lt i (length xs)) as (λ b. nat_lt i (length xs) ≡ b → slice_get (slice_set xs p y) i ≡ slice_get xs i) [
+            | true ↦ λ g.
+                let inside : i < length xs = grind (arith, nat_tests) in
+                slice_get-get_or (slice_set xs p y) i y (omega (arith, length-set xs p y))
+                ∙ (ap (λ x. Some x) (get_or-set_other xs p i y y away) ∙ sym (slice_get-get_or xs i y inside))
+            | false ↦ λ g.
+                let past : length xs ≤ i = grind (arith, nat_tests) in
+                slice_get_past (slice_set xs p y) i (omega (arith, length-set xs p y)) ∙ sym (slice_get_past xs i past)
+          ] refl
+    ] refl
+
+-- the cores, where one was replaced
+pub state_set : (cores : List Core) (k : ℕ) (core : Core) → k < length cores → (j : ℕ)
+    → core_at (slice_set cores k core) j ≡ cond (j == k) (state_of core) (core_at cores j)
+state_set cores k core lt j = rw (get_set cores k j core lt) (choice (j == k) (slice_get cores j))
+  where
+    choice : (b : Bool) (other : Option Core) → state_or_none (cond b (Some core) other) ≡ cond b (state_of core) (state_or_none other)
+    choice true other = refl
+    choice false other = refl
+
+-- one core is filled
+pub one_filled : (cores : List Core) (k addr way : ℕ) (old new : Core) (next : Next) (cell : ℕ → ℕ) → k < length cores → old ≡ get_or cores k old
+    → state_of new ≡ changed_core addr next cell (without_line (Some (line_in old.cache addr way)) (state_of old)) → (j : ℕ)
+    → core_at (slice_set cores k new) j
+    ≡ cond (j == k) (changed_core addr next cell (without_line (line_at cores k addr (Some way)) (core_at cores k))) (core_at cores j)
+one_filled cores k addr way old new next cell lt e filled j =
+    state_set cores k new lt j
+    ∙ ap (λ (state : CoreState). cond (j == k) state (core_at cores j))
+    (filled ∙ rw (← line_get cores k addr way old lt e, ← state_get cores k old lt e) refl)

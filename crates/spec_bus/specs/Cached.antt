@@ -1,0 +1,21 @@
+-- What contracts see of the caches on a bus.
+use Rattle.std.specs.Prelude.{◌≡◌, ◌<◌, ℕ, List, Option, None, [], slice_index}
+use Rattle.cache_lines.specs.declared.line.Line.{Line}
+use Rattle.bus_states.specs.Bus.{CoreState, Bus}
+use Rattle.spec_bus.specs.declared.bus_core.Core.{Core}
+use Rattle.spec_bus.specs.Parts.{bus_of, room_at}
+
+-- the bytes of code and of a line, the cores, memory
+pub record CachedView : Type 0 where
+  pub code : ℕ
+  pub line_length : ℕ
+  pub cores : List Core
+  pub memory : List ℕ
+
+-- what they are as a bus
+abbrev pub bus : CachedView → Bus
+bus v = bus_of v.code v.line_length v.cores v.memory
+
+-- for each core and line the line in the way that it takes: none where every way of its set carries marks
+abbrev pub room : CachedView → ℕ → ℕ → Option Line
+room v = room_at v.cores

@@ -1,0 +1,31 @@
+-- What a core of the machine holds, as a core of a bus.
+use Rattle.std.specs.Prelude.{◌≡◌, ℕ, ◌&&◌, Bool, true, false, if◌then◌else◌, None, []}
+use Rattle.spec_states.specs.declared.next.Next.{Next}
+use Rattle.spec_states.specs.Copies.{no_copy, IsMarked}
+use Rattle.spec_states.specs.States.{is_speculative}
+use Rattle.cache_lines.specs.Protocol.{copy_at}
+use Rattle.orb.specs.Lines.{holds, is_full}
+use Rattle.bus_states.specs.Bus.{CoreState}
+use Rattle.bus_states.specs.Messages.{with_copy, dropped_core, changed_core}
+use Rattle.spec_bus.specs.declared.bus_core.Core.{Core}
+
+abbrev pub state_of : Core → CoreState
+state_of core =
+    record {
+      line_length = core.cache.line_length;
+      copy = copy_at core.cache;
+      buffer = core.orb;
+      attempt = core.attempt;
+    }
+
+-- a core that hears a message about this line: it is violated and the line is gone, or its copy changes so
+abbrev pub heard : ℕ → Bool → Next → (ℕ → ℕ) → CoreState → CoreState
+heard addr violated next cell core =
+    if violated then with_copy addr no_copy (dropped_core core) else changed_core addr next cell core
+
+-- a core that may hear it: a marked copy has a mark, and where the core is not violated the line is not in its buffer, or has
+-- room there, where it enters
+pub record MayHear (core : CoreState) (addr : ℕ) (violated : Bool) (next : Next) : Type 0 where
+  pub marked : is_speculative (core.copy addr).state ≡ true → IsMarked (core.copy addr).marks
+  pub entry : violated ≡ false → next.enters ≡ true → holds core.buffer.lines addr ≡ false
+  pub room : violated ≡ false → (next.enters && is_full core.buffer) ≡ false

@@ -1,0 +1,51 @@
+-- What the parts of the machine hold, as a bus.
+use Rattle.std.specs.Prelude.{◌≡◌, ◌==◌, if◌then◌else◌, ℕ, List, length, Option, Some, None, option_map, slice_get, slice_index}
+use Rattle.cache_lines.specs.declared.line.Line.{Line}
+use Rattle.cache_lines.specs.Changes.{victim_of}
+use Rattle.cache_lines.specs.Lines.{line_in}
+use Rattle.bus_states.specs.Bus.{CoreState, Bus, no_core}
+use Rattle.bus_states.specs.Messages.{Message, heard_core}
+use Rattle.spec_bus.specs.declared.bus_core.Core.{Core}
+use Rattle.spec_bus.specs.declared.parts.Parts.{Parts}
+use Rattle.spec_bus.specs.CoreStates.{state_of}
+
+abbrev pub state_or_none : Option Core → CoreState
+state_or_none None = no_core
+state_or_none (Some core) = state_of core
+
+abbrev pub core_at : List Core → ℕ → CoreState
+core_at cores k = state_or_none (slice_get cores k)
+
+abbrev pub bus_of : ℕ → ℕ → List Core → List ℕ → Bus
+bus_of code line_length cores memory =
+    record {
+      shape = record { cores = length cores; size = length memory; code = code };
+      line_length = line_length;
+      core = core_at cores;
+      memory = slice_index memory;
+    }
+
+abbrev pub bus_in : Parts → Bus
+bus_in parts = bus_of parts.code parts.line_length parts.cores.items parts.memory.items
+
+-- the line in this way of the set of that address, in a core's cache
+abbrev pub line_or_none : Option Core → ℕ → Option ℕ → Option Line
+line_or_none None addr way = None
+line_or_none (Some core) addr way = option_map (line_in core.cache addr) way
+
+abbrev pub line_at : List Core → ℕ → ℕ → Option ℕ → Option Line
+line_at cores k addr way = line_or_none (slice_get cores k) addr way
+
+-- the way that a line of this address takes there
+abbrev pub victim_or_none : Option Core → ℕ → Option ℕ
+victim_or_none None addr = None
+victim_or_none (Some core) addr = victim_of core.cache addr
+
+-- the room for a line in a core's cache: the line in the way that it takes
+abbrev pub room_at : List Core → ℕ → ℕ → Option Line
+room_at cores k addr = line_at cores k addr (victim_or_none (slice_get cores k) addr)
+
+-- all cores but the sender have heard the message
+pub record IsTold (old new : Bus) (message : Message) : Type 0 where
+  pub count : new.shape.cores ≡ old.shape.cores
+  pub core : (k : ℕ) → new.core k ≡ (if k == message.sender then old.core k else heard_core old message k)
