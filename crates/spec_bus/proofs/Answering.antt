@@ -1,5 +1,5 @@
 -- What loads and stores answer.
-use Rattle.std.proofs.Common.{◌≡◌, ℕ, ◌+◌, ◌<◌, ◌≤◌, ◌%◌, ◌==◌, ◌&&◌, not, Bool, true, false, cond, length, List, Option, Some, None, slice_get, slice_index, refl, sym, ap, subst, ◌∙◌, arith}
+use Rattle.std.proofs.Common.{◌≡◌, ℕ, ◌%◌, ◌==◌, Bool, true, false, cond, length, List, Option, Some, None, slice_get, refl, sym, ap, subst, ◌∙◌, arith}
 use Rattle.std.proofs.Math.Path.{fun_ext}
 use Rattle.std.proofs.lemmas.Bool.Decides.{nat_tests}
 use Rattle.memory_bytes.specs.Bytes.{IsWidth, number_at}
@@ -18,11 +18,11 @@ use Rattle.bus_states.proofs.Coherence.{sees-held}
 use Rattle.spec_bus.proofs.Moving.{sees_absent, same_bus}
 use Rattle.bus_states.specs.Bus.{Bus, sees, committed}
 use Rattle.bus_states.specs.Messages.{message_of, violates, is_busy, is_alone, with_copy, after_message}
-use Rattle.bus_states.specs.Speculative.{holds_line, load_next, load_wait, load_violates, after_load, owns, own, store_next, kept_line, room_for, after_claim, with_bytes}
+use Rattle.bus_states.specs.Speculative.{holds_line, load_next, owns, own, store_next, kept_line, room_for, after_claim, with_bytes}
 use Rattle.spec_bus.specs.declared.bus_core.Core.{Core}
 use Rattle.spec_bus.specs.declared.parts.Parts.{Parts}
 use Rattle.spec_bus.specs.Answers.{IsLoaded, MayTake, IsTaken, IsStored}
-use Rattle.spec_bus.specs.Parts.{bus_in, bus_of, core_at, line_at, line_or_none, victim_or_none, room_at}
+use Rattle.spec_bus.specs.Parts.{bus_in, bus_of, core_at, line_at, room_at}
 
 -- the room for a line, where a victim was found
 pub room_found : (cores : List Core) (k addr way : ℕ) (core : Core) → slice_get cores k ≡ Some core → victim_of core.cache addr ≡ Some way

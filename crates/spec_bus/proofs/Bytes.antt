@@ -1,13 +1,12 @@
 -- The loops over the bytes of a line.
-use Rattle.std.proofs.Common.{◌≡◌, ◌≢◌, ℕ, nat_eq, ◌+◌, ◌-◌, ◌<◌, ◌≤◌, ◌⊎◌, inl, inr, ◌&&◌, nat_lt, Bool, true, false, cond, List, replicate, length, slice_index, slice_set, refl, sym, ap, ◌∙◌, arith}
+use Rattle.std.proofs.Common.{◌≡◌, ◌≢◌, ℕ, nat_eq, ◌+◌, ◌<◌, inl, inr, ◌&&◌, nat_lt, Bool, true, false, cond, List, replicate, length, slice_index, slice_set, refl, sym, ap, ◌∙◌, arith}
 use Rattle.std.proofs.lemmas.Bool.Decides.{nat_tests}
 use Rattle.std.proofs.lemmas.List.{length-set, get_or-replicate, get_or-set_other}
 use Rattle.std.proofs.lemmas.Grind.{get_or-set_at}
 use Rattle.std.proofs.Math.ListN.{get_or-eq_default}
 use Rattle.memory_bytes.proofs.Bytes.{cases_below}
-use Rattle.spec_states.specs.Mask.{has, is_within}
+use Rattle.spec_states.specs.Mask.{has}
 use Rattle.bus_states.specs.Bus.{memory_line}
-use Rattle.bus_states.specs.Messages.{with_line}
 
 -- the bytes of a line that a loop makes, and how many there are
 pub record AreBytes (bytes : List ℕ) (byte : ℕ → ℕ) : Type 0 where

@@ -1,14 +1,13 @@
 -- What a core holds after its parts change.
-use Rattle.std.proofs.Common.{◌≡◌, ◌≢◌, ℕ, ◌<◌, ◌≤◌, nat_lt, ◌==◌, ◌&&◌, length, slice_get, slice_set, subst, IfSome, IfNone, Bool, true, false, cond, List, Option, Some, None, slice_index, refl, sym, ap, ◌∙◌, arith}
+use Rattle.std.proofs.Common.{◌≡◌, ◌≢◌, ℕ, ◌<◌, ◌≤◌, nat_lt, ◌==◌, ◌&&◌, length, slice_get, slice_set, IfSome, IfNone, Bool, true, false, cond, List, Option, Some, None, slice_index, refl, sym, ap, ◌∙◌, arith}
 use Rattle.std.proofs.Math.Path.{fun_ext}
 use Rattle.std.proofs.lemmas.Bool.Decides.{nat_tests}
 use Rattle.spec_states.specs.declared.next.Next.{Next}
 use Rattle.spec_states.specs.Copies.{LineCopy, no_copy}
 use Rattle.spec_states.specs.States.{is_valid}
-use Rattle.cache_lines.specs.declared.line.Line.{Line}
 use Rattle.cache_lines.specs.Changes.{IsFound, IsAbsent, CopiesAreFilled, CopiesChange}
 use Rattle.cache_lines.specs.Lines.{Contents, line_in}
-use Rattle.cache_lines.specs.Protocol.{copy_at, copy_of_line, copy_with_number}
+use Rattle.cache_lines.specs.Protocol.{copy_at, copy_with_number}
 use Rattle.cache_lines.proofs.CopyLaws.{copies-refilled, copies-found}
 use Rattle.orb.specs.Lines.{Buffer}
 use Rattle.violations.specs.declared.attempt.Attempt.{Attempt}
@@ -20,7 +19,7 @@ use Rattle.bus_states.specs.Bus.{CoreState}
 use Rattle.spec_bus.specs.declared.bus_core.Core.{Core}
 use Rattle.spec_bus.specs.CoreStates.{state_of}
 use Rattle.spec_bus.specs.Parts.{state_or_none, core_at, line_or_none, line_at}
-use Rattle.bus_states.specs.Messages.{with_entry, changed_core, with_copy, without_line, leaves}
+use Rattle.bus_states.specs.Messages.{changed_core, without_line, leaves}
 use Rattle.bus_states.proofs.Copies.{made, itself}
 
 abbrev pub state_record : ℕ → (ℕ → LineCopy) → Buffer → Option Attempt → CoreState

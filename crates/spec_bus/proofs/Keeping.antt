@@ -1,5 +1,5 @@
 -- The calls keep what the caches on a bus keep.
-use Rattle.std.proofs.Common.{◌≡◌, ℕ, ◌+◌, ◌<◌, ◌≤◌, ◌%◌, Bool, true, false, cond, length, Option, Some, None, refl, sym, ap, subst, ◌∙◌, arith}
+use Rattle.std.proofs.Common.{◌≡◌, ℕ, ◌+◌, ◌<◌, ◌≤◌, ◌%◌, Bool, true, false, cond, Option, Some, refl, sym, ap, subst, ◌∙◌, arith}
 use Rattle.memory_bytes.specs.Bytes.{IsWidth}
 use Rattle.cache_lines.specs.declared.line.Line.{Line}
 use Rattle.violations.specs.declared.step.Step.{Step}

@@ -1,18 +1,17 @@
 -- The bus after a message, and after a change that nobody is told of.
-use Rattle.std.proofs.Common.{◌≡◌, ℕ, ◌+◌, ◌<◌, ◌≤◌, ◌%◌, ◌==◌, Bool, true, false, cond, length, List, Option, Some, None, slice_get, slice_index, refl, sym, ap, subst, ◌∙◌}
+use Rattle.std.proofs.Common.{◌≡◌, ℕ, ◌+◌, ◌≤◌, ◌%◌, ◌==◌, Bool, true, false, cond, length, List, Option, Some, None, slice_get, slice_index, refl, sym, ap, ◌∙◌}
 use Rattle.std.proofs.Math.Path.{fun_ext}
 use Rattle.spec_states.specs.declared.next.Next.{Next}
 use Rattle.spec_states.specs.Copies.{LineCopy}
 use Rattle.spec_states.specs.States.{is_valid, is_modified}
 use Rattle.spec_states.proofs.RowLaws.{modified-valid}
 use Rattle.cache_lines.specs.declared.line.Line.{Line}
-use Rattle.cache_lines.specs.Protocol.{changed_copy, copy_at, copy_of_line}
-use Rattle.violations.specs.View.{Shape}
+use Rattle.cache_lines.specs.Protocol.{copy_at, copy_of_line}
 use Rattle.bus_states.specs.Bus.{CoreState, Bus, sees, committed}
 use Rattle.bus_states.proofs.Coherence.{sees-unmodified}
 use Rattle.bus_states.proofs.Accesses.{invalid-unmarked}
 use Rattle.bus_states.specs.Coherent.{IsCoherent}
-use Rattle.bus_states.specs.Messages.{Message, changed_core, with_copy, with_entry, without_line, heard_core, with_line, with_victim, after_message}
+use Rattle.bus_states.specs.Messages.{Message, changed_core, without_line, heard_core, with_line, with_victim, after_message}
 use Rattle.bus_states.specs.Speculative.{kept_line}
 use Rattle.spec_bus.specs.declared.bus_core.Core.{Core}
 use Rattle.spec_bus.specs.declared.parts.Parts.{Parts}

@@ -1,13 +1,9 @@
 -- The loop in which the other cores hear a message.
-use Rattle.std.proofs.Common.{◌≡◌, ◌≢◌, ℕ, zero, suc, ◌+◌, ◌<◌, ◌≤◌, ◌%◌, ◌==◌, ◌||◌, ◌&&◌, not, nat_lt, Bool, true, false, cond, length, slice_get, slice_index, refl, sym, ap, subst, ◌∙◌, arith}
-use Rattle.std.proofs.Math.Path.{fun_ext}
+use Rattle.std.proofs.Common.{◌≡◌, ◌≢◌, ℕ, ◌+◌, ◌<◌, ◌≤◌, ◌%◌, ◌==◌, ◌||◌, ◌&&◌, not, nat_lt, Bool, true, false, cond, length, slice_get, refl, sym, ap, subst, ◌∙◌, arith}
 use Rattle.std.proofs.lemmas.Bool.Decides.{nat_tests}
-use Rattle.spec_states.specs.declared.next.Next.{Next}
-use Rattle.spec_states.proofs.RowLaws.{speculative-valid}
-use Rattle.orb.specs.Lines.{holds, is_full}
+use Rattle.orb.specs.Lines.{holds}
 use Rattle.violations.specs.View.{epoch_of}
-use Rattle.bus_states.specs.declared.notice.Notice.{Notice}
-use Rattle.bus_states.specs.Bus.{CoreState, Bus, no_core, is_later}
+use Rattle.bus_states.specs.Bus.{CoreState, Bus, is_later}
 use Rattle.bus_states.specs.Coherent.{IsCoherent}
 use Rattle.bus_states.specs.Messages.{Message, reply, reply_to, order, bytes_after, violates, holds_up, heard_core, is_busy}
 use Rattle.bus_states.proofs.Coherence.{none_below, apart_test}

@@ -3,7 +3,6 @@ use Rattle.std.specs.Prelude.{◌≡◌, ◌&&◌, ℕ, Bool, false, if◌then�
 use Rattle.memory_bytes.specs.Bytes.{number_at}
 use Rattle.spec_states.specs.declared.next.Next.{Next}
 use Rattle.cache_lines.specs.declared.line.Line.{Line}
-use Rattle.violations.specs.declared.core_set.CoreSet.{CoreSet}
 use Rattle.violations.specs.declared.step.Step.{Step}
 use Rattle.violations.specs.declared.step.Step.TheVariants.{Done, Wait}
 use Rattle.violations.specs.declared.step.WaitCause.{WaitCause}

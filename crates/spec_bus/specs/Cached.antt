@@ -1,7 +1,7 @@
 -- What contracts see of the caches on a bus.
-use Rattle.std.specs.Prelude.{◌≡◌, ◌<◌, ℕ, List, Option, None, [], slice_index}
+use Rattle.std.specs.Prelude.{ℕ, List, Option}
 use Rattle.cache_lines.specs.declared.line.Line.{Line}
-use Rattle.bus_states.specs.Bus.{CoreState, Bus}
+use Rattle.bus_states.specs.Bus.{Bus}
 use Rattle.spec_bus.specs.declared.bus_core.Core.{Core}
 use Rattle.spec_bus.specs.Parts.{bus_of, room_at}
 

@@ -1,5 +1,5 @@
 -- What a core of the machine holds, as a core of a bus.
-use Rattle.std.specs.Prelude.{◌≡◌, ℕ, ◌&&◌, Bool, true, false, if◌then◌else◌, None, []}
+use Rattle.std.specs.Prelude.{◌≡◌, ℕ, ◌&&◌, Bool, true, false, if◌then◌else◌}
 use Rattle.spec_states.specs.declared.next.Next.{Next}
 use Rattle.spec_states.specs.Copies.{no_copy, IsMarked}
 use Rattle.spec_states.specs.States.{is_speculative}

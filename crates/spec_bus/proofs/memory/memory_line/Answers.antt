@@ -1,4 +1,4 @@
-use Rattle.std.proofs.Common.{arith, ◌∙◌, slice_index, refl, ◌<◌, length}
+use Rattle.std.proofs.Common.{arith, ◌∙◌, slice_index, refl}
 use Rattle.spec_bus.proofs.Bytes.{zeros, line_start, line_more}
 use Rattle.spec_bus.proofs.memory.memory_line.Goals as goal
 

@@ -1,4 +1,4 @@
-use Rattle.std.proofs.Common.{◌≡◌, ℕ, ◌≤◌, length, slice_index}
+use Rattle.std.proofs.Common.{◌≡◌, ℕ, length, slice_index}
 use Rattle.bus_states.specs.Messages.{with_line}
 use Rattle.spec_bus.proofs.memory.write_line.Given as goal
 

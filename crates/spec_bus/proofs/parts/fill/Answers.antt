@@ -1,10 +1,7 @@
-use Rattle.std.proofs.Common.{◌≡◌, ℕ, ◌==◌, cond, slice_index, ap, sym, ◌∙◌, true}
+use Rattle.std.proofs.Common.{slice_index, ap, ◌∙◌}
 use Rattle.spec_states.specs.States.{is_valid}
 use Rattle.bus_states.specs.Bus.{CoreState}
-use Rattle.bus_states.specs.Messages.{changed_core, without_line}
-use Rattle.spec_bus.specs.CoreStates.{state_of}
-use Rattle.spec_bus.specs.Parts.{core_at, line_at}
-use Rattle.spec_bus.proofs.CoreCopies.{state_get, line_get, state_set, one_filled}
+use Rattle.spec_bus.proofs.CoreCopies.{state_get, one_filled}
 use Rattle.spec_bus.proofs.parts.fill.Goals as goal
 
 pub fill-requires-clause-absent : goal.fill-requires-clause-absent

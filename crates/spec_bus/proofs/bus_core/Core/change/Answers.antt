@@ -1,4 +1,4 @@
-use Rattle.std.proofs.Common.{◌≡◌, refl, ap, slice_index, ◌∙◌}
+use Rattle.std.proofs.Common.{refl, ap, slice_index}
 use Rattle.cache_lines.specs.Lines.{Contents}
 use Rattle.spec_bus.proofs.CoreCopies.{same_state, changed_found, changed_absent}
 use Rattle.spec_bus.proofs.bus_core.Core.change.Goals as goal

@@ -1,6 +1,6 @@
 use Rattle.std.proofs.Common.{refl, ap}
 use Rattle.cache_lines.specs.Lines.{Contents}
-use Rattle.spec_bus.proofs.CoreCopies.{same_state, filled_absent, absent_here}
+use Rattle.spec_bus.proofs.CoreCopies.{same_state, filled_absent}
 use Rattle.spec_bus.proofs.bus_core.Core.fill.Goals as goal
 
 pub returns : goal.returns

@@ -1,5 +1,5 @@
 use Rattle.spec_bus.proofs.Bytes.{zeros}
-use Rattle.std.proofs.Common.{refl, ◌∙◌, ap, sym}
+use Rattle.std.proofs.Common.{◌∙◌, ap, sym}
 use Rattle.spec_states.specs.Copies.{LineCopy}
 use Rattle.spec_bus.proofs.bus_core.Core.line_at.Goals as goal
 

@@ -1,4 +1,3 @@
-use Rattle.std.proofs.Common.{◌≡◌, ◌<◌}
 use Rattle.spec_bus.proofs.Keeping.{begun}
 use Rattle.spec_bus.proofs.cached.CachedBus.begin.Goals as goal
 

@@ -1,4 +1,3 @@
-use Rattle.std.proofs.Common.{◌≡◌, ◌<◌}
 use Rattle.spec_bus.proofs.Keeping.{loaded, may_access}
 use Rattle.spec_bus.proofs.cached.CachedBus.load.Goals as goal
 

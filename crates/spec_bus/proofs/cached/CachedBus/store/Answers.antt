@@ -1,4 +1,4 @@
-use Rattle.std.proofs.Common.{◌≡◌, ◌<◌, refl}
+use Rattle.std.proofs.Common.{refl}
 use Rattle.spec_bus.proofs.Keeping.{stored, may_access, within_line}
 use Rattle.spec_bus.proofs.cached.CachedBus.store.Goals as goal
 

@@ -1,6 +1,5 @@
-use Rattle.std.proofs.Common.{◌≡◌, ◌∙◌, ℕ, slice_index, refl, sym, ap}
+use Rattle.std.proofs.Common.{slice_index}
 use Rattle.bus_states.specs.Messages.{Message}
-use Rattle.spec_bus.specs.Parts.{bus_in}
 use Rattle.spec_bus.proofs.Moving.{claimed}
 use Rattle.spec_bus.proofs.parts.Parts.claim.Goals as goal
 

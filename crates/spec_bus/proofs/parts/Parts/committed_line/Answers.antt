@@ -1,6 +1,6 @@
-use Rattle.std.proofs.Common.{◌≡◌, ◌∙◌, ℕ, List, ap, cond, slice_index, refl, sym, arith}
+use Rattle.std.proofs.Common.{◌∙◌, ℕ, List, ap, slice_index, refl}
 use Rattle.spec_states.specs.States.{is_modified}
-use Rattle.bus_states.specs.Bus.{committed_among, memory_line}
+use Rattle.bus_states.specs.Bus.{memory_line}
 use Rattle.spec_bus.specs.Parts.{bus_in}
 use Rattle.spec_bus.proofs.Surveys.{committed_none, committed_more}
 use Rattle.spec_bus.proofs.parts.Parts.committed_line.Goals as goal

@@ -1,4 +1,4 @@
-use Rattle.std.proofs.Common.{◌≡◌, ◌∙◌, ℕ, Option, Some, List, slice_index, refl, sym, ap}
+use Rattle.std.proofs.Common.{◌∙◌, ℕ, Option, Some, slice_index, sym, ap}
 use Rattle.cache_lines.specs.Lines.{line_in}
 use Rattle.bus_states.specs.Messages.{Message, with_line}
 use Rattle.spec_bus.specs.declared.bus_core.Core.{Core}

@@ -1,4 +1,3 @@
-use Rattle.std.proofs.Common.{◌≡◌, ◌∙◌, refl, sym}
 use Rattle.spec_bus.proofs.Moving.{kept}
 use Rattle.spec_bus.proofs.parts.Parts.keep.Goals as goal
 

@@ -1,9 +1,8 @@
-use Rattle.std.proofs.Common.{◌≡◌, ◌∙◌, Option, Some, refl, ap, sym}
+use Rattle.std.proofs.Common.{◌∙◌, ap, sym}
 use Rattle.spec_states.specs.States.{is_valid}
 use Rattle.violations.specs.CoreSet.{is_in}
-use Rattle.spec_bus.specs.declared.bus_core.Core.{Core}
-use Rattle.spec_bus.specs.Parts.{bus_in, victim_or_none}
-use Rattle.spec_bus.proofs.Answering.{room_found, loaded_miss}
+use Rattle.spec_bus.specs.Parts.{bus_in}
+use Rattle.spec_bus.proofs.Answering.{loaded_miss}
 use Rattle.spec_bus.proofs.parts.Parts.load.Goals as goal
 
 pub returns : goal.returns

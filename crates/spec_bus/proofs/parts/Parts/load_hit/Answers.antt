@@ -1,4 +1,4 @@
-use Rattle.std.proofs.Common.{◌≡◌, ◌∙◌, ℕ, ap}
+use Rattle.std.proofs.Common.{◌∙◌, ℕ, ap}
 use Rattle.std.proofs.Math.Path.{fun_ext}
 use Rattle.memory_bytes.specs.Bytes.{number_at}
 use Rattle.bus_states.proofs.Coherence.{sees-held}

@@ -1,7 +1,6 @@
-use Rattle.std.proofs.Common.{◌≡◌, ◌∙◌, ℕ, Some, refl, ap, sym, slice_index}
+use Rattle.std.proofs.Common.{◌≡◌, ◌∙◌, ℕ, Some, refl, ap, sym}
 use Rattle.std.proofs.Math.Path.{fun_ext}
 use Rattle.memory_bytes.specs.Bytes.{number_at}
-use Rattle.spec_states.specs.declared.next.Next.{Next}
 use Rattle.bus_states.specs.declared.notice.Notice.TheVariants.{Load}
 use Rattle.bus_states.specs.Messages.{after_message}
 use Rattle.bus_states.specs.Speculative.{load_next}

@@ -1,4 +1,4 @@
-use Rattle.std.proofs.Common.{◌≡◌, ◌∙◌, ◌<◌, ◌+◌, ◌≤◌, refl, ap, sym, subst, arith}
+use Rattle.std.proofs.Common.{◌≡◌, ◌∙◌, refl, ap, arith}
 use Rattle.spec_states.specs.States.{is_valid}
 use Rattle.spec_states.proofs.MaskLaws.{width-bounds}
 use Rattle.violations.specs.CoreSet.{is_in}

@@ -1,4 +1,4 @@
-use Rattle.std.proofs.Common.{◌≡◌, ◌∙◌, ℕ, ◌||◌, ◌&&◌, ◌==◌, Bool, true, false, refl, sym, arith}
+use Rattle.std.proofs.Common.{◌≡◌, ℕ, ◌||◌, ◌&&◌, ◌==◌, refl, arith}
 use Rattle.violations.specs.CoreSet.{is_in}
 use Rattle.bus_states.specs.Messages.{message_of}
 use Rattle.spec_bus.specs.Parts.{bus_in}

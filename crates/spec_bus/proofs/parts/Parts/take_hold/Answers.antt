@@ -1,4 +1,4 @@
-use Rattle.std.proofs.Common.{◌≡◌, ◌∙◌, Some, refl, ap, sym, slice_index}
+use Rattle.std.proofs.Common.{◌∙◌, ap, sym, slice_index}
 use Rattle.spec_states.specs.States.{is_valid}
 use Rattle.violations.specs.CoreSet.{is_in}
 use Rattle.bus_states.proofs.Coherence.{committed-past}

@@ -1,4 +1,4 @@
-use Rattle.std.proofs.Common.{◌≡◌, ◌∙◌, ℕ, slice_index, refl, sym, ap, arith}
+use Rattle.std.proofs.Common.{◌∙◌, slice_index, refl, arith}
 use Rattle.bus_states.specs.Messages.{Message}
 use Rattle.spec_bus.specs.Parts.{bus_in}
 use Rattle.spec_bus.proofs.Tellings.{may_hear, next_core, next_later, heard_is, heard_more, heard_skip, heard_all}

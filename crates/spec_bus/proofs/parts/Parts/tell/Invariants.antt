@@ -1,6 +1,4 @@
-use Rattle.std.proofs.Common.{◌≡◌, slice_get, slice_index}
-use Rattle.bus_states.specs.Messages.{message_of}
-use Rattle.spec_bus.specs.Parts.{bus_in}
+use Rattle.std.proofs.Common.{slice_index}
 use Rattle.spec_bus.proofs.Tellings.{AreTelling}
 use Rattle.spec_bus.proofs.parts.Parts.tell.Given as goal
 
