@@ -31,7 +31,7 @@ pub record Arrives (r : Register) (v : StoreView) (shares : Counts) (core : ℕ)
   pub notes : MayNote r shares
   pub is_at : IsAtStop r core now arrived at
 
--- the core runs, these others do too, and there is room for a batch and one entry more
+-- the core runs, these others do too, and there is room for their entries and one more
 pub record MayHurt (r : Register) (core : ℕ) (now : Running) (hurt : ℕ → Bool) : Type 0 where
   pub there : core < length r.running.items
   pub few : length r.running.items ≤ 16
@@ -74,7 +74,7 @@ abbrev pub HasAttempt : StoreView → ℕ → Option Running → Type 0
 HasAttempt v k None = v.attempt k ≡ None
 HasAttempt v k (Some now) = HasAttemptUnless now.hurt v k
 
--- the core has no attempt, and all else is as it was
+-- the core has no attempt; memory and the other cores are as they were
 pub record EndsAttempt (v w : StoreView) (core : ℕ) : Type 0 where
   pub shape : w.shape ≡ v.shape
   pub committed : (a : ℕ) → w.committed a ≡ v.committed a

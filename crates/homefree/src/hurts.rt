@@ -2,24 +2,18 @@
 ghost use Rattle.std.specs.Prelude.{◌≡◌, ◌+◌, ◌^◌, ◌++◌, ◌≤◌, ◌<◌, ◌≢◌, ℕ, length, vec_len, vec_capacity, true, false, Some, IsSome};
 ghost use Rattle.run_ledger.specs.declared.counts.Counts.{Counts};
 ghost use Rattle.violations.specs.CoreSet.{is_in};
-ghost use Rattle.rv32_exec.specs.Hart.{stepped};
-ghost use Rattle.rv32_exec.specs.Arrival.{after_loading, IsAtLoad};
-ghost use Rattle.homefree.specs.Arms.{MayHurt};
-ghost use Rattle.homefree.specs.AtStop.{IsAtStop};
 ghost use Rattle.homefree.specs.Kept.{running_at};
 ghost use Rattle.homefree.specs.Steps.{Steps};
 ghost use Rattle.homefree.specs.Hurts as spec;
 ghost use Rattle.homefree.specs.Noted.{epoch_in, hurts_noted, cancels_noted, cancel_noted};
 
-use crate::register::{Register, Running};
-use run_ledger::Shares;
-use rv32_exec::{Arrived, Hart, Stop};
+use crate::register::Register;
 use spec_history::What;
 use violations::CoreSet;
 
 impl Register {
     /// The core's turn hurts these others.
-    pub fn hurt_all(&mut self, by: u32, hurt: CoreSet)
+    pub(crate) fn hurt_all(&mut self, by: u32, hurt: CoreSet)
         requires few { length self.old.running.items ≤ 16 }
         requires room { vec_len self.old.history + length self.old.running.items ≤ vec_capacity self.old.history }
         requires runs { (k : ℕ) → is_in hurt k ≡ true → IsSome (running_at self.old.running.items k) }
@@ -48,65 +42,8 @@ impl Register {
         }
     }
 
-    /// The core's load hurts these others, and gives this value. Answers its hart then.
-    pub fn hurt_and_load(
-        &mut self,
-        shares: &mut Shares,
-        core: u32,
-        now: Running,
-        arrived: &Arrived,
-        addr: u32,
-        width: u32,
-        value: u32,
-        hurt: CoreSet,
-    ) -> Hart
-        requires may { MayHurt self.old core now (is_in hurt) }
-        requires totals { self.old.totals.loads < 2 ^ 63 }
-        requires shares { shares.old.loads < 2 ^ 63 }
-        requires at { IsAtStop self.old core now arrived.now arrived.now.at }
-        requires value { IsAtLoad arrived.now.at value }
-        ensures hart { result ≡ after_loading arrived.entry.now value }
-        ensures steps { Steps self.old self.new shares.old shares.new (hurts_noted core (is_in hurt) self.old.running.items (length self.old.running.items) ++ spec.entry core (What.Load addr width value)) }
-    {
-        self.hurt_all(core, hurt);
-        self.load(shares, core, now, arrived, addr, width, value)
-    }
-
-    /// The core's store hurts these others. Answers its hart then.
-    pub fn hurt_and_store(
-        &mut self,
-        shares: &mut Shares,
-        core: u32,
-        now: Running,
-        arrived: &Arrived,
-        addr: u32,
-        width: u32,
-        value: u32,
-        hurt: CoreSet,
-    ) -> Hart
-        requires may { MayHurt self.old core now (is_in hurt) }
-        requires totals { self.old.totals.stores < 2 ^ 63 }
-        requires shares { shares.old.stores < 2 ^ 63 }
-        requires at { IsAtStop self.old core now arrived.now (Stop.Store addr width value) }
-        ensures hart { result ≡ stepped arrived.entry.now.now }
-        ensures steps { Steps self.old self.new shares.old shares.new (hurts_noted core (is_in hurt) self.old.running.items (length self.old.running.items) ++ spec.entry core (What.Store addr width value)) }
-    {
-        self.hurt_all(core, hurt);
-        self.store(shares, core, now, arrived, addr, width, value)
-    }
-
-    /// The homefree core publishes, which hurts these others.
-    pub fn hurt_and_publish(&mut self, core: u32, now: Running, hurt: CoreSet)
-        requires may { MayHurt self.old core now (is_in hurt) }
-        ensures steps { (shares : Counts) → Steps self.old self.new shares shares (hurts_noted core (is_in hurt) self.old.running.items (length self.old.running.items) ++ spec.entry core What.Publish) }
-        ensures runs { running_at self.new.running.items core ≡ Some (record now { straight = true }) }
-    {
-        self.hurt_all(core, hurt);
-        self.publish(core, now);
-    }
-
     /// The core's turn cancels each other one that runs an epoch.
-    pub fn cancel_all(&mut self, by: u32)
+    pub(crate) fn cancel_all(&mut self, by: u32)
         requires few { length self.old.running.items ≤ 16 }
         requires room { vec_len self.old.history + length self.old.running.items ≤ vec_capacity self.old.history }
         ensures steps { (shares : Counts) → Steps self.old self.new shares shares (cancels_noted by self.old.running.items (length self.old.running.items)) }

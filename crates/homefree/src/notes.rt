@@ -5,7 +5,10 @@ ghost use Rattle.rv32_exec.specs.Hart.{start_of, stepped};
 ghost use Rattle.rv32_exec.specs.Arrival.{after_loading, IsAtLoad};
 ghost use Rattle.run_ledger.specs.declared.counts.Counts.{Counts};
 ghost use Rattle.homefree.specs.Kept.{running_at};
+ghost use Rattle.homefree.specs.Arms.{MayHurt};
 ghost use Rattle.homefree.specs.AtStop.{IsAtStop};
+ghost use Rattle.homefree.specs.Noted.{hurts_noted};
+ghost use Rattle.violations.specs.CoreSet.{is_in};
 ghost use Rattle.homefree.specs.Steps.{Steps};
 ghost use Rattle.spec_history.specs.FlatState as flat;
 ghost use Rattle.homefree.specs.Hurts as spec;
@@ -14,9 +17,10 @@ use crate::register::{Register, Running};
 use run_ledger::{Shares, count_commit, count_load, count_restart, count_store};
 use rv32_exec::{Arrived, End, Hart, Image, Stop, loaded, start, stored};
 use spec_history::{Entry, What};
+use violations::CoreSet;
 
 /// Adds an entry, where there is room for it.
-pub fn note(history: &mut Vec<Entry>, by: u32, what: What)
+pub(crate) fn note(history: &mut Vec<Entry>, by: u32, what: What)
     requires { vec_len history.old < vec_capacity history.old }
     ensures items { history.new.items ≡ history.old.items ++ spec.entry by what }
     ensures room { vec_capacity history.old ≤ vec_capacity history.new }
@@ -29,7 +33,7 @@ pub fn note(history: &mut Vec<Entry>, by: u32, what: What)
 }
 
 /// Sets what a core runs.
-pub fn set_running(running: &mut Vec<Option<Running>>, core: u32, now: Option<Running>)
+pub(crate) fn set_running(running: &mut Vec<Option<Running>>, core: u32, now: Option<Running>)
     requires { core < length running.old.items }
     ensures len { length running.new.items ≡ length running.old.items }
     ensures each { (k : ℕ) → running_at running.new.items k ≡ (if k == core then now else running_at running.old.items k) }
@@ -39,7 +43,7 @@ pub fn set_running(running: &mut Vec<Option<Running>>, core: u32, now: Option<Ru
 
 impl Register {
     /// An idle core starts the next epoch. Answers the hart at its start.
-    pub fn start(&mut self, core: u32) -> Hart
+    pub(crate) fn start(&mut self, core: u32) -> Hart
         requires core { core < length self.old.running.items }
         requires room { vec_len self.old.history < vec_capacity self.old.history }
         requires image { IsImage self.old.image }
@@ -63,7 +67,7 @@ impl Register {
     }
 
     /// A core that was hurt begins its epoch again. Answers the hart at its start.
-    pub fn restart(&mut self, shares: &mut Shares, core: u32, epoch: u32) -> Hart
+    pub(crate) fn restart(&mut self, shares: &mut Shares, core: u32, epoch: u32) -> Hart
         requires core { core < length self.old.running.items }
         requires room { vec_len self.old.history < vec_capacity self.old.history }
         requires totals { self.old.totals.restarts < 2 ^ 63 }
@@ -85,8 +89,8 @@ impl Register {
         hart
     }
 
-    /// A core loads this value. Answers its hart then.
-    pub fn load(
+    /// The core's load hurts these others, and gives this value. Answers its hart then.
+    pub(crate) fn load(
         &mut self,
         shares: &mut Shares,
         core: u32,
@@ -95,16 +99,17 @@ impl Register {
         addr: u32,
         width: u32,
         value: u32,
+        hurt: CoreSet,
     ) -> Hart
-        requires core { core < length self.old.running.items }
-        requires room { vec_len self.old.history < vec_capacity self.old.history }
+        requires may { MayHurt self.old core now (is_in hurt) }
         requires totals { self.old.totals.loads < 2 ^ 63 }
         requires shares { shares.old.loads < 2 ^ 63 }
         requires at { IsAtStop self.old core now arrived.now arrived.now.at }
         requires value { IsAtLoad arrived.now.at value }
         ensures hart { result ≡ after_loading arrived.entry.now value }
-        ensures steps { Steps self.old self.new shares.old shares.new (spec.entry core (What.Load addr width value)) }
+        ensures steps { Steps self.old self.new shares.old shares.new (hurts_noted core (is_in hurt) self.old.running.items (length self.old.running.items) ++ spec.entry core (What.Load addr width value)) }
     {
+        self.hurt_all(core, hurt);
         note(&mut self.history, core, What::Load { addr, width, value });
         count_load(&mut self.totals, shares);
         let hart = loaded(arrived, value);
@@ -112,8 +117,8 @@ impl Register {
         hart
     }
 
-    /// A core stores a value. Answers its hart then.
-    pub fn store(
+    /// The core's store hurts these others. Answers its hart then.
+    pub(crate) fn store(
         &mut self,
         shares: &mut Shares,
         core: u32,
@@ -122,15 +127,16 @@ impl Register {
         addr: u32,
         width: u32,
         value: u32,
+        hurt: CoreSet,
     ) -> Hart
-        requires core { core < length self.old.running.items }
-        requires room { vec_len self.old.history < vec_capacity self.old.history }
+        requires may { MayHurt self.old core now (is_in hurt) }
         requires totals { self.old.totals.stores < 2 ^ 63 }
         requires shares { shares.old.stores < 2 ^ 63 }
         requires at { IsAtStop self.old core now arrived.now (Stop.Store addr width value) }
         ensures hart { result ≡ stepped arrived.entry.now.now }
-        ensures steps { Steps self.old self.new shares.old shares.new (spec.entry core (What.Store addr width value)) }
+        ensures steps { Steps self.old self.new shares.old shares.new (hurts_noted core (is_in hurt) self.old.running.items (length self.old.running.items) ++ spec.entry core (What.Store addr width value)) }
     {
+        self.hurt_all(core, hurt);
         note(&mut self.history, core, What::Store { addr, width, value });
         count_store(&mut self.totals, shares);
         let hart = stored(arrived);
@@ -138,21 +144,20 @@ impl Register {
         hart
     }
 
-    /// The homefree core publishes, and is straight.
-    pub fn publish(&mut self, core: u32, now: Running)
-        requires core { core < length self.old.running.items }
-        requires room { vec_len self.old.history < vec_capacity self.old.history }
-        requires runs { running_at self.old.running.items core ≡ Some now }
-        ensures steps { (shares : Counts) → Steps self.old self.new shares shares (spec.entry core What.Publish) }
-        ensures running { (k : ℕ) → running_at self.new.running.items k ≡ (if k == core then Some (record now { straight = true }) else running_at self.old.running.items k) }
+    /// The homefree core publishes, which hurts these others.
+    pub(crate) fn publish(&mut self, core: u32, now: Running, hurt: CoreSet)
+        requires may { MayHurt self.old core now (is_in hurt) }
+        ensures steps { (shares : Counts) → Steps self.old self.new shares shares (hurts_noted core (is_in hurt) self.old.running.items (length self.old.running.items) ++ spec.entry core What.Publish) }
+        ensures runs { running_at self.new.running.items core ≡ Some (record now { straight = true }) }
     {
+        self.hurt_all(core, hurt);
         note(&mut self.history, core, What::Publish);
         set_running(&mut self.running, core, Some(now.straightened()));
     }
 
     /// The homefree core's epoch has ended, and commits: the core is idle, and the next epoch is homefree. Where the epoch
     /// exits, or was the last, the loop is over.
-    pub fn commit(&mut self, shares: &mut Shares, core: u32, now: Running, arrived: &Arrived)
+    pub(crate) fn commit(&mut self, shares: &mut Shares, core: u32, now: Running, arrived: &Arrived)
         requires core { core < length self.old.running.items }
         requires room { vec_len self.old.history < vec_capacity self.old.history }
         requires totals { self.old.totals.commits < 2 ^ 63 }
@@ -170,7 +175,7 @@ impl Register {
     }
 
     /// The homefree core's epoch has faulted: the loop is over.
-    pub fn fault(&mut self, core: u32, now: Running, cause: u32, pc: u32)
+    pub(crate) fn fault(&mut self, core: u32, now: Running, cause: u32, pc: u32)
         requires room { vec_len self.old.history < vec_capacity self.old.history }
         requires runs { running_at self.old.running.items core ≡ Some now }
         ensures steps { (shares : Counts) → Steps self.old self.new shares shares (spec.entry core (What.Fault cause pc)) }
@@ -185,7 +190,7 @@ impl Register {
     }
 
     /// The core's turn hurts another one.
-    pub fn hurt(&mut self, by: u32, core: u32, now: Running)
+    pub(crate) fn hurt(&mut self, by: u32, core: u32, now: Running)
         requires core { core < length self.old.running.items }
         requires room { vec_len self.old.history < vec_capacity self.old.history }
         requires runs { running_at self.old.running.items core ≡ Some now }
@@ -197,7 +202,7 @@ impl Register {
     }
 
     /// The core's turn cancels another one, which is idle then.
-    pub fn cancel(&mut self, by: u32, core: u32, now: Running)
+    pub(crate) fn cancel(&mut self, by: u32, core: u32, now: Running)
         requires core { core < length self.old.running.items }
         requires room { vec_len self.old.history < vec_capacity self.old.history }
         requires runs { running_at self.old.running.items core ≡ Some now }
@@ -210,7 +215,7 @@ impl Register {
 }
 
 /// How the loop ended, where this epoch, which ended with this hart, was its last.
-pub fn end_after(image: &Image, hart: Hart, epoch: u32) -> Option<End>
+pub(crate) fn end_after(image: &Image, hart: Hart, epoch: u32) -> Option<End>
     requires { epoch < 2 ^ 16 }
     ensures { result ≡ flat.end_after image.now hart epoch }
 {

@@ -9,7 +9,7 @@ use rv32_exec::{End, Image, NoMemory};
 use std::alloc::Global;
 
 /// So many cores that run nothing.
-pub fn idle_cores(alloc: Global, cores: u32) -> Result<Vec<Option<Running>>, NoMemory>
+pub(crate) fn idle_cores(alloc: Global, cores: u32) -> Result<Vec<Option<Running>>, NoMemory>
     ensures count { IfOk result (λ running. length running.items ≡ cores) }
     ensures idle { IfOk result (λ running. (k : ℕ) → running_at running.items k ≡ None) }
 {
@@ -23,7 +23,7 @@ pub fn idle_cores(alloc: Global, cores: u32) -> Result<Vec<Option<Running>>, NoM
 }
 
 /// How the loop ended, where it has no epochs.
-pub fn end_at_first(image: &Image) -> Option<End>
+pub(crate) fn end_at_first(image: &Image) -> Option<End>
     ensures end { result ≡ flat.end_at image.now 0 }
     ensures limits { IsImage image.now }
 {

@@ -12,7 +12,7 @@ use violations::EpochStore;
 
 /// The register and the store.
 #[derive(Drop)]
-pub struct Parts<S: EpochStore> {
+pub(crate) struct Parts<S: EpochStore> {
     /// The history, and where it has led.
     pub register: Register,
     /// The store of the cores' attempts.
@@ -21,7 +21,7 @@ pub struct Parts<S: EpochStore> {
 
 impl<S: EpochStore> Parts<S> {
     /// A turn of a core, with the stop that it hands in, where the loop isn't over and there is room for the turn.
-    pub fn turn(&mut self, shares: &mut Shares, core: u32, next: Option<&Arrived>) -> Answer
+    pub(crate) fn turn(&mut self, shares: &mut Shares, core: u32, next: Option<&Arrived>) -> Answer
         requires core { core < length self.old.register.running.items }
         requires budget { 4 ≤ S.budget self.old.store }
         requires notes { MayNote self.old.register shares.old }
@@ -84,7 +84,7 @@ impl<S: EpochStore> Parts<S> {
     }
 
     /// An idle core begins the next epoch, if one is left.
-    pub fn start(&mut self, shares: &mut Shares, core: u32, next: Option<&Arrived>) -> Answer
+    pub(crate) fn start(&mut self, shares: &mut Shares, core: u32, next: Option<&Arrived>) -> Answer
         requires core { core < length self.old.register.running.items }
         requires budget { 1 ≤ S.budget self.old.store }
         requires notes { MayNote self.old.register shares.old }
@@ -105,7 +105,7 @@ impl<S: EpochStore> Parts<S> {
     }
 
     /// A core that was hurt begins its epoch again.
-    pub fn restart(
+    pub(crate) fn restart(
         &mut self,
         shares: &mut Shares,
         core: u32,

@@ -6,7 +6,7 @@ use spec_history::Entry;
 
 /// What a core runs.
 #[derive(Clone, Copy, Debug)]
-pub struct Running {
+pub(crate) struct Running {
     /// The epoch's number.
     pub epoch: u32,
     /// Its hart at its last event.
@@ -31,7 +31,7 @@ impl Running {
 
 /// The history, and where it has led, the store aside.
 #[derive(Drop)]
-pub struct Register {
+pub(crate) struct Register {
     /// The image of the loop.
     pub image: Image,
     /// What the turns so far did.

@@ -32,7 +32,7 @@ impl<S: EpochStore> Parts<S> {
             Step::Done { value, hurt } => {
                 let hart = self
                     .register
-                    .hurt_and_load(shares, core, now, arrived, addr, width, value, hurt);
+                    .load(shares, core, now, arrived, addr, width, value, hurt);
                 Answer::Go(hart)
             }
             Step::Wait(cause) => {
@@ -66,7 +66,7 @@ impl<S: EpochStore> Parts<S> {
             Step::Done { value: _, hurt } => {
                 let hart = self
                     .register
-                    .hurt_and_store(shares, core, now, arrived, addr, width, value, hurt);
+                    .store(shares, core, now, arrived, addr, width, value, hurt);
                 Answer::Go(hart)
             }
             Step::Wait(cause) => {

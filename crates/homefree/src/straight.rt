@@ -27,7 +27,7 @@ impl<S: EpochStore> Parts<S> {
         let straight = run.straightened();
         let hurt = self.store.publish(core);
         self.store.look();
-        self.register.hurt_and_publish(core, now, hurt);
+        self.register.publish(core, now, hurt);
         straight
     }
 
@@ -52,7 +52,7 @@ impl<S: EpochStore> Parts<S> {
         self.store.look();
         let hart = self
             .register
-            .hurt_and_load(shares, core, straight, arrived, addr, width, value, hurt);
+            .load(shares, core, straight, arrived, addr, width, value, hurt);
         Answer::Go(hart)
     }
 
@@ -78,7 +78,7 @@ impl<S: EpochStore> Parts<S> {
         self.store.look();
         let hart = self
             .register
-            .hurt_and_store(shares, core, straight, arrived, addr, width, value, hurt);
+            .store(shares, core, straight, arrived, addr, width, value, hurt);
         Answer::Go(hart)
     }
 }

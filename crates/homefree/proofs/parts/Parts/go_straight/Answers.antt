@@ -16,6 +16,6 @@ publish-hurt-requires-clause-may g c =
 pub returns-clause-straight : goal.returns-clause-straight
 returns-clause-straight g c =
     let old = c.args.self.now in
-    went_straight old.register c.hurt_and_publish.new.self (g.S.EpochStore.view old.store) (g.S.EpochStore.view c.publish-hurt.new.self) c.args.core c.args.now c.straightened-straight.result
-    (is_in c.publish-hurt.result) c.requires.runs c.if-now.false c.requires.homefree c.publish-hurt.ensures.publishes c.look.ensures c.hurt_and_publish.ensures.steps c.hurt_and_publish.ensures.runs
+    went_straight old.register c.publish.new.self (g.S.EpochStore.view old.store) (g.S.EpochStore.view c.publish-hurt.new.self) c.args.core c.args.now c.straightened-straight.result
+    (is_in c.publish-hurt.result) c.requires.runs c.if-now.false c.requires.homefree c.publish-hurt.ensures.publishes c.look.ensures c.publish.ensures.steps c.publish.ensures.runs
     c.straightened-straight.ensures

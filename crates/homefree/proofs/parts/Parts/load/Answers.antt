@@ -14,9 +14,9 @@ pub returns-in-Done : goal.returns-in-Done
 returns-in-Done g c =
     let old = c.args.self.now in
     let at = c.requires.load in
-    loaded old.register c.hurt_and_load-hart.new.self (g.S.EpochStore.view old.store) (g.S.EpochStore.view c.load.new.self) c.args.shares.now c.hurt_and_load-hart.new.shares c.args.core c.args.now c.args.arrived.now
-    c.args.addr c.args.width c.in-Done.value at.0 at.1 (is_in c.in-Done.hurt) c.hurt_and_load-hart.result c.requires.arrives at.2 c.requires.speculates c.in-Done.ensures.loads
-    c.hurt_and_load-hart.ensures.hart c.hurt_and_load-hart.ensures.steps
+    loaded old.register c.load-hart.new.self (g.S.EpochStore.view old.store) (g.S.EpochStore.view c.load.new.self) c.args.shares.now c.load-hart.new.shares c.args.core c.args.now c.args.arrived.now
+    c.args.addr c.args.width c.in-Done.value at.0 at.1 (is_in c.in-Done.hurt) c.load-hart.result c.requires.arrives at.2 c.requires.speculates c.in-Done.ensures.loads
+    c.load-hart.ensures.hart c.load-hart.ensures.steps
 
 pub returns-else-now-self : goal.returns-else-now-self
 returns-else-now-self g c =

@@ -12,9 +12,9 @@ store-requires-clause-access g c =
 pub returns-in-Done : goal.returns-in-Done
 returns-in-Done g c =
     let old = c.args.self.now in
-    stored old.register c.hurt_and_store-hart.new.self (g.S.EpochStore.view old.store) (g.S.EpochStore.view c.store.new.self) c.args.shares.now c.hurt_and_store-hart.new.shares c.args.core c.args.now c.args.arrived.now
-    c.args.addr c.args.width c.args.value (is_in c.in-Done.hurt) c.hurt_and_store-hart.result c.requires.arrives c.requires.store c.requires.speculates c.in-Done.ensures.stores.1
-    c.hurt_and_store-hart.ensures.hart c.hurt_and_store-hart.ensures.steps
+    stored old.register c.store-hart.new.self (g.S.EpochStore.view old.store) (g.S.EpochStore.view c.store.new.self) c.args.shares.now c.store-hart.new.shares c.args.core c.args.now c.args.arrived.now
+    c.args.addr c.args.width c.args.value (is_in c.in-Done.hurt) c.store-hart.result c.requires.arrives c.requires.store c.requires.speculates c.in-Done.ensures.stores.1
+    c.store-hart.ensures.hart c.store-hart.ensures.steps
 
 pub returns-else-now-self : goal.returns-else-now-self
 returns-else-now-self g c =

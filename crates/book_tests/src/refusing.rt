@@ -1,0 +1,74 @@
+//! A store that is refused memory.
+ghost use Rattle.std.specs.Prelude.{◌≡◌};
+
+use rv32_exec::{Image, NoMemory};
+use std::alloc::Global;
+use violations::{CoreSet, EpochStore, Step};
+
+/// A store that makes room twice, and is refused memory from then on.
+#[derive(Drop)]
+pub struct Refusing<S: EpochStore> {
+    /// The store that does all other calls.
+    pub store: S,
+    /// How often it still makes room.
+    pub grants: u32,
+}
+
+impl<S: EpochStore> EpochStore for Refusing<S> {
+    ghost view = { λ r. S.view r.store };
+
+    ghost budget = { λ r. S.budget r.store };
+
+    fn fresh(alloc: Global, image: &Image, cores: u32) -> Result<Refusing<S>, NoMemory> {
+        let store = S::fresh(alloc, image, cores)?;
+        Ok(Refusing { store, grants: 2 })
+    }
+
+    fn look(&self) {
+        self.store.look();
+    }
+
+    fn reserve(&mut self) -> Result<(), NoMemory> {
+        if self.grants == 0 {
+            return Err(NoMemory);
+        }
+        self.grants -= 1;
+        self.store.reserve()
+    }
+
+    fn begin(&mut self, core: u32, epoch: u32) {
+        self.store.begin(core, epoch);
+    }
+
+    fn load(&mut self, core: u32, addr: u32, width: u32) -> Step {
+        self.store.load(core, addr, width)
+    }
+
+    fn store(&mut self, core: u32, addr: u32, width: u32, value: u32) -> Step {
+        self.store.store(core, addr, width, value)
+    }
+
+    fn publish(&mut self, core: u32) -> CoreSet {
+        self.store.publish(core)
+    }
+
+    fn straight_load(&mut self, core: u32, addr: u32, width: u32) -> (u32, CoreSet) {
+        self.store.straight_load(core, addr, width)
+    }
+
+    fn straight_store(&mut self, core: u32, addr: u32, width: u32, value: u32) -> CoreSet {
+        self.store.straight_store(core, addr, width, value)
+    }
+
+    fn leave(&mut self, core: u32) {
+        self.store.leave(core);
+    }
+
+    fn cancel(&mut self, core: u32) {
+        self.store.cancel(core);
+    }
+
+    fn committed_byte(&self, addr: u32) -> u8 {
+        self.store.committed_byte(addr)
+    }
+}

@@ -1,0 +1,241 @@
+//! Schedules of turns with what comes of them, worked out by hand from the cases of a turn.
+
+use run_ledger::Counts;
+use rv32_exec::End;
+use spec_history::{Entry, What};
+use std::alloc::Global;
+use std::test::Fail;
+
+/// Epoch 0 stores 1 to 64. Epoch 1 loops until it loads it.
+///
+/// `beq x10,x0,+16; lw x5,64(x0); beq x5,x0,-4; jalr x0,0(x1); addi x5,x0,1; sw x5,64(x0); jalr x0,0(x1)`
+const SIGNAL: &str =
+    "size 256\nepochs 2\nlimit 50\ncode 6308050083220004e38e02fe67800000930210002320500467800000\n";
+
+/// Epoch 0 loads the word at 64, to which epoch 1 stores 1.
+///
+/// `beq x10,x0,+12; sw x10,64(x0); jalr x0,0(x1); lw x5,64(x0); jalr x0,0(x1)`
+const LOAD_FIRST: &str =
+    "size 256\nepochs 2\nlimit 100\ncode 630605002320a004678000008322000467800000\n";
+
+/// Each of two epochs stores 255 to its byte at 64, 65.
+///
+/// `addi x5,x0,255; sb x5,64(x10); jalr x0,0(x1)`
+const BYTES: &str = "size 256\nepochs 2\nlimit 100\ncode 9302f00f2300550467800000\n";
+
+/// Each epoch adds its number to the word at 64.
+///
+/// `lw x5,64(x0); add x5,x5,x10; sw x5,64(x0); jalr x0,0(x1)`
+const SUM_OF_ONE: &str = "size 256\nepochs 1\nlimit 100\ncode 83220004b382a2002320500467800000\n";
+
+/// The same of two epochs.
+pub const SUM_OF_TWO: &str =
+    "size 256\nepochs 2\nlimit 100\ncode 83220004b382a2002320500467800000\n";
+
+/// The same of four epochs.
+pub const SUM_OF_FOUR: &str =
+    "size 256\nepochs 4\nlimit 100\ncode 83220004b382a2002320500467800000\n";
+
+/// The same in version 2.
+const SUM_IN_VERSION_2: &str =
+    "version 2\nsize 256\nepochs 4\nlimit 100\ncode 83220004b382a2002320500467800000\n";
+
+/// Each of three epochs adds its number and 1 to the word at 64.
+///
+/// `lw x5,64(x0); addi x6,x10,1; add x5,x5,x6; sw x5,64(x0); jalr x0,0(x1)`
+const ADD: &str = "size 256\nepochs 3\nlimit 50\ncode 8322000413031500b38262002320500467800000\n";
+
+/// Each of two epochs stores its number to its word at 64, 68.
+///
+/// `slli x5,x10,2; sw x10,64(x5); jalr x0,0(x1)`
+const OWN_WORDS: &str = "size 256\nepochs 2\nlimit 100\ncode 9312250023a0a20467800000\n";
+
+/// Each of two epochs stores its number to 64, and then exits the loop.
+///
+/// `sw x10,64(x0); addi x10,x0,1; jalr x0,0(x1)`
+pub const EXIT: &str = "size 256\nepochs 2\nlimit 50\nexit\ncode 2320a0041305100067800000\n";
+
+/// Each of two epochs adds 1 to the word at 64, and then faults.
+///
+/// `lw x5,64(x0); addi x5,x5,1; sw x5,64(x0); ecall`
+const CALL: &str = "size 256\nepochs 2\nlimit 50\ncode 83220004938212002320500473000000\n";
+
+/// Epoch 1 loads the word at 64 and faults.
+///
+/// `beq x10,x0,+12; lw x5,64(x0); ecall; jalr x0,0(x1)`
+const CALL_AT_ONE: &str = "size 256\nepochs 2\nlimit 50\ncode 63060500832200047300000067800000\n";
+
+/// Nothing is to be run.
+const NOTHING: &str = "size 256\nepochs 0\nlimit 50\ncode 67800000\n";
+
+/// Images with little memory. The code is that of `SIGNAL`, `LOAD_FIRST`, `SUM_OF_TWO`, `ADD`, `EXIT` and `CALL`.
+pub const SMALL: [&str; 6] = [
+    "size 80\nepochs 2\nlimit 50\ncode 6308050083220004e38e02fe67800000930210002320500467800000\n",
+    "size 80\nepochs 2\nlimit 100\ncode 630605002320a004678000008322000467800000\n",
+    "size 80\nepochs 2\nlimit 100\ncode 83220004b382a2002320500467800000\n",
+    "size 80\nepochs 3\nlimit 50\ncode 8322000413031500b38262002320500467800000\n",
+    "size 80\nepochs 2\nlimit 50\nexit\ncode 2320a0041305100067800000\n",
+    "size 80\nepochs 2\nlimit 50\ncode 83220004938212002320500473000000\n",
+];
+
+/// One a line: a name, the store, the image, how many cores there are, the room, the schedule, what each turn answers, the
+/// entries, the loads, stores, restarts and commits, and how the loop has ended.
+pub const ROWS: &str = "
+a violation | plain | SIGNAL | 2 | 64 | 0 1 0 1 0 1 1 1 | go go go go left go go over | 0 start 0; 1 start 1; 0 store 64 4 1; 1 load 64 4 0; 0 hurt 1; 0 commit; 1 restart; 1 load 64 4 1; 1 commit | 2 1 1 2 | done 2
+a load before the store of a later epoch | plain | LOAD_FIRST | 2 | 64 | 0 1 0 1 0 1 | go go go go left over | 0 start 0; 1 start 1; 0 load 64 4 0; 1 store 64 4 1; 0 commit; 1 commit | 1 1 0 2 | done 2
+stores to bytes of one word | plain | BYTES | 2 | 64 | 0 1 0 1 0 1 | go go go go left over | 0 start 0; 1 start 1; 0 store 64 1 255; 1 store 65 1 255; 0 commit; 1 commit | 0 2 0 2 | done 2
+two cores are hurt, in order of core number | plain | ADD | 3 | 64 | 0 1 2 2 1 0 0 0 | go go go go go go go left | 0 start 0; 1 start 1; 2 start 2; 2 load 64 4 0; 1 load 64 4 0; 0 load 64 4 0; 0 store 64 4 1; 0 hurt 1; 0 hurt 2; 0 commit | 3 1 0 1 | -
+an exit cancels the later epoch | plain | EXIT | 2 | 64 | 0 1 0 1 0 | go go go go over | 0 start 0; 1 start 1; 0 store 64 4 0; 1 store 64 4 1; 0 cancel 1; 0 commit | 0 2 0 1 | exit 0
+a fault | plain | CALL | 1 | 64 | 0 0 0 0 0 | go go go over over | 0 start 0; 0 load 64 4 0; 0 store 64 4 1; 0 fault 2 12 | 1 1 0 0 | fault 0 2 12
+a later epoch faults once it is homefree | plain | CALL_AT_ONE | 2 | 64 | 0 1 1 1 0 1 | go go go NotHomefree left over | 0 start 0; 1 start 1; 1 load 64 4 0; 0 commit; 1 fault 2 8 | 1 0 0 1 | fault 1 2 8
+a later epoch has ended | plain | OWN_WORDS | 2 | 64 | 0 1 1 1 0 0 1 | go go go NotHomefree go left over | 0 start 0; 1 start 1; 1 store 68 4 1; 0 store 64 4 0; 0 commit; 1 commit | 0 2 0 2 | done 2
+no epoch is left | plain | SUM_OF_ONE | 2 | 64 | 0 1 | go NoEpoch | 0 start 0 | 0 0 0 0 | -
+no epochs | plain | NOTHING | 2 | 64 | 1 0 | over over | | 0 0 0 0 | done 0
+less than 16 free entries | plain | SUM_OF_FOUR | 1 | 16 | 0 0 | go HistoryFull | 0 start 0 | 0 0 0 0 | -
+16 free entries | plain | SUM_OF_FOUR | 1 | 17 | 0 0 0 | go go HistoryFull | 0 start 0; 0 load 64 4 0 | 1 0 0 0 | -
+less than 32 free entries in version 2 | plain | SUM_IN_VERSION_2 | 1 | 32 | 0 0 | go HistoryFull | 0 start 0 | 0 0 0 0 | -
+32 free entries in version 2 | plain | SUM_IN_VERSION_2 | 16 | 33 | 0 0 0 | go go HistoryFull | 0 start 0; 0 load 64 4 0 | 1 0 0 0 | -
+a homefree core whose store waits goes straight | waiting | SUM_OF_ONE | 1 | 64 | 0 0 0 0 | go go go over | 0 start 0; 0 publish; 0 load 64 4 0; 0 store 64 4 0; 0 commit | 1 1 0 1 | done 1
+a later core whose store waits comes again | waiting | SUM_OF_TWO | 2 | 64 | 0 1 1 | go go NoWay | 0 start 0; 1 start 1 | 0 0 0 0 | -
+a straight core exits | waiting | EXIT | 2 | 64 | 0 1 0 0 | go go go over | 0 start 0; 1 start 1; 0 publish; 0 store 64 4 0; 0 cancel 1; 0 commit | 0 1 0 1 | exit 0
+a straight core faults | waiting | CALL | 2 | 64 | 0 1 0 0 0 | go go go go over | 0 start 0; 1 start 1; 0 publish; 0 load 64 4 0; 0 store 64 4 1; 0 fault 2 12 | 1 1 0 0 | fault 0 2 12
+";
+
+/// A line of the table.
+#[derive(Clone, Copy)]
+pub struct Row<'a> {
+    pub name: &'a str,
+    pub store: &'a str,
+    pub image: &'a str,
+    pub cores: u32,
+    pub room: u32,
+    pub schedule: &'a str,
+    pub answers: &'a str,
+    pub entries: &'a str,
+    pub counts: &'a str,
+    pub end: &'a str,
+}
+
+/// What a line of the table says.
+pub fn row_of<'a>(line: &'a str) -> Option<Row<'a>> {
+    let mut cells = line.split('|').map(|cell| cell.trim());
+    Some(Row {
+        name: cells.next()?,
+        store: cells.next()?,
+        image: image_named(cells.next()?)?,
+        cores: cells.next()?.parse().ok()?,
+        room: cells.next()?.parse().ok()?,
+        schedule: cells.next()?,
+        answers: cells.next()?,
+        entries: cells.next()?,
+        counts: cells.next()?,
+        end: cells.next()?,
+    })
+}
+
+/// The text of an image.
+fn image_named(name: &str) -> Option<&'static str> {
+    match name {
+        "SIGNAL" => Some(SIGNAL),
+        "LOAD_FIRST" => Some(LOAD_FIRST),
+        "BYTES" => Some(BYTES),
+        "SUM_OF_ONE" => Some(SUM_OF_ONE),
+        "SUM_OF_TWO" => Some(SUM_OF_TWO),
+        "SUM_OF_FOUR" => Some(SUM_OF_FOUR),
+        "SUM_IN_VERSION_2" => Some(SUM_IN_VERSION_2),
+        "ADD" => Some(ADD),
+        "OWN_WORDS" => Some(OWN_WORDS),
+        "EXIT" => Some(EXIT),
+        "CALL" => Some(CALL),
+        "CALL_AT_ONE" => Some(CALL_AT_ONE),
+        "NOTHING" => Some(NOTHING),
+        _ => None,
+    }
+}
+
+/// A line that is empty is no row.
+pub fn is_row(line: &str) -> bool {
+    !line.is_empty()
+}
+
+/// The numbers of a list.
+pub fn numbers_of(alloc: Global, text: &str) -> Result<Vec<u32>, Fail> {
+    let mut numbers = Vec::new(alloc);
+    for word in text.split_whitespace() {
+        numbers.push(word.parse().ok().ok_or("no number")?)?;
+    }
+    Ok(numbers)
+}
+
+/// The loads, stores, restarts and commits that a list says.
+pub fn counts_in(text: &str) -> Option<Counts> {
+    let mut numbers = text.split_whitespace().map(|word| word.parse().ok());
+    let mut number = || numbers.next()?;
+    Some(Counts {
+        loads: number()?,
+        stores: number()?,
+        restarts: number()?,
+        commits: number()?,
+    })
+}
+
+/// How the loop has ended, as these words say: `done`, `exit` or `fault` with its numbers, or another word where it isn't over.
+pub fn end_of<'a>(mut words: impl Iterator<Item = &'a str>) -> Option<Option<End>> {
+    let end = words.next()?;
+    let mut numbers = words.map(|word| word.parse::<u32>().ok());
+    let mut number = || numbers.next()?;
+    Some(match end {
+        "done" => Some(End::Done(number()?)),
+        "exit" => Some(End::Exit(number()?)),
+        "fault" => Some(End::Fault {
+            epoch: number()?,
+            cause: number()?,
+            pc: number()?,
+        }),
+        _ => None,
+    })
+}
+
+/// The entries of a history.
+pub fn entries_of(alloc: Global, text: &str) -> Result<Vec<Entry>, Fail> {
+    let mut entries = Vec::new(alloc);
+    for words in text.split(';') {
+        if !words.trim().is_empty() {
+            entries.push(entry_of(words).ok_or("no entry")?)?;
+        }
+    }
+    Ok(entries)
+}
+
+/// The entry that these words say.
+pub fn entry_of(words: &str) -> Option<Entry> {
+    let mut words = words.split_whitespace();
+    let by = words.next()?.parse().ok()?;
+    let what = words.next()?;
+    let mut numbers = words.map(|word| word.parse::<u32>().ok());
+    let mut number = || numbers.next()?;
+    let what = match what {
+        "start" => What::Start(number()?),
+        "load" => What::Load {
+            addr: number()?,
+            width: number()?,
+            value: number()?,
+        },
+        "store" => What::Store {
+            addr: number()?,
+            width: number()?,
+            value: number()?,
+        },
+        "hurt" => What::Hurt(number()?),
+        "cancel" => What::Cancel(number()?),
+        "restart" => What::Restart,
+        "publish" => What::Publish,
+        "commit" => What::Commit,
+        "fault" => What::Fault {
+            cause: number()?,
+            pc: number()?,
+        },
+        _ => return None,
+    };
+    Some(Entry { by, what })
+}

@@ -1,0 +1,83 @@
+//! What can be read of a book.
+ghost use Rattle.std.specs.Prelude.{◌≡◌, ℕ, length, Some, None, slice_get, nat_lt, if◌then◌else◌};
+ghost use Rattle.spec_history.specs.FlatState.{FlatState};
+ghost use Rattle.spec_history.specs.Replay.{replay};
+ghost use Rattle.homefree.specs.InStep.{InStep};
+
+use crate::answer::StopCause;
+use crate::book::Book;
+use run_ledger::Counts;
+use rv32_exec::{End, Image};
+use spec_history::Entry;
+use violations::EpochStore;
+
+impl<S: EpochStore> Book<S> {
+    /// The committed byte at an address, if it lies in memory.
+    pub fn committed(&self, addr: u32) -> Option<u8>
+        ensures { result ≡ (if nat_lt addr self.now.image.size then Some ((S.view self.now.store).committed addr) else None) }
+    {
+        if addr < self.parts.register.image.size() {
+            Some(self.parts.store.committed_byte(addr))
+        } else {
+            None
+        }
+    }
+
+    /// The entry at a place of the history, counted from 0, if it is there.
+    pub fn entry(&self, place: usize) -> Option<Entry>
+        ensures { result ≡ slice_get self.now.history place }
+    {
+        self.parts.register.history.get(place).copied()
+    }
+
+    /// The store.
+    pub fn store(&self) -> &S
+        ensures { result.now ≡ self.now.store }
+    {
+        &self.parts.store
+    }
+
+    /// How many entries the history has.
+    pub fn len(&self) -> usize
+        ensures { result ≡ length self.now.history }
+    {
+        self.parts.register.history.len()
+    }
+
+    /// The homefree epoch: the first that has not committed.
+    pub fn homefree(&self) -> u32
+        ensures homefree { (s : FlatState) → replay self.now.image self.now.cores self.now.history ≡ Some s → result ≡ s.homefree }
+        ensures step { InStep S.view self.now }
+    {
+        self.parts.register.homefree
+    }
+
+    /// How the loop ended, where it is over.
+    pub fn ended(&self) -> Option<End>
+        ensures end { (s : FlatState) → replay self.now.image self.now.cores self.now.history ≡ Some s → result ≡ s.end }
+        ensures step { InStep S.view self.now }
+    {
+        self.parts.register.end
+    }
+
+    /// Why the book takes no more turns, where it was stopped.
+    pub fn stopped(&self) -> Option<StopCause>
+        ensures { result ≡ self.now.stopped }
+    {
+        self.stopped
+    }
+
+    /// How many loads, stores, restarts and commits the history has.
+    pub fn totals(&self) -> Counts
+        ensures { result ≡ self.now.totals }
+    {
+        self.parts.register.totals.counts()
+    }
+
+    /// The image of the loop.
+    pub(crate) fn image(&self) -> &Image
+        ensures { result.now ≡ self.now.image }
+    {
+        &self.parts.register.image
+    }
+}
