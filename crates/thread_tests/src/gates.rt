@@ -1,0 +1,82 @@
+//! Gates for tests.
+
+use core_threads::{Gate, Shut};
+use rv32_exec::{Arrived, Stop};
+use std::sync::atomic::{AtomicU64, Ordering};
+use std::thread;
+
+/// Shuts for one core at one turn.
+#[derive(Drop)]
+pub struct ShutAt {
+    pub core: u32,
+    pub turn: u64,
+}
+
+impl Gate for ShutAt {
+    fn pass(&self, core: u32, turn: u64, _next: Option<&Arrived>) -> Result<(), Shut> {
+        if core == self.core && turn == self.turn {
+            Err(Shut)
+        } else {
+            Ok(())
+        }
+    }
+}
+
+/// How often a core looks for the others before the gate shuts.
+const LOOKS: u64 = 100_000_000;
+
+/// Lets no core pass its turns 0, 1 and 2 before every other core has come to pass the same turn.
+#[derive(Drop)]
+pub struct Meeting {
+    cores: u64,
+    come: [AtomicU64; 3],
+    /// How many cores had come to turn 1 with a store in hand when the first of them went on; 0 before.
+    pub stores: AtomicU64,
+    shown: AtomicU64,
+}
+
+impl Meeting {
+    pub fn new(cores: u32) -> Meeting {
+        Meeting {
+            cores: cores as u64,
+            come: [AtomicU64::new(0), AtomicU64::new(0), AtomicU64::new(0)],
+            stores: AtomicU64::new(0),
+            shown: AtomicU64::new(0),
+        }
+    }
+}
+
+/// Whether a core hands in a store.
+fn is_store(next: Option<&Arrived>) -> bool {
+    match next {
+        Some(arrived) => {
+            let at = arrived.at();
+            matches!(at, Stop::Store { .. })
+        }
+        None => false,
+    }
+}
+
+impl Gate for Meeting {
+    fn pass(&self, _core: u32, turn: u64, next: Option<&Arrived>) -> Result<(), Shut> {
+        if turn > 2 {
+            return Ok(());
+        }
+        if turn == 1 && is_store(next) {
+            self.shown.fetch_add(1, Ordering::SeqCst);
+        }
+        let come = &self.come[turn as usize];
+        come.fetch_add(1, Ordering::SeqCst);
+        for _ in 0..LOOKS {
+            if come.load(Ordering::SeqCst) >= self.cores {
+                if turn == 1 {
+                    self.stores
+                        .fetch_max(self.shown.load(Ordering::SeqCst), Ordering::SeqCst);
+                }
+                return Ok(());
+            }
+            thread::yield_now();
+        }
+        Err(Shut)
+    }
+}
