@@ -30,6 +30,13 @@ impl<S: EpochStore> Book<S> {
         self.parts.register.history.get(place).copied()
     }
 
+    /// The history: all entries, in order.
+    pub fn history(&self) -> &[Entry]
+        ensures { result.now ≡ self.now.history }
+    {
+        self.parts.register.history.as_slice()
+    }
+
     /// The store.
     pub fn store(&self) -> &S
         ensures { result.now ≡ self.now.store }
