@@ -20,12 +20,16 @@ use Rattle.trace_commands.specs.declared.outcome.Outcome.TheVariants.{Reported, 
 use Rattle.trace_commands.specs.declared.outcome.Verdict.{Verdict}
 use Rattle.trace_commands.specs.declared.outcome.Verdict.TheVariants.{Legal, Illegal}
 use Rattle.trace_commands.specs.declared.outcome.StopCause.{StopCause}
-use Rattle.trace_commands.specs.declared.outcome.StopCause.TheVariants.{Write, NoMemory}
+use Rattle.trace_commands.specs.declared.outcome.StopCause.TheVariants.{Write, NoMemory, HistoryFull, NoThread, Spent, Shut}
 use Rattle.trace_commands.specs.Report.{report_of}
 
 abbrev pub cause_name : StopCause → List ℕ
 cause_name Write = codes "Write"
 cause_name NoMemory = codes "NoMemory"
+cause_name HistoryFull = codes "HistoryFull"
+cause_name NoThread = codes "NoThread"
+cause_name Spent = codes "Spent"
+cause_name Shut = codes "Shut"
 
 abbrev pub status_of_end : End → ℕ
 status_of_end (end.Done epochs) = 0
@@ -84,6 +88,7 @@ IsSeqOutcome text old new (BadTrace fault) = ⊥
 IsSeqOutcome text old new (Stopped NoMemory) = Keeps old new
 IsSeqOutcome text old new (Stopped Write) =
     MatchResult (image_text text) (λ image. AppendsPrefix old new (report_of image (sequential_result image))) (λ fault. ⊥)
+IsSeqOutcome text old new (Stopped other) = ⊥
 
 -- what a fault of the image comes to
 abbrev pub outcome_of_fault : ImageFaultKind → ImageFault → Outcome

@@ -16,6 +16,14 @@ pub enum StopCause {
     Write,
     /// Memory ran out.
     NoMemory,
+    /// The history of a run has no room for another turn.
+    HistoryFull,
+    /// The thread of a core was refused.
+    NoThread,
+    /// All tickets of the lock of a run have been drawn.
+    Spent,
+    /// A gate was shut.
+    Shut,
 }
 
 impl StopCause {
@@ -27,6 +35,10 @@ impl StopCause {
         match self {
             StopCause::Write => "Write",
             StopCause::NoMemory => "NoMemory",
+            StopCause::HistoryFull => "HistoryFull",
+            StopCause::NoThread => "NoThread",
+            StopCause::Spent => "Spent",
+            StopCause::Shut => "Shut",
         }
     }
 }
@@ -47,7 +59,7 @@ pub enum Outcome {
     Reported(End),
     /// The trace was audited, and the verdict was written.
     Audited(Verdict),
-    /// The words are no command.
+    /// The words are no command, or the image's version doesn't allow so many cores.
     Usage,
     /// The image was refused.
     BadImage(ImageFault),

@@ -1,18 +1,26 @@
 ghost use Rattle.std.specs.Prelude.{◌≡◌, ◌++◌, ◌+◌, ◌*◌, ◌≤◌, ◌^◌, ◌<◌, IfOk, OnOk, length, slice_range};
 ghost use Rattle.trace_commands.specs.Report as spec;
 
-use rv32_exec::{End, Image, SeqEnd};
+use rv32_exec::{End, Image};
 use std::alloc::{AllocError, Global};
 use trace_text::{push_hex, push_number};
 
-/// The report of a run of the loop: its end, and each 16 bytes of memory that are not as they were loaded.
+/// The report of a run of the loop: its end, and each 16 bytes of memory that are not as they were loaded. The bytes are those of
+/// memory at the end, from address 0 on.
+///
+/// `AllocError`: memory ran out, and nothing was made.
 #[tactic(auto, unfolding(crate::specs::Report::report_of))]
-pub fn report(alloc: Global, image: &Image, ended: &SeqEnd) -> Result<Vec<u8>, AllocError>
-    requires { length ended.now.bytes ≡ image.now.size }
-    ensures { IfOk result (λ text. text.items ≡ spec.report_of image.now ended.now) }
+pub fn print_report(
+    alloc: Global,
+    image: &Image,
+    end: End,
+    bytes: &[u8],
+) -> Result<Vec<u8>, AllocError>
+    requires { length bytes.now ≡ image.now.size }
+    ensures { IfOk result (λ text. text.items ≡ spec.report_of image.now (record { end = end; bytes = bytes.now })) }
 {
-    let mut text = end_line(alloc, ended.end())?;
-    push_rows(&mut text, image.bytes(), ended.bytes(), image.size() / 16)?;
+    let mut text = end_line(alloc, end)?;
+    push_rows(&mut text, image.bytes(), bytes, image.size() / 16)?;
     Ok(text)
 }
 

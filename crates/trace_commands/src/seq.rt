@@ -7,7 +7,7 @@ ghost use Rattle.trace_commands.specs.Report.{report_of};
 ghost use Rattle.trace_commands.specs.Outcome as spec;
 
 use crate::outcome::{Outcome, StopCause};
-use crate::report::report;
+use crate::report::print_report;
 use crate::write::write_whole;
 use rv32_exec::{End, Image, NoMemory, read_image, run_in_order};
 use std::alloc::Global;
@@ -63,6 +63,7 @@ fn seq_report(alloc: Global, image: &Image) -> Result<(End, Vec<u8>), NoMemory>
     ensures text { IfOk result (λ r. r.1.items ≡ report_of image.now (sequential_result image.now)) }
 {
     let result = run_in_order(alloc, image)?;
-    let text = report(alloc, image, &result).map_err(|_| NoMemory)?;
-    Ok((result.end(), text))
+    let end = result.end();
+    let text = print_report(alloc, image, end, result.bytes()).map_err(|_| NoMemory)?;
+    Ok((end, text))
 }
