@@ -1,0 +1,68 @@
+-- What is printed of a run whose loop is over.
+use Rattle.std.proofs.Common.{◌≡◌, ℕ, List, [], ◌++◌, codes, Bool, true, false, not, Some, Result, Ok, Err, IfOk, refl, sym, ap, subst, ◌∙◌, append_assoc, append-nil}
+use Rattle.rv32_image.specs.Image.{LoadedImage}
+use Rattle.rv32_exec.specs.declared.sequential.End.{End}
+use Rattle.rv32_exec.specs.Sequential.{SequentialResult, sequential_result}
+use Rattle.run_ledger.specs.declared.counts.Counts.{Counts}
+use Rattle.spec_history.specs.declared.entry.Entry.{Entry}
+use Rattle.spec_history.specs.Replay.{replay}
+use Rattle.violations.specs.View.{StoreView}
+use Rattle.homefree.specs.BookView.{BookView}
+use Rattle.homefree.specs.Counted.{counted_in}
+use Rattle.homefree.specs.Driven.{IsInOrder}
+use Rattle.core_threads.specs.Sentence.{Finishes}
+use Rattle.trace_commands.specs.Report.{report_of}
+use Rattle.trace_text.specs.Printing.{printed_trace}
+use Rattle.run_command.specs.declared.options.RunOptions.{RunOptions}
+use Rattle.run_command.specs.Committed.{IsCommitted}
+use Rattle.run_command.specs.Run.{IsBelow, IsPrinted, IsWholeHistory, counts_line, loop_asked}
+use Rattle.run_command.proofs.Committing.{committed_is_memory}
+
+-- what follows for a value
+pub if_ok : {A E : Type 0} (r : Result A E) (P Q : A → Type 0) → ((x : A) → P x → Q x) → IfOk r P → IfOk r Q
+if_ok (Ok x) P Q implies so = implies x so
+if_ok (Err e) P Q implies so = tt
+
+pub on_is : (t : Bool) → not t ≡ false → t ≡ true
+on_is true off = refl
+on_is false off = sym off
+
+-- the end and the copy of committed memory are the sequential loop's
+pub result_is : (image : LoadedImage) (end : End) (f : ℕ → ℕ) (bytes : List ℕ) → IsInOrder image end f → IsCommitted image.size f bytes
+    → report_of image (record { end = end; bytes = bytes }) ≡ report_of image (sequential_result image)
+result_is image end f bytes in_order so =
+    let same : bytes ≡ (sequential_result image).bytes = committed_is_memory image f bytes (sequential_result image).bytes so in_order.holds in
+    (λ i. report_of image (record { end = in_order.end_is i; bytes = same i }))
+
+module _ {S : Type 0} (view : S → StoreView) (image : LoadedImage) (options : RunOptions) (b : BookView S) (end : End) (totals counted : Counts)
+    (run : Finishes view (loop_asked image options) b end totals counted) where
+  pub image_is : b.image ≡ image
+  image_is = ap (λ l. l.image) run.loop
+
+  cores_are : b.cores ≡ options.cores
+  cores_are = ap (λ l. l.cores) run.loop
+
+  whole : IsWholeHistory image options.cores b.history
+  whole = record {
+    state = run.state;
+    replays = (λ i. replay (sym image_is i) (sym cores_are i) b.history) ∙ run.stands.replays;
+    over = run.over ∙ ap (λ e. Some e) run.in_order.end_is;
+  }
+
+  pub counted_is : counted ≡ counted_in b.history
+  counted_is = run.counted_are ∙ run.stands.totals
+
+  -- without a trace
+  pub printed_alone : (text : List ℕ) → options.trace ≡ false → text ≡ report_of image (sequential_result image) → IsPrinted image options text
+  printed_alone text off is =
+      ([], subst (λ (t : Bool). IsBelow t image options.cores []) (sym off) refl, is ∙ sym (append-nil (report_of image (sequential_result image))))
+
+  -- with a trace
+  pub printed_traced : (report text : List ℕ) → options.trace ≡ true → report ≡ report_of image (sequential_result image)
+      → text ≡ (report ++ counts_line counted) ++ printed_trace options.cores b.history → IsPrinted image options text
+  printed_traced report text on first is =
+      let below : List ℕ = counts_line counted ++ printed_trace options.cores b.history in (
+        below,
+        subst (λ (t : Bool). IsBelow t image options.cores below) (sym on) (b.history, whole, ap (λ c. counts_line c ++ printed_trace options.cores b.history) counted_is),
+        is ∙ (append_assoc report (counts_line counted) (printed_trace options.cores b.history) ∙ ap (λ r. r ++ below) first),
+      )

@@ -1,0 +1,18 @@
+use Rattle.std.proofs.Common.{◌≡◌, ◌++◌, ap, ◌∙◌}
+use Rattle.trace_text.specs.Printing.{printed_trace}
+use Rattle.run_command.specs.Run.{IsPrinted, counts_line}
+use Rattle.run_command.proofs.Printing.{if_ok, on_is, printed_traced}
+use Rattle.run_command.proofs.text.printed.Goals as goal
+
+pub returns : goal.returns
+returns g c =
+    let image = c.args.image.now in
+    let options = c.args.options in
+    let run = c.args.run.now in
+    let report = c.in_ok-report.report.items in
+    let above = report ++ counts_line run.counted in
+    let shown = c.as_slice.ensures.value ∙ (c.in_ok-trace.ensures ∙ ap (λ h. printed_trace options.cores h) c.history.ensures) in
+    if_ok c.with_trace.result (λ text. text.items ≡ above ++ c.as_slice.result.now) (λ text. IsPrinted image options text.items)
+    (λ text is. printed_traced g.S.EpochStore.view image options run.book run.end run.totals run.counted c.requires report text.items
+    (on_is options.trace c.if-not-options.false) c.in_ok-report.ensures (is ∙ ap (λ t. above ++ t) shown))
+    c.with_trace.ensures

@@ -1,0 +1,4 @@
+-- Definitions to believe: what a run prints, and what the command comes to.
+pub mod Run
+-- What the code keeps.
+pub mod Committed

@@ -1,0 +1,106 @@
+-- What `run` comes to, and what it wrote.
+-- Source: this project.
+use Rattle.std.specs.Prelude.{◌≡◌, ℕ, ◌+◌, ◌<◌, ◌++◌, Bool, true, false, List, [], length, codes, Option, Some, None, MatchResult}
+use Rattle.std.specs.Fmt.{decimal}
+use Rattle.std.specs.Io.KnownBytes.{Appends, Keeps}
+use Rattle.rv32_image.specs.Image.{LoadedImage}
+use Rattle.rv32_image.specs.ImageText.{image_text}
+use Rattle.rv32_image.specs.Version.{limits_of}
+use Rattle.rv32_exec.specs.declared.sequential.End.{End}
+use Rattle.rv32_exec.specs.Sequential.{sequential_result}
+use Rattle.run_ledger.specs.declared.counts.Counts.{Counts}
+use Rattle.spec_history.specs.declared.entry.Entry.{Entry}
+use Rattle.spec_history.specs.FlatState.{FlatState}
+use Rattle.spec_history.specs.Replay.{replay}
+use Rattle.violations.specs.Rule.{IsCoreCount}
+use Rattle.homefree.specs.declared.book.Loop.{Loop}
+use Rattle.homefree.specs.Counted.{counted_in}
+use Rattle.core_threads.specs.declared.fault.RunFault.{RunFault}
+use Rattle.core_threads.specs.declared.fault.RunFault.TheVariants as fault
+use Rattle.trace_text.specs.Printing.{printed_trace}
+use Rattle.trace_commands.specs.declared.outcome.Outcome.{Outcome}
+use Rattle.trace_commands.specs.declared.outcome.Outcome.TheVariants.{Reported, Usage, BadImage, Stopped}
+use Rattle.trace_commands.specs.declared.outcome.StopCause.{StopCause}
+use Rattle.trace_commands.specs.declared.outcome.StopCause.TheVariants.{Write, NoMemory, HistoryFull, NoThread, Spent, Shut}
+use Rattle.trace_commands.specs.Outcome.{AppendsPrefix, IsRefusal, error_line, status_of}
+use Rattle.trace_commands.specs.Report.{report_of}
+use Rattle.run_command.specs.declared.options.RunOptions.{RunOptions}
+
+-- the loop that a run is asked for
+abbrev pub loop_asked : LoadedImage → RunOptions → Loop
+loop_asked image options = record { image = image; cores = options.cores; room = options.room }
+
+-- ---- what is printed
+
+abbrev pub counted : ℕ → List ℕ
+counted n = codes " " ++ decimal n
+
+-- loads, stores, restarts, commits
+abbrev pub counts_line : Counts → List ℕ
+counts_line c = codes "counts" ++ counted c.loads ++ counted c.stores ++ counted c.restarts ++ counted c.commits ++ codes "\n"
+
+-- a history of the loop that ends as the sequential loop does: it replays on the one-thread machine to that end
+pub record IsWholeHistory (image : LoadedImage) (cores : ℕ) (history : List Entry) : Type 0 where
+  pub state : FlatState
+  pub replays : replay image cores history ≡ Some state
+  pub over : state.end ≡ Some (sequential_result image).end
+
+-- below the report: nothing, or with a trace the counts and the text of a whole history
+abbrev pub IsBelow : Bool → LoadedImage → ℕ → List ℕ → Type 0
+IsBelow false image cores text = text ≡ []
+IsBelow true image cores text = (history : List Entry) × IsWholeHistory image cores history
+    × (text ≡ counts_line (counted_in history) ++ printed_trace cores history)
+
+-- all that a run prints: the report of the sequential loop, which `seq` prints too, and what is below it
+abbrev pub IsPrinted : LoadedImage → RunOptions → List ℕ → Type 0
+IsPrinted image options text = (below : List ℕ) × IsBelow options.trace image options.cores below
+    × (text ≡ report_of image (sequential_result image) ++ below)
+
+-- ---- why a run stops
+
+-- the cause that has the fault's name
+abbrev pub cause_of : RunFault → StopCause
+cause_of fault.HistoryFull = HistoryFull
+cause_of fault.NoMemory = NoMemory
+cause_of fault.NoThread = NoThread
+cause_of fault.Spent = Spent
+cause_of fault.Shut = Shut
+
+-- a history of the loop that isn't over, and has fewer free entries than a turn asks for
+pub record IsFullHistory (options : RunOptions) (image : LoadedImage) (history : List Entry) : Type 0 where
+  pub state : FlatState
+  pub replays : replay image options.cores history ≡ Some state
+  pub going : state.end ≡ None
+  pub full : options.room < length history + (limits_of image.version).free_entries
+
+-- a run may stop so before its loop is over
+abbrev pub IsStop : RunOptions → LoadedImage → StopCause → Type 0
+IsStop options image Write = ⊥
+IsStop options image HistoryFull = (history : List Entry) × IsFullHistory options image history
+IsStop options image other = Unit {0}
+
+-- ---- outcomes
+
+-- what running this image on so many cores as its version allows came to is right, and this was written
+abbrev pub IsRun : RunOptions → LoadedImage → Option (List ℕ) → Option (List ℕ) → Outcome → Type 0
+IsRun options image old new (Reported end) =
+    (end ≡ (sequential_result image).end) × (text : List ℕ) × IsPrinted image options text × Appends old new text
+IsRun options image old new (Stopped Write) = (text : List ℕ) × IsPrinted image options text × AppendsPrefix old new text
+IsRun options image old new (Stopped cause) = IsStop options image cause × Keeps old new
+IsRun options image old new other = ⊥
+
+-- the same of an image, whose version may not allow so many cores
+abbrev pub IsImageOutcome : RunOptions → LoadedImage → Option (List ℕ) → Option (List ℕ) → Outcome → Type 0
+IsImageOutcome options image old new Usage = ((limits_of image.version).most_cores < options.cores) × Keeps old new
+IsImageOutcome options image old new outcome = IsCoreCount image options.cores × IsRun options image old new outcome
+
+-- what `run` came to is right for this input, and this was written
+abbrev pub IsRunOutcome : RunOptions → List ℕ → Option (List ℕ) → Option (List ℕ) → Outcome → Type 0
+IsRunOutcome options text old new (BadImage fault) = IsRefusal fault.kind fault (image_text text) × Keeps old new
+IsRunOutcome options text old new (Stopped NoMemory) = Keeps old new
+IsRunOutcome options text old new outcome = MatchResult (image_text text) (λ image. IsImageOutcome options image old new outcome) (λ fault. ⊥)
+
+-- what `run` answers for an input: an outcome that is right, with its status, and its line or a prefix on the error stream
+abbrev pub RunAnswers : RunOptions → List ℕ → Option (List ℕ) → Option (List ℕ) → Option (List ℕ) → Option (List ℕ) → ℕ → Type 0
+RunAnswers options text old new errors errors' status =
+    (outcome : Outcome) × IsRunOutcome options text old new outcome × (status ≡ status_of outcome) × AppendsPrefix errors errors' (error_line outcome)

@@ -1,0 +1,13 @@
+//! The command `run` over any reader and writers: the loop on core threads, and what is printed of it.
+#![tactic(auto)]
+
+mod memory;
+mod options;
+mod run;
+mod text;
+
+pub use options::RunOptions;
+pub use run::do_run;
+
+#[cfg(test)]
+mod tests;

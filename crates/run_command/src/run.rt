@@ -1,0 +1,139 @@
+ghost use Rattle.std.specs.Prelude.{◌≡◌, ◌+◌, ◌≤◌, IfOk, IfErr};
+ghost use Rattle.rv32_image.specs.ImageText.{longest_image_text};
+ghost use Rattle.rv32_image.specs.Input.{TakesAtMost};
+ghost use Rattle.rv32_image.specs.Reading.{ForText};
+ghost use Rattle.rv32_exec.specs.Sequential.{sequential_result};
+ghost use Rattle.violations.specs.Rule.{IsCoreCount};
+ghost use Rattle.run_command.specs.Run as spec;
+
+use crate::options::RunOptions;
+use crate::text::printed;
+use core_threads::{Finished, Gate, Halted, RunFault, run_cores};
+use rv32_exec::{End, Image, read_image};
+use std::alloc::{AllocError, Global};
+use std::io::{Read, Write};
+use std::sync::Wait;
+use std::thread::Threads;
+use trace_commands::{Outcome, StopCause, write_whole};
+use violations::PlainStore;
+
+/// `run`: runs the image that the reader gives, its epochs speculatively on a thread for each core, and writes the report; with a
+/// trace, below it `counts LOADS STORES RESTARTS COMMITS` and the trace of the history. Each core passes the gate before each of its
+/// turns. The cores are at least 1, and the room is 16 to 1,048,576 entries.
+///
+/// The status is 0 where the loop is done or exited, 1 where an epoch faulted, 2 where the image is refused, or is good and its version
+/// doesn't allow so many cores, and 3 where the run was stopped, memory ran out or a write failed. In the last cases
+/// one line on the error stream says which. All that is written was made before the first byte: nothing was written where the
+/// status is 2 or the run was stopped, and after a failed write a prefix was.
+pub fn do_run<G: Gate, T: Threads + Wait + Sync, R: Read, W: Write, E: Write>(
+    rt: &T,
+    alloc: Global,
+    options: RunOptions,
+    gate: &G,
+    reader: &mut R,
+    writer: &mut W,
+    errors: &mut E,
+) -> u8
+    requires cores { 1 ≤ options.cores }
+    requires least { 16 ≤ options.room }
+    requires most { options.room ≤ 1048576 }
+    ensures outcome { ForText (R.remaining reader.old) (λ text.
+        spec.RunAnswers options text (W.contents writer.old) (W.contents writer.new) (E.contents errors.old) (E.contents errors.new) result) }
+    ensures taken { TakesAtMost (R.remaining reader.old) (R.remaining reader.new) (longest_image_text + 1) }
+{
+    run_input(rt, alloc, options, gate, reader, writer).conclude(errors)
+}
+
+/// Runs `run`, all but its line on the error stream.
+fn run_input<G: Gate, T: Threads + Wait + Sync, R: Read, W: Write>(
+    rt: &T,
+    alloc: Global,
+    options: RunOptions,
+    gate: &G,
+    reader: &mut R,
+    writer: &mut W,
+) -> Outcome
+    requires cores { 1 ≤ options.cores }
+    requires least { 16 ≤ options.room }
+    requires most { options.room ≤ 1048576 }
+    ensures outcome { ForText (R.remaining reader.old) (λ text. spec.IsRunOutcome options text (W.contents writer.old) (W.contents writer.new) result) }
+    ensures taken { TakesAtMost (R.remaining reader.old) (R.remaining reader.new) (longest_image_text + 1) }
+{
+    match read_image(alloc, reader) {
+        Ok(image) => run_image(rt, alloc, options, gate, &image, writer),
+        Err(fault) => Outcome::of_fault(fault),
+    }
+}
+
+fn run_image<G: Gate, T: Threads + Wait + Sync, W: Write>(
+    rt: &T,
+    alloc: Global,
+    options: RunOptions,
+    gate: &G,
+    image: &Image,
+    writer: &mut W,
+) -> Outcome
+    requires cores { 1 ≤ options.cores }
+    requires least { 16 ≤ options.room }
+    requires most { options.room ≤ 1048576 }
+    ensures { spec.IsImageOutcome options image.now (W.contents writer.old) (W.contents writer.new) result }
+{
+    if image.version().limits().most_cores < options.cores {
+        return Outcome::Usage;
+    }
+    match run_and_print(rt, alloc, options, gate, image) {
+        Ok((end, text)) => {
+            if write_whole(writer, text.as_slice()) {
+                Outcome::Reported(end)
+            } else {
+                Outcome::Stopped(StopCause::Write)
+            }
+        }
+        Err(cause) => Outcome::Stopped(cause),
+    }
+}
+
+/// How the loop ends on so many cores, and all that is printed of the run.
+fn run_and_print<G: Gate, T: Threads + Wait + Sync>(
+    rt: &T,
+    alloc: Global,
+    options: RunOptions,
+    gate: &G,
+    image: &Image,
+) -> Result<(End, Vec<u8>), StopCause>
+    requires cores { IsCoreCount image.now options.cores }
+    requires least { 16 ≤ options.room }
+    requires most { options.room ≤ 1048576 }
+    ensures end { IfOk result (λ r. r.0 ≡ (sequential_result image.now).end) }
+    ensures text { IfOk result (λ r. spec.IsPrinted image.now options r.1.items) }
+    ensures stopped { IfErr result (λ cause. spec.IsStop options image.now cause) }
+{
+    let run: Result<Finished<PlainStore>, Halted<PlainStore>> = run_cores(
+        rt,
+        alloc,
+        image,
+        options.cores,
+        options.room,
+        gate,
+    );
+    match run {
+        Ok(run) => match printed(alloc, image, options, &run) {
+            Ok(text) => Ok((run.end, text)),
+            Err(AllocError) => Err(StopCause::NoMemory),
+        },
+        Err(run) => Err(cause_of(run.fault)),
+    }
+}
+
+/// The cause that has the fault's name.
+fn cause_of(fault: RunFault) -> StopCause
+    ensures { result ≡ spec.cause_of fault }
+{
+    match fault {
+        RunFault::HistoryFull => StopCause::HistoryFull,
+        RunFault::NoMemory => StopCause::NoMemory,
+        RunFault::NoThread => StopCause::NoThread,
+        RunFault::Spent => StopCause::Spent,
+        RunFault::Shut => StopCause::Shut,
+    }
+}
