@@ -1,13 +1,14 @@
 #!/usr/bin/env python3
-"""Refuses each allocation of `trace_cli seq` and `trace_cli audit` in turn.
+"""Refuses each allocation of `trace_cli seq`, `trace_cli run` and `trace_cli audit` in turn.
 
 Usage: tests/memory.py [COMMAND ..]
 
 COMMAND reads its standard input and ends with the word `seq`, in whose place a
-row may put `audit`; without it `./trace_cli seq` of this repository is tested. Each row runs with its first,
+row may put other words; without it `./trace_cli seq` of this repository is tested. Each row runs with its first,
 second and so on allocation refused, until a run meets none: a run that was
 refused one says `stopped NoMemory`, writes nothing on standard output and has
-status 3, and the last one answers as if nothing was refused. Where the C
+status 3, and the last one answers as if nothing was refused. A run on threads
+may say `stopped NoThread` too, or go to its end although a thread was refused. Where the C
 compiler `cc` isn't installed the test is skipped, and a line says so. Exits
 with 1 where a run differs.
 """
@@ -20,10 +21,11 @@ import tempfile
 from pathlib import Path
 
 from audit_rows import EXIT, NINE, SIX, WAIT, illegal, legal, traced, trace_refused, without
-from seq_rows import FOUR, SEARCH, at, done, exited, fault, image, refused
+from seq_rows import COUNTER, FOUR, SEARCH, at, done, exited, fault, image, refused
 
 ROOT = Path(__file__).resolve().parent.parent
 STOPPED = ("", "stopped NoMemory\n", 3)
+NO_THREAD = ("", "stopped NoThread\n", 3)
 
 # Takes the place of malloc and realloc: the call of the number REFUSED gets nothing, and descriptor 9 is told so.
 SHIM = r"""
@@ -40,7 +42,7 @@ __attribute__((constructor)) static void begin(void) {
     asked = 0;
 }
 static int is_refused(void) {
-    if (!refused || ++asked != refused) return 0;
+    if (!refused || __atomic_add_fetch(&asked, 1, __ATOMIC_SEQ_CST) != refused) return 0;
     if (write(9, "r", 1) != 1) abort();
     return 1;
 }
@@ -78,6 +80,16 @@ AUDITS = [
     ("an image that is refused", traced(FOUR + "at 00000000 00\n", NINE), refused(5, "Place")),
 ]
 
+# the same, of runs: (what it shows, words, image text, what is printed)
+ON_THREADS = [
+    ("four epochs on four cores", ["run", "--cores", "4"], FOUR, done(4, at(0x40, "06"))),
+    ("a word for each epoch", ["run", "--cores", "4"], image("9312250023a0a20467800000", epochs=4),
+     done(4, at(0x40, "00000000010000000200000003000000"))),
+    ("a trace", ["run", "--cores", "1", "--trace"], image(COUNTER),
+     ("end done 1\ncounts 1 1 0 1\ntrace 1\n0 start 0\n0 load 00000040 4 00000000\n0 store 00000040 4 00000000\n0 commit\n", "", 0)),
+    ("more cores than the version allows", ["run", "--cores", "9"], FOUR, ("", "usage\n", 2)),
+]
+
 
 def run(command, shim, text, number):
     """The outcome with this allocation refused, and whether there was such a one."""
@@ -92,12 +104,12 @@ def run(command, shim, text, number):
     return (result.stdout.decode("latin-1"), result.stderr.decode("latin-1"), result.returncode), met
 
 
-def differences(command, shim, name, text, expected):
+def differences(command, shim, name, text, expected, refused_too=()):
     """What is wrong with the runs of a row, and how many there were."""
     for number in range(1, 1000):
         got, met = run(command, shim, text, number)
-        wanted = STOPPED if met else expected
-        if got != wanted:
+        wanted = [STOPPED, *refused_too] if met else [expected]
+        if got not in wanted:
             return f"{name}, allocation {number}\n  expected {wanted}\n  got      {got}", number
         if not met:
             return None, number
@@ -123,10 +135,11 @@ def main():
         subprocess.run(["cc", "-shared", "-fPIC", "-O1", "-o", shim, source, "-ldl"], check=True)
         results = [differences(command, shim, *row) for row in RUNS]
         results += [differences(command[:-1] + ["audit"], shim, *row) for row in AUDITS]
+        results += [differences(command[:-1] + words, shim, name, text, expected, (NO_THREAD, expected) if expected[0] else ()) for name, words, text, expected in ON_THREADS]
     wrong = [text for text, _ in results if text]
     for text in wrong:
         print(f"FAILED {text}")
-    print(f"{sum(number for _, number in results)} runs of {len(RUNS + AUDITS)} rows, {len(wrong)} failed")
+    print(f"{sum(number for _, number in results)} runs of {len(RUNS + AUDITS + ON_THREADS)} rows, {len(wrong)} failed")
     return 1 if wrong else 0
 
 

@@ -1,2 +1,3 @@
 -- Words of contracts.
+pub mod Request
 pub mod Work

@@ -9,26 +9,37 @@ use Rattle.trace_commands.specs.declared.outcome.Outcome.TheVariants.{Usage, Sto
 use Rattle.trace_commands.specs.declared.outcome.StopCause.TheVariants.{NoMemory}
 use Rattle.trace_commands.specs.Audit.{IsAuditOutcome}
 use Rattle.trace_commands.specs.Outcome.{AppendsPrefix, IsSeqOutcome, error_line, status_of}
+use Rattle.run_command.specs.Run.{IsRunOutcome}
+use Rattle.trace_cli.specs.declared.words.Request.{Request}
+use Rattle.trace_cli.specs.declared.words.Request.TheVariants.{Seq, Run, Audit}
+use Rattle.trace_cli.specs.Request.{IsRequest}
 
 -- the bytes of a stream before and after a call, where it tells them
 pub record Stream : Type 0 where
   pub old : Option (List ℕ)
   pub new : Option (List ℕ)
 
+-- a command was run: what it came to is right for the text, and of the input no more than it may be long, and one byte, was taken
+abbrev pub IsDone : Request → ℕ → List ℕ → Stream → Stream → Outcome → Type 0
+IsDone Seq room text input output outcome =
+    IsSeqOutcome text output.old output.new outcome × TakesAtMost input.old input.new (longest_image_text + 1)
+IsDone (Run cores trace) room text input output outcome =
+    IsRunOutcome (record { cores = cores; room = room; trace = trace }) text output.old output.new outcome
+    × TakesAtMost input.old input.new (longest_image_text + 1)
+IsDone Audit room text input output outcome =
+    IsAuditOutcome text output.old output.new outcome × TakesAtMost input.old input.new (longest_trace_text + 1)
+
+-- the command that was run, a run on 1 to 16 cores
+abbrev pub IsCommand : ℕ → List ℕ → Stream → Stream → Outcome → Type 0
+IsCommand room text input output outcome = (request : Request) × IsRequest request × IsDone request room text input output outcome
+
 -- no command was run, as the words are none or memory ran out: nothing was read, and nothing written but the error line
 abbrev pub IsNoCommand : Stream → Stream → Outcome → Type 0
 IsNoCommand input output outcome = ((outcome ≡ Usage) ⊎ (outcome ≡ Stopped NoMemory)) × Keeps input.old input.new × Keeps output.old output.new
 
--- `seq` was run: what it came to is right for the text, and of the input no more than it may be long, and one byte, was taken
-abbrev pub IsSeq : List ℕ → Stream → Stream → Outcome → Type 0
-IsSeq text input output outcome = IsSeqOutcome text output.old output.new outcome × TakesAtMost input.old input.new (longest_image_text + 1)
-
--- `audit` was run
-abbrev pub IsAudit : List ℕ → Stream → Stream → Outcome → Type 0
-IsAudit text input output outcome = IsAuditOutcome text output.old output.new outcome × TakesAtMost input.old input.new (longest_trace_text + 1)
-
--- what the program answers for a text: one of these, with its status, and its line or a prefix of it on the error stream
-abbrev pub WorkAnswers : List ℕ → Stream → Stream → Stream → ℕ → Type 0
-WorkAnswers text input output errors status =
-    (outcome : Outcome) × (IsSeq text input output outcome ⊎ (IsAudit text input output outcome ⊎ IsNoCommand input output outcome))
+-- what the program answers for a text, with so much room for a history: one of these, with its status, and its line or a prefix of it
+-- on the error stream
+abbrev pub WorkAnswers : ℕ → List ℕ → Stream → Stream → Stream → ℕ → Type 0
+WorkAnswers room text input output errors status =
+    (outcome : Outcome) × (IsCommand room text input output outcome ⊎ IsNoCommand input output outcome)
     × (status ≡ status_of outcome) × AppendsPrefix errors.old errors.new (error_line outcome)

@@ -1,7 +1,8 @@
-//! Runs the iterations of a loop as epochs over RV32I: `trace_cli seq` runs the image on standard input in order, and
-//! `trace_cli audit` replays a trace below its image.
+//! Runs the iterations of a loop as epochs over RV32I: `trace_cli seq` runs the image on standard input in order, `trace_cli run` runs
+//! it speculatively on so many cores, and `trace_cli audit` replays a trace below its image.
 #![tactic(auto)]
 
+use core_threads::Open;
 use std::alloc::Global;
 use std::process::ExitCode;
 use std::{env, io};
@@ -13,11 +14,17 @@ mod tests;
 mod words;
 mod work;
 
+/// How many entries the history of a run may have.
+const ROOM: u32 = 1_048_576;
+
 fn main(rt: HostRuntime) -> ExitCode {
     let status = match words_given(&rt) {
         Ok(words) => work(
+            &rt,
             rt.alloc(),
             words.as_slice(),
+            ROOM,
+            &Open,
             &mut rt.stdin(),
             &mut rt.stdout(),
             &mut rt.stderr(),

@@ -1,6 +1,7 @@
 //! Which words do which: no contract sees what `clap` makes of them.
 
 use crate::work::work;
+use core_threads::Open;
 
 /// The image whose epochs add their numbers to one word.
 const COUNTER: &str = "size 256\nepochs 4\nlimit 100\ncode 83220004b382a2002320500467800000\n";
@@ -13,8 +14,11 @@ fn seq_runs_the_image(rt: HostRuntime) {
     let mut output = Vec::new(rt.alloc());
     let mut errors = Vec::new(rt.alloc());
     let status = work(
+        &rt,
         rt.alloc(),
         &["trace_cli", "seq"],
+        64,
+        &Open,
         &mut reader,
         &mut output,
         &mut errors,
@@ -31,8 +35,11 @@ fn other_words_are_usage(rt: HostRuntime) {
     let mut output = Vec::new(rt.alloc());
     let mut errors = Vec::new(rt.alloc());
     let status = work(
+        &rt,
         rt.alloc(),
         &["trace_cli", "seq", "x"],
+        64,
+        &Open,
         &mut reader,
         &mut output,
         &mut errors,

@@ -1,5 +1,8 @@
-use clap::Command;
+ghost use Rattle.std.specs.Prelude.{◌≡◌, IfOk};
+ghost use Rattle.trace_cli.specs.Request.{IsRequest};
+
 use clap::error::ErrorKind;
+use clap::{Arg, ArgAction, ArgMatches, Command};
 use std::alloc::{AllocError, Global};
 use std::convert::AsStr;
 
@@ -8,6 +11,8 @@ use std::convert::AsStr;
 pub enum Request {
     /// `seq`: run the image in order.
     Seq,
+    /// `run --cores N [--trace]`: run the image on so many cores, 1 to 16, and print its trace if it is asked for.
+    Run { cores: u32, trace: bool },
     /// `audit`: replay a trace below its image.
     Audit,
 }
@@ -33,20 +38,52 @@ impl From<AllocError> for WordsFault {
 }
 
 /// What these words ask for; the first is the program's name.
-pub fn request_of<'a, S: AsStr>(alloc: Global, words: &'a [S]) -> Result<Request, WordsFault> {
+pub fn request_of<'a, S: AsStr>(alloc: Global, words: &'a [S]) -> Result<Request, WordsFault>
+    ensures { IfOk result IsRequest }
+{
     match command(alloc)?.try_get_matches_from(words) {
-        Ok(matches) => match matches.subcommand_name() {
-            Some("seq") => Ok(Request::Seq),
-            Some("audit") => Ok(Request::Audit),
-            _ => Err(WordsFault::Usage),
-        },
+        Ok(matches) => requested(&matches),
         Err(error) if error.kind() == ErrorKind::OutOfMemory => Err(WordsFault::NoMemory),
         Err(_) => Err(WordsFault::Usage),
     }
 }
 
+/// What a command line that was understood asks for.
+fn requested(matches: &ArgMatches<'_>) -> Result<Request, WordsFault>
+    ensures { IfOk result IsRequest }
+{
+    let Some((name, found)) = matches.subcommand() else {
+        return Err(WordsFault::Usage);
+    };
+    match name {
+        "seq" => Ok(Request::Seq),
+        "run" => run_requested(found.get_one::<u32>("cores"), found.get_flag("trace")),
+        "audit" => Ok(Request::Audit),
+        _ => Err(WordsFault::Usage),
+    }
+}
+
+/// A run on so many cores. That they are 1 to 16 is what the command line promises too.
+fn run_requested(cores: Option<u32>, trace: bool) -> Result<Request, WordsFault>
+    ensures { IfOk result IsRequest }
+{
+    match cores {
+        Some(cores) if 1 <= cores && cores <= 16 => Ok(Request::Run { cores, trace }),
+        _ => Err(WordsFault::Usage),
+    }
+}
+
 fn command<'a>(alloc: Global) -> Result<Command<'a>, AllocError> {
+    let cores = Arg::new(alloc, "cores")
+        .long("cores")
+        .required(true)
+        .action(ArgAction::Set)
+        .value_parser(clap::value_parser!(u32).range(1..=16));
+    let trace = Arg::new(alloc, "trace")
+        .long("trace")
+        .action(ArgAction::SetTrue);
     Command::new(alloc, "trace_cli")
         .subcommand(Command::new(alloc, "seq"))?
+        .subcommand(Command::new(alloc, "run").arg(cores)?.arg(trace)?)?
         .subcommand(Command::new(alloc, "audit"))
 }

@@ -1,0 +1,113 @@
+#!/usr/bin/env python3
+"""Worked rows of `trace_cli run`: an image on so many cores with the exact output for each.
+
+Usage: tests/run_rows.py [COMMAND ..]
+
+COMMAND reads its standard input and ends with the word `seq`, in whose place
+the rows put `run --cores N`; without it `./trace_cli seq` of this repository is
+tested. The expected values were worked out by hand, as those of `seq_rows.py`,
+and don't depend on how the threads run. With `--trace` the row also holds the
+history to its counts, and gives it to `audit`. Exits with 1 where a row differs.
+"""
+
+import sys
+
+from audit_rows import EXIT, FAULTS, ONE, WAIT
+from seq_rows import COUNTER, FOUR, ROOT, SEARCH, at, done, exited, fault, image, refused, run
+
+# Each epoch stores its number to its own word.
+OWN_WORDS = "9312250023a0a20467800000"
+# Each epoch stores a byte beside the others'.
+OWN_BYTES = "9302f00f2300550467800000"
+# A store to the last word of a large memory.
+LAST_WORD = "version 2\n" + image("b702100023ae12fe67800000", size=1_048_576)
+USAGE = ("", "usage\n", 2)
+
+# (what it shows, cores, image text, (standard output, standard error, status))
+RUNS = [
+    ("four epochs add their numbers to one word", 4, FOUR, done(4, at(0x40, "06"))),
+    ("on one core", 1, FOUR, done(4, at(0x40, "06"))),
+    ("on eight cores", 8, FOUR, done(4, at(0x40, "06"))),
+    ("on sixteen cores in version 2", 16, "version 2\n" + FOUR, done(4, at(0x40, "06"))),
+    ("a word for each epoch", 4, image(OWN_WORDS, epochs=4), done(4, at(0x40, "00000000010000000200000003000000"))),
+    ("a byte for each epoch", 2, image(OWN_BYTES, epochs=2), done(2, at(0x40, "ffff"))),
+    ("no epochs", 2, image(COUNTER, epochs=0), done(0)),
+    ("more cores than epochs", 8, image(COUNTER, epochs=3), done(3, at(0x40, "03"))),
+    ("an epoch that waits for the one before it", 2, WAIT, done(2, at(0x40, "01"))),
+    ("a limit that an epoch may reach before it is homefree", 8, WAIT, done(2, at(0x40, "01"))),
+    ("an exit among eight epochs", 4, image(SEARCH, epochs=8, more="exit\n"), exited(2, at(0x40, "000000000100000002"))),
+    ("the same epochs without exit", 4, image(SEARCH, epochs=8),
+     done(8, at(0x40, "00000000010000000200000003000000"), at(0x50, "04000000050000000600000007000000"))),
+    ("an exit of the first epoch", 2, EXIT, exited(0)),
+    ("a fault", 3, FAULTS, fault(0, 1, 0)),
+    ("a fault at the limit", 4, image(COUNTER, epochs=4, limit=3), fault(0, 8, 0x0C)),
+    ("a fault after a store", 2, image("2320100423200000"), fault(0, 7, 4, at(0x40, "fcffffff"))),
+    ("an exit and faults behind it", 4, image("2320a0041305100067800000", epochs=9, limit=3, more="exit\n"), exited(0)),
+    ("the last word of a large memory", 16, LAST_WORD, done(1, at(0xFFFF0, "0" * 24 + "fcffffff"))),
+    ("nine cores in version 1", 9, FOUR, USAGE),
+    ("sixteen cores in version 1", 16, "version 1\n" + FOUR, USAGE),
+    ("nine cores, and an image that is refused", 9, FOUR + "at 00000000 00\n", refused(5, "Place")),
+    ("an image that is refused", 4, image("8322000"), refused(4, "Hex")),
+    ("an empty input", 4, "", refused(0, "MissingOrRepeated")),
+    ("an image that is too long", 4, "#" * 1_048_577, refused(0, "TooLong")),
+]
+
+# (what it shows, cores, image text, all that is printed)
+TRACES = [
+    ("one epoch", 1, ONE, "end done 1\ncounts 1 1 0 1\ntrace 1\n0 start 0\n0 load 00000040 4 00000000\n0 store 00000040 4 00000000\n0 commit\n"),
+    ("no epochs", 2, image(COUNTER, epochs=0), "end done 0\ncounts 0 0 0 0\ntrace 2\n"),
+    ("a fault counts nothing", 1, FAULTS, "end fault 0 1 00000000\ncounts 0 0 0 0\ntrace 1\n0 start 0\n0 fault 1 00000000\n"),
+    ("an exit", 1, EXIT, "end exit 0\ncounts 0 1 0 1\ntrace 1\n0 start 0\n0 store 00000040 4 00000000\n0 commit\n"),
+]
+
+# Words that ask for no run.
+WORDS = [
+    ["run"], ["run", "--cores"], ["run", "--cores", "0"], ["run", "--cores", "17"], ["run", "--cores", "-1"], ["run", "--cores", "x"],
+    ["run", "--cores", "4294967297"], ["run", "--cores", "2", "--cores", "2"], ["run", "--cores", "2", "x"], ["run", "--trace"],
+    ["run", "--cores", "2", "--trace=yes"], ["run", "--cores", "2", "--help"], ["run", "--help"], ["--cores", "2", "run"],
+    ["run", "--core", "2"], ["seq", "--cores", "2"], ["audit", "--trace"],
+]
+
+
+def traced_differs(program, name, cores, text):
+    """What is wrong with a run that prints its trace: it ends as without one, and `audit` finds as many entries as are counted."""
+    plain = run(program, ["run", "--cores", str(cores)], text)
+    output, errors, status = run(program, ["run", "--cores", str(cores), "--trace"], text)
+    report, below = output[:len(plain[0])], output[len(plain[0]):]
+    if (report, errors, status) != plain:
+        return f"{name}: with a trace {(report, errors, status)}, without one {plain}"
+    if status > 1:
+        return None
+    counts, _, trace = below.partition("\n")
+    lines = trace.splitlines()
+    words = [line.split()[1] for line in lines[1:]]
+    wanted = "counts " + " ".join(str(words.count(word)) for word in ("load", "store", "restart", "commit"))
+    if counts != wanted or lines[0] != f"trace {cores}":
+        return f"{name}: {counts!r} above {lines[0]!r}, whose entries give {wanted!r}"
+    verdict = run(program, ["audit"], text + trace)
+    if verdict[0].split()[:2] != ["legal", str(len(words))]:
+        return f"{name}: the audit of the trace says {verdict}"
+    return None
+
+
+def main():
+    command = sys.argv[1:] or [str(ROOT / "trace_cli"), "seq"]
+    program = command[:-1]
+    rows = [(name, ["run", "--cores", str(cores)], text, expected) for name, cores, text, expected in RUNS]
+    rows += [("the trace of " + name, ["run", "--cores", str(cores), "--trace"], text, (printed, "", 1 if "fault" in printed else 0))
+             for name, cores, text, printed in TRACES]
+    rows += [("words " + " ".join(words), words, FOUR, USAGE) for words in WORDS]
+    wrong = []
+    for name, words, text, expected in rows:
+        got = run(program, words, text)
+        if got != expected:
+            wrong.append(f"{name}\n  expected {expected}\n  got      {got}")
+    wrong += [differs for name, cores, text, _ in RUNS if (differs := traced_differs(program, name, cores, text))]
+    for text in wrong:
+        print(f"FAILED {text}")
+    print(f"{len(rows) + len(RUNS) - len(wrong)} rows passed, {len(wrong)} failed")
+    return 1 if wrong else 0
+
+
+if __name__ == "__main__":
+    sys.exit(main())
