@@ -1,5 +1,4 @@
 //! What a run gives back, looked at from outside.
-ghost use Rattle.std.specs.Prelude.{◌≡◌};
 
 use core_threads::{Finished, Gate, Halted, run_cores};
 use homefree::Book;

@@ -6,8 +6,8 @@ use crate::programs::{
     EXIT, FAULT, SIGNAL, SUM_IN_VERSION_2, SUM_OF_FOUR, SUM_OF_NONE, SUM_OF_THREE, WORDS_OF_EIGHT,
     WORDS_OF_FOUR, WORDS_OF_TWO,
 };
-use core_threads::{Gate, Open};
-use rv32_exec::{End, image_of};
+use core_threads::{Finished, Gate, Open};
+use rv32_exec::{End, Image, image_of};
 use std::alloc::Global;
 use std::process::Abort;
 use std::sync::Wait;
@@ -28,18 +28,29 @@ fn ends<S: EpochStore, G: Gate, R: Abort + Threads + Wait + Sync>(
 ) -> Result<(), Fail> {
     let image = image_of(alloc, text.as_bytes())?;
     match run::<S, G, R>(rt, alloc, &image, cores, 4096, gate) {
-        Ok(run) => {
-            assert_eq!(rt; run.end, end);
-            assert_eq!(rt; run.totals, run.counted);
-            assert_eq!(rt; run.totals, run.book.totals());
-            for (addr, word) in [64, 68, 72, 76].into_iter().zip(words) {
-                assert!(rt; word_at(&run.book, addr) == Some(*word), "{addr}");
-            }
-            look(rt, alloc, &run.book, &image, cores)?;
-            is_in_order(rt, alloc, &run.book, &image, end)
-        }
+        Ok(run) => has_ended(rt, alloc, &run, &image, cores, end, words),
         Err(run) => Err(run.fault.name().into()),
     }
+}
+
+/// The run has ended so, as the sequential loop does, with these words from 64 on and a legal history.
+fn has_ended<S: EpochStore>(
+    rt: &impl Abort,
+    alloc: Global,
+    run: &Finished<S>,
+    image: &Image,
+    cores: u32,
+    end: End,
+    words: &[u32],
+) -> Result<(), Fail> {
+    assert_eq!(rt; run.end, end);
+    assert_eq!(rt; run.totals, run.counted);
+    assert_eq!(rt; run.totals, run.book.totals());
+    for (addr, word) in [64, 68, 72, 76].into_iter().zip(words) {
+        assert!(rt; word_at(&run.book, addr) == Some(*word), "{addr}");
+    }
+    look(rt, alloc, &run.book, image, cores)?;
+    is_in_order(rt, alloc, &run.book, image, end)
 }
 
 /// The same on both stores.
