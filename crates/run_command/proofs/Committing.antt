@@ -1,17 +1,11 @@
 -- Committed memory as it is copied.
-use Rattle.std.proofs.Common.{◌≡◌, ℕ, ◌+◌, ◌<◌, Bool, true, List, [], ◌∷◌, ◌++◌, length, get_or, Option, Some, None, nat_lt, if◌then◌else◌, refl, sym, ap, ◌∙◌, arith, length-append}
-use Rattle.std.proofs.lemmas.Bool.Decides.{nat_tests}
+use Rattle.std.proofs.Common.{◌≡◌, ℕ, ◌+◌, ◌<◌, List, [], ◌∷◌, ◌++◌, get_or, refl, sym, ap, ◌∙◌, arith, length-append}
 use Rattle.std.proofs.Math.Seq.{get_or-append_seam}
 use Rattle.std.proofs.lemmas.List.{ext_get_or, get_or_append_left}
 use native.Mathlib.Decide.{dec_lt}
 use Rattle.rv32_image.specs.Image.{LoadedImage}
 use Rattle.spec_history.specs.Laws.{Holds}
 use Rattle.run_command.specs.Committed.{IsCommitted}
-
--- the byte at an address of memory is there
-pub is_there : (size addr byte : ℕ) (found : Option ℕ) → found ≡ (if nat_lt addr size then Some byte else None) → addr < size → found ≡ Some byte
-is_there size addr byte found is below =
-    let within : nat_lt addr size ≡ true = grind (arith, nat_tests) in is ∙ ap (λ (t : Bool). if t then Some byte else None) within
 
 pub committed-none : (f : ℕ → ℕ) → IsCommitted 0 f []
 committed-none f = record { long = refl; byte = λ a below. absurd (omega (arith, below)) }

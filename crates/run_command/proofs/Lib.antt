@@ -1,4 +1,3 @@
 pub mod Committing
 pub mod Printing
-pub mod Stopping
 pub mod Outcomes

@@ -6,7 +6,6 @@ use Rattle.std.specs.Io.KnownBytes.{Appends, Keeps}
 use Rattle.rv32_image.specs.Image.{LoadedImage}
 use Rattle.rv32_image.specs.ImageText.{image_text}
 use Rattle.rv32_image.specs.Version.{limits_of}
-use Rattle.rv32_exec.specs.declared.sequential.End.{End}
 use Rattle.rv32_exec.specs.Sequential.{sequential_result}
 use Rattle.run_ledger.specs.declared.counts.Counts.{Counts}
 use Rattle.spec_history.specs.declared.entry.Entry.{Entry}
