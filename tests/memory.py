@@ -1,5 +1,5 @@
 #!/usr/bin/env python3
-"""Refuses each allocation of `trace_cli seq`, `trace_cli run` and `trace_cli audit` in turn.
+"""Refuses each allocation of `trace_cli seq`, `trace_cli run` and `trace_cli audit` in turn, and each thread of a run.
 
 Usage: tests/memory.py [COMMAND ..]
 
@@ -8,7 +8,8 @@ row may put other words; without it `./trace_cli seq` of this repository is test
 second and so on allocation refused, until a run meets none: a run that was
 refused one says `stopped NoMemory`, writes nothing on standard output and has
 status 3, and the last one answers as if nothing was refused. A run on threads
-may say `stopped NoThread` too, or go to its end although a thread was refused. Where the C
+may say `stopped NoThread` too, or go to its end although a thread was refused; so may one
+whose first, second and so on thread is refused. Where the C
 compiler `cc` isn't installed the test is skipped, and a line says so. Exits
 with 1 where a run differs.
 """
@@ -27,32 +28,43 @@ ROOT = Path(__file__).resolve().parent.parent
 STOPPED = ("", "stopped NoMemory\n", 3)
 NO_THREAD = ("", "stopped NoThread\n", 3)
 
-# Takes the place of malloc and realloc: the call of the number REFUSED gets nothing, and descriptor 9 is told so.
+# Takes the place of malloc and realloc, and of pthread_create: the call of the number REFUSED, of the one or the other by
+# KIND, gets nothing, and descriptor 9 is told so.
 SHIM = r"""
 #define _GNU_SOURCE
 #include <dlfcn.h>
+#include <errno.h>
+#include <pthread.h>
 #include <stdlib.h>
+#include <string.h>
 #include <unistd.h>
 static long asked, refused;
+static int of_threads;
 static void *(*allocate)(size_t), *(*resize)(void *, size_t);
 __attribute__((constructor)) static void begin(void) {
     allocate = dlsym(RTLD_NEXT, "malloc");
     resize = dlsym(RTLD_NEXT, "realloc");
     refused = atol(getenv("REFUSED"));
+    of_threads = strcmp(getenv("KIND"), "thread") == 0;
     asked = 0;
 }
-static int is_refused(void) {
-    if (!refused || __atomic_add_fetch(&asked, 1, __ATOMIC_SEQ_CST) != refused) return 0;
+static int is_refused(int thread) {
+    if (!refused || thread != of_threads || __atomic_add_fetch(&asked, 1, __ATOMIC_SEQ_CST) != refused) return 0;
     if (write(9, "r", 1) != 1) abort();
     return 1;
 }
 void *malloc(size_t size) {
     if (!allocate) allocate = dlsym(RTLD_NEXT, "malloc");
-    return is_refused() ? NULL : allocate(size);
+    return is_refused(0) ? NULL : allocate(size);
 }
 void *realloc(void *old, size_t size) {
     if (!resize) resize = dlsym(RTLD_NEXT, "realloc");
-    return is_refused() ? NULL : resize(old, size);
+    return is_refused(0) ? NULL : resize(old, size);
+}
+int pthread_create(pthread_t *thread, const pthread_attr_t *attributes, void *(*start)(void *), void *given) {
+    static int (*create)(pthread_t *, const pthread_attr_t *, void *(*)(void *), void *);
+    if (!create) create = dlsym(RTLD_NEXT, "pthread_create");
+    return is_refused(1) ? EAGAIN : create(thread, attributes, start, given);
 }
 """
 
@@ -91,12 +103,12 @@ ON_THREADS = [
 ]
 
 
-def run(command, shim, text, number):
-    """The outcome with this allocation refused, and whether there was such a one."""
+def run(command, shim, text, kind, number):
+    """The outcome with the allocation or thread of this number refused, and whether there was such a one."""
     reader, writer = os.pipe()
     os.dup2(writer, 9)
     os.close(writer)
-    environment = {**os.environ, "LD_PRELOAD": str(shim), "REFUSED": str(number)}
+    environment = {**os.environ, "LD_PRELOAD": str(shim), "KIND": kind, "REFUSED": str(number)}
     result = subprocess.run(command, input=text.encode(), capture_output=True, check=False, env=environment, pass_fds=[9])
     os.close(9)
     with os.fdopen(reader, "rb") as told:
@@ -104,16 +116,16 @@ def run(command, shim, text, number):
     return (result.stdout.decode("latin-1"), result.stderr.decode("latin-1"), result.returncode), met
 
 
-def differences(command, shim, name, text, expected, refused_too=()):
+def differences(command, shim, name, text, expected, refused_too=(STOPPED,), kind="allocation"):
     """What is wrong with the runs of a row, and how many there were."""
     for number in range(1, 1000):
-        got, met = run(command, shim, text, number)
-        wanted = [STOPPED, *refused_too] if met else [expected]
+        got, met = run(command, shim, text, kind, number)
+        wanted = refused_too if met else [expected]
         if got not in wanted:
-            return f"{name}, allocation {number}\n  expected {wanted}\n  got      {got}", number
+            return f"{name}, {kind} {number}\n  expected {wanted}\n  got      {got}", number
         if not met:
             return None, number
-    return f"{name}: still an allocation after 1000", 1000
+    return f"{name}: still an {kind} after 1000", 1000
 
 
 def without_the_wrapper(command):
@@ -135,7 +147,10 @@ def main():
         subprocess.run(["cc", "-shared", "-fPIC", "-O1", "-o", shim, source, "-ldl"], check=True)
         results = [differences(command, shim, *row) for row in RUNS]
         results += [differences(command[:-1] + ["audit"], shim, *row) for row in AUDITS]
-        results += [differences(command[:-1] + words, shim, name, text, expected, (NO_THREAD, expected) if expected[0] else ()) for name, words, text, expected in ON_THREADS]
+        for name, words, text, expected in ON_THREADS:
+            starts = (NO_THREAD, expected) if expected[0] else ()
+            results.append(differences(command[:-1] + words, shim, name, text, expected, (STOPPED, *starts)))
+            results.append(differences(command[:-1] + words, shim, name, text, expected, starts, "thread"))
     wrong = [text for text, _ in results if text]
     for text in wrong:
         print(f"FAILED {text}")

@@ -1,11 +1,11 @@
 #!/usr/bin/env python3
-"""What `trace_cli seq` and `trace_cli audit` do where a stream is slow or fails.
+"""What the commands of `trace_cli` do where a stream is slow or fails, or a thread is refused.
 
 Usage: tests/streams.py [COMMAND ..]
 
 COMMAND reads its standard input and ends with the word `seq`, in whose place
-`audit` is put for some checks; without it `./trace_cli seq` of this repository
-is tested. Needs Linux: /dev/full, on
+`run` or `audit` is put for some checks; without it `./trace_cli seq` of this
+repository is tested. Needs Linux: /dev/full, on
 which each write fails, and /proc/self/mem, whose first read fails. Exits with 1
 where an outcome differs.
 """
@@ -21,6 +21,9 @@ COUNTER = b"size 256\nepochs 4\nlimit 100\ncode 83220004b382a2002320500467800000
 FAULT = b"size 256\nepochs 1\nlimit 100\ncode 00000000\n"
 TRACED = b"size 256\nepochs 1\nlimit 100\ncode 83220004b382a2002320500467800000\ntrace 1\n0 start 0\n"
 VERDICT = b"legal 1 0\n"
+ONE = b"size 256\nepochs 1\nlimit 100\ncode 83220004b382a2002320500467800000\n"
+ONE_TRACED = (b"end done 1\ncounts 1 1 0 1\ntrace 1\n0 start 0\n0 load 00000040 4 00000000\n"
+              b"0 store 00000040 4 00000000\n0 commit\n")
 REPORT = b"end done 4\nat 00000040 06000000000000000000000000000000\n"
 
 
@@ -59,7 +62,17 @@ def checks(command):
     yield "failed read", failing_read(command), (b"", b"image 0 Read\n", 2)
     yield "trace byte by byte", piecewise(command[:-1] + ["audit"], TRACED, 1), (VERDICT, b"", 0)
     yield "failed read of an audit", failing_read(command[:-1] + ["audit"]), (b"", b"trace 0 Read\n", 2)
+    run = command[:-1] + ["run", "--cores", "4"]
+    traced = command[:-1] + ["run", "--cores", "1", "--trace"]
+    yield "run, text byte by byte", piecewise(run, COUNTER, 1), (REPORT, b"", 0)
+    yield "run, text in pieces of 7, traced", piecewise(traced, ONE, 7), (ONE_TRACED, b"", 0)
+    yield "failed read of a run", failing_read(run), (b"", b"image 0 Read\n", 2)
     with open("/dev/full", "wb", buffering=0) as full:
+        yield "failed write of a run", outcome(run, COUNTER, stdout=full), (None, b"stopped Write\n", 3)
+        yield "failed write of a traced run", outcome(traced, ONE, stdout=full), (None, b"stopped Write\n", 3)
+        yield "failed write of a run that faults", outcome(run, FAULT, stdout=full), (None, b"stopped Write\n", 3)
+        yield "failed write of a run's refusal", outcome(run, b"", stderr=full), (b"", None, 2)
+        yield "a run that can't write to the error stream", outcome(run, COUNTER, stderr=full), (REPORT, None, 0)
         yield "failed write", outcome(command, COUNTER, stdout=full), (None, b"stopped Write\n", 3)
         yield "failed write after a fault", outcome(command, FAULT, stdout=full), (None, b"stopped Write\n", 3)
         yield "failed write of both", outcome(command, COUNTER, stdout=full, stderr=full), (None, None, 3)
