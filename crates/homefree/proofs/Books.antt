@@ -23,7 +23,7 @@ use Rattle.homefree.specs.declared.fault.TurnFault.TheVariants.{HistoryFull, NoM
 use Rattle.homefree.specs.declared.register.Register.{Register}
 use Rattle.homefree.specs.Agrees.{Agrees}
 use Rattle.homefree.specs.Acted.{Acted, MayNote}
-use Rattle.homefree.specs.BookInside.{IsBook, IsAsBefore}
+use Rattle.homefree.specs.BookInside.{IsBook, IsAsBefore, book_of}
 use Rattle.homefree.specs.BookView.{BookView}
 use Rattle.homefree.specs.Counted.{counted_in, IsNoMore}
 use Rattle.homefree.specs.InStep.{InStep}
@@ -64,10 +64,7 @@ first_book r w cores room is count fresh len idle history totals homefree next_e
 
 -- ---- the book as contracts see it
 
-abbrev pub book : {S : Type 0} → Register → S → ℕ → Option StopCause → BookView S
-book r store room cause = record { image = r.image; cores = length r.running.items; room = room; history = r.history.items; totals = r.totals; store = store; stopped = cause }
-
-pub in_step : {S : Type 0} (view : S → StoreView) (r : Register) (store : S) (room : ℕ) (cause : Option StopCause) → IsBook r (view store) room cause → InStep view (book r store room cause)
+pub in_step : {S : Type 0} (view : S → StoreView) (r : Register) (store : S) (room : ℕ) (cause : Option StopCause) → IsBook r (view store) room cause → InStep view (book_of r store room cause)
 in_step view r store room cause b = record {
   state = b.fits.state;
   replays = b.fits.replays;
@@ -92,16 +89,16 @@ end_of r v s f replays = ap (λ (x : FlatState). x.end) (one_state (replay r.ima
 
 module _ {S : Type 0} (view : S → StoreView) (r : Register) (store : S) (room core : ℕ) (shares : Counts) (next : Option Arrival) (f : Fits r (view store)) where
   pub turned_over : (cause : Option StopCause) (end : End) → r.end ≡ Some end → (s : FlatState) → replay r.image (length r.running.items) r.history.items ≡ Some s
-      → Turned view (book r store room cause) s shares core next (Ok (Over end)) (book r store room cause) shares
+      → Turned view (book_of r store room cause) s shares core next (Ok (Over end)) (book_of r store room cause) shares
   turned_over cause end is s replays = turn.over (record { end = end; over = end_of r (view store) s f replays ∙ is; answer_is = refl }) refl refl
 
   pub turned_stopped : (cause : StopCause) → r.end ≡ None → (s : FlatState) → replay r.image (length r.running.items) r.history.items ≡ Some s
-      → Turned view (book r store room (Some cause)) s shares core next (Ok (Stopped cause)) (book r store room (Some cause)) shares
+      → Turned view (book_of r store room (Some cause)) s shares core next (Ok (Stopped cause)) (book_of r store room (Some cause)) shares
   turned_stopped cause going s replays = turn.stopped (record { going = end_of r (view store) s f replays ∙ going; cause = cause; stopped = refl; answer_is = refl }) refl refl
 
   pub turned_full : r.end ≡ None → room < length r.history.items + (limits_of r.image.version).free_entries
       → (s : FlatState) → replay r.image (length r.running.items) r.history.items ≡ Some s
-      → Turned view (book r store room None) s shares core next (Err HistoryFull) (book r store room None) shares
+      → Turned view (book_of r store room None) s shares core next (Err HistoryFull) (book_of r store room None) shares
   turned_full going full s replays = turn.full (record { going = end_of r (view store) s f replays ∙ going; unstopped = refl; full = full; answer_is = refl }) refl refl
 
 -- ---- room for a turn
@@ -145,11 +142,11 @@ sum_nothing a = let same : (l s r c : ℕ) → l ≡ l + 0 → s ≡ s + 0 → r
 
 module _ {S : Type 0} (view : S → StoreView) (r q : Register) (store reserved : S) (room core : ℕ) (cause : Option StopCause) (shares : Counts) (next : Option Arrival) (f : Fits r (view store))
     (going : r.end ≡ None) (unstopped : cause ≡ None) (free : length r.history.items + (limits_of r.image.version).free_entries ≤ room) (same : IsAsBefore r q) (same_view : IsSameView (view store) (view reserved)) where
-  may_act : (s : FlatState) → replay r.image (length r.running.items) r.history.items ≡ Some s → turn.MayAct (book r store room cause) s
+  may_act : (s : FlatState) → replay r.image (length r.running.items) r.history.items ≡ Some s → turn.MayAct (book_of r store room cause) s
   may_act s replays = record { going = end_of r (view store) s f replays ∙ going; unstopped = unstopped; free = free }
 
   pub turned_refused : (s : FlatState) → replay r.image (length r.running.items) r.history.items ≡ Some s
-      → Turned view (book r store room cause) s shares core next (Err NoMemory) (book q reserved room cause) shares
+      → Turned view (book_of r store room cause) s shares core next (Err NoMemory) (book_of q reserved room cause) shares
   turned_refused s replays = turn.no_memory (may_act s replays) same_view
       (record {
         image = same.image;
@@ -163,7 +160,7 @@ module _ {S : Type 0} (view : S → StoreView) (r q : Register) (store reserved 
 
   pub turned_acts : (new : Register) (after : S) (shares' : Counts) (answer : Answer) → Acted q new (view reserved) (view after) shares shares' core next answer
       → (s : FlatState) → replay r.image (length r.running.items) r.history.items ≡ Some s
-      → Turned view (book r store room cause) s shares core next (Ok answer) (book new after room cause) shares'
+      → Turned view (book_of r store room cause) s shares core next (Ok answer) (book_of new after room cause) shares'
   turned_acts new after shares' answer a s replays =
       let cores : length q.running.items ≡ length r.running.items = ap (λ v. length v.items) same.running in
       turn.acts (record {

@@ -6,6 +6,7 @@ use Rattle.violations.specs.View.{StoreView}
 use Rattle.homefree.specs.declared.answer.StopCause.{StopCause}
 use Rattle.homefree.specs.declared.answer.StopCause.TheVariants.{HistoryFull}
 use Rattle.homefree.specs.declared.register.Register.{Register}
+use Rattle.homefree.specs.BookView.{BookView}
 use Rattle.homefree.specs.Kept.{Fits}
 
 pub record IsBook (r : Register) (v : StoreView) (room : ℕ) (stopped : Option StopCause) : Type 0 where
@@ -24,3 +25,8 @@ pub record IsAsBefore (old new : Register) : Type 0 where
   pub homefree : new.homefree ≡ old.homefree
   pub next_epoch : new.next_epoch ≡ old.next_epoch
   pub end : new.end ≡ old.end
+
+-- the book with these fields, as contracts see it
+abbrev pub book_of : {S : Type 0} → Register → S → ℕ → Option StopCause → BookView S
+book_of r store room cause =
+    record { image = r.image; cores = length r.running.items; room = room; history = r.history.items; totals = r.totals; store = store; stopped = cause }

@@ -6,7 +6,7 @@ ghost use Rattle.spec_history.specs.Replay.{replay};
 ghost use Rattle.violations.specs.Rule.{IsCoreCount, IsFresh};
 ghost use Rattle.violations.specs.Rule.{IsSameView};
 ghost use Rattle.homefree.specs.BookView.{IsFull};
-ghost use Rattle.homefree.specs.BookInside.{IsAsBefore};
+ghost use Rattle.homefree.specs.BookInside.{IsAsBefore, IsBook, book_of};
 ghost use Rattle.homefree.specs.InStep.{InStep};
 ghost use Rattle.homefree.specs.Turned.{Turned, turn_at};
 ghost use Rattle.homefree.specs.Grown.{GrowsBy};
@@ -30,7 +30,8 @@ use violations::EpochStore;
 /// A history of speculative epochs, with the store and the cores that it has led to.
 #[derive(Drop)]
 pub struct Book<S: EpochStore> {
-    pub(crate) parts: Parts<S>,
+    /// In a block of their own, so that a lock hands over a few words.
+    pub(crate) parts: Box<Parts<S>>,
     pub(crate) room: u32,
     pub(crate) stopped: Option<StopCause>,
 }
@@ -42,9 +43,9 @@ impl<S: EpochStore> Model for Book<S> {
 
     ghost Value = { BookView S };
 
-    ghost view = { λ b. record { image = b.parts.register.image; cores = length b.parts.register.running.items; room = b.room; history = b.parts.register.history.items; totals = b.parts.register.totals; store = b.parts.store; stopped = b.stopped } };
+    ghost view = { λ b. record { image = b.parts.value.register.image; cores = length b.parts.value.register.running.items; room = b.room; history = b.parts.value.register.history.items; totals = b.parts.value.register.totals; store = b.parts.value.store; stopped = b.stopped } };
 
-    ghost invariant = { λ b. IsBook b.parts.register (S.view b.parts.store) b.room b.stopped };
+    ghost invariant = { λ b. IsBook b.parts.value.register (S.view b.parts.value.store) b.room b.stopped };
 }
 
 /// What stays as it was while turns are taken. No value of it is made.
@@ -97,19 +98,20 @@ impl<S: EpochStore> Book<S> {
         let image = image.copy(alloc)?;
         let (totals, shares) = open();
         let end = end_at_first(&image);
+        let register = Register {
+            image,
+            history: Vec::new(alloc),
+            totals,
+            running,
+            homefree: 0,
+            next_epoch: 0,
+            end,
+        };
+        let Ok(parts) = Box::new(alloc, Parts { register, store }) else {
+            return Err(NoMemory);
+        };
         let book = Book {
-            parts: Parts {
-                register: Register {
-                    image,
-                    history: Vec::new(alloc),
-                    totals,
-                    running,
-                    homefree: 0,
-                    next_epoch: 0,
-                    end,
-                },
-                store,
-            },
+            parts,
             room,
             stopped: None,
         };
@@ -165,20 +167,14 @@ impl<S: EpochStore> Book<S> {
         ensures { (s : FlatState) → replay self.old.image self.old.cores self.old.history ≡ Some s
             → Turned S.view self.old s shares.old core (option_copied next.entry) result self.new shares.new }
     {
-        if let Some(end) = self.parts.register.end {
-            return Ok(Answer::Over(end));
-        }
-        if let Some(cause) = self.stopped {
-            return Ok(Answer::Stopped(cause));
-        }
-        let free = free_entries(&self.parts.register.image);
-        if self.room - (self.parts.register.history.len() as u32) < free {
-            return Err(TurnFault::HistoryFull);
-        }
-        let Ok(()) = make_room(&mut self.parts, free) else {
-            return Err(TurnFault::NoMemory);
-        };
-        Ok(self.parts.turn(shares, core, next))
+        turn_within(
+            &mut *self.parts,
+            self.room,
+            self.stopped,
+            core,
+            next,
+            shares,
+        )
     }
 
     /// Takes no more turns, for this cause, and answers true. Where the loop is over, or the book is stopped already, it answers
@@ -195,6 +191,40 @@ impl<S: EpochStore> Book<S> {
         self.stopped = Some(cause);
         true
     }
+}
+
+/// One turn of a core at the parts of a book with this room, which has been stopped so.
+fn turn_within<S: EpochStore>(
+    parts: &mut Parts<S>,
+    room: u32,
+    stopped: Option<StopCause>,
+    core: u32,
+    next: Option<&Arrived>,
+    shares: &mut Shares,
+) -> Result<Answer, TurnFault>
+    requires book { IsBook parts.old.register (S.view parts.old.store) room stopped }
+    requires core { core < length parts.old.register.running.items }
+    requires next { IfArrived parts.old.register.image (option_copied next) }
+    requires shares { IsNoMore shares.old parts.old.register.totals }
+    ensures book { IsBook parts.new.register (S.view parts.new.store) room stopped }
+    ensures turned { (s : FlatState) → replay parts.old.register.image (length parts.old.register.running.items) parts.old.register.history.items ≡ Some s
+        → Turned S.view (book_of parts.old.register parts.old.store room stopped) s shares.old core (option_copied next.entry) result
+        (book_of parts.new.register parts.new.store room stopped) shares.new }
+{
+    if let Some(end) = parts.register.end {
+        return Ok(Answer::Over(end));
+    }
+    if let Some(cause) = stopped {
+        return Ok(Answer::Stopped(cause));
+    }
+    let free = free_entries(&parts.register.image);
+    if room - (parts.register.history.len() as u32) < free {
+        return Err(TurnFault::HistoryFull);
+    }
+    let Ok(()) = make_room(parts, free) else {
+        return Err(TurnFault::NoMemory);
+    };
+    Ok(parts.turn(shares, core, next))
 }
 
 /// How many entries of the history a turn has to find free.
