@@ -6,7 +6,7 @@ use super::*;
 use core_threads::{Gate, Open, Shut};
 use rv32_exec::Arrived;
 use std::io;
-use std::io::{Error, ErrorKind, Write};
+use std::io::{Error, ErrorKind, Read, Write};
 use std::test::Fail;
 
 /// The image whose epochs add their numbers to one word.
@@ -139,4 +139,46 @@ fn a_failed_write_stops_a_run(rt: HostRuntime) -> Result<(), Fail> {
         assert_eq!(rt; told.as_slice(), b"stopped Write\n".as_slice());
     }
     Ok(())
+}
+
+/// A reader that gives these bytes, at most 3 a call, and fails then.
+#[derive(Drop)]
+struct FailingReader<'a> {
+    rest: &'a [u8],
+}
+
+impl Read for FailingReader<'_> {
+    fn read(&mut self, buf: &mut [u8]) -> io::Result<usize> {
+        if self.rest.is_empty() {
+            return Err(Error::from(ErrorKind::Interrupted));
+        }
+        let count = self.rest.len().min(buf.len()).min(3);
+        let (now, later) = self.rest.split_at(count);
+        buf[..count].copy_from_slice(now);
+        self.rest = later;
+        Ok(count)
+    }
+}
+
+#[test]
+fn a_failed_read_stops_a_run(rt: HostRuntime) {
+    for given in 0..=ONE.len() {
+        let mut reader = FailingReader {
+            rest: &ONE.as_bytes()[..given],
+        };
+        let mut printed = Vec::new(rt.alloc());
+        let mut told = Vec::new(rt.alloc());
+        let ran = do_run(
+            &rt,
+            rt.alloc(),
+            options(1, 64, true),
+            &Open,
+            &mut reader,
+            &mut printed,
+            &mut told,
+        );
+        assert_eq!(rt; ran, 2);
+        assert_eq!(rt; printed.as_slice(), b"".as_slice());
+        assert_eq!(rt; told.as_slice(), b"image 0 Read\n".as_slice());
+    }
 }
