@@ -1,9 +1,13 @@
 //! The caches of all cores on one bus.
 #![tactic(auto)]
 
+mod attempts;
 mod bus_core;
 mod cached;
+mod cores;
 mod memory;
+mod messages;
 mod parts;
+mod speculative;
 
 pub use cached::{CachedBus, LineView};
