@@ -12,3 +12,7 @@ pub mod Accesses
 pub mod Publishing
 pub mod StraightAccesses
 pub mod Opening
+pub mod Showing
+pub mod Hurting
+pub mod Ordered
+pub mod AttemptRules
