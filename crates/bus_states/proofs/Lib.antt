@@ -19,3 +19,5 @@ pub mod AttemptRules
 pub mod InLine
 pub mod Taking
 pub mod AccessRules
+pub mod PublishRule
+pub mod StraightRules

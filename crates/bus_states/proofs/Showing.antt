@@ -167,6 +167,10 @@ spared old new k s attempt stands =
     aligned : (a : ℕ) → line_of old.line_length a % old.line_length ≡ 0
     aligned a = line-aligned old.line_length a s.length_is
 
+-- beside its own bytes a core sees what is committed
+pub unowned-sees : (bus : Bus) (k a : ℕ) → (view_of bus).own k a ≡ false → (view_of bus).sees k a ≡ (view_of bus).committed a
+unowned-sees bus k a out = rw out refl
+
 -- where nothing is committed otherwise, it sees what it saw
 pub sees_stays : (old new : Bus) (k : ℕ) → ShowsSame old new k
     → ((a : ℕ) → a % old.line_length ≡ 0 → (x : ℕ) → committed new a x ≡ committed old a x)
