@@ -76,7 +76,7 @@ opened-ordered bus image cores h =
 
 -- ---- one core changes and what is committed stays
 
-at_core : (bus : Bus) (core : ℕ) (own : CoreState) → (with_core core own bus).core core ≡ own
+pub at_core : (bus : Bus) (core : ℕ) (own : CoreState) → (with_core core own bus).core core ≡ own
 at_core bus core own = rw (itself core) refl
 
 -- what is committed at each address

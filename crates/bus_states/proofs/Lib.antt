@@ -16,3 +16,8 @@ pub mod Showing
 pub mod Hurting
 pub mod Ordered
 pub mod AttemptRules
+pub mod InLine
+pub mod Taking
+pub mod AccessRules
+pub mod PublishRule
+pub mod StraightRules

@@ -110,14 +110,23 @@ pub record ShowsSame (old new : Bus) (k : ℕ) : Type 0 where
   pub length : new.line_length ≡ old.line_length
   pub copies : (a : ℕ) → a % old.line_length ≡ 0 → Shows ((old.core k).copy a) ((new.core k).copy a)
 
+-- which bytes of the lines the core has modified and loaded, at an address, on a bus with lines as long
+pub own_at : (old new : Bus) → new.line_length ≡ old.line_length → (k a : ℕ)
+    → (view_of new).own k a ≡ has ((new.core k).copy (line_of old.line_length a)).marks.bytes (offset_of old.line_length a)
+own_at old new e k a = ap (λ (n : ℕ). has ((new.core k).copy (line_of n a)).marks.bytes (offset_of n a)) e
+
+pub guarded_at : (old new : Bus) → new.line_length ≡ old.line_length → (k a : ℕ)
+    → (view_of new).guarded k a ≡ ((new.core k).copy (line_of old.line_length a)).marks.loaded
+guarded_at old new e k a = ap (λ (n : ℕ). ((new.core k).copy (line_of n a)).marks.loaded) e
+
 pub own_stays : (old new : Bus) (k : ℕ) → ShowsSame old new k → (a : ℕ) → (view_of new).own k a ≡ (view_of old).own k a
 own_stays old new k s a =
-    ap (λ (n : ℕ). has ((new.core k).copy (line_of n a)).marks.bytes (offset_of n a)) s.length
+    own_at old new s.length k a
     ∙ ap (λ (mask : ℕ). has mask (offset_of old.line_length a)) (s.copies (line_of old.line_length a) (line-aligned old.line_length a s.length_is)).bytes
 
 pub guarded_stays : (old new : Bus) (k : ℕ) → ShowsSame old new k → (a : ℕ) → (view_of new).guarded k a ≡ (view_of old).guarded k a
 guarded_stays old new k s a =
-    ap (λ (n : ℕ). ((new.core k).copy (line_of n a)).marks.loaded) s.length
+    guarded_at old new s.length k a
     ∙ (s.copies (line_of old.line_length a) (line-aligned old.line_length a s.length_is)).loaded
 
 -- what is committed at an address, on a bus with lines as long
@@ -157,6 +166,10 @@ spared old new k s attempt stands =
 
     aligned : (a : ℕ) → line_of old.line_length a % old.line_length ≡ 0
     aligned a = line-aligned old.line_length a s.length_is
+
+-- beside its own bytes a core sees what is committed
+pub unowned-sees : (bus : Bus) (k a : ℕ) → (view_of bus).own k a ≡ false → (view_of bus).sees k a ≡ (view_of bus).committed a
+unowned-sees bus k a out = rw out refl
 
 -- where nothing is committed otherwise, it sees what it saw
 pub sees_stays : (old new : Bus) (k : ℕ) → ShowsSame old new k
