@@ -1,9 +1,9 @@
 //! Changes of one core among those of the bus.
-ghost use Rattle.std.specs.Prelude.{◌≡◌, ◌≢◌, ℕ, ◌<◌, ◌≤◌, ◌%◌, ◌==◌, ◌&&◌, true, false, length, slice_get, slice_index, Some, None, if◌then◌else◌};
+ghost use Rattle.std.specs.Prelude.{◌≡◌, ◌≢◌, ℕ, ◌<◌, ◌≤◌, ◌%◌, ◌==◌, ◌&&◌, true, false, length, slice_get, slice_index, Some, None, if◌then◌else◌, IsTrue, IfOk};
 ghost use Rattle.spec_states.specs.declared.line.TheConstants.{LONGEST_LINE};
 ghost use Rattle.spec_states.specs.States.{is_valid};
-ghost use Rattle.cache_lines.specs.Lines.{way_count};
-ghost use Rattle.orb.specs.Lines.{is_full, holds, without};
+ghost use Rattle.cache_lines.specs.Lines.{way_count, is_line_length};
+ghost use Rattle.orb.specs.Lines.{is_full, holds, without, IsLimit};
 ghost use Rattle.memory_bytes.specs.Bytes.{IsWidth};
 ghost use Rattle.spec_states.specs.Mask.{IsWithinLine};
 ghost use Rattle.cache_lines.specs.Protocol.{copy_with_number};
@@ -12,11 +12,37 @@ ghost use Rattle.bus_states.specs.Messages.{reply_to, order, bytes_after, change
 ghost use Rattle.spec_bus.specs.CoreStates.{heard, MayHear};
 ghost use Rattle.spec_bus.specs.Parts.{core_at, line_at};
 ghost use Rattle.bus_states.specs.Straight.{settled_core};
+ghost use Rattle.spec_bus.specs.Fresh.{AreIdle};
 
 use crate::bus_core::Core;
 use bus_states::Notice;
+use rv32_image::NoMemory;
 use spec_states::{LONGEST_LINE, Next};
+use std::alloc::Global;
 use violations::Attempt;
+
+/// So many idle cores, with lines of `line_length` bytes and room for `limit` lines in their buffers.
+///
+/// `NoMemory`: there was no memory for them.
+pub(crate) fn idle_cores(
+    alloc: Global,
+    count: u32,
+    line_length: usize,
+    limit: usize,
+) -> Result<Vec<Core>, NoMemory>
+    requires length { IsTrue (is_line_length line_length) }
+    requires limit { IsLimit limit }
+    ensures count { IfOk result (λ cores. length cores.items ≡ count) }
+    ensures idle { IfOk result (λ cores. AreIdle line_length limit cores.items) }
+{
+    let mut cores = Vec::new(alloc);
+    for _ in 0..count {
+        if cores.push(Core::idle(line_length, limit)).is_err() {
+            return Err(NoMemory);
+        }
+    }
+    Ok(cores)
+}
 
 /// Core `k` hears a notice of another core about the line at `addr`, which has these bytes for that core.
 pub(crate) fn hear(

@@ -5,9 +5,12 @@ mod attempts;
 mod bus_core;
 mod cached;
 mod cores;
+mod epochs;
 mod memory;
 mod messages;
 mod parts;
+mod publish;
 mod speculative;
+mod straight;
 
 pub use cached::{CachedBus, LineView};

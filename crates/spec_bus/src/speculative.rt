@@ -1,5 +1,5 @@
 //! Speculative loads and stores.
-ghost use Rattle.std.specs.Prelude.{◌≡◌, ℕ, ◌+◌, ◌<◌, ◌≤◌, ◌%◌, ◌&&◌, true, false, length, Some, IfOk, IfErr};
+ghost use Rattle.std.specs.Prelude.{◌≡◌, ℕ, ◌+◌, ◌<◌, ◌≤◌, ◌^◌, ◌%◌, ◌&&◌, true, false, length, Some, IfOk, IfErr};
 ghost use Rattle.spec_states.specs.declared.line.TheConstants.{LONGEST_LINE};
 ghost use Rattle.spec_states.specs.States.{is_valid};
 ghost use Rattle.cache_lines.specs.Lines.{way_count};
@@ -46,6 +46,7 @@ impl Parts {
         ensures bus { bus_in self.new ≡ speculative.kept_line (bus_in self.old) core addr
             (speculative.load_next (bus_in self.old) core addr offset width) }
         ensures value { result ≡ number_at (bus_spec.sees (bus_in self.old) core addr) offset width }
+        ensures small { result < 256 ^ width }
     {
         let copy = self.copy(core, addr);
         let next = after_own_load(copy.state, copy.marks, offset, width, true);
@@ -85,6 +86,7 @@ impl Parts {
             (line_at self.old.cores.items core addr (Some way))
             (speculative.load_next (bus_in self.old) core addr offset width) }
         ensures value { result ≡ number_at (bus_spec.sees (bus_in self.old) core addr) offset width }
+        ensures small { result < 256 ^ width }
     {
         let copy = self.copy(core, addr);
         let line = self.committed_line(addr);
