@@ -26,7 +26,7 @@ use Rattle.bus_states.specs.Speculative.{own, holds_line, room_for, no_room, kep
 use Rattle.bus_states.proofs.Coherence.{IsCoherentWith, committed-with, coherent-with, with-same, sees-past, sees-held, sees-unmodified}
 use Rattle.bus_states.proofs.Copies.{itself, made, made-state, made-up_to_date, made-in_place}
 use Rattle.bus_states.proofs.Cores.{changed-coherent, without_line-coherent}
-use Rattle.bus_states.proofs.QuietCalls.{kept-with, written-with, same-lines}
+use Rattle.bus_states.proofs.QuietCalls.{Keeps, kept-with, Writes, written-with, same-lines}
 use Rattle.bus_states.proofs.Sending.{leaves-held, Sends, sent_lines, sent-with, at_sender}
 
 -- ---- a core takes a line by a message
@@ -96,7 +96,7 @@ own-after bus message room next =
     ap (λ (core : CoreState). core.copy message.addr) (at_sender bus message room (changed_core message.addr next message.line (without_line room (bus.core message.sender))))
     ∙ rw (itself message.addr) refl
 
-kept-core : (bus : Bus) (core addr : ℕ) (next : Next)
+pub kept-core : (bus : Bus) (core addr : ℕ) (next : Next)
     → (kept_line bus core addr next).core core ≡ with_copy addr (made next.state next.marks (own bus core addr).cell) (bus.core core)
 kept-core bus core addr next = rw (itself core) refl
 
@@ -194,15 +194,13 @@ load-within bus core addr offset width h =
     rw (own_load-marks mine.state mine.marks offset width (is_alone bus (message_of bus Load core addr)))
     (marks_of-within_line mine.state mine.marks bus.line_length (h.in_place core addr).mask)
 
-load-hit : (bus : Bus) (core addr offset width : ℕ) (room : Option Line) → IsCoherent bus → MayAccess bus core addr room → IsWidth width
-    → holds_line bus core addr ≡ true
-    → IsCoherentWith (kept_line bus core addr (load_next bus core addr offset width)) (committed bus)
+pub load-hit : (bus : Bus) (core addr offset width : ℕ) (room : Option Line) → IsCoherent bus → MayAccess bus core addr room → IsWidth width
+    → holds_line bus core addr ≡ true → Keeps bus core addr (load_next bus core addr offset width)
 load-hit bus core addr offset width room h may widths held =
     let mine : LineCopy = own bus core addr in
     let alone : Bool = is_alone bus (message_of bus Load core addr) in
     let row = own_load-takes_hold mine.state mine.marks offset width alone in
-    kept-with bus core addr (load_next bus core addr offset width) h
-    (record {
+    record {
       aligned = may.aligned;
       in_cores = may.in_cores;
       runs = may.runs;
@@ -212,9 +210,9 @@ load-hit bus core addr offset width room h may widths held =
       exclusive = own_load-held mine.state mine.marks offset width alone held;
       writes_back = row.writes_back;
       required = same_required _ _ _ row.enters (own_load-enters_none mine.state mine.marks offset width alone) row.stays_required;
-    })
+    }
 
-load-miss : (bus : Bus) (core addr offset width : ℕ) (room : Option Line) → IsCoherent bus → MayAccess bus core addr room → IsWidth width
+pub load-miss : (bus : Bus) (core addr offset width : ℕ) (room : Option Line) → IsCoherent bus → MayAccess bus core addr room → IsWidth width
     → holds_line bus core addr ≡ false → is_busy bus (message_of bus Load core addr) ≡ false
     → Takes bus (message_of bus Load core addr) room (load_next bus core addr offset width)
 load-miss bus core addr offset width room h may widths absent free =
@@ -232,7 +230,7 @@ load-miss bus core addr offset width room h may widths absent free =
     })
 
 -- the causes of a wait that did not come
-load-goes_on : (held none busy : Bool) → cond held None (cond none (Some NoWay) (cond busy (Some OrbBusy) None)) ≡ None → held ≡ false
+pub load-goes_on : (held none busy : Bool) → cond held None (cond none (Some NoWay) (cond busy (Some OrbBusy) None)) ≡ None → held ≡ false
     → busy ≡ false
 load-goes_on true none busy e f = cc
 load-goes_on false true busy e f = cc
@@ -248,7 +246,7 @@ load-with bus core addr offset width room h may widths goes = pick (holds_line b
     pick : (b : Bool) → holds_line bus core addr ≡ b
         → IsCoherentWith (cond b (kept_line bus core addr (load_next bus core addr offset width))
         (after_message bus (message_of bus Load core addr) room (load_next bus core addr offset width))) (committed bus)
-    pick true e = load-hit bus core addr offset width room h may widths e
+    pick true e = kept-with bus core addr (load_next bus core addr offset width) h (load-hit bus core addr offset width room h may widths e)
     pick false e =
         let takes = load-miss bus core addr offset width room h may widths e
         (load-goes_on (holds_line bus core addr) (no_room room) (is_busy bus (message_of bus Load core addr)) goes e) in
@@ -266,7 +264,7 @@ store-within bus core addr offset width h inside =
     (marks_of-within_line mine.state mine.marks bus.line_length (h.in_place core addr).mask)
 
 -- the bytes of the store are in the mask
-store-masked : (bus : Bus) (core addr offset width : ℕ) (x : ℕ) → is_within offset width x ≡ true
+pub store-masked : (bus : Bus) (core addr offset width : ℕ) (x : ℕ) → is_within offset width x ≡ true
     → has (store_next bus core addr offset width).marks.bytes x ≡ true
 store-masked bus core addr offset width x within =
     let mine : LineCopy = own bus core addr in
@@ -291,16 +289,14 @@ unowned-unmodified copy c h e = by_state copy.state copy.marks e h.not_modified
     by_state SpS marks e f = empty marks.bytes e
     by_state SpE marks e f = cc
 
-store-owned : (bus : Bus) (core addr offset width : ℕ) (room : Option Line) → IsCoherent bus → MayAccess bus core addr room → IsWidth width
-    → offset + width ≤ bus.line_length → owns bus core addr ≡ true
-    → IsCoherentWith (kept_line bus core addr (store_next bus core addr offset width)) (committed bus)
+pub store-owned : (bus : Bus) (core addr offset width : ℕ) (room : Option Line) → IsCoherent bus → MayAccess bus core addr room → IsWidth width
+    → offset + width ≤ bus.line_length → owns bus core addr ≡ true → Keeps bus core addr (store_next bus core addr offset width)
 store-owned bus core addr offset width room h may widths inside owned =
     let mine : LineCopy = own bus core addr in
     let alone : Bool = is_alone bus (message_of bus Store core addr) in
     let row = own_store-takes_hold mine.state mine.marks offset width alone widths in
     let held : is_valid mine.state ≡ true = owned-valid mine.state mine.marks owned in
-    kept-with bus core addr (store_next bus core addr offset width) h
-    (record {
+    record {
       aligned = may.aligned;
       in_cores = may.in_cores;
       runs = may.runs;
@@ -310,9 +306,9 @@ store-owned bus core addr offset width room h may widths inside owned =
       exclusive = owned-exclusive mine.state mine.marks offset width alone owned;
       writes_back = row.writes_back;
       required = same_required _ _ _ row.enters (owned-enters_none mine.state mine.marks offset width alone owned) row.stays_required;
-    })
+    }
 
-store-claims : (bus : Bus) (core addr offset width : ℕ) (room : Option Line) → IsCoherent bus → MayAccess bus core addr room → IsWidth width
+pub store-claims : (bus : Bus) (core addr offset width : ℕ) (room : Option Line) → IsCoherent bus → MayAccess bus core addr room → IsWidth width
     → offset + width ≤ bus.line_length → owns bus core addr ≡ false → is_busy bus (message_of bus Store core addr) ≡ false
     → ((store_next bus core addr offset width).enters && is_full (bus.core core).buffer) ≡ false
     → Takes bus (message_of bus Store core addr) (room_for bus core addr room) (store_next bus core addr offset width)
@@ -350,7 +346,7 @@ store-claims bus core addr offset width room h may widths inside unowned free ha
     fresh false e =
         own_store-filled (own bus core addr).state (own bus core addr).marks offset width (is_alone bus (message_of bus Store core addr)) widths e (committed bus addr) (committed bus addr) (λ x _. refl)
 
-store-goes_on : (owned held none full busy : Bool)
+pub store-goes_on : (owned held none full busy : Bool)
     → cond owned None (cond (not held && none) (Some NoWay) (cond full (Some OrbFull) (cond busy (Some OrbBusy) None))) ≡ None
     → owned ≡ false → (full ≡ false) × (busy ≡ false)
 store-goes_on true held none full busy e g = cc
@@ -387,7 +383,7 @@ claim-with bus core addr offset width room h may widths inside goes = pick (owns
     pick true e =
         let kept = own-kept bus core addr (store_next bus core addr offset width) in
         record {
-          coherent = store-owned bus core addr offset width room h may widths inside e;
+          coherent = kept-with bus core addr (store_next bus core addr offset width) h (store-owned bus core addr offset width room h may widths inside e);
           shape = refl;
           length = refl;
           attempt = rw (itself core) refl;
@@ -410,6 +406,19 @@ claim-with bus core addr offset width room h may widths inside goes = pick (owns
           masked = λ x within. subst (λ (copy : LineCopy). has copy.marks.bytes x ≡ true) (sym after) (rw valid (store-masked bus core addr offset width x within));
         }
 
+-- its bytes may be written then
+pub claim-writes : (bus : Bus) (core addr offset width : ℕ) (room : Option Line) → MayAccess bus core addr room → offset + width ≤ bus.line_length
+    → IsClaimed bus (after_claim bus core addr offset width room) core addr offset width
+    → Writes (after_claim bus core addr offset width room) core addr offset width
+claim-writes bus core addr offset width room may inside claimed =
+    record {
+      aligned = rw claimed.length may.aligned;
+      in_cores = rw claimed.shape may.in_cores;
+      held = claimed.held;
+      in_line = rw claimed.length inside;
+      masked = claimed.masked;
+    }
+
 -- a store that does not wait: every line is committed as it was
 pub store-with : (bus : Bus) (core addr offset width value : ℕ) (room : Option Line) → IsCoherent bus → MayAccess bus core addr room
     → IsWidth width → offset + width ≤ bus.line_length → store_wait bus core addr offset width room ≡ None
@@ -420,10 +429,4 @@ store-with bus core addr offset width value room h may widths inside goes =
     with-same (with_bytes mid core addr offset width value) (committed mid) (committed bus)
     (λ a aligned x. committed-with mid (committed bus) claimed.coherent a aligned x)
     (written-with mid core addr offset width value (coherent-with mid (committed bus) claimed.coherent)
-    (record {
-      aligned = rw claimed.length may.aligned;
-      in_cores = rw claimed.shape may.in_cores;
-      held = claimed.held;
-      in_line = rw claimed.length inside;
-      masked = claimed.masked;
-    }))
+    (claim-writes bus core addr offset width room may inside claimed))

@@ -12,3 +12,12 @@ pub mod Accesses
 pub mod Publishing
 pub mod StraightAccesses
 pub mod Opening
+pub mod Showing
+pub mod Hurting
+pub mod Ordered
+pub mod AttemptRules
+pub mod InLine
+pub mod Taking
+pub mod AccessRules
+pub mod PublishRule
+pub mod StraightRules

@@ -28,7 +28,7 @@ use Rattle.bus_states.proofs.Accesses.{none-room}
 use Rattle.bus_states.proofs.Coherence.{IsCoherentWith, committed-with, coherent-with, with-same, by_core, none_at_all, sees-past, sees-held, sees-unmodified}
 use Rattle.bus_states.proofs.Copies.{itself, made, made-state, made-up_to_date, made-in_place, unrequired, required-valid, exclusive-valid}
 use Rattle.bus_states.proofs.Cores.{emptied-buffer, released-coherent}
-use Rattle.bus_states.proofs.Quiet.{quiet-with}
+use Rattle.bus_states.proofs.Quiet.{ChangesQuietly, quiet-with}
 use Rattle.bus_states.proofs.Replies.{reply-enters}
 use Rattle.bus_states.proofs.Sending.{Sends, sent, sent_lines, sent-with, at_sender}
 
@@ -97,7 +97,7 @@ publish_line-sent bus core addr =
     sent-again bus (message_of bus Publish core addr) (changed_core addr (publish_next bus core addr) (sees bus core addr) (without_line None (bus.core core)))
     (λ (state : CoreState). record state { buffer = record state.buffer { lines = without addr state.buffer.lines } })
 
-publish-sends : (bus : Bus) (core addr : ℕ) → IsCoherent bus → IsListed bus core addr
+pub publish-sends : (bus : Bus) (core addr : ℕ) → IsCoherent bus → IsListed bus core addr
     → Sends bus (message_of bus Publish core addr) None (line_published bus core addr)
     (made (publish_next bus core addr).state (publish_next bus core addr).marks (sees bus core addr))
 publish-sends bus core addr h t =
@@ -264,11 +264,10 @@ settles-quietly SpE marks true w e f =
 settles-quietly SpE marks false w e f =
     rw w (record { exclusive = λ x. refl; modified = λ x. refl; unwritten = λ x. no_bytes marks.bytes w; owned = inl (no_bytes marks.bytes w) })
 
-pub settle-with : (bus : Bus) (core : ℕ) → IsCoherent bus → core < bus.shape.cores → (bus.core core).buffer.lines ≡ []
-    → IsCoherentWith (after_settling bus core) (sees bus core)
-settle-with bus core h inside empty =
-    quiet-with bus core (settled_core (bus.core core)) bus.memory (sees bus core) h
-    (record {
+pub settle-quietly : (bus : Bus) (core : ℕ) → IsCoherent bus → core < bus.shape.cores → (bus.core core).buffer.lines ≡ []
+    → ChangesQuietly bus core (settled_core (bus.core core)) bus.memory (sees bus core)
+settle-quietly bus core h inside empty =
+    record {
       in_cores = inside;
       same_length = refl;
       stays = record {
@@ -290,7 +289,7 @@ settle-with bus core h inside empty =
           let m : is_modified (settlement ((bus.core core).copy a).state ((bus.core core).copy a).marks true).state ≡ false = sym (ap is_modified (state-is ((bus.core core).copy a))) ∙ mine in
           (h.lines a aligned).in_memory (λ k. by_core (λ (k : ℕ). is_modified ((bus.core k).copy a).state ≡ false) core k ((row a aligned).modified m) (others k)) x
           ∙ sym (sees-unmodified bus core a ((row a aligned).unwritten m) x);
-    })
+    }
   where
     state-is : (copy : LineCopy) → (published_copy true copy).state ≡ (settlement copy.state copy.marks true).state
     state-is copy = made-state (settlement copy.state copy.marks true).state (settlement copy.state copy.marks true).marks copy.cell
@@ -314,6 +313,11 @@ settle-with bus core h inside empty =
         → (sees bus core a ≡ committed bus a) ⊎ (is_exclusive ((bus.core core).copy a).state ≡ true)
     either a (inl e) = inl (fun_ext (sees-unmodified bus core a e))
     either a (inr e) = inr e
+
+pub settle-with : (bus : Bus) (core : ℕ) → IsCoherent bus → core < bus.shape.cores → (bus.core core).buffer.lines ≡ []
+    → IsCoherentWith (after_settling bus core) (sees bus core)
+settle-with bus core h inside empty =
+    quiet-with bus core (settled_core (bus.core core)) bus.memory (sees bus core) h (settle-quietly bus core h inside empty)
 
 -- ---- the whole publish
 

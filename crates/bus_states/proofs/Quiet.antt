@@ -31,7 +31,7 @@ quietly bus core own memory = record (with_core core own bus) { memory = memory 
 at_own : (bus : Bus) (core : ℕ) (own : CoreState) (memory : ℕ → ℕ) → (quietly bus core own memory).core core ≡ own
 at_own bus core own memory = rw (itself core) refl
 
-at_other : (bus : Bus) (core : ℕ) (own : CoreState) (memory : ℕ → ℕ) (k : ℕ) → k ≢ core
+pub at_other : (bus : Bus) (core : ℕ) (own : CoreState) (memory : ℕ → ℕ) (k : ℕ) → k ≢ core
     → (quietly bus core own memory).core k ≡ bus.core k
 at_other bus core own memory k away = rw (apart_test k core away) refl
 

@@ -203,14 +203,20 @@ kept-one bus core addr next h t =
     stays true a aligned e x = with_line-elsewhere bus.line_length addr a (own bus core addr).cell bus.memory h.length_is t.aligned aligned e x
     stays false a aligned e x = refl
 
+pub kept-quietly : (bus : Bus) (core addr : ℕ) (next : Next) → IsCoherent bus → Keeps bus core addr next
+    → ChangesQuietly bus core (with_copy addr (changed_copy (own bus core addr) next) (bus.core core))
+    (cond next.write_back (with_line bus.line_length addr (own bus core addr).cell bus.memory) bus.memory)
+    (one_line bus addr (committed bus addr))
+kept-quietly bus core addr next h t =
+    one-quietly bus core addr (changed_copy (own bus core addr) next) _ (committed bus addr) h (kept-one bus core addr next h t)
+
 pub kept-with : (bus : Bus) (core addr : ℕ) (next : Next) → IsCoherent bus → Keeps bus core addr next
     → IsCoherentWith (kept_line bus core addr next) (committed bus)
 kept-with bus core addr next h t =
     same-lines bus (kept_line bus core addr next) addr (committed bus addr) refl
     (quiet-with bus core (with_copy addr (changed_copy (own bus core addr) next) (bus.core core))
     (cond next.write_back (with_line bus.line_length addr (own bus core addr).cell bus.memory) bus.memory)
-    (one_line bus addr (committed bus addr)) h
-    (one-quietly bus core addr (changed_copy (own bus core addr) next) _ (committed bus addr) h (kept-one bus core addr next h t)))
+    (one_line bus addr (committed bus addr)) h (kept-quietly bus core addr next h t))
 
 -- ---- bytes of the own mask
 
@@ -266,11 +272,16 @@ written-one bus core addr offset width value h t =
           agrees = λ x v out. rw (outside x out) (u.agrees x v out);
         }
 
+pub written-quietly : (bus : Bus) (core addr offset width value : ℕ) → IsCoherent bus → Writes bus core addr offset width
+    → ChangesQuietly bus core (with_copy addr (copy_with_number offset width value (own bus core addr)) (bus.core core)) bus.memory
+    (one_line bus addr (committed bus addr))
+written-quietly bus core addr offset width value h t =
+    one-quietly bus core addr (copy_with_number offset width value (own bus core addr)) bus.memory (committed bus addr) h
+    (written-one bus core addr offset width value h t)
+
 pub written-with : (bus : Bus) (core addr offset width value : ℕ) → IsCoherent bus → Writes bus core addr offset width
     → IsCoherentWith (with_bytes bus core addr offset width value) (committed bus)
 written-with bus core addr offset width value h t =
     same-lines bus (with_bytes bus core addr offset width value) addr (committed bus addr) refl
     (quiet-with bus core (with_copy addr (copy_with_number offset width value (own bus core addr)) (bus.core core)) bus.memory
-    (one_line bus addr (committed bus addr)) h
-    (one-quietly bus core addr (copy_with_number offset width value (own bus core addr)) bus.memory (committed bus addr) h
-    (written-one bus core addr offset width value h t)))
+    (one_line bus addr (committed bus addr)) h (written-quietly bus core addr offset width value h t))

@@ -26,7 +26,7 @@ use Rattle.bus_states.proofs.Coherence.{IsCoherentWith, with-itself, by_core, no
 use Rattle.bus_states.proofs.Copies.{itself, unrequired}
 use Rattle.bus_states.proofs.Cores.{with_copy-coherent}
 use Rattle.bus_states.proofs.Heard.{message-gives_way}
-use Rattle.bus_states.proofs.Quiet.{quiet-with}
+use Rattle.bus_states.proofs.Quiet.{ChangesQuietly, quiet-with}
 use Rattle.bus_states.proofs.QuietCalls.{ChangesOne, one-quietly, one_line, same-lines, number-past}
 
 -- ---- nobody holds a straight core up
@@ -154,36 +154,43 @@ straight-takes bus message room room2 s h may valid calm past same_line victim a
 
 -- ---- loads
 
+-- the state of the line that comes in
+calm-in : (b : Bool) (s : LineState) → is_speculative s ≡ false → is_speculative (cond b s S) ≡ false
+calm-in true s calm = calm
+calm-in false s calm = refl
+
+valid-in : (b : Bool) (s : LineState) → is_valid s ≡ true → is_valid (cond b s S) ≡ true
+valid-in true s valid = valid
+valid-in false s valid = refl
+
+alone-in : (b : Bool) (s : LineState) → is_exclusive (cond b s S) ≡ true → b ≡ true
+alone-in true s e = refl
+alone-in false s e = cc
+
+own-seen : (bus : Bus) (core addr : ℕ) (room : Option Line) → IsCoherent bus → MayAccessStraight bus core addr room
+    → sees bus core addr ≡ committed bus addr
+own-seen bus core addr room h may = fun_ext (sees-unmodified bus core addr (own-empty bus core addr room h may))
+
+pub straight_load-takes : (bus : Bus) (core addr : ℕ) (room : Option Line) → IsCoherent bus → MayAccessStraight bus core addr room
+    → holds_line bus core addr ≡ false
+    → Takes bus (message_of bus Load core addr) room (unmarked_next (cond (is_alone bus (message_of bus Load core addr)) E S))
+straight_load-takes bus core addr room h may absent =
+    let alone : Bool = is_alone bus (message_of bus Load core addr) in
+    straight-takes bus (message_of bus Load core addr) room room (cond alone E S) h may (valid-in alone E refl) (calm-in alone E refl)
+    (λ x le. sees-past bus core addr x h le) (λ _. own-seen bus core addr room h may) may.victim
+    (not_leaving (bus.core core) room addr may.victim absent) (alone-in alone E)
+
 pub straight_load-with : (bus : Bus) (core addr : ℕ) (room : Option Line) → IsCoherent bus → MayAccessStraight bus core addr room
     → IsCoherentWith (after_straight_load bus core addr room) (committed bus)
 straight_load-with bus core addr room h may = pick (holds_line bus core addr) refl
   where
-    state : (b : Bool) → LineState
-    state b = cond b E S
-
-    valid : (b : Bool) → is_valid (cond b E S) ≡ true
-    valid true = refl
-    valid false = refl
-
-    calm : (b : Bool) → is_speculative (cond b E S) ≡ false
-    calm true = refl
-    calm false = refl
-
-    alone : (b : Bool) → is_exclusive (cond b E S) ≡ true → b ≡ true
-    alone true e = refl
-    alone false e = cc
-
     pick : (b : Bool) → holds_line bus core addr ≡ b
         → IsCoherentWith (cond b bus (after_message bus (message_of bus Load core addr) room (unmarked_next (cond (is_alone bus (message_of bus Load core addr)) E S)))) (committed bus)
     pick true e = with-itself bus h
     pick false e =
-        let message : Message = message_of bus Load core addr in
-        let same : sees bus core addr ≡ committed bus addr = fun_ext (sees-unmodified bus core addr (own-empty bus core addr room h may)) in
-        let next : Next = unmarked_next (cond (is_alone bus message) E S) in
-        same-lines bus (after_message bus message room next) addr (sees bus core addr) same
-        (taken-with bus message room next h
-        (straight-takes bus message room room (cond (is_alone bus message) E S) h may (valid (is_alone bus message)) (calm (is_alone bus message))
-        (λ x le. sees-past bus core addr x h le) (λ _. same) may.victim (not_leaving (bus.core core) room addr may.victim e) (alone (is_alone bus message))))
+        let next : Next = unmarked_next (cond (is_alone bus (message_of bus Load core addr)) E S) in
+        same-lines bus (after_message bus (message_of bus Load core addr) room next) addr (sees bus core addr) (own-seen bus core addr room h may)
+        (taken-with bus (message_of bus Load core addr) room next h (straight_load-takes bus core addr room h may e))
 
 -- ---- stores
 
@@ -232,31 +239,30 @@ store-alone bus core addr offset width value room h may inside alone =
     valid SpS e = refl
     valid SpE e = refl
 
-pub straight_store-with : (bus : Bus) (core addr offset width value : ℕ) (room : Option Line) → IsCoherent bus
+-- the core's own line as stored
+abbrev pub stored_alone : Bus → ℕ → ℕ → ℕ → ℕ → ℕ → LineCopy
+stored_alone bus core addr offset width value =
+    changed_copy (copy_with_number offset width value (own bus core addr)) (unmarked_next M)
+
+pub straight_store-quietly : (bus : Bus) (core addr offset width value : ℕ) (room : Option Line) → IsCoherent bus
+    → MayAccessStraight bus core addr room → offset + width ≤ bus.line_length → stores_alone (own bus core addr).state ≡ true
+    → ChangesQuietly bus core (with_copy addr (stored_alone bus core addr offset width value) (bus.core core)) bus.memory
+    (one_line bus addr (with_number (own bus core addr).cell offset width value))
+straight_store-quietly bus core addr offset width value room h may inside alone =
+    one-quietly bus core addr (stored_alone bus core addr offset width value) bus.memory (with_number (own bus core addr).cell offset width value) h
+    (store-alone bus core addr offset width value room h may inside alone)
+
+pub straight_store-takes : (bus : Bus) (core addr offset width value : ℕ) (room : Option Line) → IsCoherent bus
     → MayAccessStraight bus core addr room → offset + width ≤ bus.line_length
-    → IsCoherentWith (after_straight_store bus core addr offset width value room) (stored_lines bus core addr offset width value)
-straight_store-with bus core addr offset width value room h may inside = pick (stores_alone (own bus core addr).state) refl
+    → Takes bus (straight_store_message bus core addr offset width value) (room_for bus core addr room)
+    (unmarked_next (cond (is_alone bus (straight_store_message bus core addr offset width value)) M S))
+straight_store-takes bus core addr offset width value room h may inside =
+    let alone : Bool = is_alone bus (straight_store_message bus core addr offset width value) in
+    straight-takes bus (straight_store_message bus core addr offset width value) room (room_for bus core addr room) (cond alone M S) h may
+    (valid-in alone M refl) (calm-in alone M refl)
+    (λ x le. number-past (sees bus core addr) bus.line_length offset width value x inside le (sees-past bus core addr x h le))
+    (λ n. absurd (n refl)) (victim (holds_line bus core addr)) (apart (holds_line bus core addr) refl) (alone-in alone M)
   where
-    valid : (b : Bool) → is_valid (cond b M S) ≡ true
-    valid true = refl
-    valid false = refl
-
-    calm : (b : Bool) → is_speculative (cond b M S) ≡ false
-    calm true = refl
-    calm false = refl
-
-    alone : (b : Bool) → is_exclusive (cond b M S) ≡ true → b ≡ true
-    alone true e = refl
-    alone false e = cc
-
-    held : (s : LineState) → stores_alone s ≡ true → is_valid s ≡ true
-    held I e = e
-    held S e = refl
-    held E e = refl
-    held M e = refl
-    held SpS e = refl
-    held SpE e = refl
-
     victim : (b : Bool) → IsRoom (bus.core core) (cond b None room)
     victim true = none-room (bus.core core)
     victim false = may.victim
@@ -265,22 +271,32 @@ straight_store-with bus core addr offset width value room h may inside = pick (s
     apart true e = refl
     apart false e = not_leaving (bus.core core) room addr may.victim e
 
+pub straight_store-with : (bus : Bus) (core addr offset width value : ℕ) (room : Option Line) → IsCoherent bus
+    → MayAccessStraight bus core addr room → offset + width ≤ bus.line_length
+    → IsCoherentWith (after_straight_store bus core addr offset width value room) (stored_lines bus core addr offset width value)
+straight_store-with bus core addr offset width value room h may inside = pick (stores_alone (own bus core addr).state) refl
+  where
+    held : (s : LineState) → stores_alone s ≡ true → is_valid s ≡ true
+    held I e = e
+    held S e = refl
+    held E e = refl
+    held M e = refl
+    held SpS e = refl
+    held SpE e = refl
+
     pick : (b : Bool) → stores_alone (own bus core addr).state ≡ b
         → IsCoherentWith (cond b
-        (record bus { core = λ k. cond (k == core) (with_copy addr (changed_copy (copy_with_number offset width value (own bus core addr)) (unmarked_next M)) (bus.core core)) (bus.core k) })
+        (record bus { core = λ k. cond (k == core) (with_copy addr (stored_alone bus core addr offset width value) (bus.core core)) (bus.core k) })
         (after_message bus (straight_store_message bus core addr offset width value) (room_for bus core addr room) (unmarked_next (cond (is_alone bus (straight_store_message bus core addr offset width value)) M S))))
         (stored_lines bus core addr offset width value)
     pick true e =
         let seen : (own bus core addr).cell ≡ sees bus core addr = fun_ext (sees-held bus core addr h may.aligned (held (own bus core addr).state e)) in
-        subst (λ (line : ℕ → ℕ). IsCoherentWith (record bus { core = λ k. cond (k == core) (with_copy addr (changed_copy (copy_with_number offset width value (own bus core addr)) (unmarked_next M)) (bus.core core)) (bus.core k) }) (one_line bus addr (with_number line offset width value)))
+        subst (λ (line : ℕ → ℕ). IsCoherentWith (record bus { core = λ k. cond (k == core) (with_copy addr (stored_alone bus core addr offset width value) (bus.core core)) (bus.core k) }) (one_line bus addr (with_number line offset width value)))
         seen
-        (quiet-with bus core (with_copy addr (changed_copy (copy_with_number offset width value (own bus core addr)) (unmarked_next M)) (bus.core core)) bus.memory
+        (quiet-with bus core (with_copy addr (stored_alone bus core addr offset width value) (bus.core core)) bus.memory
         (one_line bus addr (with_number (own bus core addr).cell offset width value)) h
-        (one-quietly bus core addr (changed_copy (copy_with_number offset width value (own bus core addr)) (unmarked_next M)) bus.memory (with_number (own bus core addr).cell offset width value) h
-        (store-alone bus core addr offset width value room h may inside e)))
+        (straight_store-quietly bus core addr offset width value room h may inside e))
     pick false e =
-        let message : Message = straight_store_message bus core addr offset width value in
-        taken-with bus message (room_for bus core addr room) (unmarked_next (cond (is_alone bus message) M S)) h
-        (straight-takes bus message room (room_for bus core addr room) (cond (is_alone bus message) M S) h may (valid (is_alone bus message)) (calm (is_alone bus message))
-        (λ x le. number-past (sees bus core addr) bus.line_length offset width value x inside le (sees-past bus core addr x h le))
-        (λ n. absurd (n refl)) (victim (holds_line bus core addr)) (apart (holds_line bus core addr) refl) (alone (is_alone bus message)))
+        taken-with bus (straight_store_message bus core addr offset width value) (room_for bus core addr room)
+        (unmarked_next (cond (is_alone bus (straight_store_message bus core addr offset width value)) M S)) h
+        (straight_store-takes bus core addr offset width value room h may inside)
