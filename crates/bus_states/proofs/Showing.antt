@@ -14,6 +14,7 @@ use Rattle.violations.specs.Rule.{IsSameCore, IsSpared}
 use Rattle.bus_states.specs.declared.notice.Notice.{Notice}
 use Rattle.bus_states.specs.declared.notice.Notice.TheVariants.{Load, Store, Publish}
 use Rattle.bus_states.specs.Bus.{Bus, committed, sees, line_of, offset_of}
+use Rattle.bus_states.specs.Coherent.{IsCoherent}
 use Rattle.bus_states.specs.Messages.{bytes_after}
 use Rattle.bus_states.specs.Views.{view_of}
 use Rattle.bus_states.proofs.Addresses.{line-aligned}
@@ -103,6 +104,16 @@ merged-same old new c d x s same =
     ] refl
 
 -- ---- the core, as the store's rule sees it
+
+-- the line in which a byte lies, and its place there
+abbrev pub line_at : Bus → ℕ → ℕ
+line_at bus a = line_of bus.line_length a
+
+abbrev pub place_at : Bus → ℕ → ℕ
+place_at bus a = offset_of bus.line_length a
+
+pub aligned_at : (bus : Bus) → IsCoherent bus → (a : ℕ) → line_at bus a % bus.line_length ≡ 0
+aligned_at bus h a = line-aligned bus.line_length a h.length_is
 
 -- the core shows each of its lines as before
 pub record ShowsSame (old new : Bus) (k : ℕ) : Type 0 where
