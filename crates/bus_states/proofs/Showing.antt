@@ -18,7 +18,7 @@ use Rattle.bus_states.specs.Coherent.{IsCoherent}
 use Rattle.bus_states.specs.Messages.{bytes_after}
 use Rattle.bus_states.specs.Views.{view_of}
 use Rattle.bus_states.proofs.Addresses.{line-aligned}
-use Rattle.bus_states.proofs.Copies.{made}
+use Rattle.bus_states.proofs.Copies.{clash, made}
 
 -- ---- one copy
 
@@ -33,9 +33,6 @@ Shows-same copy = record { loaded = refl; bytes = refl; own_cells = λ x own. re
 -- an empty mask has no byte
 pub none_in : (mask x : ℕ) → mask ≡ 0 → has mask x ≡ false
 none_in mask x e = rw e (has-zero x)
-
-clash : (b : Bool) → b ≡ true → b ≡ false → ⊥
-clash b e f = cc
 
 -- an unmarked copy that goes
 pub Shows-gone : (copy : LineCopy) (c : ℕ → ℕ) → IsUpToDate copy c → is_speculative copy.state ≡ false → Shows copy no_copy

@@ -22,7 +22,7 @@ use Rattle.bus_states.specs.Views.{view_of}
 use Rattle.bus_states.proofs.Accesses.{MayAccess, store-owned, store-claims, store-goes_on, IsClaimed, claim-with, claim-writes, store-with}
 use Rattle.bus_states.proofs.AttemptRules.{with-committed}
 use Rattle.bus_states.proofs.Coherence.{IsCoherentWith, committed-with, coherent-with}
-use Rattle.bus_states.proofs.Copies.{itself}
+use Rattle.bus_states.proofs.Copies.{clash, itself}
 use Rattle.bus_states.proofs.Hurting.{quiet-hurts, hurts-same, hurts-then_none}
 use Rattle.bus_states.proofs.InLine.{load-lies, accessed-line, over-line}
 use Rattle.bus_states.proofs.QuietCalls.{Writes, written-quietly}
@@ -200,9 +200,6 @@ store-stored bus core addr offset width value room h may widths inside goes =
         ∙ ap (λ (marks : Marks). cond ((addr == a) && is_within offset width x) (byte_of value (x - offset)) (cond (has marks.bytes x) ((own mid core a).cell x) (committed mid a x)))
         (written-marks mid core addr offset width value a)
         ∙ ap (λ (byte : ℕ). cond ((addr == a) && is_within offset width x) (byte_of value (x - offset)) byte) (sees_mid a aligned x)
-
-clash : (b : Bool) → b ≡ true → b ≡ false → ⊥
-clash b e f = cc
 
 -- a store that is answered
 pub store-stores : (bus : Bus) (core address width value : ℕ) (room : Option Line) (hurt : ℕ → Bool) → IsCoherent bus
