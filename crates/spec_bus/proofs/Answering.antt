@@ -1,5 +1,5 @@
 -- What loads and stores answer.
-use Rattle.std.proofs.Common.{◌≡◌, ℕ, ◌%◌, ◌==◌, Bool, true, false, cond, length, List, Option, Some, None, slice_get, refl, sym, ap, subst, ◌∙◌, arith}
+use Rattle.std.proofs.Common.{◌≡◌, ℕ, ◌<◌, ◌^◌, ◌%◌, ◌==◌, Bool, true, false, cond, length, List, Option, Some, None, slice_get, refl, sym, ap, subst, ◌∙◌, arith}
 use Rattle.std.proofs.Math.Path.{fun_ext}
 use Rattle.std.proofs.lemmas.Bool.Decides.{nat_tests}
 use Rattle.memory_bytes.specs.Bytes.{IsWidth, number_at}
@@ -39,16 +39,17 @@ pub loaded_miss : (old : Parts) (new : Bus) (core addr offset width way : ℕ) (
     → is_valid (((bus_in old).core core).copy addr).state ≡ false → is_busy (bus_in old) (message_of (bus_in old) Load core addr) ≡ false
     → new ≡ after_message (bus_in old) (message_of (bus_in old) Load core addr) (line_at old.cores.items core addr (Some way))
     (load_next (bus_in old) core addr offset width)
-    → value ≡ number_at (sees (bus_in old) core addr) offset width
+    → value ≡ number_at (sees (bus_in old) core addr) offset width → value < 256 ^ width
     → ((k : ℕ) → hurt k ≡ violates (bus_in old) (message_of (bus_in old) Load core addr) k)
     → IsLoaded (bus_in old) new core addr offset width (room_at old.cores.items core addr) value hurt
-loaded_miss old new core addr offset width way there value hurt is found absent free moves is_value are_hurt =
+loaded_miss old new core addr offset width way there value hurt is found absent free moves is_value small are_hurt =
     let room = room_found old.cores.items core addr way there is found in
     let line = line_found old.cores.items core addr way there is in
     record {
       goes_on = rw (room, absent, free) refl;
       bus = moves ∙ rw (line, room, absent) refl;
       value_is = is_value;
+      small = small;
       violates = λ k. are_hurt k ∙ rw absent refl;
     }
 

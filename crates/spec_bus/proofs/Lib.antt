@@ -5,3 +5,7 @@ mod Tellings
 mod Moving
 mod Answering
 mod Keeping
+mod Idle
+mod Unions
+mod PublishLoop
+mod StraightMoves

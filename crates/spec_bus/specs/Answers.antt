@@ -1,5 +1,5 @@
 -- What a speculative access answers.
-use Rattle.std.specs.Prelude.{◌≡◌, ◌&&◌, ℕ, Bool, false, if◌then◌else◌, Option, Some, None}
+use Rattle.std.specs.Prelude.{◌≡◌, ◌<◌, ◌^◌, ◌&&◌, ℕ, Bool, false, if◌then◌else◌, Option, Some, None}
 use Rattle.memory_bytes.specs.Bytes.{number_at}
 use Rattle.spec_states.specs.declared.next.Next.{Next}
 use Rattle.cache_lines.specs.declared.line.Line.{Line}
@@ -24,6 +24,7 @@ pub record IsLoaded (old new : Bus) (core addr offset width : ℕ) (room : Optio
   pub goes_on : load_wait old core addr room ≡ None
   pub bus : new ≡ after_load old core addr offset width room
   pub value_is : value ≡ number_at (sees old core addr) offset width
+  pub small : value < 256 ^ width
   pub violates : (k : ℕ) → hurt k ≡ load_violates old core addr k
 
 -- the core may take hold of the line of its store: what becomes of its copy, and whom the message violates

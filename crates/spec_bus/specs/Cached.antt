@@ -1,7 +1,9 @@
 -- What contracts see of the caches on a bus.
 use Rattle.std.specs.Prelude.{ℕ, List, Option}
 use Rattle.cache_lines.specs.declared.line.Line.{Line}
+use Rattle.violations.specs.View.{StoreView}
 use Rattle.bus_states.specs.Bus.{Bus}
+use Rattle.bus_states.specs.Views.{view_of}
 use Rattle.spec_bus.specs.declared.bus_core.Core.{Core}
 use Rattle.spec_bus.specs.Parts.{bus_of, room_at}
 
@@ -19,3 +21,7 @@ bus v = bus_of v.code v.line_length v.cores v.memory
 -- for each core and line the line in the way that it takes: none where every way of its set carries marks
 abbrev pub room : CachedView → ℕ → ℕ → Option Line
 room v = room_at v.cores
+
+-- what they show as a store of speculative epochs
+abbrev pub store_view : CachedView → StoreView
+store_view v = view_of (bus v)

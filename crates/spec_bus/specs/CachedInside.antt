@@ -1,6 +1,7 @@
 -- What the caches on a bus keep.
 use Rattle.std.specs.Prelude.{◌≤◌, length}
 use Rattle.bus_states.specs.Coherent.{IsCoherent}
+use Rattle.bus_states.specs.Views.{AreOrdered}
 use Rattle.spec_bus.specs.declared.cached.CachedBus.TheInside.{Inside}
 use Rattle.spec_bus.specs.Parts.{bus_in}
 use Rattle.spec_bus.specs.Cached.{CachedView}
@@ -16,4 +17,6 @@ view_of i =
 
 pub record IsCached (i : Inside) : Type 0 where
   pub coherent : IsCoherent (bus_in i.parts)
+  pub ordered : AreOrdered (bus_in i.parts)
   pub few : length i.parts.cores.items ≤ 16
+  pub small : length i.parts.memory.items ≤ 1048576

@@ -1,4 +1,5 @@
--- Definitions to believe: what contracts see of the caches (Cached), what a speculative access answers (Answers)
+-- Definitions to believe: a new bus (Fresh), what contracts see of the caches (Cached), what a speculative access answers (Answers)
+pub mod Fresh
 pub mod Cached
 pub mod Answers
 -- What the code keeps: the machine's parts as a bus

@@ -1,16 +1,15 @@
-ghost use Rattle.std.specs.Prelude.{◌≡◌, ℕ, ◌<◌, ◌≤◌, ◌%◌, ◌&&◌, true, false, Some, slice_index, IsTrue, if◌then◌else◌};
+ghost use Rattle.std.specs.Prelude.{◌≡◌, ℕ, ◌<◌, ◌≤◌, ◌%◌, ◌&&◌, true, false, Some, slice_index, if◌then◌else◌, IsTrue};
 ghost use Rattle.memory_bytes.specs.Bytes.{IsWidth};
-ghost use Rattle.spec_states.specs.Copies.{IsMarked};
+ghost use Rattle.spec_states.specs.Copies.{IsMarked, no_copy};
 ghost use Rattle.spec_states.specs.Mask.{IsWithinLine};
 ghost use Rattle.spec_states.specs.States.{is_valid, is_speculative};
-ghost use Rattle.cache_lines.specs.Lines.{is_line_length, way_count, line_in};
+ghost use Rattle.cache_lines.specs.Lines.{way_count, line_in, is_line_length};
 ghost use Rattle.cache_lines.specs.Protocol.{IsInPlace, copy_at, copy_with_number};
-ghost use Rattle.orb.specs.Lines.{IsLimit, holds, is_full};
-ghost use Rattle.violations.specs.View.{attempt_of};
-ghost use Rattle.bus_states.specs.Bus.{CoreState};
+ghost use Rattle.orb.specs.Lines.{holds, is_full, without, IsLimit};
 ghost use Rattle.bus_states.specs.Messages.{with_copy, with_entry, dropped_core, changed_core, without_line, order, reply_to, bytes_after};
-ghost use Rattle.spec_states.specs.Copies.{no_copy};
+ghost use Rattle.bus_states.specs.Straight.{straight_attempt, settled_core};
 ghost use Rattle.spec_bus.specs.CoreStates.{state_of, MayHear, heard};
+ghost use Rattle.spec_bus.specs.Fresh.{idle_core};
 
 use crate::memory;
 use bus_states::{Notice, answer};
@@ -27,7 +26,33 @@ pub struct Core {
     pub attempt: Option<Attempt>,
 }
 
+/// The attempt that is straight then, where there is one.
+fn straightened(attempt: Option<Attempt>) -> Option<Attempt>
+    ensures { result ≡ straight_attempt attempt }
+{
+    match attempt {
+        Some(attempt) => Some(Attempt {
+            straight: true,
+            ..attempt
+        }),
+        None => None,
+    }
+}
+
 impl Core {
+    /// A core that holds nothing and runs nothing, with lines of `line_length` bytes and room for `limit` lines in its buffer.
+    pub(crate) fn idle(line_length: usize, limit: usize) -> Core
+        requires length { IsTrue (is_line_length line_length) }
+        requires limit { IsLimit limit }
+        ensures { state_of result ≡ idle_core line_length limit }
+    {
+        Core {
+            cache: Cache::new(line_length),
+            orb: Orb::new(limit),
+            attempt: None,
+        }
+    }
+
     /// The core's copy of the line at `addr`; an invalid line where it has none.
     pub(crate) fn line_at(&self, addr: u32) -> Line
         ensures state { result.state ≡ (copy_at self.now.cache addr).state }
@@ -113,6 +138,24 @@ impl Core {
         self.cache.roll_back_all();
         self.orb.clear();
         self.attempt = None;
+    }
+
+    /// The line at `addr` leaves the buffer.
+    pub(crate) fn release(&mut self, addr: u32)
+        ensures { state_of self.new ≡ record (state_of self.old) {
+          buffer = record (state_of self.old).buffer { lines = without addr (state_of self.old).buffer.lines };
+        } }
+    {
+        self.orb.remove(addr);
+    }
+
+    /// Every line that the core holds is settled, its buffer is empty, and its attempt is straight.
+    pub(crate) fn settle(&mut self)
+        ensures { state_of self.new ≡ settled_core (state_of self.old) }
+    {
+        self.cache.settle_all();
+        self.orb.clear();
+        self.attempt = straightened(self.attempt);
     }
 
     /// The low `width` bytes of `value` are written into the core's copy of the line at `addr`.

@@ -1,9 +1,16 @@
 //! The caches of all cores on one bus.
 #![tactic(auto)]
 
+mod attempts;
 mod bus_core;
 mod cached;
+mod cores;
+mod epochs;
 mod memory;
+mod messages;
 mod parts;
+mod publish;
+mod speculative;
+mod straight;
 
 pub use cached::{CachedBus, LineView};

@@ -1,11 +1,25 @@
-use Rattle.std.proofs.Common.{refl}
-use Rattle.spec_bus.proofs.Keeping.{stored, may_access, within_line}
+use Rattle.std.proofs.Common.{◌≡◌, false, sym, subst}
+use Rattle.violations.specs.View.{Runs, IsLoad}
+use Rattle.bus_states.specs.Bus.{line_of}
+use Rattle.spec_bus.specs.Cached.{CachedView, bus, store_view}
+use Rattle.spec_bus.specs.Parts.{room_at}
+use Rattle.spec_bus.proofs.Keeping.{Accesses, stored, stores}
 use Rattle.spec_bus.proofs.cached.CachedBus.store.Goals as goal
+
+accesses : (c : goal.After-store) → Accesses c.self.inside.parts c.args.core c.args.addr c.args.width false c.line_of-line.result (room_at c.self.inside.parts.cores.items c.args.core c.line_of-line.result)
+accesses c = record {
+  keeps = c.self.invariant;
+  runs = subst (λ v. Runs (store_view v) c.args.core false) (sym c.self.view_is) c.requires.runs;
+  access = subst (λ v. IsLoad (store_view v).shape c.args.addr c.args.width) (sym c.self.view_is) c.requires.access;
+  line_is = subst (λ (v : CachedView). c.line_of-line.result ≡ line_of (bus v).line_length c.args.addr) (sym c.self.view_is) c.line_of-line.ensures.value;
+  victim = c.look_room.ensures;
+}
 
 pub invariant_of-self : goal.invariant_of-self
 invariant_of-self c =
-    stored c.store.result c.self.inside.parts c.store.new.self c.args.core c.line_of-line.result _ c.args.width c.args.value _ c.self.invariant c.store.ensures
-    (may_access c.self.inside.parts c.args.core c.args.addr c.args.width c.line_of-line.result _ c.self.invariant
-    (rw (← c.self.view_is) at c.line_of-line.ensures.value) (rw (← c.self.view_is) at c.requires.core) (rw (← c.self.view_is) at c.requires.runs)
-    (rw (← c.self.view_is) at c.requires.access) c.look_room.ensures) c.requires.access.wide
-    (within_line c.self.inside.parts c.args.addr c.args.width _ c.self.invariant refl (rw (← c.self.view_is) at c.requires.access))
+    stored c.store.result c.self.inside.parts c.store.new.self c.args.core c.args.addr c.args.width c.args.value c.line_of-line.result _ (accesses c) c.store.ensures
+
+pub returns-clause-stores : goal.returns-clause-stores
+returns-clause-stores c =
+    rw (← c.self.view_is)
+    (stores c.store.result c.self.inside.parts c.store.new.self c.args.core c.args.addr c.args.width c.args.value c.line_of-line.result _ (accesses c) c.store.ensures)

@@ -11,4 +11,4 @@ returns c =
     c.core.ensures.is (sym c.victim.ensures.value ∙ c.in-Some.is)
     (ap is_valid (sym c.copy.ensures.state) ∙ sym c.is_valid.ensures ∙ c.if-is_valid.false)
     (sym c.survey-survey.ensures.busy ∙ c.if-survey.false)
-    c.load_miss.ensures.bus c.load_miss.ensures.value c.survey-survey.ensures.hurt
+    c.load_miss.ensures.bus c.load_miss.ensures.value c.load_miss.ensures.small c.survey-survey.ensures.hurt

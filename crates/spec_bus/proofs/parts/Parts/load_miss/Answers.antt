@@ -25,6 +25,6 @@ returns-clause-bus c =
 
 pub returns-clause-value : goal.returns-clause-value
 returns-clause-value c =
-    c.number_at.ensures
+    c.number_at.ensures.value
     ∙ ap (λ (line : ℕ → ℕ). number_at line c.args.offset c.args.width)
     (fun_ext (λ x. c.committed_line-line.ensures x ∙ sym (sees_absent (bus_in c.args.self.now) c.args.core c.args.addr c.requires.coherent c.requires.line c.requires.absent x)))

@@ -2,7 +2,7 @@ use Rattle.std.proofs.Common.{slice_index, ap, ◌∙◌}
 use Rattle.spec_states.specs.States.{is_valid}
 use Rattle.bus_states.specs.Bus.{CoreState}
 use Rattle.spec_bus.proofs.CoreCopies.{state_get, one_filled}
-use Rattle.spec_bus.proofs.parts.fill.Goals as goal
+use Rattle.spec_bus.proofs.cores.fill.Goals as goal
 
 pub fill-requires-clause-absent : goal.fill-requires-clause-absent
 fill-requires-clause-absent c =

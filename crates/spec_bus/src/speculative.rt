@@ -1,0 +1,247 @@
+//! Speculative loads and stores.
+ghost use Rattle.std.specs.Prelude.{◌≡◌, ℕ, ◌+◌, ◌<◌, ◌≤◌, ◌^◌, ◌%◌, ◌&&◌, true, false, length, Some, IfOk, IfErr};
+ghost use Rattle.spec_states.specs.declared.line.TheConstants.{LONGEST_LINE};
+ghost use Rattle.spec_states.specs.States.{is_valid};
+ghost use Rattle.cache_lines.specs.Lines.{way_count};
+ghost use Rattle.violations.specs.CoreSet.{is_in};
+ghost use Rattle.bus_states.specs.Bus as bus_spec;
+ghost use Rattle.bus_states.specs.Coherent.{IsCoherent};
+ghost use Rattle.bus_states.specs.Messages as message_spec;
+ghost use Rattle.memory_bytes.specs.Bytes.{IsWidth, number_at};
+ghost use Rattle.bus_states.specs.Speculative as speculative;
+ghost use Rattle.spec_bus.specs.Parts.{bus_in, line_at, room_at};
+ghost use Rattle.spec_bus.specs.Answers.{MatchAnswer, IsLoaded, MayTake, full_or_busy, IsTaken, IsStored};
+ghost use Rattle.spec_states.specs.Rows.{owns_line};
+ghost use Rattle.bus_states.specs.declared.notice.Notice.TheVariants.{Load};
+
+use crate::cores::write;
+use crate::parts::{Parts, Survey};
+use bus_states::Notice;
+use cache_lines::Line;
+use spec_states::{LineState, Marks, Next, after_own_load, after_own_store};
+use violations::{CoreSet, Step, WaitCause};
+
+/// Whether a core owns a line with such a copy, so that it may store to it and tell nobody.
+fn owns_line(state: LineState, marks: Marks) -> bool
+    ensures { result ≡ owns_line state marks }
+{
+    match state {
+        LineState::SpE => true,
+        LineState::SpS => marks.bytes != 0,
+        _ => false,
+    }
+}
+
+impl Parts {
+    /// A load of a line that the core holds.
+    fn load_hit(&mut self, core: usize, addr: u32, offset: u32, width: u32) -> u32
+        requires core { core < length self.old.cores.items }
+        requires short { self.old.line_length ≤ LONGEST_LINE }
+        requires line { addr % self.old.line_length ≡ 0 }
+        requires coherent { IsCoherent (bus_in self.old) }
+        requires in_line { offset + width ≤ self.old.line_length }
+        requires width { IsWidth width }
+        requires aligned { offset % width ≡ 0 }
+        requires held { is_valid (((bus_in self.old).core core).copy addr).state ≡ true }
+        ensures bus { bus_in self.new ≡ speculative.kept_line (bus_in self.old) core addr
+            (speculative.load_next (bus_in self.old) core addr offset width) }
+        ensures value { result ≡ number_at (bus_spec.sees (bus_in self.old) core addr) offset width }
+        ensures small { result < 256 ^ width }
+    {
+        let copy = self.copy(core, addr);
+        let next = after_own_load(copy.state, copy.marks, offset, width, true);
+        self.keep(core, addr, next);
+        copy.number_at(offset, width)
+    }
+
+    /// A load of a line that the core doesn't hold, which comes into this way.
+    fn load_miss(
+        &mut self,
+        core: usize,
+        addr: u32,
+        offset: u32,
+        width: u32,
+        way: usize,
+        survey: Survey,
+    ) -> u32
+        requires core { core < length self.old.cores.items }
+        requires few { length self.old.cores.items ≤ 16 }
+        requires short { self.old.line_length ≤ LONGEST_LINE }
+        requires way { way < way_count }
+        requires line { addr % self.old.line_length ≡ 0 }
+        requires inside { addr + self.old.line_length ≤ length self.old.memory.items }
+        requires coherent { IsCoherent (bus_in self.old) }
+        requires in_line { offset + width ≤ self.old.line_length }
+        requires width { IsWidth width }
+        requires aligned { offset % width ≡ 0 }
+        requires absent { is_valid (((bus_in self.old).core core).copy addr).state ≡ false }
+        requires hurt { (k : ℕ) → is_in survey.hurt k ≡ message_spec.violates (bus_in self.old)
+            (message_spec.message_of (bus_in self.old) Load core addr) k }
+        requires alone { survey.alone ≡ message_spec.is_alone (bus_in self.old)
+            (message_spec.message_of (bus_in self.old) Load core addr) }
+        requires free { message_spec.is_busy (bus_in self.old)
+            (message_spec.message_of (bus_in self.old) Load core addr) ≡ false }
+        ensures bus { bus_in self.new ≡ message_spec.after_message (bus_in self.old)
+            (message_spec.message_of (bus_in self.old) Load core addr)
+            (line_at self.old.cores.items core addr (Some way))
+            (speculative.load_next (bus_in self.old) core addr offset width) }
+        ensures value { result ≡ number_at (bus_spec.sees (bus_in self.old) core addr) offset width }
+        ensures small { result < 256 ^ width }
+    {
+        let copy = self.copy(core, addr);
+        let line = self.committed_line(addr);
+        let next = after_own_load(copy.state, copy.marks, offset, width, survey.alone);
+        self.fetch(Notice::Load, core, addr, way, &line, survey.hurt, next);
+        let fetched = Line {
+            addr,
+            state: next.state,
+            marks: next.marks,
+            cells: line,
+        };
+        fetched.number_at(offset, width)
+    }
+
+    /// A speculative load of `width` bytes at `offset` of the line at `addr`.
+    pub(crate) fn load(&mut self, core: usize, addr: u32, offset: u32, width: u32) -> Step
+        requires core { core < length self.old.cores.items }
+        requires few { length self.old.cores.items ≤ 16 }
+        requires short { self.old.line_length ≤ LONGEST_LINE }
+        requires line { addr % self.old.line_length ≡ 0 }
+        requires inside { addr + self.old.line_length ≤ length self.old.memory.items }
+        requires coherent { IsCoherent (bus_in self.old) }
+        requires in_line { offset + width ≤ self.old.line_length }
+        requires width { IsWidth width }
+        requires aligned { offset % width ≡ 0 }
+        ensures { MatchAnswer result
+            (λ value hurt. IsLoaded (bus_in self.old) (bus_in self.new) core addr offset width
+            (room_at self.old.cores.items core addr) value hurt)
+            (λ cause. (speculative.load_wait (bus_in self.old) core addr (room_at self.old.cores.items core addr) ≡ Some cause)
+            × (self.new ≡ self.old)) }
+    {
+        if self.copy(core, addr).state.is_valid() {
+            return Step::Done {
+                value: self.load_hit(core, addr, offset, width),
+                hurt: CoreSet::none(),
+            };
+        }
+        let Some(way) = self.core(core).cache.victim(addr) else {
+            return Step::Wait(WaitCause::NoWay);
+        };
+        let survey = self.survey(Notice::Load, core, addr);
+        if survey.busy {
+            return Step::Wait(WaitCause::OrbBusy);
+        }
+        Step::Done {
+            value: self.load_miss(core, addr, offset, width, way, survey),
+            hurt: survey.hurt,
+        }
+    }
+
+    /// What a store makes of this core's copy of a line that it doesn't own, and whom its message violates; or why it waits.
+    fn survey_store(
+        &self,
+        core: usize,
+        addr: u32,
+        offset: u32,
+        width: u32,
+    ) -> Result<(Next, CoreSet), WaitCause>
+        requires core { core < length self.now.cores.items }
+        requires few { length self.now.cores.items ≤ 16 }
+        requires short { self.now.line_length ≤ LONGEST_LINE }
+        requires line { addr % self.now.line_length ≡ 0 }
+        requires coherent { IsCoherent (bus_in self.now) }
+        requires in_line { offset + width ≤ self.now.line_length }
+        requires width { IsWidth width }
+        requires aligned { offset % width ≡ 0 }
+        ensures may { IfOk result (λ taken. MayTake (bus_in self.now) core addr offset width taken.0 (is_in taken.1)) }
+        ensures waits { IfErr result (λ cause. full_or_busy (bus_in self.now) core addr offset width ≡ Some cause) }
+    {
+        let copy = self.copy(core, addr);
+        let survey = self.survey(Notice::Store, core, addr);
+        let next = after_own_store(copy.state, copy.marks, offset, width, survey.alone);
+        let full = self.core(core).orb.is_full();
+        if next.enters && full {
+            Err(WaitCause::OrbFull)
+        } else if survey.busy {
+            Err(WaitCause::OrbBusy)
+        } else {
+            Ok((next, survey.hurt))
+        }
+    }
+
+    /// The core takes hold of the line of its store, or has to wait.
+    fn take_hold(
+        &mut self,
+        core: usize,
+        addr: u32,
+        offset: u32,
+        width: u32,
+    ) -> Result<CoreSet, WaitCause>
+        requires core { core < length self.old.cores.items }
+        requires few { length self.old.cores.items ≤ 16 }
+        requires short { self.old.line_length ≤ LONGEST_LINE }
+        requires line { addr % self.old.line_length ≡ 0 }
+        requires inside { addr + self.old.line_length ≤ length self.old.memory.items }
+        requires coherent { IsCoherent (bus_in self.old) }
+        requires in_line { offset + width ≤ self.old.line_length }
+        requires width { IsWidth width }
+        requires aligned { offset % width ≡ 0 }
+        ensures taken { IfOk result (λ hurt. IsTaken (bus_in self.old) (bus_in self.new) core addr offset width
+            (room_at self.old.cores.items core addr) (is_in hurt)) }
+        ensures waits { IfErr result (λ cause. (speculative.store_wait (bus_in self.old) core addr offset width
+            (room_at self.old.cores.items core addr) ≡ Some cause) × (self.new ≡ self.old)) }
+    {
+        let copy = self.copy(core, addr);
+        if owns_line(copy.state, copy.marks) {
+            let next = after_own_store(copy.state, copy.marks, offset, width, true);
+            self.keep(core, addr, next);
+            return Ok(CoreSet::none());
+        }
+        if copy.state.is_valid() {
+            let (next, hurt) = self.survey_store(core, addr, offset, width)?;
+            self.claim(Notice::Store, core, addr, &copy.cells, hurt, next);
+            Ok(hurt)
+        } else {
+            let Some(way) = self.core(core).cache.victim(addr) else {
+                return Err(WaitCause::NoWay);
+            };
+            let (next, hurt) = self.survey_store(core, addr, offset, width)?;
+            let line = self.committed_line(addr);
+            self.fetch(Notice::Store, core, addr, way, &line, hurt, next);
+            Ok(hurt)
+        }
+    }
+
+    /// A speculative store of the low `width` bytes of `value` at `offset` of the line at `addr`.
+    pub(crate) fn store(
+        &mut self,
+        core: usize,
+        addr: u32,
+        offset: u32,
+        width: u32,
+        value: u32,
+    ) -> Step
+        requires core { core < length self.old.cores.items }
+        requires few { length self.old.cores.items ≤ 16 }
+        requires short { self.old.line_length ≤ LONGEST_LINE }
+        requires line { addr % self.old.line_length ≡ 0 }
+        requires inside { addr + self.old.line_length ≤ length self.old.memory.items }
+        requires coherent { IsCoherent (bus_in self.old) }
+        requires in_line { offset + width ≤ self.old.line_length }
+        requires width { IsWidth width }
+        requires aligned { offset % width ≡ 0 }
+        ensures { MatchAnswer result
+            (λ answer hurt. (answer ≡ 0) × IsStored (bus_in self.old) (bus_in self.new) core addr offset width value
+            (room_at self.old.cores.items core addr) hurt)
+            (λ cause. (speculative.store_wait (bus_in self.old) core addr offset width
+            (room_at self.old.cores.items core addr) ≡ Some cause) × (self.new ≡ self.old)) }
+    {
+        match self.take_hold(core, addr, offset, width) {
+            Ok(hurt) => {
+                write(&mut self.cores, core, addr, offset, width, value);
+                Step::Done { value: 0, hurt }
+            }
+            Err(cause) => Step::Wait(cause),
+        }
+    }
+}
