@@ -10,14 +10,14 @@ use crate::options::RunOptions;
 use crate::text::printed;
 use core_threads::{Finished, Gate, Halted, RunFault, run_cores};
 use rv32_exec::{End, Image, read_image};
+use spec_bus::CachedBus;
 use std::alloc::{AllocError, Global};
 use std::io::{Read, Write};
 use std::sync::Wait;
 use std::thread::Threads;
 use trace_commands::{Outcome, StopCause, write_whole};
-use violations::PlainStore;
 
-/// `run`: runs the image that the reader gives, its epochs speculatively on a thread for each core, and writes the report; with a
+/// `run`: runs the image that the reader gives, its epochs speculatively on a thread for each core, over caches on a coherent bus, and writes the report; with a
 /// trace, below it `counts LOADS STORES RESTARTS COMMITS` and the trace of the history. Each core passes the gate before each of its
 /// turns. The cores are at least 1, and the room is 16 to 1,048,576 entries.
 ///
@@ -108,7 +108,7 @@ fn run_and_print<G: Gate, T: Threads + Wait + Sync>(
     ensures text { IfOk result (λ r. spec.IsPrinted image.now options r.1.items) }
     ensures stopped { IfErr result (λ cause. spec.IsStop options image.now cause) }
 {
-    let run: Result<Finished<PlainStore>, Halted<PlainStore>> = run_cores(
+    let run: Result<Finished<CachedBus>, Halted<CachedBus>> = run_cores(
         rt,
         alloc,
         image,
