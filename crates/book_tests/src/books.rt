@@ -1,26 +1,59 @@
 //! Books: worked schedules, all short schedules, random ones, stops, and want of memory.
 
+ghost use Rattle.std.specs.Prelude.{◌≡◌, ◌<◌};
+ghost use Rattle.homefree.specs.BookView.{IsOfSameLoop};
+ghost use Rattle.homefree.specs.Counted.{IsNoMore};
+
 use crate::random::Random;
 use crate::refusing::Refusing;
-use crate::rows::{
-    EXIT, ROWS, Row, SMALL, SUM_OF_FOUR, SUM_OF_TWO, counts_in, end_of, entries_of, is_row,
-    numbers_of, row_of,
-};
-use crate::walk::{drive_new, hart_after, history_of, look, open, turn, walk, walk_again, word_of};
+use crate::rows::{EXIT, ROWS, Row, SMALL, SUM_OF_FOUR, SUM_OF_TWO, counts_in, numbers_of, row_of};
+use crate::walk::{drive_new, hart_after, look, open, turn, walk, walk_again};
+use crate::words::{end_of, entries_of, is_row};
 use homefree::{Answer, Book, StopCause, TurnFault};
-use run_ledger::{Counts, Shares};
-use rv32_exec::{End, NoMemory, image_of};
+use run_ledger::Shares;
+use rv32_exec::{End, Hart, Image, NoMemory, image_of};
 use spec_history::{Entry, What};
-use std::alloc::Global;
+use std::alloc::{AllocError, Global};
 use std::process::Abort;
 use std::test::Fail;
 use violations::{EpochStore, PlainStore, Waiting};
 
-/// A row, turn by turn, and then by `drive`.
-fn try_row<S: EpochStore>(rt: &impl Abort, alloc: Global, row: &Row) -> Result<(), Fail> {
-    let name = row.name;
+/// These words are those of a text.
+fn are_words(words: &[&'static str], text: &str) -> bool {
+    let mut wanted = text.split_whitespace();
+    for word in words {
+        if wanted.next() != Some(*word) {
+            return false;
+        }
+    }
+    wanted.next().is_none()
+}
+
+/// What a book holds is what a row says.
+fn is_row_of<S: EpochStore>(book: &Book<S>, row: &Row, entries: &[Entry]) -> bool {
+    book.history() == entries
+        && book.totals() == counts_in(row.counts)
+        && book.ended() == end_of(row.end, 0)
+}
+
+/// The last turn's fault has this word. A word for another answer is that of no fault.
+fn is_fault(driven: &Result<Option<End>, TurnFault>, word: Option<&&'static str>) -> bool {
+    match (driven, word) {
+        (Err(fault), Some(word)) => fault.name() == *word,
+        (Ok(_), Some(word)) => *word != "HistoryFull" && *word != "NoMemory",
+        (answer, None) => answer.is_ok(),
+    }
+}
+
+/// A row, turn by turn. Answers the word for each turn.
+fn walk_row<S: EpochStore>(
+    rt: &impl Abort,
+    alloc: Global,
+    row: &Row,
+    schedule: &[u32],
+    entries: &[Entry],
+) -> Result<Vec<&'static str>, Fail> {
     let image = image_of(alloc, row.image.as_bytes())?;
-    let schedule = numbers_of(alloc, row.schedule)?;
     let made: Result<(Book<S>, Shares), NoMemory> = open(rt, alloc, &image, row.cores, row.room);
     let (mut book, mut shares) = made?;
     let answers = walk(
@@ -29,73 +62,109 @@ fn try_row<S: EpochStore>(rt: &impl Abort, alloc: Global, row: &Row) -> Result<(
         &mut book,
         &image,
         row.cores,
-        schedule.as_slice(),
+        schedule,
         &mut shares,
     )?;
-    let mut words = row.answers.split_whitespace();
-    for answer in answers.iter() {
-        assert!(rt; words.next() == Some(word_of(answer)), "{name}");
-    }
-    assert!(rt; words.next().is_none(), "{name}");
-    let want = entries_of(alloc, row.entries)?;
-    let history = history_of(alloc, &book)?;
-    assert!(rt; history == want, "{name}");
-    assert!(rt; Some(book.totals()) == counts_in(row.counts), "{name}");
-    assert!(rt; shares.counts() == book.totals(), "{name}");
-    assert!(rt; Some(book.ended()) == end_of(row.end), "{name}");
+    assert!(rt; is_row_of(&book, row, entries) && shares.counts() == book.totals());
     look(rt, alloc, &book, &image, row.cores)?;
+    Ok(answers)
+}
+
+/// A row by `drive`, whose last turn had this answer.
+fn drive_row<S: EpochStore>(
+    rt: &impl Abort,
+    alloc: Global,
+    row: &Row,
+    schedule: &[u32],
+    entries: &[Entry],
+    last: Option<&&'static str>,
+) -> Result<(), Fail> {
+    let image = image_of(alloc, row.image.as_bytes())?;
     let driven: (Book<S>, Result<Option<End>, TurnFault>) = drive_new(
+        rt, alloc, &image, row.cores, row.room, schedule,
+    )?;
+    assert!(rt; driven.0.history() == entries && is_fault(&driven.1, last));
+    Ok(())
+}
+
+/// A row, turn by turn, and then by `drive`.
+fn try_row<S: EpochStore>(rt: &impl Abort, alloc: Global, row: &Row) -> Result<(), Fail> {
+    let schedule = numbers_of(alloc, row.schedule)?;
+    let entries = entries_of(alloc, row.entries)?;
+    let answers = walk_row::<S>(rt, alloc, row, schedule.as_slice(), entries.as_slice())?;
+    assert!(rt; are_words(answers.as_slice(), row.answers));
+    drive_row::<S>(
         rt,
         alloc,
-        &image,
-        row.cores,
-        row.room,
+        row,
         schedule.as_slice(),
-    )?;
-    assert!(rt; history_of(alloc, &driven.0)? == want, "{name}");
-    let fault = match answers.last() {
-        Some(Err(fault)) => Some(*fault),
-        _ => None,
-    };
-    assert!(rt; driven.1.err() == fault, "{name}");
-    Ok(())
+        entries.as_slice(),
+        answers.last(),
+    )
 }
 
 #[test]
 fn takes_turns_by_worked_schedules(rt: HostRuntime) -> Result<(), Fail> {
     for line in ROWS.split('\n').filter(|line| is_row(line)) {
         let row = row_of(line).ok_or(line)?;
-        match row.store {
-            "plain" => try_row::<PlainStore>(&rt, rt.alloc(), &row)?,
-            "waiting" => try_row::<Waiting<PlainStore>>(&rt, rt.alloc(), &row)?,
-            _ => return Err("no such store".into()),
+        if row.store == "waiting" {
+            try_row::<Waiting<PlainStore>>(&rt, rt.alloc(), &row)?;
+        } else {
+            try_row::<PlainStore>(&rt, rt.alloc(), &row)?;
         }
     }
+    Ok(())
+}
+
+/// The schedule of so many turns that has this number: its digits, the last one first.
+fn schedule_of(alloc: Global, number: u32, cores: u32, turns: u32) -> Result<Vec<u32>, AllocError> {
+    let mut schedule = Vec::new(alloc);
+    let mut rest = number;
+    for _ in 0..turns {
+        schedule.push(rest.checked_rem(cores).unwrap_or(0))?;
+        rest = rest.checked_div(cores).unwrap_or(0);
+    }
+    Ok(schedule)
+}
+
+/// A plain store's book by this schedule: no turn fails.
+fn drive_well(
+    rt: &impl Abort,
+    alloc: Global,
+    image: &Image,
+    cores: u32,
+    schedule: &[u32],
+) -> Result<(), Fail> {
+    let driven: (Book<PlainStore>, Result<Option<End>, TurnFault>) = drive_new(
+        rt, alloc, image, cores, 1024, schedule,
+    )?;
+    assert!(rt; driven.1.is_ok());
     Ok(())
 }
 
 /// Every schedule of so many turns, each history audited.
 fn try_all(rt: &impl Abort, alloc: Global, text: &str, cores: u32, turns: u32) -> Result<(), Fail> {
     let image = image_of(alloc, text.as_bytes())?;
-    let count = cores.saturating_pow(turns);
-    for number in 0..count {
-        let mut schedule = Vec::new(alloc);
-        let mut rest = number;
-        for _ in 0..turns {
-            schedule.push(rest.checked_rem(cores).unwrap_or(0))?;
-            rest = rest.checked_div(cores).unwrap_or(0);
-        }
-        let driven: (Book<PlainStore>, Result<Option<End>, TurnFault>) = drive_new(
-            rt,
-            alloc,
-            &image,
-            cores,
-            1024,
-            schedule.as_slice(),
-        )?;
-        assert!(rt; driven.1.is_ok(), "{number}");
+    for number in 0..cores.saturating_pow(turns) {
+        let schedule = schedule_of(alloc, number, cores, turns)?;
+        drive_well(rt, alloc, &image, cores, schedule.as_slice())?;
     }
     Ok(())
+}
+
+/// Drives a new book, and looks at it. Answers whether the loop is over then.
+fn is_over<S: EpochStore>(
+    rt: &impl Abort,
+    alloc: Global,
+    image: &Image,
+    cores: u32,
+    room: u32,
+    schedule: &[u32],
+) -> Result<bool, Fail> {
+    let driven: (Book<S>, Result<Option<End>, TurnFault>) = drive_new(
+        rt, alloc, image, cores, room, schedule,
+    )?;
+    Ok(driven.0.ended().is_some())
 }
 
 #[test]
@@ -113,40 +182,27 @@ fn every_short_schedule_is_legal_and_ends_as_the_sequential_loop_does(
     Ok(())
 }
 
+/// A random loop by a random schedule; where it is over, true.
+fn try_random(rt: &impl Abort, alloc: Global, random: &mut Random) -> Result<bool, Fail> {
+    let second = random.below(2) == 1;
+    let text = random.image(alloc, second)?;
+    let image = image_of(alloc, text.as_bytes())?;
+    let cores = 1 + random.below(if second { 16 } else { 8 });
+    let schedule = random.schedule(alloc, cores)?;
+    let room = 32 + random.below(200);
+    if random.below(4) == 0 {
+        is_over::<Waiting<PlainStore>>(rt, alloc, &image, cores, room, schedule.as_slice())
+    } else {
+        is_over::<PlainStore>(rt, alloc, &image, cores, room, schedule.as_slice())
+    }
+}
+
 #[test]
 fn random_loops_are_legal_and_end_as_the_sequential_loop_does(rt: HostRuntime) -> Result<(), Fail> {
-    let alloc = rt.alloc();
     let mut random = Random::new();
     let mut ended = 0_u32;
     for _ in 0..2000 {
-        let second = random.below(2) == 1;
-        let text = random.image(alloc, second)?;
-        let image = image_of(alloc, text.as_bytes())?;
-        let cores = 1 + random.below(if second { 16 } else { 8 });
-        let schedule = random.schedule(alloc, cores)?;
-        let room = 32 + random.below(200);
-        let over = if random.below(4) == 0 {
-            let driven: (Book<Waiting<PlainStore>>, Result<Option<End>, TurnFault>) = drive_new(
-                &rt,
-                alloc,
-                &image,
-                cores,
-                room,
-                schedule.as_slice(),
-            )?;
-            driven.0.ended().is_some()
-        } else {
-            let driven: (Book<PlainStore>, Result<Option<End>, TurnFault>) = drive_new(
-                &rt,
-                alloc,
-                &image,
-                cores,
-                room,
-                schedule.as_slice(),
-            )?;
-            driven.0.ended().is_some()
-        };
-        if over {
+        if try_random(&rt, rt.alloc(), &mut random)? {
             ended = ended.wrapping_add(1);
         }
     }
@@ -154,24 +210,72 @@ fn random_loops_are_legal_and_end_as_the_sequential_loop_does(rt: HostRuntime) -
     Ok(())
 }
 
+/// The hart that a core is told by a turn, with this one in hand.
+fn told<S: EpochStore>(
+    book: &mut Book<S>,
+    image: &Image,
+    hart: Option<Hart>,
+    shares: &mut Shares,
+) -> Option<Hart>
+    requires core { 0 < book.old.cores }
+    requires image { book.old.image ≡ image.now }
+    requires shares { IsNoMore shares.old book.old.totals }
+    ensures same { IsOfSameLoop book.old book.new }
+    ensures shares { IsNoMore shares.new book.new.totals }
+{
+    hart_after(&turn(book, image, 0, hart, shares), None)
+}
+
+/// It hands in nothing, then what it has loaded from, and then the same again.
+fn tell_it<S: EpochStore>(rt: &impl Abort, book: &mut Book<S>, image: &Image, shares: &mut Shares)
+    requires core { 0 < book.old.cores }
+    requires image { book.old.image ≡ image.now }
+    requires shares { IsNoMore shares.old book.old.totals }
+{
+    let started = told(book, image, None, shares);
+    let again = told(book, image, None, shares);
+    let loaded = told(book, image, started, shares);
+    let loaded_again = told(book, image, started, shares);
+    assert!(rt; started.is_some() && again == started);
+    assert!(rt; loaded.is_some() && loaded != started && loaded_again == loaded);
+}
+
 #[test]
 fn a_core_is_told_its_hart(rt: HostRuntime) -> Result<(), Fail> {
     let image = image_of(rt.alloc(), SUM_OF_FOUR.as_bytes())?;
     let made: Result<(Book<PlainStore>, Shares), NoMemory> = open(&rt, rt.alloc(), &image, 1, 64);
     let (mut book, mut shares) = made?;
-    let answer = turn(&mut book, &image, 0, None, &mut shares);
-    let started = hart_after(&answer, None);
-    // It hands in nothing, then what it has loaded from, and then the same again.
-    let answer = turn(&mut book, &image, 0, None, &mut shares);
-    let told = hart_after(&answer, None);
-    let answer = turn(&mut book, &image, 0, started, &mut shares);
-    let loaded = hart_after(&answer, None);
-    let answer = turn(&mut book, &image, 0, started, &mut shares);
-    let told_again = hart_after(&answer, None);
-    assert!(rt; started.is_some() && told == started);
-    assert!(rt; loaded.is_some() && loaded != started && told_again == loaded);
-    assert_eq!(rt; book.len(), 2);
+    tell_it(&rt, &mut book, &image, &mut shares);
+    assert!(rt; book.len() == 2);
     Ok(())
+}
+
+/// The first of two stops is the book's.
+fn stop_twice<S: EpochStore>(rt: &impl Abort, book: &mut Book<S>)
+    ensures same { IsOfSameLoop book.old book.new }
+    ensures totals { book.new.totals ≡ book.old.totals }
+{
+    assert!(rt; book.stopped() == None);
+    assert!(rt; book.stop(StopCause::NoThread));
+    assert!(rt; !book.stop(StopCause::Shut));
+    assert!(rt; book.stopped() == Some(StopCause::NoThread));
+}
+
+/// A core whose epoch has begun takes no turn in a book that was stopped.
+fn turn_stopped<S: EpochStore>(
+    rt: &impl Abort,
+    book: &mut Book<S>,
+    image: &Image,
+    hart: Option<Hart>,
+    shares: &mut Shares,
+)
+    requires core { 0 < book.old.cores }
+    requires image { book.old.image ≡ image.now }
+    requires shares { IsNoMore shares.old book.old.totals }
+{
+    let answer = turn(book, image, 0, hart, shares);
+    assert!(rt; answer == Ok(Answer::Stopped(StopCause::NoThread)));
+    assert!(rt; book.len() == 1 && book.homefree() == 0);
 }
 
 #[test]
@@ -179,44 +283,42 @@ fn a_stopped_book_takes_no_more_turns(rt: HostRuntime) -> Result<(), Fail> {
     let image = image_of(rt.alloc(), SUM_OF_TWO.as_bytes())?;
     let made: Result<(Book<PlainStore>, Shares), NoMemory> = open(&rt, rt.alloc(), &image, 1, 64);
     let (mut book, mut shares) = made?;
-    let answer = turn(&mut book, &image, 0, None, &mut shares);
-    let started = hart_after(&answer, None);
-    assert_eq!(rt; book.stopped(), None);
-    assert!(rt; book.stop(StopCause::NoThread));
-    assert!(rt; !book.stop(StopCause::Shut));
-    assert_eq!(rt; book.stopped(), Some(StopCause::NoThread));
-    let answer = turn(&mut book, &image, 0, started, &mut shares);
-    assert_eq!(rt; answer, Ok(Answer::Stopped(StopCause::NoThread)));
-    assert_eq!(rt; book.len(), 1);
-    assert_eq!(rt; book.homefree(), 0);
+    let started = told(&mut book, &image, None, &mut shares);
+    stop_twice(&rt, &mut book);
+    turn_stopped(&rt, &mut book, &image, started, &mut shares);
     look(&rt, rt.alloc(), &book, &image, 1)
+}
+
+/// A book whose loop has ended with an exit is not stopped.
+fn stop_too_late<S: EpochStore>(rt: &impl Abort, book: &mut Book<S>) {
+    assert!(rt; book.ended() == Some(End::Exit(0)));
+    assert!(rt; !book.stop(StopCause::NoMemory));
+    assert!(rt; book.stopped() == None && book.ended() == Some(End::Exit(0)));
+}
+
+/// The last of a book's six entries is a commit, and it has no byte past memory.
+fn read_the_end<S: EpochStore>(rt: &impl Abort, book: &Book<S>, size: u32) {
+    let what = What::Commit;
+    assert!(rt; book.entry(5) == Some(Entry { by: 0, what }) && book.entry(6) == None);
+    assert!(rt; book.committed(size) == None);
 }
 
 #[test]
 fn a_loop_that_is_over_is_not_stopped(rt: HostRuntime) -> Result<(), Fail> {
     let image = image_of(rt.alloc(), EXIT.as_bytes())?;
+    let schedule = [0, 1, 0, 1, 0];
     let driven: (Book<PlainStore>, Result<Option<End>, TurnFault>) = drive_new(
         &rt,
         rt.alloc(),
         &image,
         2,
         64,
-        [0, 1, 0, 1, 0].as_slice(),
+        schedule.as_slice(),
     )?;
+    assert!(rt; driven.1 == Ok(Some(End::Exit(0))));
     let mut book = driven.0;
-    assert_eq!(rt; driven.1, Ok(Some(End::Exit(0))));
-    assert!(rt; !book.stop(StopCause::NoMemory));
-    assert_eq!(rt; book.stopped(), None);
-    assert_eq!(rt; book.ended(), Some(End::Exit(0)));
-    assert_eq!(rt;
-        book.entry(5),
-        Some(Entry {
-            by: 0,
-            what: What::Commit
-        })
-    );
-    assert_eq!(rt; book.entry(6), None);
-    assert_eq!(rt; book.committed(image.size()), None);
+    stop_too_late(&rt, &mut book);
+    read_the_end(&rt, &book, image.size());
     Ok(())
 }
 
@@ -242,14 +344,15 @@ fn a_store_that_is_refused_memory_leaves_the_book(rt: HostRuntime) -> Result<(),
         schedule.as_slice(),
         &mut shares,
     )?;
-    let want = ["go", "go", "NoMemory", "NoMemory"];
-    for (answer, want) in answers.iter().zip(want.iter()) {
-        assert_eq!(rt; word_of(answer), *want);
-    }
-    assert_eq!(rt; answers.len(), 4);
-    let history = history_of(rt.alloc(), &book)?;
-    assert!(rt; history == entries_of(rt.alloc(), "0 start 0; 0 load 64 4 0")?);
+    let entries = entries_of(rt.alloc(), "0 start 0; 0 load 64 4 0")?;
+    assert!(rt; are_words(answers.as_slice(), "go go NoMemory NoMemory"));
+    assert!(rt; book.history() == entries.as_slice());
     look(&rt, rt.alloc(), &book, &image, 1)
+}
+
+/// A book has eight entries with these counts, and the sum of two epochs at 64.
+fn holds_the_sum<S: EpochStore>(book: &Book<S>) -> bool {
+    book.len() == 8 && book.totals() == counts_in("2 2 0 2") && book.committed(64) == Some(1)
 }
 
 /// It passes too where any one of its allocations fails, as by `rt try --test --fail-alloc N`: a turn that is refused memory
@@ -266,18 +369,9 @@ fn want_of_memory_changes_nothing(rt: HostRuntime) -> Result<(), Fail> {
         made = open(&rt, alloc, &image, 1, 64);
     }
     let (mut book, mut shares) = made?;
-    let answers = walk_again(&rt, &mut book, &image, &mut shares);
-    assert_eq!(rt; answers, Some(End::Done(2)));
-    assert_eq!(rt; book.len(), 8);
-    let counts = Counts {
-        loads: 2,
-        stores: 2,
-        restarts: 0,
-        commits: 2,
-    };
-    assert_eq!(rt; book.totals(), counts);
-    assert_eq!(rt; shares.counts(), counts);
-    assert_eq!(rt; book.committed(64), Some(1));
+    let end = walk_again(&rt, &mut book, &image, &mut shares);
+    assert!(rt; end == Some(End::Done(2)) && shares.counts() == counts_in("2 2 0 2"));
+    assert!(rt; holds_the_sum(&book));
     Ok(())
 }
 
@@ -287,8 +381,8 @@ fn names_are_printed(rt: HostRuntime) -> Result<(), Fail> {
         (TurnFault::HistoryFull, "HistoryFull"),
         (TurnFault::NoMemory, "NoMemory"),
     ] {
-        assert_eq!(rt; fault.name(), name);
-        assert_eq!(rt; format!(in rt.alloc(); "{fault}")?.as_str(), name);
+        assert!(rt; fault.name() == name);
+        assert!(rt; format!(in rt.alloc(); "{fault}")?.as_str() == name);
     }
     Ok(())
 }

@@ -1,8 +1,10 @@
-//! Tests of the book over its public calls.
+//! Tests of histories and of the book over their public calls.
 #![tactic(auto)]
 
 #[cfg(test)]
 mod books;
+#[cfg(test)]
+mod history;
 #[cfg(test)]
 mod random;
 #[cfg(test)]
@@ -11,3 +13,5 @@ mod refusing;
 mod rows;
 #[cfg(test)]
 mod walk;
+#[cfg(test)]
+mod words;

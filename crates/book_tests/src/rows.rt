@@ -1,8 +1,7 @@
 //! Schedules of turns with what comes of them, worked out by hand from the cases of a turn.
 
+use crate::words::{cell, number};
 use run_ledger::Counts;
-use rv32_exec::End;
-use spec_history::{Entry, What};
 use std::alloc::Global;
 use std::test::Fail;
 
@@ -118,44 +117,45 @@ pub struct Row<'a> {
 
 /// What a line of the table says.
 pub fn row_of<'a>(line: &'a str) -> Option<Row<'a>> {
-    let mut cells = line.split('|').map(|cell| cell.trim());
     Some(Row {
-        name: cells.next()?,
-        store: cells.next()?,
-        image: image_named(cells.next()?)?,
-        cores: cells.next()?.parse().ok()?,
-        room: cells.next()?.parse().ok()?,
-        schedule: cells.next()?,
-        answers: cells.next()?,
-        entries: cells.next()?,
-        counts: cells.next()?,
-        end: cells.next()?,
+        name: cell(line, 0),
+        store: cell(line, 1),
+        image: image_named(cell(line, 2))?,
+        cores: number(cell(line, 3), 0),
+        room: number(cell(line, 4), 0),
+        schedule: cell(line, 5),
+        answers: cell(line, 6),
+        entries: cell(line, 7),
+        counts: cell(line, 8),
+        end: cell(line, 9),
     })
 }
 
+/// The texts of the images by name.
+const IMAGES: [(&str, &str); 13] = [
+    ("SIGNAL", SIGNAL),
+    ("LOAD_FIRST", LOAD_FIRST),
+    ("BYTES", BYTES),
+    ("SUM_OF_ONE", SUM_OF_ONE),
+    ("SUM_OF_TWO", SUM_OF_TWO),
+    ("SUM_OF_FOUR", SUM_OF_FOUR),
+    ("SUM_IN_VERSION_2", SUM_IN_VERSION_2),
+    ("ADD", ADD),
+    ("OWN_WORDS", OWN_WORDS),
+    ("EXIT", EXIT),
+    ("CALL", CALL),
+    ("CALL_AT_ONE", CALL_AT_ONE),
+    ("NOTHING", NOTHING),
+];
+
 /// The text of an image.
 fn image_named(name: &str) -> Option<&'static str> {
-    match name {
-        "SIGNAL" => Some(SIGNAL),
-        "LOAD_FIRST" => Some(LOAD_FIRST),
-        "BYTES" => Some(BYTES),
-        "SUM_OF_ONE" => Some(SUM_OF_ONE),
-        "SUM_OF_TWO" => Some(SUM_OF_TWO),
-        "SUM_OF_FOUR" => Some(SUM_OF_FOUR),
-        "SUM_IN_VERSION_2" => Some(SUM_IN_VERSION_2),
-        "ADD" => Some(ADD),
-        "OWN_WORDS" => Some(OWN_WORDS),
-        "EXIT" => Some(EXIT),
-        "CALL" => Some(CALL),
-        "CALL_AT_ONE" => Some(CALL_AT_ONE),
-        "NOTHING" => Some(NOTHING),
-        _ => None,
+    for (of, text) in IMAGES {
+        if of == name {
+            return Some(text);
+        }
     }
-}
-
-/// A line that is empty is no row.
-pub fn is_row(line: &str) -> bool {
-    !line.is_empty()
+    None
 }
 
 /// The numbers of a list.
@@ -168,75 +168,11 @@ pub fn numbers_of(alloc: Global, text: &str) -> Result<Vec<u32>, Fail> {
 }
 
 /// The loads, stores, restarts and commits that a list says.
-pub fn counts_in(text: &str) -> Option<Counts> {
-    let mut numbers = text.split_whitespace().map(|word| word.parse().ok());
-    let mut number = || numbers.next()?;
-    Some(Counts {
-        loads: number()?,
-        stores: number()?,
-        restarts: number()?,
-        commits: number()?,
-    })
-}
-
-/// How the loop has ended, as these words say: `done`, `exit` or `fault` with its numbers, or another word where it isn't over.
-pub fn end_of(text: &str) -> Option<Option<End>> {
-    let mut words = text.split_whitespace();
-    let end = words.next()?;
-    let mut numbers = words.map(|word| word.parse::<u32>().ok());
-    let mut number = || numbers.next()?;
-    Some(match end {
-        "done" => Some(End::Done(number()?)),
-        "exit" => Some(End::Exit(number()?)),
-        "fault" => Some(End::Fault {
-            epoch: number()?,
-            cause: number()?,
-            pc: number()?,
-        }),
-        _ => None,
-    })
-}
-
-/// The entries of a history.
-pub fn entries_of(alloc: Global, text: &str) -> Result<Vec<Entry>, Fail> {
-    let mut entries = Vec::new(alloc);
-    for words in text.split(';') {
-        if !words.trim().is_empty() {
-            entries.push(entry_of(words).ok_or("no entry")?)?;
-        }
+pub fn counts_in(text: &str) -> Counts {
+    Counts {
+        loads: u64::from(number(text, 0)),
+        stores: u64::from(number(text, 1)),
+        restarts: u64::from(number(text, 2)),
+        commits: u64::from(number(text, 3)),
     }
-    Ok(entries)
-}
-
-/// The entry that these words say.
-pub fn entry_of(words: &str) -> Option<Entry> {
-    let mut words = words.split_whitespace();
-    let by = words.next()?.parse().ok()?;
-    let what = words.next()?;
-    let mut numbers = words.map(|word| word.parse::<u32>().ok());
-    let mut number = || numbers.next()?;
-    let what = match what {
-        "start" => What::Start(number()?),
-        "load" => What::Load {
-            addr: number()?,
-            width: number()?,
-            value: number()?,
-        },
-        "store" => What::Store {
-            addr: number()?,
-            width: number()?,
-            value: number()?,
-        },
-        "hurt" => What::Hurt(number()?),
-        "cancel" => What::Cancel(number()?),
-        "restart" => What::Restart,
-        "publish" => What::Publish,
-        "commit" => What::Commit,
-        "fault" => What::Fault {
-            cause: number()?,
-            pc: number()?,
-        },
-        _ => return None,
-    };
-    Some(Entry { by, what })
 }

@@ -6,7 +6,7 @@ ghost use Rattle.homefree.specs.Counted.{IsNoMore};
 use homefree::{Answer, Book, Cause, TurnFault, drive};
 use run_ledger::{Counts, Shares};
 use rv32_exec::{End, Hart, Image, NoMemory, advance, run_in_order};
-use spec_history::{Entry, What, audit};
+use spec_history::{Entry, Flat, What, audit};
 use std::alloc::Global;
 use std::process::Abort;
 use std::test::Fail;
@@ -62,7 +62,51 @@ pub fn hart_after(answer: &Result<Answer, TurnFault>, held: Option<Hart>) -> Opt
     }
 }
 
-/// The answers of the turns of a schedule, each with the hart that the core's last turn gave it.
+/// The hart that a core has in hand.
+fn hart_of(held: &[Option<Hart>], core: u32) -> Option<Hart> {
+    match held.get(core as usize) {
+        Some(hart) => *hart,
+        None => None,
+    }
+}
+
+/// Has a core hold a hart, or none.
+fn hold(held: &mut [Option<Hart>], core: u32, hart: Option<Hart>) {
+    if let Some(place) = held.get_mut(core as usize) {
+        *place = hart;
+    }
+}
+
+/// Has a core hold what an answer gives it.
+fn take(held: &mut [Option<Hart>], core: u32, answer: &Result<Answer, TurnFault>) {
+    match answer {
+        Ok(Answer::Go(hart)) => hold(held, core, Some(*hart)),
+        Ok(Answer::Again(_)) | Err(_) => (),
+        Ok(_) => hold(held, core, None),
+    }
+}
+
+/// One turn of a core with the hart that its last turn gave it, and the word for its answer.
+fn step<S: EpochStore>(
+    book: &mut Book<S>,
+    image: &Image,
+    core: u32,
+    held: &mut [Option<Hart>],
+    shares: &mut Shares,
+) -> &'static str
+    requires core { core < book.old.cores }
+    requires image { book.old.image ≡ image.now }
+    requires shares { IsNoMore shares.old book.old.totals }
+    ensures same { IsOfSameLoop book.old book.new }
+    ensures shares { IsNoMore shares.new book.new.totals }
+{
+    let hart = hart_of(held, core);
+    let answer = turn(book, image, core, hart, shares);
+    take(held, core, &answer);
+    word_of(&answer)
+}
+
+/// The answers of the turns of a schedule, a word for each.
 pub fn walk<S: EpochStore>(
     rt: &impl Abort,
     alloc: Global,
@@ -71,7 +115,7 @@ pub fn walk<S: EpochStore>(
     cores: u32,
     schedule: &[u32],
     shares: &mut Shares,
-) -> Result<Vec<Result<Answer, TurnFault>>, Fail>
+) -> Result<Vec<&'static str>, Fail>
     requires cores { book.old.cores ≡ cores }
     requires image { book.old.image ≡ image.now }
     requires shares { IsNoMore shares.old book.old.totals }
@@ -79,13 +123,15 @@ pub fn walk<S: EpochStore>(
     let mut held = [None; 16];
     let mut answers = Vec::new(alloc);
     for core in schedule {
-        let core = *core;
-        assert!(rt; core < cores && core < 16);
-        let answer = turn(book, image, core, held[core as usize], shares);
-        held[core as usize] = hart_after(&answer, held[core as usize]);
-        answers.push(answer)?;
+        assert!(rt; *core < cores);
+        answers.push(step(book, image, *core, &mut held, shares))?;
     }
     Ok(answers)
+}
+
+/// What can be read of a book in short.
+fn state_of<S: EpochStore>(book: &Book<S>) -> (usize, Counts, u32, Option<End>) {
+    (book.len(), book.totals(), book.homefree(), book.ended())
 }
 
 /// The end that one core comes to, which takes a turn again where memory was refused.
@@ -99,15 +145,12 @@ pub fn walk_again<S: EpochStore>(
     requires image { book.old.image ≡ image.now }
     requires shares { IsNoMore shares.old book.old.totals }
 {
-    let mut held: [Option<Hart>; 1] = [None];
+    let mut held = None;
     for _ in 0..64 {
-        let before = (book.len(), book.totals(), book.homefree(), book.ended());
-        let answer = turn(book, image, 0, held[0], shares);
-        if answer.is_err() {
-            let after = (book.len(), book.totals(), book.homefree(), book.ended());
-            assert!(rt; after == before);
-        }
-        held[0] = hart_after(&answer, held[0]);
+        let before = state_of(book);
+        let answer = turn(book, image, 0, held, shares);
+        assert!(rt; answer.is_ok() || state_of(book) == before);
+        held = hart_after(&answer, held);
         if book.ended().is_some() {
             return book.ended();
         }
@@ -131,15 +174,6 @@ pub fn word_of(answer: &Result<Answer, TurnFault>) -> &'static str {
         Ok(Answer::Stopped(_)) => "stopped",
         Err(fault) => fault.name(),
     }
-}
-
-/// The entries of a book's history.
-pub fn history_of<S: EpochStore>(alloc: Global, book: &Book<S>) -> Result<Vec<Entry>, Fail> {
-    let mut entries = Vec::new(alloc);
-    for place in 0..book.len() {
-        entries.push(book.entry(place).ok_or("no entry")?)?;
-    }
-    Ok(entries)
 }
 
 /// How often a history has loads, stores, restarts and commits.
@@ -172,24 +206,36 @@ pub fn look<S: EpochStore>(
     image: &Image,
     cores: u32,
 ) -> Result<(), Fail> {
-    let entries = history_of(alloc, book)?;
-    let flat = audit(alloc, image, cores, entries.as_slice())
+    let flat = audit(alloc, image, cores, book.history())
         .ok()
         .ok_or("illegal")?;
-    assert_eq!(rt; book.homefree(), flat.homefree());
-    assert_eq!(rt; book.ended(), flat.ended());
-    assert_eq!(rt; book.totals(), counts_of(entries.as_slice()));
-    for addr in 0..image.size().saturating_add(1) {
-        assert!(rt; book.committed(addr) == flat.committed(addr), "{addr}");
-    }
+    assert!(rt; is_after(book, &flat, image.size()));
+    assert!(rt; book.totals() == counts_of(book.history()));
     if let Some(end) = book.ended() {
         let whole = run_in_order(alloc, image)?;
-        assert_eq!(rt; whole.end(), end);
-        for (addr, byte) in (0..1 << 20).zip(whole.bytes()) {
-            assert!(rt; book.committed(addr) == Some(*byte), "{addr}");
-        }
+        assert!(rt; whole.end() == end && holds(book, whole.bytes()));
     }
     Ok(())
+}
+
+/// A book says the same as a machine.
+fn is_after<S: EpochStore>(book: &Book<S>, flat: &Flat, size: u32) -> bool {
+    for addr in 0..size.saturating_add(1) {
+        if book.committed(addr) != flat.committed(addr) {
+            return false;
+        }
+    }
+    book.homefree() == flat.homefree() && book.ended() == flat.ended()
+}
+
+/// Committed memory is these bytes.
+fn holds<S: EpochStore>(book: &Book<S>, bytes: &[u8]) -> bool {
+    for (addr, byte) in (0..1 << 20).zip(bytes) {
+        if book.committed(addr) != Some(*byte) {
+            return false;
+        }
+    }
+    true
 }
 
 /// Drives a new book through a schedule, and looks at it then.

@@ -1,9 +1,7 @@
-//! Tests of the sequential machine and the flat one, over their public calls.
+//! Tests of images and of the sequential machine, over their public calls.
 #![tactic(auto)]
 
 #[cfg(test)]
 mod execution;
-#[cfg(test)]
-mod history;
 #[cfg(test)]
 mod images;

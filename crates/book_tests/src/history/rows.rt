@@ -1,9 +1,7 @@
 //! Histories with what comes of them, worked out by hand from the table of entries.
 
+use crate::words::{cell, end_of, number};
 use rv32_exec::End;
-use spec_history::{Entry, What};
-use std::alloc::Global;
-use std::test::Fail;
 
 /// Epoch 0 stores 1 to 64. Epoch 1 loops until it loads it.
 ///
@@ -235,46 +233,47 @@ pub struct Row<'a> {
 
 /// What a line of a table says.
 pub fn row_of<'a>(line: &'a str) -> Option<Row<'a>> {
-    let mut cells = line.split('|');
     Some(Row {
-        name: cells.next()?.trim(),
-        image: image_named(cells.next()?.trim())?,
-        cores: cells.next()?.trim().parse().ok()?,
-        entries: cells.next()?.trim(),
-        want: cells.next()?.trim(),
+        name: cell(line, 0),
+        image: image_named(cell(line, 1))?,
+        cores: number(cell(line, 2), 0),
+        entries: cell(line, 3),
+        want: cell(line, 4),
     })
 }
 
-/// A line that is empty or a remark is no row.
-pub fn is_row(line: &str) -> bool {
-    !line.is_empty() && !line.starts_with('#')
-}
+/// The texts of the images by name.
+const IMAGES: [(&str, &str); 20] = [
+    ("SIGNAL", SIGNAL),
+    ("SUM", SUM),
+    ("ADD", ADD),
+    ("WIDTHS", WIDTHS),
+    ("SIGNS", SIGNS),
+    ("STORE_FIRST", STORE_FIRST),
+    ("PART", PART),
+    ("FORK", FORK),
+    ("CALL", CALL),
+    ("CALL_AT_ONE", CALL_AT_ONE),
+    ("EMPTY", EMPTY),
+    ("EXIT", EXIT),
+    ("EXIT_OF_TWO", EXIT_OF_TWO),
+    ("EXIT_OF_ONE", EXIT_OF_ONE),
+    ("EXIT_OF_NONE", EXIT_OF_NONE),
+    ("NO_EXIT", NO_EXIT),
+    ("SEARCH", SEARCH),
+    ("COUNT_AND_EXIT", COUNT_AND_EXIT),
+    ("LARGE", LARGE),
+    ("SIGNAL_2", SIGNAL_2),
+];
 
 /// The text of an image.
 fn image_named(name: &str) -> Option<&'static str> {
-    match name {
-        "SIGNAL" => Some(SIGNAL),
-        "SUM" => Some(SUM),
-        "ADD" => Some(ADD),
-        "WIDTHS" => Some(WIDTHS),
-        "SIGNS" => Some(SIGNS),
-        "STORE_FIRST" => Some(STORE_FIRST),
-        "PART" => Some(PART),
-        "FORK" => Some(FORK),
-        "CALL" => Some(CALL),
-        "CALL_AT_ONE" => Some(CALL_AT_ONE),
-        "EMPTY" => Some(EMPTY),
-        "EXIT" => Some(EXIT),
-        "EXIT_OF_TWO" => Some(EXIT_OF_TWO),
-        "EXIT_OF_ONE" => Some(EXIT_OF_ONE),
-        "EXIT_OF_NONE" => Some(EXIT_OF_NONE),
-        "NO_EXIT" => Some(NO_EXIT),
-        "SEARCH" => Some(SEARCH),
-        "COUNT_AND_EXIT" => Some(COUNT_AND_EXIT),
-        "LARGE" => Some(LARGE),
-        "SIGNAL_2" => Some(SIGNAL_2),
-        _ => None,
+    for (of, text) in IMAGES {
+        if of == name {
+            return Some(text);
+        }
     }
+    None
 }
 
 /// The state after a history.
@@ -287,73 +286,11 @@ pub struct After {
 }
 
 /// The state that these words say.
-pub fn after_of(text: &str) -> Option<After> {
-    let mut words = text.split_whitespace();
-    let homefree = words.next()?.parse().ok()?;
-    let published = words.next()?.parse().ok()?;
-    let first = words.next()?.parse().ok()?;
-    let second = words.next()?.parse().ok()?;
-    let end = words.next()?;
-    let mut numbers = words.map(|word| word.parse::<u32>().ok());
-    let mut number = || numbers.next()?;
-    let ended = match end {
-        "done" => Some(End::Done(number()?)),
-        "exit" => Some(End::Exit(number()?)),
-        "fault" => Some(End::Fault {
-            epoch: number()?,
-            cause: number()?,
-            pc: number()?,
-        }),
-        _ => None,
-    };
-    Some(After {
-        homefree,
-        published,
-        words: [first, second],
-        ended,
-    })
-}
-
-/// The entries of a history.
-pub fn entries_of(alloc: Global, text: &str) -> Result<Vec<Entry>, Fail> {
-    let mut entries = Vec::new(alloc);
-    for words in text.split(';') {
-        if !words.trim().is_empty() {
-            entries.push(entry_of(words).ok_or("no entry")?)?;
-        }
+pub fn after_of(text: &str) -> After {
+    After {
+        homefree: number(text, 0),
+        published: u64::from(number(text, 1)),
+        words: [number(text, 2), number(text, 3)],
+        ended: end_of(text, 4),
     }
-    Ok(entries)
-}
-
-/// The entry that these words say.
-pub fn entry_of(words: &str) -> Option<Entry> {
-    let mut words = words.split_whitespace();
-    let by = words.next()?.parse().ok()?;
-    let what = words.next()?;
-    let mut numbers = words.map(|word| word.parse::<u32>().ok());
-    let mut number = || numbers.next()?;
-    let what = match what {
-        "start" => What::Start(number()?),
-        "load" => What::Load {
-            addr: number()?,
-            width: number()?,
-            value: number()?,
-        },
-        "store" => What::Store {
-            addr: number()?,
-            width: number()?,
-            value: number()?,
-        },
-        "hurt" => What::Hurt(number()?),
-        "cancel" => What::Cancel(number()?),
-        "restart" => What::Restart,
-        "publish" => What::Publish,
-        "commit" => What::Commit,
-        "fault" => What::Fault {
-            cause: number()?,
-            pc: number()?,
-        },
-        _ => return None,
-    };
-    Some(Entry { by, what })
 }

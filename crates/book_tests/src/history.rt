@@ -3,11 +3,10 @@
 mod plain;
 mod rows;
 
+use crate::words::{cell, entries_of, entry_of, is_row};
 use plain::PlainFlat;
-use rows::{
-    ADD, After, LARGE, LEGAL, REFUSED, Row, WIDTHS, after_of, entries_of, entry_of, is_row, row_of,
-};
-use rv32_exec::{image_of, run_in_order};
+use rows::{ADD, After, LARGE, LEGAL, REFUSED, Row, WIDTHS, after_of, row_of};
+use rv32_exec::{End, image_of, run_in_order};
 use spec_history::{Entry, Flat, Illegal, What, audit};
 use std::alloc::Global;
 use std::process::Abort;
@@ -34,7 +33,7 @@ fn audits_histories(rt: HostRuntime) -> Result<(), Fail> {
         let row = row_of(line).ok_or(line)?;
         let image = image_of(rt.alloc(), row.image.as_bytes())?;
         let entries = entries_of(rt.alloc(), row.entries)?;
-        let want = after_of(row.want).ok_or(line)?;
+        let want = after_of(row.want);
         let flat = audit(rt.alloc(), &image, row.cores, entries.as_slice())
             .ok()
             .ok_or(line)?;
@@ -178,81 +177,79 @@ fn both_machines_agree(rt: HostRuntime) -> Result<(), Fail> {
     Ok(())
 }
 
-/// Applies these entries, each with the refusal that it gets whether or not there is memory. An entry without one, which
-/// was refused memory, changes nothing, and is applied again.
-fn go_on(rt: &impl Abort, flat: &mut Flat, steps: &[(&str, Option<Illegal>)]) -> Result<(), Fail> {
-    for (words, refusal) in steps {
-        let entry = entry_of(words).ok_or("no entry")?;
-        let before = (
-            flat.homefree(),
-            flat.published(),
-            flat.ended(),
-            word(flat, 64),
-        );
-        let mut answer = flat.apply(entry).err();
-        if refusal.is_none() && answer == Some(Illegal::NoMemory) {
-            let after = (
-                flat.homefree(),
-                flat.published(),
-                flat.ended(),
-                word(flat, 64),
-            );
-            assert_eq!(rt; after, before, "{words}");
-            answer = flat.apply(entry).err();
-        }
-        assert_eq!(rt; answer, *refusal, "{words}");
+/// What a machine says of its state in short.
+fn state_of(flat: &Flat) -> (u32, u64, Option<End>, Option<u32>) {
+    (
+        flat.homefree(),
+        flat.published(),
+        flat.ended(),
+        word(flat, 64),
+    )
+}
+
+/// The name of a refusal; empty where there is none.
+fn name_of(answer: Result<(), Illegal>) -> &'static str {
+    match answer {
+        Ok(()) => "",
+        Err(illegal) => illegal.name(),
+    }
+}
+
+/// Applies an entry, which gets this refusal whether or not there is memory. One that gets none, and was refused memory, changes
+/// nothing, and is applied again.
+fn apply(rt: &impl Abort, flat: &mut Flat, entry: Entry, refusal: &str) {
+    let before = state_of(flat);
+    let mut answer = name_of(flat.apply(entry));
+    if refusal.is_empty() && answer == "NoMemory" {
+        assert!(rt; state_of(flat) == before);
+        answer = name_of(flat.apply(entry));
+    }
+    assert!(rt; answer == refusal);
+}
+
+/// Applies the entries of a list, each with its refusal after a bar.
+fn go_on(rt: &impl Abort, flat: &mut Flat, list: &str) -> Result<(), Fail> {
+    for line in list.split(';') {
+        let entry = entry_of(cell(line, 0)).ok_or("no entry")?;
+        apply(rt, flat, entry, cell(line, 1));
     }
     Ok(())
 }
 
-/// It passes too where any one of its allocations fails, as by `rt try --test --fail-alloc N`.
-///
-/// After a core has read or stored four bytes, its next entry takes memory. So the refusals below come where memory would be
-/// wanted.
+/// A new machine of two cores, which is asked for again where memory was refused.
+fn machine_of(alloc: Global, text: &str) -> Result<Flat, Fail> {
+    let image = image_of(alloc, text.as_bytes()).or_else(|_| image_of(alloc, text.as_bytes()))?;
+    let mut made = Flat::new(alloc, &image, 2);
+    if made.is_err() {
+        made = Flat::new(alloc, &image, 2);
+    }
+    Ok(made?)
+}
+
+/// After a core has read or stored four bytes, its next entry takes memory. So the refusals come where memory would be wanted.
+const STEPS_OF_ADD: &str =
+    "0 start 0; 1 start 1; 1 load 64 4 0; 1 publish | NotHomefree; 0 load 64 4 0; 0 store 64 4 2 | NotNext; \
+    0 store 64 4 1; 0 commit | HurtMissing; 0 hurt 1; 1 store 64 4 2 | NotThere; 0 commit; 1 restart; 1 load 64 4 1; 1 publish; \
+    1 store 64 4 3; 1 commit";
+
+/// The same of accesses to one byte and to two.
+const STEPS_OF_WIDTHS: &str =
+    "0 start 0; 0 load 64 1 0; 0 store 66 2 0; 0 load 64 4 7 | WrongValue; 0 load 64 4 0; 0 store 64 1 1; 0 commit";
+
+/// Both pass too where any one of their allocations fails, as by `rt try --test --fail-alloc N`.
 #[test]
 fn want_of_memory_changes_nothing(rt: HostRuntime) -> Result<(), Fail> {
-    let alloc = rt.alloc();
-    let new = |text: &str| {
-        let image = image_of(alloc, text.as_bytes())
-            .or_else(|_| image_of(alloc, text.as_bytes()))
-            .ok()?;
-        Flat::new(alloc, &image, 2)
-            .or_else(|_| Flat::new(alloc, &image, 2))
-            .ok()
-    };
-    let mut flat = new(ADD).ok_or("no machine")?;
-    let steps = [
-        ("0 start 0", None),
-        ("1 start 1", None),
-        ("1 load 64 4 0", None),
-        ("1 publish", Some(Illegal::NotHomefree)),
-        ("0 load 64 4 0", None),
-        ("0 store 64 4 2", Some(Illegal::NotNext)),
-        ("0 store 64 4 1", None),
-        ("0 commit", Some(Illegal::HurtMissing)),
-        ("0 hurt 1", None),
-        ("1 store 64 4 2", Some(Illegal::NotThere)),
-        ("0 commit", None),
-        ("1 restart", None),
-        ("1 load 64 4 1", None),
-        ("1 publish", None),
-        ("1 store 64 4 3", None),
-        ("1 commit", None),
-    ];
-    go_on(&rt, &mut flat, &steps)?;
-    assert_eq!(rt; (flat.homefree(), word(&flat, 64)), (2, Some(3)));
-    let mut flat = new(WIDTHS).ok_or("no machine")?;
-    let steps = [
-        ("0 start 0", None),
-        ("0 load 64 1 0", None),
-        ("0 store 66 2 0", None),
-        ("0 load 64 4 7", Some(Illegal::WrongValue)),
-        ("0 load 64 4 0", None),
-        ("0 store 64 1 1", None),
-        ("0 commit", None),
-    ];
-    go_on(&rt, &mut flat, &steps)?;
-    assert_eq!(rt; (flat.homefree(), word(&flat, 64)), (1, Some(1)));
+    let mut flat = machine_of(rt.alloc(), ADD)?;
+    go_on(&rt, &mut flat, STEPS_OF_ADD)?;
+    assert!(rt; flat.homefree() == 2 && word(&flat, 64) == Some(3));
+    Ok(())
+}
+
+#[test]
+fn want_of_memory_at_any_width_changes_nothing(rt: HostRuntime) -> Result<(), Fail> {
+    let mut flat = machine_of(rt.alloc(), WIDTHS)?;
+    go_on(&rt, &mut flat, STEPS_OF_WIDTHS)?;
+    assert!(rt; flat.homefree() == 1 && word(&flat, 64) == Some(1));
     Ok(())
 }
 
