@@ -17,7 +17,7 @@ ROOT = Path(__file__).resolve().parent.parent
 DOCS = ROOT / "docs"
 LONGEST_README = 120
 # Crates whose functions nobody outside uses: tests and benches.
-WITHOUT_CONTRACTS = {"machine_tests", "audit_bench", "lock_bench"}
+WITHOUT_CONTRACTS = {"machine_tests", "audit_bench", "lock_bench", "turns_bench"}
 NAME = r"[^\s(){}.,;λ]+"
 
 
