@@ -24,7 +24,7 @@ use Rattle.bus_states.specs.Coherent.{IsCoherent, speculates}
 use Rattle.bus_states.specs.Messages.{IsRoom, Message, message_of, is_busy, is_alone, changed_core, with_copy, without_line, leaves, after_message}
 use Rattle.bus_states.specs.Speculative.{own, holds_line, room_for, no_room, kept_line, load_next, after_load, load_wait, store_next, owns, after_claim, with_bytes, after_store, store_wait}
 use Rattle.bus_states.proofs.Coherence.{IsCoherentWith, committed-with, coherent-with, with-same, sees-past, sees-held, sees-unmodified}
-use Rattle.bus_states.proofs.Copies.{itself, made, made-state, made-up_to_date, made-in_place}
+use Rattle.bus_states.proofs.Copies.{clash, itself, made, made-state, made-up_to_date, made-in_place}
 use Rattle.bus_states.proofs.Cores.{changed-coherent, without_line-coherent}
 use Rattle.bus_states.proofs.QuietCalls.{Keeps, kept-with, Writes, written-with, same-lines}
 use Rattle.bus_states.proofs.Sending.{leaves-held, Sends, sent_lines, sent-with, at_sender}
@@ -114,9 +114,6 @@ pub record MayAccess (bus : Bus) (core addr : ℕ) (room : Option Line) : Type 0
   pub in_cores : core < bus.shape.cores
   pub runs : speculates (bus.core core).attempt ≡ true
   pub victim : IsRoom (bus.core core) room
-
-clash : (b : Bool) → b ≡ true → b ≡ false → ⊥
-clash b e f = cc
 
 -- the line that leaves is another one than a line that the core does not hold
 pub not_leaving : (core : CoreState) (room : Option Line) (addr : ℕ) → IsRoom core room → is_valid (core.copy addr).state ≡ false

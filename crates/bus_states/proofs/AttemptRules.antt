@@ -14,7 +14,7 @@ use Rattle.bus_states.specs.Views.{view_of, AreOrdered}
 use Rattle.bus_states.proofs.Addresses.{line-aligned, line-and_offset, offset-in_line}
 use Rattle.bus_states.proofs.Coherence.{IsCoherentWith, committed-with, coherent-with}
 use Rattle.bus_states.proofs.Copies.{itself}
-use Rattle.bus_states.proofs.Hurting.{quiet-shows}
+use Rattle.bus_states.proofs.Hurting.{none_some, quiet-shows}
 use Rattle.bus_states.proofs.Opening.{IsIdle, idle-with}
 use Rattle.bus_states.proofs.Ordered.{clear-of, runs-there}
 use Rattle.bus_states.proofs.Quiet
@@ -70,9 +70,6 @@ opened-ordered bus image cores h =
       apart = λ j k x y at_j at_k e. absurd (none_some (bus.core j).attempt x (h.idle j).attempt at_j);
       straight_first = λ j k x y at_j straight at_k away. absurd (none_some (bus.core j).attempt x (h.idle j).attempt at_j);
     }
-  where
-    none_some : (o : Option Attempt) (x : Attempt) → o ≡ None → o ≡ Some x → ⊥
-    none_some o x none some = cc
 
 -- ---- one core changes and what is committed stays
 

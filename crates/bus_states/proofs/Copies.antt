@@ -15,6 +15,10 @@ use Rattle.spec_states.proofs.RowLaws.{violation-rolls_back}
 use Rattle.cache_lines.specs.Protocol.{IsInPlace, rolled_back_copy}
 use Rattle.cache_lines.proofs.CopyLaws.{IsUpToDate-rolled_back}
 
+-- no test is both
+pub clash : (b : Bool) → b ≡ true → b ≡ false → ⊥
+clash b e f = cc
+
 pub itself : (n : ℕ) → (n == n) ≡ true
 itself n = grind (arith, nat_tests)
 
@@ -140,8 +144,5 @@ up_to_date-invalid copy c d h e =
       not_loaded = h.not_loaded;
       not_modified = h.not_modified;
       marked = h.marked;
-      agrees = λ x v out. absurd (clash (is_valid copy.state) e v);
+      agrees = λ x v out. absurd (clash (is_valid copy.state) v e);
     }
-  where
-    clash : (b : Bool) → b ≡ false → b ≡ true → ⊥
-    clash b f g = cc

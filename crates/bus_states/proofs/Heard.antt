@@ -150,7 +150,7 @@ heard-absent bus message k e =
     ap (λ (core : CoreState). heard message.addr (violates bus message k) (reply bus message k) (bytes_after message.notice (reply bus message k).marks.bytes ((bus.core k).copy message.addr).cell message.line) core) e
     ∙ absent-core message.addr (violates bus message k) (reply bus message k) _ (absent-unviolated bus message k e) r.0 r.1
 
-unviolated : (same hit over later : Bool) → same ≡ false → (not same && (hit || (over && later))) ≡ false → hit ≡ false
+pub unviolated : (same hit over later : Bool) → same ≡ false → (not same && (hit || (over && later))) ≡ false → hit ≡ false
 unviolated same hit over later e v = grind (arith, nat_tests)
 
 roomy : (same hit over later : Bool) → same ≡ false → (not same && (hit || (over && later))) ≡ false

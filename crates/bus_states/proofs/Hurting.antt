@@ -22,17 +22,14 @@ use Rattle.bus_states.specs.Coherent.{IsCoherent, speculates}
 use Rattle.bus_states.specs.Messages.{Message, reply, reply_to, order, bytes_after, overflows, violates, changed_core}
 use Rattle.bus_states.specs.Views.{view_of}
 use Rattle.bus_states.proofs.Coherence.{apart_test, committed-with}
-use Rattle.bus_states.proofs.Copies.{itself, made}
-use Rattle.bus_states.proofs.Heard.{message-gives_way}
+use Rattle.bus_states.proofs.Copies.{clash, itself, made}
+use Rattle.bus_states.proofs.Heard.{message-gives_way, unviolated}
 use Rattle.bus_states.proofs.Quiet
 use Rattle.bus_states.proofs.Quiet.{ChangesQuietly, quietly, quiet-with}
 use Rattle.bus_states.proofs.Sending
 use Rattle.bus_states.proofs.Sending.{Sends, sent, sent_lines, sent-committed}
 use Rattle.bus_states.proofs.Showing.{Shows, Shows-same, Shows-reply, ShowsSame, bytes_after-own, spared}
 use Rattle.bus_states.proofs.StraightAccesses.{IsFirst, enters-speculates}
-
-clash : (b : Bool) → b ≡ true → b ≡ false → ⊥
-clash b e f = cc
 
 -- ---- nobody
 
@@ -65,8 +62,9 @@ hurts-same u v core hurt other same h =
 
 -- ---- two steps of a core
 
-some_none : (o : Option Attempt) (x : Attempt) → o ≡ None → o ≡ Some x → ⊥
-some_none o x none some = cc
+-- a core does not run an attempt and none
+pub none_some : (o : Option Attempt) (x : Attempt) → o ≡ None → o ≡ Some x → ⊥
+none_some o x none some = cc
 
 not_core : (hurt : ℕ → Bool) (core k : ℕ) → hurt core ≡ false → hurt k ≡ true → k ≢ core
 not_core hurt core k spared hit same = clash (hurt k) hit (ap hurt same ∙ spared)
@@ -88,7 +86,7 @@ hurts-then u v w core first second stays f s =
     record { not_itself = rw (f.not_itself, s.not_itself) refl; hurts = λ k e. hurt k (first k) refl e; spares = λ k away e. spare k away (first k) (second k) refl refl e }
   where
     by_first : (k : ℕ) → first k ≡ true → (b : Bool) → second k ≡ b → IsHurt u w core k
-    by_first k e true e2 = absurd (some_none (v.attempt k) (s.hurts k e2).attempt (f.hurts k e).none (s.hurts k e2).had)
+    by_first k e true e2 = absurd (none_some (v.attempt k) (s.hurts k e2).attempt (f.hurts k e).none (s.hurts k e2).had)
     by_first k e false e2 =
         let p = f.hurts k e in
         record {
@@ -206,10 +204,7 @@ loaded-marked copy c h loaded =
       | false ↦ λ e. absurd (clash copy.marks.loaded loaded (h.not_loaded e))
     ] refl
 
--- a core that a message spares keeps what it shows
-unviolated : (same hit over later : Bool) → same ≡ false → (not same && (hit || (over && later))) ≡ false → hit ≡ false
-unviolated same hit over later e v = grind (arith, nat_tests)
-
+-- a core whose copy changes and keeps its marks shows what it showed
 changed-shows : (core : CoreState) (addr a : ℕ) (next : Next) (cell c : ℕ → ℕ) → IsUpToDate (core.copy addr) c
     → GivesWay (core.copy addr).state (core.copy addr).marks next → next.violated ≡ false
     → ((x : ℕ) → has next.marks.bytes x ≡ true → cell x ≡ (core.copy addr).cell x)
@@ -222,6 +217,7 @@ changed-shows core addr a next cell c h row spares same =
       | false ↦ λ e. Shows-same (core.copy a)
     ] refl
 
+-- so does a core that a message spares
 heard-shows : (bus : Bus) (message : Message) (room : Option Line) (own : CoreState) (k : ℕ) → IsCoherent bus
     → message.addr % bus.line_length ≡ 0 → k ≢ message.sender → violates bus message k ≡ false
     → ShowsSame bus (sent bus message room own) k

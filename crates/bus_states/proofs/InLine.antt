@@ -7,7 +7,8 @@ use Rattle.spec_states.specs.Mask.{is_within}
 use Rattle.spec_states.proofs.MaskLaws.{access-within, width-bounds}
 use Rattle.cache_lines.specs.Lines.{is_line_length}
 use Rattle.violations.specs.View.{Shape, is_accessed, IsLoad}
-use Rattle.bus_states.specs.Bus.{line_of, offset_of}
+use Rattle.bus_states.specs.Bus.{Bus, line_of, offset_of}
+use Rattle.bus_states.specs.Coherent.{IsCoherent}
 use Rattle.bus_states.proofs.Addresses.{by_length, line-aligned, line-and_offset, line-of, offset-of, line-inside, offset-aligned, offset-in_line}
 
 -- ---- a load or a store of the store's rule
@@ -31,6 +32,11 @@ lies-in_line length shape address width length_is whole access =
   where
     below : (size : ℕ) → 0 < width → address + width ≤ size → address < size
     below size some within = omega arith
+
+-- on a coherent bus
+pub load-lies : (bus : Bus) (address width : ℕ) → IsCoherent bus → IsLoad bus.shape address width
+    → LiesInLine bus.line_length bus.shape.size address width
+load-lies bus address width h access = lies-in_line bus.line_length bus.shape address width h.length_is h.whole_lines access
 
 -- ---- bytes
 
@@ -67,6 +73,15 @@ accessed-line length size address width a h =
     ∙ ap (λ (n : ℕ). is_accessed (line_of length address + offset_of length address) width n) (sym (line-and_offset length a h.length_is))
     ∙ accessed_by length (line_of length address) (offset_of length address) (line_of length a) (offset_of length a) width h.length_is
     (line-aligned length address h.length_is) (line-aligned length a h.length_is) h.ends (offset-in_line length a h.length_is)
+
+-- an accessed byte lies in the line
+pub accessed-there : (length size address width a : ℕ) → LiesInLine length size address width → is_accessed address width a ≡ true
+    → (line_of length address ≡ line_of length a) × (is_within (offset_of length address) width (offset_of length a) ≡ true)
+accessed-there length size address width a h accessed =
+    both (line_of length address) (line_of length a) _ (sym (accessed-line length size address width a h) ∙ accessed)
+  where
+    both : (m n : ℕ) (d : Bool) → ((m == n) && d) ≡ true → (m ≡ n) × (d ≡ true)
+    both m n d e = (grind (arith, nat_tests), grind (arith, nat_tests))
 
 -- ---- numbers
 

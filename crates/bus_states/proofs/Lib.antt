@@ -18,6 +18,8 @@ pub mod Ordered
 pub mod AttemptRules
 pub mod InLine
 pub mod Taking
-pub mod AccessRules
+pub mod LoadRule
+pub mod StoreRule
 pub mod PublishRule
 pub mod StraightRules
+pub mod OrderedCalls

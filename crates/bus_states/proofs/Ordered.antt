@@ -1,5 +1,5 @@
 -- The attempts of the cores stay ordered through every call, and what every store keeps follows.
-use Rattle.std.proofs.Common.{◌≡◌, ◌≢◌, ◌⊎◌, inl, inr, ℕ, ◌%◌, ◌<◌, ◌≤◌, ◌==◌, nat_lt, Bool, true, false, Option, Some, None, refl, sym, ap, subst, ◌∙◌, arith}
+use Rattle.std.proofs.Common.{◌≡◌, ◌≢◌, ◌⊎◌, inl, inr, ℕ, ◌%◌, ◌<◌, ◌≤◌, ◌==◌, nat_lt, not, Bool, true, false, Option, Some, refl, sym, ap, subst, ◌∙◌, arith}
 use Rattle.std.proofs.lemmas.Bool.Decides.{nat_tests}
 use Rattle.spec_states.specs.States.{is_speculative}
 use Rattle.violations.specs.declared.attempt.Attempt.{Attempt}
@@ -10,7 +10,7 @@ use Rattle.bus_states.specs.Coherent.{IsCoherent, speculates}
 use Rattle.bus_states.specs.Views.{view_of, AreOrdered}
 use Rattle.bus_states.proofs.Addresses.{line-aligned}
 use Rattle.bus_states.proofs.Coherence.{sees-unmodified}
-use Rattle.bus_states.proofs.Hurting.{running}
+use Rattle.bus_states.proofs.Hurting.{none_some, running}
 use Rattle.bus_states.proofs.Showing.{none_in}
 use Rattle.bus_states.proofs.StraightAccesses.{IsFirst}
 
@@ -44,11 +44,21 @@ runs-there bus k x h runs =
       | true ↦ λ e. grind (arith, nat_tests)
       | false ↦ λ e.
           let past : bus.shape.cores ≤ k = grind (arith, nat_tests) in
-          absurd (none_there (bus.core k).attempt x (ap (λ (core : CoreState). core.attempt) (h.absent k past)) runs)
+          absurd (none_some (bus.core k).attempt x (ap (λ (core : CoreState). core.attempt) (h.absent k past)) runs)
     ] refl
+
+-- a core that speculates runs an attempt that isn't straight
+pub speculates-runs : (bus : Bus) (core : ℕ) → speculates (bus.core core).attempt ≡ true → Runs (view_of bus) core false
+speculates-runs bus core speculative =
+    let x = running (bus.core core).attempt speculative in
+    record { epoch = x.0.epoch; is = x.1 ∙ ap (λ (straight : Bool). Some (attempt_of x.0.epoch straight)) (not_straight x.0 (ap speculates (sym x.1) ∙ speculative)) }
   where
-    none_there : (o : Option Attempt) (x : Attempt) → o ≡ None → o ≡ Some x → ⊥
-    none_there o x none some = cc
+    not_straight : (x : Attempt) → speculates (Some x) ≡ true → x.straight ≡ false
+    not_straight x e = untrue x.straight e
+      where
+        untrue : (b : Bool) → not b ≡ true → b ≡ false
+        untrue true e = cc
+        untrue false e = refl
 
 pub settled : (bus : Bus) → IsCoherent bus → AreOrdered bus → IsSettled (view_of bus)
 settled bus h ordered =
@@ -70,9 +80,6 @@ ordered-stays old new h same =
       apart = λ j k x y at_j at_k e. h.apart j k x y (same j x at_j) (same k y at_k) e;
       straight_first = λ j k x y at_j straight at_k away. h.straight_first j k x y (same j x at_j) straight (same k y at_k) away;
     }
-
-none_some : (o : Option Attempt) (x : Attempt) → o ≡ None → o ≡ Some x → ⊥
-none_some o x none some = cc
 
 some_same : (o : Option Attempt) (x y : Attempt) → o ≡ Some x → o ≡ Some y → x ≡ y
 some_same o x y e f = cc

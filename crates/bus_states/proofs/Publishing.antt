@@ -26,7 +26,7 @@ use Rattle.bus_states.specs.Speculative.{own}
 use Rattle.bus_states.specs.Straight.{publish_next, after_publish_line, after_publish_lines, settled_core, after_settling, after_publish}
 use Rattle.bus_states.proofs.Accesses.{none-room}
 use Rattle.bus_states.proofs.Coherence.{IsCoherentWith, committed-with, coherent-with, with-same, by_core, none_at_all, sees-past, sees-held, sees-unmodified}
-use Rattle.bus_states.proofs.Copies.{itself, made, made-state, made-up_to_date, made-in_place, unrequired, required-valid, exclusive-valid}
+use Rattle.bus_states.proofs.Copies.{clash, itself, made, made-state, made-up_to_date, made-in_place, unrequired, required-valid, exclusive-valid}
 use Rattle.bus_states.proofs.Cores.{emptied-buffer, released-coherent}
 use Rattle.bus_states.proofs.Quiet.{ChangesQuietly, quiet-with}
 use Rattle.bus_states.proofs.Replies.{reply-enters}
@@ -62,9 +62,6 @@ publish-free bus core addr h t =
     (λ ex. clash (is_valid (own bus core addr).state) (listed-held bus core addr h t)
     ((h.lines addr (listed-aligned bus core addr h t)).exclusive k core away ex)))))
   where
-    clash : (b : Bool) → b ≡ true → b ≡ false → ⊥
-    clash b e f = cc
-
     silent : (s : LineState) (enters : Bool) → (enters ≡ true → is_exclusive s ≡ true) → (is_exclusive s ≡ true → ⊥) → enters ≡ false
     silent s true up none = absurd (none (up refl))
     silent s false up none = refl

@@ -20,7 +20,7 @@ use Rattle.bus_states.specs.Attempts.{after_begin, after_leave, after_cancel}
 use Rattle.bus_states.specs.Speculative.{own, kept_line, with_bytes}
 use Rattle.bus_states.proofs.Addresses.{with_line-here, with_line-elsewhere}
 use Rattle.bus_states.proofs.Coherence.{IsCoherentWith, by_core}
-use Rattle.bus_states.proofs.Copies.{made, made-state, made-up_to_date, made-in_place, made-required, rolled_back-valid, rolled_back-exclusive, rolled_back-modified, rolled_back-in_place}
+use Rattle.bus_states.proofs.Copies.{clash, made, made-state, made-up_to_date, made-in_place, made-required, rolled_back-valid, rolled_back-exclusive, rolled_back-modified, rolled_back-in_place}
 use Rattle.bus_states.proofs.Cores.{with_copy-coherent, dropped-coherent}
 use Rattle.bus_states.proofs.Quiet.{ChangesQuietly, quiet-with, Fades, fades-quietly}
 
@@ -186,9 +186,6 @@ kept-one bus core addr next h t =
       elsewhere = λ a aligned e x. stays next.write_back a aligned e x;
     }
   where
-    clash : (b : Bool) → b ≡ true → b ≡ false → ⊥
-    clash b e f = cc
-
     by_write : (b : Bool) → b ≡ is_modified (own bus core addr).state
         → ((k : ℕ) → k ≢ core → is_modified ((bus.core k).copy addr).state ≡ false)
         → (x : ℕ) → memory_line bus.line_length (cond b (with_line bus.line_length addr (own bus core addr).cell bus.memory) bus.memory) addr x ≡ committed bus addr x

@@ -14,10 +14,11 @@ use Rattle.violations.specs.Rule.{IsSameCore, IsSpared}
 use Rattle.bus_states.specs.declared.notice.Notice.{Notice}
 use Rattle.bus_states.specs.declared.notice.Notice.TheVariants.{Load, Store, Publish}
 use Rattle.bus_states.specs.Bus.{Bus, committed, sees, line_of, offset_of}
+use Rattle.bus_states.specs.Coherent.{IsCoherent}
 use Rattle.bus_states.specs.Messages.{bytes_after}
 use Rattle.bus_states.specs.Views.{view_of}
 use Rattle.bus_states.proofs.Addresses.{line-aligned}
-use Rattle.bus_states.proofs.Copies.{made}
+use Rattle.bus_states.proofs.Copies.{clash, made}
 
 -- ---- one copy
 
@@ -32,9 +33,6 @@ Shows-same copy = record { loaded = refl; bytes = refl; own_cells = λ x own. re
 -- an empty mask has no byte
 pub none_in : (mask x : ℕ) → mask ≡ 0 → has mask x ≡ false
 none_in mask x e = rw e (has-zero x)
-
-clash : (b : Bool) → b ≡ true → b ≡ false → ⊥
-clash b e f = cc
 
 -- an unmarked copy that goes
 pub Shows-gone : (copy : LineCopy) (c : ℕ → ℕ) → IsUpToDate copy c → is_speculative copy.state ≡ false → Shows copy no_copy
@@ -103,6 +101,16 @@ merged-same old new c d x s same =
     ] refl
 
 -- ---- the core, as the store's rule sees it
+
+-- the line in which a byte lies, and its place there
+abbrev pub line_at : Bus → ℕ → ℕ
+line_at bus a = line_of bus.line_length a
+
+abbrev pub place_at : Bus → ℕ → ℕ
+place_at bus a = offset_of bus.line_length a
+
+pub aligned_at : (bus : Bus) → IsCoherent bus → (a : ℕ) → line_at bus a % bus.line_length ≡ 0
+aligned_at bus h a = line-aligned bus.line_length a h.length_is
 
 -- the core shows each of its lines as before
 pub record ShowsSame (old new : Bus) (k : ℕ) : Type 0 where

@@ -23,7 +23,7 @@ use Rattle.bus_states.specs.Speculative.{own, holds_line, room_for}
 use Rattle.bus_states.specs.Straight.{unmarked_next, after_straight_load, stores_alone, straight_store_message, after_straight_store}
 use Rattle.bus_states.proofs.Accesses.{Takes, taken-with, not_leaving, none-room}
 use Rattle.bus_states.proofs.Coherence.{IsCoherentWith, with-itself, by_core, none_at_all, sees-past, sees-held, sees-unmodified}
-use Rattle.bus_states.proofs.Copies.{itself, unrequired}
+use Rattle.bus_states.proofs.Copies.{clash, itself, unrequired}
 use Rattle.bus_states.proofs.Cores.{with_copy-coherent}
 use Rattle.bus_states.proofs.Heard.{message-gives_way}
 use Rattle.bus_states.proofs.Quiet.{ChangesQuietly, quiet-with}
@@ -34,9 +34,6 @@ use Rattle.bus_states.proofs.QuietCalls.{ChangesOne, one-quietly, one_line, same
 -- every core that runs a speculative attempt runs a later epoch
 pub record IsFirst (bus : Bus) (core : ℕ) : Type 0 where
   pub later : (k : ℕ) → k ≢ core → speculates (bus.core k).attempt ≡ true → is_later bus core k ≡ true
-
-clash : (b : Bool) → b ≡ true → b ≡ false → ⊥
-clash b e f = cc
 
 -- a copy that has to enter a buffer is one of a speculative attempt
 pub enters-speculates : (bus : Bus) (message : Message) (k : ℕ) → IsCoherent bus → message.addr % bus.line_length ≡ 0

@@ -21,7 +21,7 @@ use Rattle.bus_states.proofs.AttemptRules.{at_core, with-committed}
 use Rattle.bus_states.proofs.Coherence.{committed-with, sees-unmodified}
 use Rattle.bus_states.proofs.Copies.{itself, made}
 use Rattle.bus_states.proofs.Hurting.{message-hurts, quiet-hurts, hurts-none, hurts-same}
-use Rattle.bus_states.proofs.InLine.{lies-in_line, number-line, over-line}
+use Rattle.bus_states.proofs.InLine.{load-lies, number-line, over-line}
 use Rattle.bus_states.proofs.Ordered.{clear-of, first-straight, runs-there}
 use Rattle.bus_states.proofs.Sending.{at_sender}
 use Rattle.bus_states.proofs.Showing.{committed_at, unowned-sees}
@@ -35,7 +35,7 @@ pub may-access_straight : (bus : Bus) (core address width : ℕ) (room : Option 
 may-access_straight bus core address width room h ordered runs access victim =
     record {
       aligned = line-aligned bus.line_length address h.length_is;
-      inside = (lies-in_line bus.line_length bus.shape address width h.length_is h.whole_lines access).inside;
+      inside = (load-lies bus address width h access).inside;
       in_cores = runs-there bus core (attempt_of runs.epoch true) h runs.is;
       straight = ap speculates runs.is;
       first = first-straight bus core ordered runs;
@@ -43,7 +43,7 @@ may-access_straight bus core address width room h ordered runs access victim =
     }
 
 -- what a straight access makes of the other cores and of the core's attempt
-record GoesStraight (old new : Bus) (core : ℕ) (hurt : ℕ → Bool) : Type 0 where
+pub record GoesStraight (old new : Bus) (core : ℕ) (hurt : ℕ → Bool) : Type 0 where
   pub shape : new.shape ≡ old.shape
   pub length : new.line_length ≡ old.line_length
   pub others : HurtsLater (view_of old) (view_of new) core hurt
@@ -63,7 +63,7 @@ told-straight bus message room next h first takes =
 
 -- ---- loads
 
-load-straight : (bus : Bus) (core addr : ℕ) (room : Option Line) → IsCoherent bus → MayAccessStraight bus core addr room
+pub load-straight : (bus : Bus) (core addr : ℕ) (room : Option Line) → IsCoherent bus → MayAccessStraight bus core addr room
     → GoesStraight bus (after_straight_load bus core addr room) core (straight_load_violates bus core addr)
 load-straight bus core addr room h may = pick (holds_line bus core addr) refl
   where
@@ -83,7 +83,7 @@ straight_load-loads_straight bus core address width value room hurt h ordered ru
     let addr : ℕ = line_of bus.line_length address in
     let may = may-access_straight bus core address width room h ordered runs access victim in
     let done = load-straight bus core addr room h may in
-    let lies = lies-in_line bus.line_length bus.shape address width h.length_is h.whole_lines access in
+    let lies = load-lies bus address width h access in
     let clear = clear-of bus core h (ap speculates runs.is) in
     record {
       shape = done.shape;
@@ -98,7 +98,7 @@ straight_load-loads_straight bus core address width value room hurt h ordered ru
 
 -- ---- stores
 
-store-straight : (bus : Bus) (core addr offset width value : ℕ) (room : Option Line) → IsCoherent bus → MayAccessStraight bus core addr room
+pub store-straight : (bus : Bus) (core addr offset width value : ℕ) (room : Option Line) → IsCoherent bus → MayAccessStraight bus core addr room
     → offset + width ≤ bus.line_length
     → GoesStraight bus (after_straight_store bus core addr offset width value room) core (straight_store_violates bus core addr offset width value)
 store-straight bus core addr offset width value room h may inside = pick (stores_alone (own bus core addr).state) refl
@@ -138,7 +138,7 @@ straight_store-stores_straight bus core address width value room hurt h ordered 
     let offset : ℕ = offset_of bus.line_length address in
     let new : Bus = after_straight_store bus core addr offset width value room in
     let may = may-access_straight bus core address width room h ordered runs access victim in
-    let lies = lies-in_line bus.line_length bus.shape address width h.length_is h.whole_lines access in
+    let lies = load-lies bus address width h access in
     let done = store-straight bus core addr offset width value room h may lies.ends in
     record {
       shape = done.shape;

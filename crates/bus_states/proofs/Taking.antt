@@ -3,25 +3,44 @@ use Rattle.std.proofs.Common.{◌≡◌, ◌≢◌, ℕ, ◌%◌, ◌==◌, Bool
 use Rattle.std.proofs.lemmas.Bool.Decides.{nat_tests}
 use Rattle.spec_states.specs.declared.line.Marks.{Marks}
 use Rattle.spec_states.specs.declared.next.Next.{Next}
-use Rattle.spec_states.specs.Copies.{LineCopy, no_copy}
+use Rattle.spec_states.specs.Tables.{marks_of, no_marks}
+use Rattle.spec_states.specs.Copies.{LineCopy, no_copy, IsUpToDate}
 use Rattle.spec_states.specs.Mask.{has}
-use Rattle.spec_states.specs.States.{is_valid}
+use Rattle.spec_states.specs.States.{is_valid, is_speculative}
 use Rattle.cache_lines.specs.declared.line.Line.{Line}
 use Rattle.violations.specs.Rule.{HurtsLater}
+use Rattle.violations.specs.View.{attempt_of, IsLoad, Runs}
+use Rattle.bus_states.proofs.Addresses.{line-aligned}
+use Rattle.bus_states.proofs.InLine.{load-lies}
+use Rattle.bus_states.proofs.Ordered.{runs-there}
 use Rattle.bus_states.specs.declared.notice.Notice.{Notice}
 use Rattle.bus_states.specs.declared.notice.Notice.TheVariants.{Publish}
-use Rattle.bus_states.specs.Bus.{CoreState, Bus, committed, sees}
-use Rattle.bus_states.specs.Coherent.{IsCoherent}
-use Rattle.bus_states.specs.Messages.{message_of, violates, changed_core, without_line, leaves, after_message}
+use Rattle.bus_states.specs.Bus.{CoreState, Bus, committed, sees, line_of}
+use Rattle.bus_states.specs.Coherent.{IsCoherent, speculates}
+use Rattle.bus_states.specs.Messages.{IsRoom, message_of, violates, changed_core, without_line, leaves, after_message}
 use Rattle.bus_states.specs.Speculative.{own, kept_line}
 use Rattle.bus_states.specs.Views.{view_of}
-use Rattle.bus_states.proofs.Accesses.{Takes, takes-sends, own-after, own-kept, kept-core}
+use Rattle.bus_states.proofs.Accesses.{MayAccess, Takes, takes-sends, own-after, own-kept, kept-core}
 use Rattle.bus_states.proofs.Coherence.{IsCoherentWith, committed-with, sees-held}
 use Rattle.bus_states.proofs.Copies.{made}
 use Rattle.bus_states.proofs.Hurting.{message-hurts, quiet-hurts}
 use Rattle.bus_states.proofs.QuietCalls.{Keeps, kept-quietly}
 use Rattle.bus_states.proofs.Sending.{leaves-held, at_sender}
 use Rattle.bus_states.proofs.Showing.{Shows, Shows-same, Shows-gone, merged-same}
+
+-- ---- the conditions of an access
+
+-- a core that runs a speculative attempt may access the line of its load or store
+pub may-access : (bus : Bus) (core address width : ℕ) (room : Option Line) → IsCoherent bus → Runs (view_of bus) core false
+    → IsLoad bus.shape address width → IsRoom (bus.core core) room → MayAccess bus core (line_of bus.line_length address) room
+may-access bus core address width room h runs access victim =
+    record {
+      aligned = line-aligned bus.line_length address h.length_is;
+      inside = (load-lies bus address width h access).inside;
+      in_cores = runs-there bus core (attempt_of runs.epoch false) h runs.is;
+      runs = ap speculates runs.is;
+      victim = victim;
+    }
 
 -- ---- a core takes hold of a line
 
@@ -121,3 +140,19 @@ taken-sees old new core addr marks hurt h t addr_aligned grows a aligned x =
     here false e =
         let out : has (own new core addr).marks.bytes x ≡ false = ap (λ (marks : Marks). has marks.bytes x) t.marks_are ∙ e in
         rw (out, grows x e) (same addr addr_aligned)
+
+-- ---- the marks that a copy carries
+
+pub carried-bytes : (copy : LineCopy) (c : ℕ → ℕ) → IsUpToDate copy c → (marks_of copy.state copy.marks).bytes ≡ copy.marks.bytes
+carried-bytes copy c h = pick (is_speculative copy.state) refl
+  where
+    pick : (b : Bool) → is_speculative copy.state ≡ b → (cond b copy.marks no_marks).bytes ≡ copy.marks.bytes
+    pick true e = refl
+    pick false e = sym (h.not_modified e)
+
+pub carried-loaded : (copy : LineCopy) (c : ℕ → ℕ) → IsUpToDate copy c → (marks_of copy.state copy.marks).loaded ≡ copy.marks.loaded
+carried-loaded copy c h = pick (is_speculative copy.state) refl
+  where
+    pick : (b : Bool) → is_speculative copy.state ≡ b → (cond b copy.marks no_marks).loaded ≡ copy.marks.loaded
+    pick true e = refl
+    pick false e = sym (h.not_loaded e)

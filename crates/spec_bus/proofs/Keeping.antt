@@ -16,17 +16,19 @@ use Rattle.bus_states.specs.Messages.{IsRoom, message_of, is_busy}
 use Rattle.bus_states.specs.Speculative.{after_load, load_wait, after_store, store_wait}
 use Rattle.bus_states.specs.Straight.{after_publish, publish_violates, after_straight_load, straight_load_violates, after_straight_store, straight_store_violates}
 use Rattle.bus_states.specs.Views.{view_of, AreOrdered}
-use Rattle.bus_states.proofs.AccessRules.{may-access, load-loads, store-stores}
 use Rattle.bus_states.proofs.Accesses.{load-with, store-with}
 use Rattle.bus_states.proofs.AttemptRules.{begin-begins, leave-ends, cancel-ends}
 use Rattle.bus_states.proofs.Coherence.{coherent-with}
 use Rattle.bus_states.proofs.InLine.{lies-in_line}
+use Rattle.bus_states.proofs.LoadRule.{load-loads}
 use Rattle.bus_states.proofs.Ordered.{ordered-begins, ordered-ends, ordered-hurts, ordered-publishes, first-straight, runs-there}
 use Rattle.bus_states.proofs.PublishRule.{publish-publishes}
 use Rattle.bus_states.proofs.Publishing.{publish-with}
 use Rattle.bus_states.proofs.QuietCalls.{begin-with, leave-with, cancel-with}
+use Rattle.bus_states.proofs.StoreRule.{store-stores}
 use Rattle.bus_states.proofs.StraightAccesses.{first-free, straight_load-with, straight_store-with}
 use Rattle.bus_states.proofs.StraightRules.{may-access_straight, straight_load-loads_straight, straight_store-stores_straight}
+use Rattle.bus_states.proofs.Taking.{may-access}
 use Rattle.spec_bus.specs.declared.parts.Parts.{Parts}
 use Rattle.spec_bus.specs.Answers.{MatchAnswer, IsLoaded, IsStored}
 use Rattle.spec_bus.specs.CachedInside
