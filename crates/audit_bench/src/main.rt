@@ -34,13 +34,13 @@ fn main(rt: HostRuntime) -> io::Result<()> {
         .and_then(|word| word.as_str().parse::<u32>().ok());
     let is_text = words.next().is_some();
     let Some(times) = times else {
-        return eprintln!(rt; "usage: audit_bench TIMES [text]");
+        return failed(&rt, "usage: audit_bench TIMES [text]");
     };
     let Ok(bytes) = read_input(rt.alloc(), &mut rt.stdin(), LONGEST) else {
-        return eprintln!(rt; "no input");
+        return failed(&rt, "no input");
     };
     let Some(entries) = entries_of(rt.alloc(), bytes.as_slice()) else {
-        return eprintln!(rt; "no history");
+        return failed(&rt, "no history");
     };
     let count = entries.len();
     println!(rt; "{count} entries")?;
@@ -51,9 +51,15 @@ fn main(rt: HostRuntime) -> io::Result<()> {
     }
 }
 
+/// Says why nothing was measured, and fails.
+fn failed(rt: &HostRuntime, why: &str) -> io::Result<()> {
+    eprintln!(rt; "{why}")?;
+    Err(io::Error::from(io::ErrorKind::Other))
+}
+
 fn measure_audit(rt: &HostRuntime, entries: &[Entry], times: u32) -> io::Result<()> {
     let Ok(image) = image_of(rt.alloc(), IMAGE.as_bytes()) else {
-        return eprintln!(rt; "no image");
+        return failed(rt, "no image");
     };
     let begun = rt.thread_cpu_time()?;
     let mut answer = None;
@@ -74,7 +80,7 @@ fn measure_text(rt: &HostRuntime, entries: &[Entry], times: u32) -> io::Result<(
     let begun = rt.thread_cpu_time()?;
     for _ in 0..times {
         let Ok(printed) = print_trace(rt.alloc(), CORES, entries) else {
-            return eprintln!(rt; "no memory");
+            return failed(rt, "no memory");
         };
         text = printed;
     }
@@ -83,7 +89,7 @@ fn measure_text(rt: &HostRuntime, entries: &[Entry], times: u32) -> io::Result<(
     for _ in 0..times {
         match read_trace(rt.alloc(), text.as_slice(), Version::One) {
             Ok((_, read)) if read.as_slice() == entries => {}
-            _ => return eprintln!(rt; "another history"),
+            _ => return failed(rt, "another history"),
         }
     }
     let reading = rt.thread_cpu_time()?.saturating_sub(begun).as_nanos();

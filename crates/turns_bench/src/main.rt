@@ -31,15 +31,21 @@ fn main(rt: HostRuntime) -> io::Result<()> {
         .skip(1)
         .map(|word| word.as_str().parse::<u32>().ok());
     let (Some(Some(turns)), Some(Some(times))) = (numbers.next(), numbers.next()) else {
-        return eprintln!(rt; "usage: turns_bench TURNS TIMES");
+        return failed(&rt, "usage: turns_bench TURNS TIMES");
     };
     let Ok(image) = image_of(rt.alloc(), IMAGE.as_bytes()) else {
-        return eprintln!(rt; "no image");
+        return failed(&rt, "no image");
     };
     let Ok(schedule) = schedule_of(rt.alloc(), turns) else {
-        return eprintln!(rt; "no memory");
+        return failed(&rt, "no memory");
     };
     measure(&rt, &image, schedule.as_slice(), times)
+}
+
+/// Says why nothing was measured, and fails.
+fn failed(rt: &HostRuntime, why: &str) -> io::Result<()> {
+    eprintln!(rt; "{why}")?;
+    Err(io::Error::from(io::ErrorKind::Other))
 }
 
 /// Takes the turns so many times, and prints what the last book holds and the nanoseconds of all.
@@ -49,7 +55,7 @@ fn measure(rt: &HostRuntime, image: &Image, schedule: &[u32], times: u32) -> io:
     let mut taken = 0_u128;
     for time in 0..times {
         let Some(nanoseconds) = take_turns(rt, image, schedule, time + 1 == times)? else {
-            return eprintln!(rt; "the loop ended, or there was no room for it");
+            return failed(rt, "the loop ended, or there was no room for it");
         };
         taken = taken.wrapping_add(nanoseconds);
     }
