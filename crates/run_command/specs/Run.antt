@@ -21,7 +21,7 @@ use Rattle.trace_commands.specs.declared.outcome.Outcome.{Outcome}
 use Rattle.trace_commands.specs.declared.outcome.Outcome.TheVariants.{Reported, Usage, BadImage, Stopped}
 use Rattle.trace_commands.specs.declared.outcome.StopCause.{StopCause}
 use Rattle.trace_commands.specs.declared.outcome.StopCause.TheVariants.{Write, NoMemory, HistoryFull, NoThread, Spent, Shut}
-use Rattle.trace_commands.specs.Outcome.{AppendsPrefix, IsRefusal, error_line, status_of}
+use Rattle.trace_commands.specs.Outcome.{Conclusion, AppendsPrefix, IsRefusal}
 use Rattle.trace_commands.specs.Report.{report_of}
 use Rattle.run_command.specs.declared.options.RunOptions.{RunOptions}
 
@@ -99,7 +99,6 @@ IsRunOutcome options text old new (BadImage fault) = IsRefusal fault.kind fault 
 IsRunOutcome options text old new (Stopped NoMemory) = Keeps old new
 IsRunOutcome options text old new outcome = MatchResult (image_text text) (λ image. IsImageOutcome options image old new outcome) (λ fault. ⊥)
 
--- what `run` answers for an input: an outcome that is right, with its status, and its line or a prefix on the error stream
+-- what `run` answers for an input
 abbrev pub RunAnswers : RunOptions → List ℕ → Option (List ℕ) → Option (List ℕ) → Option (List ℕ) → Option (List ℕ) → ℕ → Type 0
-RunAnswers options text old new errors errors' status =
-    (outcome : Outcome) × IsRunOutcome options text old new outcome × (status ≡ status_of outcome) × AppendsPrefix errors errors' (error_line outcome)
+RunAnswers options text old new errors errors' status = Conclusion (IsRunOutcome options text old new) errors errors' status

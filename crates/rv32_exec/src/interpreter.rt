@@ -1,5 +1,6 @@
-ghost use Rattle.std.specs.Prelude.{◌≡◌, ◌<◌, ◌≤◌, ◌+◌, ◌*◌, ◌%◌, ◌^◌, length};
+ghost use Rattle.std.specs.Prelude.{◌≡◌, ◌≢◌, ◌<◌, ◌≤◌, ◌+◌, ◌*◌, ◌%◌, ◌^◌, length};
 ghost use Rattle.rv32_exec.specs.Execute.{Stops, hart_effect};
+ghost use Rattle.rv32_exec.specs.Hart.{epoch_end};
 ghost use Rattle.rv32_exec.specs.Interpreter as spec;
 ghost use Rattle.rv32_exec.specs.NextEvent.{next_event};
 
@@ -41,13 +42,11 @@ pub(crate) fn run(image: &Image, x: &mut Registers, pc: u32, done: u64, bytes: &
         return Halt { pc, done, at };
     }
     let program = image.program();
-    // Registers of its own are nearer than those behind a reference.
-    let mut registers = *x;
     // Where it would meet the limit, and where it has to stop before that, if nothing jumps.
     let mut last = word + limit - done as usize;
     let mut end = last.min(program.len());
     while word < end {
-        match execute(&program[word], word, image, &mut registers, bytes) {
+        match execute(&program[word], word, image, x, bytes) {
             Next::Following => word += 1,
             Next::Jump(target) => {
                 last -= word + 1;
@@ -58,7 +57,6 @@ pub(crate) fn run(image: &Image, x: &mut Registers, pc: u32, done: u64, bytes: &
             Next::Misaligned | Next::Unmade(_) => break,
         }
     }
-    *x = registers;
     let pc = address(word);
     let done = (word + limit - last) as u64;
     let at = stop_of(image, x, word, done);
@@ -66,7 +64,7 @@ pub(crate) fn run(image: &Image, x: &mut Registers, pc: u32, done: u64, bytes: &
 }
 
 /// Where a hart stops at a word that it doesn't execute. With no memory at hand an instruction says so itself.
-#[inline(never)]
+#[inline]
 #[tactic(auto, unfolding(crate::specs::Execute::hart_effect))]
 fn stop_of(image: &Image, x: &mut Registers, word: usize, done: u64) -> Stop
     requires address { 4 * word < 2 ^ 32 }
@@ -74,10 +72,23 @@ fn stop_of(image: &Image, x: &mut Registers, word: usize, done: u64) -> Stop
     ensures kept { x.new ≡ x.old }
     ensures effect { hart_effect image.now (spec.hart x.old (4 * word) done) ≡ Stops result }
 {
-    let pc = address(word);
-    if pc == EPOCH_END {
+    if address(word) == EPOCH_END {
         return Stop::Ended;
     }
+    stop_inside(image, x, word, done)
+}
+
+/// The same, where the epoch hasn't ended: an access or a fault.
+#[inline(never)]
+#[tactic(auto, unfolding(crate::specs::Execute::hart_effect))]
+fn stop_inside(image: &Image, x: &mut Registers, word: usize, done: u64) -> Stop
+    requires address { 4 * word < 2 ^ 32 }
+    requires going { 4 * word ≢ epoch_end }
+    requires stops { spec.DoesStop (hart_effect image.now (spec.hart x.old (4 * word) done)) }
+    ensures kept { x.new ≡ x.old }
+    ensures effect { hart_effect image.now (spec.hart x.old (4 * word) done) ≡ Stops result }
+{
+    let pc = address(word);
     if done >= u64::from(image.limit()) {
         return fault(INSTRUCTION_LIMIT, pc);
     }

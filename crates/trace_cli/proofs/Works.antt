@@ -5,7 +5,7 @@ use Rattle.rv32_image.specs.Reading.{ForText}
 use Rattle.trace_commands.specs.declared.outcome.Outcome.{Outcome}
 use Rattle.trace_commands.specs.declared.outcome.Outcome.TheVariants.{Usage, Stopped}
 use Rattle.trace_commands.specs.declared.outcome.StopCause.TheVariants.{NoMemory}
-use Rattle.trace_commands.specs.Outcome.{AppendsPrefix, error_line, status_of}
+use Rattle.trace_commands.specs.Outcome.{Conclusion, AppendsPrefix, error_line, status_of}
 use Rattle.trace_cli.specs.declared.words.Request.{Request}
 use Rattle.trace_cli.specs.Request.{IsRequest}
 use Rattle.trace_cli.specs.Work.{Stream, IsDone, WorkAnswers}
@@ -21,19 +21,24 @@ kept known = record { old = known; new = known }
 pub no_command_answers : (room : ℕ) (input output : Option (List ℕ)) (errors : Stream) (outcome : Outcome) (status : ℕ)
     → (outcome ≡ Usage) ⊎ (outcome ≡ Stopped NoMemory) → status ≡ status_of outcome → AppendsPrefix errors.old errors.new (error_line outcome)
     → ForText input (λ text. WorkAnswers room text (kept input) (kept output) errors status)
-no_command_answers room None output errors outcome status which is line = ([], (outcome, inr (which, keeps_itself None, keeps_itself output), is, line))
-no_command_answers room (Some text) output errors outcome status which is line = (outcome, inr (which, keeps_itself (Some text), keeps_itself output), is, line)
+no_command_answers room None output errors outcome status which is line =
+    ([], record { outcome = outcome; output = inr (which, keeps_itself None, keeps_itself output); status = is; line = line })
+no_command_answers room (Some text) output errors outcome status which is line =
+    record { outcome = outcome; output = inr (which, keeps_itself (Some text), keeps_itself output); status = is; line = line }
 
--- what a command answers for a text, of whose outcome this holds
-abbrev pub AnswersSo : (List ℕ → Outcome → Type 0) → List ℕ → Stream → ℕ → Type 0
-AnswersSo P text errors status = (outcome : Outcome) × P text outcome × (status ≡ status_of outcome) × AppendsPrefix errors.old errors.new (error_line outcome)
+-- a command that was run answers for what it did
+answers_for : (P : Outcome → Type 0) (room : ℕ) (request : Request) (input output errors : Stream) (text : List ℕ) (status : ℕ) → IsRequest request
+    → ((outcome : Outcome) → P outcome → IsDone request room text input output outcome)
+    → Conclusion P errors.old errors.new status → WorkAnswers room text input output errors status
+answers_for P room request input output errors text status is done answers =
+    record { outcome = answers.outcome; output = inl (request, is, done answers.outcome answers.output); status = answers.status; line = answers.line }
 
 -- this command was run
 pub command_answers : (P : List ℕ → Outcome → Type 0) (room : ℕ) (request : Request) (old new : Option (List ℕ)) (output errors : Stream) (status : ℕ) → IsRequest request
     → ((text : List ℕ) (outcome : Outcome) → P text outcome → IsDone request room text (record { old = old; new = new }) output outcome)
-    → ForText old (λ text. AnswersSo P text errors status)
+    → ForText old (λ text. Conclusion (P text) errors.old errors.new status)
     → ForText old (λ text. WorkAnswers room text (record { old = old; new = new }) output errors status)
 command_answers P room request None new output errors status is done answers =
-    (answers.0, (answers.1.0, inl (request, is, done answers.0 answers.1.0 answers.1.1), answers.1.2, answers.1.3))
+    (answers.0, answers_for (P answers.0) room request (record { old = None; new = new }) output errors answers.0 status is (done answers.0) answers.1)
 command_answers P room request (Some text) new output errors status is done answers =
-    (answers.0, inl (request, is, done text answers.0 answers.1), answers.2, answers.3)
+    answers_for (P text) room request (record { old = Some text; new = new }) output errors text status is (done text) answers

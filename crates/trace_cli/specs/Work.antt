@@ -8,7 +8,7 @@ use Rattle.trace_commands.specs.declared.outcome.Outcome.{Outcome}
 use Rattle.trace_commands.specs.declared.outcome.Outcome.TheVariants.{Usage, Stopped}
 use Rattle.trace_commands.specs.declared.outcome.StopCause.TheVariants.{NoMemory}
 use Rattle.trace_commands.specs.Audit.{IsAuditOutcome}
-use Rattle.trace_commands.specs.Outcome.{AppendsPrefix, IsSeqOutcome, error_line, status_of}
+use Rattle.trace_commands.specs.Outcome.{Conclusion, IsSeqOutcome}
 use Rattle.run_command.specs.Run.{IsRunOutcome}
 use Rattle.trace_cli.specs.declared.words.Request.{Request}
 use Rattle.trace_cli.specs.declared.words.Request.TheVariants.{Seq, Run, Audit}
@@ -37,9 +37,7 @@ IsCommand room text input output outcome = (request : Request) × IsRequest requ
 abbrev pub IsNoCommand : Stream → Stream → Outcome → Type 0
 IsNoCommand input output outcome = ((outcome ≡ Usage) ⊎ (outcome ≡ Stopped NoMemory)) × Keeps input.old input.new × Keeps output.old output.new
 
--- what the program answers for a text, with so much room for a history: one of these, with its status, and its line or a prefix of it
--- on the error stream
+-- what the program answers for a text, with so much room for a history
 abbrev pub WorkAnswers : ℕ → List ℕ → Stream → Stream → Stream → ℕ → Type 0
 WorkAnswers room text input output errors status =
-    (outcome : Outcome) × (IsCommand room text input output outcome ⊎ IsNoCommand input output outcome)
-    × (status ≡ status_of outcome) × AppendsPrefix errors.old errors.new (error_line outcome)
+    Conclusion (λ outcome. IsCommand room text input output outcome ⊎ IsNoCommand input output outcome) errors.old errors.new status

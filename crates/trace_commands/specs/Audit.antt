@@ -19,7 +19,7 @@ use Rattle.trace_commands.specs.declared.outcome.Outcome.TheVariants.{Audited, B
 use Rattle.trace_commands.specs.declared.outcome.StopCause.TheVariants.{Write, NoMemory}
 use Rattle.trace_commands.specs.declared.outcome.Verdict.{Verdict}
 use Rattle.trace_commands.specs.declared.outcome.Verdict.TheVariants.{Legal, Illegal}
-use Rattle.trace_commands.specs.Outcome.{AppendsPrefix, error_line, status_of}
+use Rattle.trace_commands.specs.Outcome.{Conclusion, AppendsPrefix}
 
 abbrev pub verdict_line : Verdict → List ℕ
 verdict_line (Legal entries homefree) = codes "legal " ++ decimal entries ++ codes " " ++ decimal homefree ++ codes "\n"
@@ -58,7 +58,6 @@ IsAuditOutcome text old new (Audited verdict) = IsVerdictOn text verdict × Appe
 IsAuditOutcome text old new (Stopped Write) = (verdict : Verdict) × IsVerdictOn text verdict × AppendsPrefix old new (verdict_line verdict)
 IsAuditOutcome text old new outcome = IsNoVerdict text outcome × Keeps old new
 
--- what `audit` answers for an input: an outcome that is right, with its status, and its line or a prefix on the error stream
+-- what `audit` answers for an input
 abbrev pub AuditAnswers : List ℕ → Option (List ℕ) → Option (List ℕ) → Option (List ℕ) → Option (List ℕ) → ℕ → Type 0
-AuditAnswers text old new errors errors' status =
-    (outcome : Outcome) × IsAuditOutcome text old new outcome × (status ≡ status_of outcome) × AppendsPrefix errors errors' (error_line outcome)
+AuditAnswers text old new errors errors' status = Conclusion (IsAuditOutcome text old new) errors errors' status

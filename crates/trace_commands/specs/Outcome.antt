@@ -108,7 +108,17 @@ IsImageOutcome image old new (Stopped Write) = AppendsPrefix old new (report_of 
 IsImageOutcome image old new (Stopped NoMemory) = Keeps old new
 IsImageOutcome image old new other = ⊥
 
--- what `seq` answers for an input: an outcome that is right, with its status, and its line or a prefix on the error stream
+-- how a command concludes, whose right outcomes are these
+pub record Conclusion (Is : Outcome → Type 0) (errors errors' : Option (List ℕ)) (answer : ℕ) : Type 0 where
+  -- what the command came to
+  pub outcome : Outcome
+  -- that is right, and it wrote what belongs to it
+  pub output : Is outcome
+  -- the answer is its status
+  pub status : answer ≡ status_of outcome
+  -- the error stream has grown by its line, or by the first bytes of it
+  pub line : AppendsPrefix errors errors' (error_line outcome)
+
+-- what `seq` answers for an input
 abbrev pub SeqAnswers : List ℕ → Option (List ℕ) → Option (List ℕ) → Option (List ℕ) → Option (List ℕ) → ℕ → Type 0
-SeqAnswers text old new errors errors' status =
-    (outcome : Outcome) × IsSeqOutcome text old new outcome × (status ≡ status_of outcome) × AppendsPrefix errors errors' (error_line outcome)
+SeqAnswers text old new errors errors' status = Conclusion (IsSeqOutcome text old new) errors errors' status

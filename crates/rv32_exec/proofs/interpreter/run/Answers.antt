@@ -11,10 +11,10 @@ loop-word-preserved-in-Following c =
     let at = slice_get_read c.program-program.result.now _ c.loop-word.word c.index-program-word.result refl inside c.index-program-word.is in
     let done = c.loop-word.word + c.limit-limit.result - c.loop-word.last in
     let goes = c.in-Following.ensures done in record {
-      rest = rest-after c.args.image.now c.program-program.result.now c.loop-word.registers c.execute.new.x c.loop-word.word _ _ done _ _ _ c.loop-word.bytes c.execute.new.bytes
+      rest = rest-after c.args.image.now c.program-program.result.now c.loop-word.x c.execute.new.x c.loop-word.word _ _ done _ _ _ c.loop-word.bytes c.execute.new.bytes
           c.index-program-word.result _ c.limit-limit.ensures.limits c.program-program.ensures.program inside at
           (omega arith) (omega arith) (omega arith) (omega arith) goes.0 c.loop-word.invariant.rest;
-      event = λ none. event-after c.args.image.now c.program-program.result.now c.loop-word.registers c.execute.new.x c.loop-word.word _ _ done _
+      event = λ none. event-after c.args.image.now c.program-program.result.now c.loop-word.x c.execute.new.x c.loop-word.word _ _ done _
           c.index-program-word.result _ c.limit-limit.ensures.limits c.program-program.ensures.program inside at
           (omega arith) (omega arith) (omega arith) (goes.1 (omega (arith, none, c.loop-word.auto.bytes))) (c.loop-word.invariant.event none);
       address = omega arith;
@@ -33,10 +33,10 @@ loop-word-preserved c =
     let done = c.loop-word.word + c.limit-limit.result - c.loop-word.last in
     let goes = c.in-Jump.ensures done in
     let aligned = goes.2 in record {
-      rest = rw goes.1 (rest-after c.args.image.now c.program-program.result.now c.loop-word.registers c.execute.new.x c.loop-word.word _ _ done _ _ _ c.loop-word.bytes c.loop-word.bytes
+      rest = rw goes.1 (rest-after c.args.image.now c.program-program.result.now c.loop-word.x c.execute.new.x c.loop-word.word _ _ done _ _ _ c.loop-word.bytes c.loop-word.bytes
           c.index-program-word.result _ c.limit-limit.ensures.limits c.program-program.ensures.program inside at
-          (omega arith) (omega arith) (omega arith) (omega arith) (ap (after_effect (hart c.loop-word.registers (4 * c.loop-word.word) done) c.loop-word.bytes) goes.0) c.loop-word.invariant.rest);
-      event = λ none. event-after c.args.image.now c.program-program.result.now c.loop-word.registers c.execute.new.x c.loop-word.word _ _ done _
+          (omega arith) (omega arith) (omega arith) (omega arith) (ap (after_effect (hart c.loop-word.x (4 * c.loop-word.word) done) c.loop-word.bytes) goes.0) c.loop-word.invariant.rest);
+      event = λ none. event-after c.args.image.now c.program-program.result.now c.loop-word.x c.execute.new.x c.loop-word.word _ _ done _
           c.index-program-word.result _ c.limit-limit.ensures.limits c.program-program.ensures.program inside at
           (omega arith) (omega arith) (omega arith) goes.0 (c.loop-word.invariant.event none);
       address = omega arith;
@@ -58,13 +58,13 @@ stop_of-at-requires-2-clause-stops c =
     let done = c.loop-word.word + c.limit-limit.result - c.loop-word.last in
     elim c.loop-word-test.branch [
       | else-loop-word-test w ↦
-          (outside-over c.args.image.now (hart c.loop-word-test.registers (4 * c.loop-word.word) done) (grind (arith, w.loop-word-test.false, c.program-program.ensures.program.long))).0
+          (outside-over c.args.image.now (hart c.loop-word-test.x (4 * c.loop-word.word) done) (grind (arith, w.loop-word-test.false, c.program-program.ensures.program.long))).0
       | then-loop-word-test+in-Misaligned w ↦
           let inside : c.loop-word.word < length c.program-program.result.now = omega arith in
           let at = slice_get_read c.program-program.result.now _ c.loop-word.word w.index-program-word.result refl inside w.index-program-word.is in
-          let halt = halts c.args.image.now (hart c.loop-word.registers (4 * c.loop-word.word) done) c.loop-word.bytes _ _ _ _ (w.execute.ensures done) w.in-Misaligned.is in
-          let stops = kept-stops c.args.image.now c.program-program.result.now c.loop-word.registers c.loop-word.word done w.index-program-word.result _ c.program-program.ensures.program inside at refl halt.stops in
-          rw (w.registers-is, halt.same_x) (hart-stops c.args.image.now c.program-program.result.now c.loop-word.registers c.loop-word.word done c.limit-limit.ensures.limits c.program-program.ensures.program inside (omega arith) stops)
+          let halt = halts c.args.image.now (hart c.loop-word.x (4 * c.loop-word.word) done) c.loop-word.bytes _ _ _ _ (w.execute.ensures done) w.in-Misaligned.is in
+          let stops = kept-stops c.args.image.now c.program-program.result.now c.loop-word.x c.loop-word.word done w.index-program-word.result _ c.program-program.ensures.program inside at refl halt.stops in
+          rw (w.x-is, halt.same_x) (hart-stops c.args.image.now c.program-program.result.now c.loop-word.x c.loop-word.word done c.limit-limit.ensures.limits c.program-program.ensures.program inside (omega arith) stops)
     ]
 
 pub returns-then-done-limit-clause-whole : goal.returns-then-done-limit-clause-whole
@@ -76,24 +76,24 @@ returns-clause-whole c = λ whole.
     let done = c.loop-word.word + c.limit-limit.result - c.loop-word.last in
     stop-without _ _ c.stop_of-at-2.ensures.effect (elim c.loop-word-test.branch [
       | else-loop-word-test w ↦
-          (outside-over c.args.image.now (hart c.loop-word-test.registers (4 * c.loop-word.word) done) (grind (arith, w.loop-word-test.false, c.program-program.ensures.program.long))).1
+          (outside-over c.args.image.now (hart c.loop-word-test.x (4 * c.loop-word.word) done) (grind (arith, w.loop-word-test.false, c.program-program.ensures.program.long))).1
       | then-loop-word-test+in-Misaligned w ↦
           let inside : c.loop-word.word < length c.program-program.result.now = omega arith in
           let at = slice_get_read c.program-program.result.now _ c.loop-word.word w.index-program-word.result refl inside w.index-program-word.is in
-          let halt = halts c.args.image.now (hart c.loop-word.registers (4 * c.loop-word.word) done) c.loop-word.bytes _ _ _ _ (w.execute.ensures done) w.in-Misaligned.is in
-          let none = kept-without c.args.image.now c.program-program.result.now c.loop-word.registers c.loop-word.word done w.index-program-word.result _ c.program-program.ensures.program inside at refl
+          let halt = halts c.args.image.now (hart c.loop-word.x (4 * c.loop-word.word) done) c.loop-word.bytes _ _ _ _ (w.execute.ensures done) w.in-Misaligned.is in
+          let none = kept-without c.args.image.now c.program-program.result.now c.loop-word.x c.loop-word.word done w.index-program-word.result _ c.program-program.ensures.program inside at refl
           (halt.whole (c.loop-word.auto.bytes ∙ whole)) in
-          rw (w.registers-is, halt.same_x) (hart-without c.args.image.now c.program-program.result.now c.loop-word.registers c.loop-word.word done c.limit-limit.ensures.limits c.program-program.ensures.program inside (omega arith) none)
+          rw (w.x-is, halt.same_x) (hart-without c.args.image.now c.program-program.result.now c.loop-word.x c.loop-word.word done c.limit-limit.ensures.limits c.program-program.ensures.program inside (omega arith) none)
     ])
 
 -- a last instruction that isn't executed leaves all as it was
-kept : (c : goal.After-stop_of-at-2) → (c.loop-word-test.registers ≡ c.loop-word.registers) × (c.loop-word-test.bytes ≡ c.loop-word.bytes)
+kept : (c : goal.After-stop_of-at-2) → (c.loop-word-test.x ≡ c.loop-word.x) × (c.loop-word-test.bytes ≡ c.loop-word.bytes)
 kept c =
     elim c.loop-word-test.branch [
-      | else-loop-word-test w ↦ (w.registers-is, w.bytes-is)
+      | else-loop-word-test w ↦ (w.x-is, w.bytes-is)
       | then-loop-word-test+in-Misaligned w ↦
-          let halt = halts c.args.image.now (hart c.loop-word.registers (4 * c.loop-word.word) 0) c.loop-word.bytes _ _ _ _ (w.execute.ensures 0) w.in-Misaligned.is in
-          (w.registers-is ∙ halt.same_x, w.bytes-is ∙ halt.same_memory)
+          let halt = halts c.args.image.now (hart c.loop-word.x (4 * c.loop-word.word) 0) c.loop-word.bytes _ _ _ _ (w.execute.ensures 0) w.in-Misaligned.is in
+          (w.x-is ∙ halt.same_x, w.bytes-is ∙ halt.same_memory)
     ]
 
 pub returns-clause-rest : goal.returns-clause-rest

@@ -7,8 +7,8 @@ use Rattle.rv32_exec.proofs.interpreter.run.Given as goal
 -- what is left of the epoch, from here on, is what was left at the start
 abbrev pub invariant-loop-word : goal.invariant-loop-word
 invariant-loop-word l = record {
-  rest : after_steps l.image (l.last + 1 - l.word) (hart l.registers (4 * l.word) (l.word + l.limit - l.last)) l.bytes ≡ rest l.image (hart l.fn.x l.fn.pc l.fn.done) l.fn.bytes;
-  event : length l.fn.bytes ≡ 0 → next_event l.image (hart l.registers (4 * l.word) (l.word + l.limit - l.last)) ≡ next_event l.image (hart l.fn.x l.fn.pc l.fn.done);
+  rest : after_steps l.image (l.last + 1 - l.word) (hart l.x (4 * l.word) (l.word + l.limit - l.last)) l.bytes ≡ rest l.image (hart l.fn.x l.fn.pc l.fn.done) l.fn.bytes;
+  event : length l.fn.bytes ≡ 0 → next_event l.image (hart l.x (4 * l.word) (l.word + l.limit - l.last)) ≡ next_event l.image (hart l.fn.x l.fn.pc l.fn.done);
   address : 4 * l.word < 2 ^ 32;
   before_last : l.word ≤ l.last;
   within : l.last ≤ l.word + l.limit;

@@ -1,7 +1,7 @@
 use Rattle.std.proofs.Common.{◌*◌, refl, arith, inl, inr}
 use Rattle.rv32_exec.specs.Interpreter.{hart}
 use Rattle.rv32_exec.proofs.Interpreting.{fetched}
-use Rattle.rv32_exec.proofs.interpreter.stop_of.Goals as goal
+use Rattle.rv32_exec.proofs.interpreter.stop_inside.Goals as goal
 
 pub unreachable-requires : goal.unreachable-requires
 unreachable-requires c =
