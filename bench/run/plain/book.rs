@@ -1,7 +1,7 @@
 //! The book: the history of the loop, the cores that it has led to, and their store.
 use crate::hart::{Arrived, Hart, Stop, loaded, stored};
 use crate::image::Image;
-use crate::store::{Hurt, Store};
+use crate::store::{Cores, Step, Store};
 
 /// What a turn came to.
 pub enum Answer {
@@ -18,6 +18,7 @@ enum What {
     Start(u32),
     Load { addr: u32, width: u32, value: u32 },
     Store { addr: u32, width: u32, value: u32 },
+    Publish,
     Hurt(u32),
     Cancel(u32),
     Restart,
@@ -36,6 +37,7 @@ struct Entry {
 struct Running {
     epoch: u32,
     hart: Hart,
+    straight: bool,
     hurt: bool,
 }
 
@@ -46,7 +48,7 @@ enum End {
     Fault { epoch: u32, cause: u32, pc: u32 },
 }
 
-pub struct Book<'a> {
+pub struct Book<'a, S> {
     image: &'a Image,
     history: Vec<Entry>,
     counts: [u64; 4],
@@ -54,13 +56,13 @@ pub struct Book<'a> {
     homefree: u32,
     next_epoch: u32,
     end: Option<End>,
-    store: Store,
+    store: S,
     room: usize,
     stopped: bool,
 }
 
-impl<'a> Book<'a> {
-    pub fn new(image: &'a Image, cores: usize, room: usize) -> Book<'a> {
+impl<'a, S: Store> Book<'a, S> {
+    pub fn new(image: &'a Image, cores: usize, room: usize) -> Book<'a, S> {
         Book {
             image,
             history: Vec::new(),
@@ -69,7 +71,7 @@ impl<'a> Book<'a> {
             homefree: 0,
             next_epoch: 0,
             end: (image.epochs == 0).then_some(End::Done(0)),
-            store: Store::new(image, cores),
+            store: S::new(image, cores),
             room,
             stopped: false,
         }
@@ -104,9 +106,9 @@ impl<'a> Book<'a> {
     }
 
     fn begin(&mut self, core: usize, epoch: u32) -> Answer {
-        self.store.begin(core);
+        self.store.begin(core, epoch);
         let hart = Hart::start(self.image, epoch);
-        self.running[core] = Some(Running { epoch, hart, hurt: false });
+        self.running[core] = Some(Running { epoch, hart, straight: false, hurt: false });
         Answer::Go(hart)
     }
 
@@ -127,23 +129,12 @@ impl<'a> Book<'a> {
 
     fn run(&mut self, core: usize, now: Running, arrived: &Arrived) -> Answer {
         match arrived.at {
-            Stop::Load { addr, width, .. } => {
-                let value = self.store.load(core, addr, width);
-                self.note(core, What::Load { addr, width, value });
-                self.counts[0] += 1;
-                self.go(core, now, loaded(arrived, value))
-            }
-            Stop::Store { addr, width, value } => {
-                self.store.store(core, addr, width, value);
-                self.note(core, What::Store { addr, width, value });
-                self.counts[1] += 1;
-                self.go(core, now, stored(arrived))
-            }
+            Stop::Load { addr, width, .. } => self.load(core, now, arrived, addr, width),
+            Stop::Store { addr, width, value } => self.store(core, now, arrived, addr, width, value),
             _ if now.epoch != self.homefree => Answer::Again,
-            Stop::Ended => self.commit(core, arrived),
+            Stop::Ended => self.commit(core, now, arrived),
             Stop::Fault { cause, pc } => {
-                let hurt = self.store.publish(core);
-                self.hurt_all(core, hurt);
+                self.settle(core, now);
                 self.note(core, What::Fault { cause, pc });
                 self.end = Some(End::Fault { epoch: now.epoch, cause, pc });
                 Answer::Over
@@ -151,12 +142,48 @@ impl<'a> Book<'a> {
         }
     }
 
+    /// A load. Where the store lets it wait, the homefree core goes straight, and any other has to come again.
+    fn load(&mut self, core: usize, now: Running, arrived: &Arrived, addr: u32, width: u32) -> Answer {
+        let mut now = now;
+        let step = if now.straight { Step::Wait } else { self.store.load(core, addr, width) };
+        let (value, hurt) = match step {
+            Step::Done { value, hurt } => (value, hurt),
+            Step::Wait if now.epoch != self.homefree => return Answer::Again,
+            Step::Wait => {
+                now = self.go_straight(core, now);
+                self.store.straight_load(core, addr, width)
+            }
+        };
+        self.hurt_all(core, hurt);
+        self.note(core, What::Load { addr, width, value });
+        self.counts[0] += 1;
+        self.go(core, now, loaded(arrived, value))
+    }
+
+    /// A store. Where the store of epochs lets it wait, the homefree core goes straight, and any other has to come again.
+    fn store(&mut self, core: usize, now: Running, arrived: &Arrived, addr: u32, width: u32, value: u32) -> Answer {
+        let mut now = now;
+        let step = if now.straight { Step::Wait } else { self.store.store(core, addr, width, value) };
+        let hurt = match step {
+            Step::Done { hurt, .. } => hurt,
+            Step::Wait if now.epoch != self.homefree => return Answer::Again,
+            Step::Wait => {
+                now = self.go_straight(core, now);
+                self.store.straight_store(core, addr, width, value)
+            }
+        };
+        self.hurt_all(core, hurt);
+        self.note(core, What::Store { addr, width, value });
+        self.counts[1] += 1;
+        self.go(core, now, stored(arrived))
+    }
+
     fn go(&mut self, core: usize, now: Running, hart: Hart) -> Answer {
         self.running[core] = Some(Running { hart, ..now });
         Answer::Go(hart)
     }
 
-    fn hurt_all(&mut self, core: usize, hurt: Hurt) {
+    fn hurt_all(&mut self, core: usize, hurt: Cores) {
         for k in (0..self.running.len()).filter(|&k| hurt >> k & 1 == 1) {
             let running = self.running[k].as_mut().unwrap();
             running.hurt = true;
@@ -165,17 +192,27 @@ impl<'a> Book<'a> {
         }
     }
 
-    fn commit(&mut self, core: usize, arrived: &Arrived) -> Answer {
-        let hurt = self.store.publish(core);
-        self.hurt_all(core, hurt);
+    /// The homefree core publishes, unless it is straight.
+    fn settle(&mut self, core: usize, now: Running) {
+        if !now.straight {
+            let hurt = self.store.publish(core);
+            self.hurt_all(core, hurt);
+        }
+    }
+
+    fn go_straight(&mut self, core: usize, now: Running) -> Running {
+        if !now.straight {
+            self.settle(core, now);
+            self.note(core, What::Publish);
+        }
+        Running { straight: true, ..now }
+    }
+
+    fn commit(&mut self, core: usize, now: Running, arrived: &Arrived) -> Answer {
+        self.settle(core, now);
         if arrived.now.exits(self.image) {
             self.end = Some(End::Exit(self.homefree));
-            for k in (0..self.running.len()).filter(|&k| k != core) {
-                if let Some(other) = self.running[k].take() {
-                    self.store.leave(k);
-                    self.note(core, What::Cancel(other.epoch));
-                }
-            }
+            self.cancel_others(core);
         }
         self.note(core, What::Commit);
         self.counts[3] += 1;
@@ -186,6 +223,17 @@ impl<'a> Book<'a> {
             self.end = Some(End::Done(self.homefree));
         }
         if self.end.is_some() { Answer::Over } else { Answer::Left }
+    }
+
+    fn cancel_others(&mut self, core: usize) {
+        for k in (0..self.running.len()).filter(|&k| k != core) {
+            if let Some(other) = self.running[k].take() {
+                if !other.hurt {
+                    self.store.cancel(k);
+                }
+                self.note(core, What::Cancel(other.epoch));
+            }
+        }
     }
 
     pub fn entries(&self) -> usize {
@@ -199,7 +247,8 @@ impl<'a> Book<'a> {
             End::Exit(epoch) => format!("end exit {epoch}\n"),
             End::Fault { epoch, cause, pc } => format!("end fault {epoch} {cause} {pc:08x}\n"),
         };
-        let rows = self.store.committed.chunks(16).zip(image.bytes.chunks(16));
+        let committed = self.store.committed();
+        let rows = committed.chunks(16).zip(image.bytes.chunks(16));
         for (i, (now, _)) in rows.enumerate().filter(|(_, (now, before))| now != before) {
             let digits: String = now.iter().map(|byte| format!("{byte:02x}")).collect();
             text += &format!("at {:08x} {digits}\n", 16 * i);

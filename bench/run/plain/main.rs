@@ -1,13 +1,16 @@
 //! The peer of `run`: the same machine in plain Rust, as a good Rust programmer writes it for this measurement.
-//! `plain (fifo | mutex) CORES` runs the image on standard input speculatively, one thread per core, and prints the report of
-//! `trace_cli run` and the number of entries of its history. The book, its turns, its store and the waiting of its cores are
-//! those of the proved machine; the lock is a ticket lock with the same waiting, or the standard library's mutex.
+//! `plain (fifo | mutex) (caches | store) CORES` runs the image on standard input speculatively, one thread per core, and prints
+//! the report of `trace_cli run` and the number of entries of its history. The book, its turns, its caches or plain store, and the
+//! waiting of its cores are those of the proved machine; the lock is a ticket lock with the same waiting, or the standard
+//! library's mutex.
 mod backoff;
 mod book;
+mod caches;
 mod hart;
 mod image;
 #[path = "../../lock/lock.rs"]
 mod lock;
+mod plain_store;
 mod store;
 
 use std::io::Read;
@@ -16,41 +19,44 @@ use std::sync::Mutex;
 
 use backoff::Backoff;
 use book::{Answer, Book};
+use caches::Caches;
 use hart::advance;
 use image::Image;
 use lock::TicketLock;
+use plain_store::PlainStore;
+use store::Store;
 
 const ROOM: usize = 1_048_576;
 
 /// A lock that lends its value for one turn.
-trait Lock<'a>: Sync {
-    fn with<T>(&self, turn: impl FnOnce(&mut Book<'a>) -> T) -> T;
+trait Lock<T>: Sync {
+    fn with<R>(&self, turn: impl FnOnce(&mut T) -> R) -> R;
 
-    fn into_book(self) -> Book<'a>;
+    fn into_value(self) -> T;
 }
 
-impl<'a> Lock<'a> for TicketLock<Book<'a>> {
-    fn with<T>(&self, turn: impl FnOnce(&mut Book<'a>) -> T) -> T {
+impl<T: Send> Lock<T> for TicketLock<T> {
+    fn with<R>(&self, turn: impl FnOnce(&mut T) -> R) -> R {
         turn(&mut self.lock())
     }
 
-    fn into_book(self) -> Book<'a> {
+    fn into_value(self) -> T {
         self.into_inner()
     }
 }
 
-impl<'a> Lock<'a> for Mutex<Book<'a>> {
-    fn with<T>(&self, turn: impl FnOnce(&mut Book<'a>) -> T) -> T {
+impl<T: Send> Lock<T> for Mutex<T> {
+    fn with<R>(&self, turn: impl FnOnce(&mut T) -> R) -> R {
         turn(&mut self.lock().unwrap())
     }
 
-    fn into_book(self) -> Book<'a> {
+    fn into_value(self) -> T {
         self.into_inner().unwrap()
     }
 }
 
 /// The turns of one core, until the loop is over or the book is stopped.
-fn core_loop<'a>(lock: &impl Lock<'a>, image: &'a Image, core: usize) {
+fn core_loop<'a, S: Store>(lock: &impl Lock<Book<'a, S>>, image: &'a Image, core: usize) {
     let mut backoff = Backoff::new();
     let mut next = None;
     loop {
@@ -66,33 +72,42 @@ fn core_loop<'a>(lock: &impl Lock<'a>, image: &'a Image, core: usize) {
     }
 }
 
-fn run<'a>(lock: impl Lock<'a>, image: &'a Image, cores: usize) -> Book<'a> {
+fn run<'a, S: Store>(lock: impl Lock<Book<'a, S>>, image: &'a Image, cores: usize) -> Book<'a, S> {
     std::thread::scope(|scope| {
         for core in 0..cores {
             let lock = &lock;
             scope.spawn(move || core_loop(lock, image, core));
         }
     });
-    lock.into_book()
+    lock.into_value()
 }
 
-fn main() -> ExitCode {
-    let words: Vec<String> = std::env::args().skip(1).collect();
-    let (kind, cores) = (words[0].as_str(), words[1].parse().unwrap());
-    let mut text = String::new();
-    std::io::stdin().read_to_string(&mut text).unwrap();
-    let image = Image::read(&text);
-    let book = Book::new(&image, cores, ROOM);
+/// Runs the image behind this kind of lock over this kind of store, and prints what came of it.
+fn print_run<S: Store>(image: &Image, kind: &str, cores: usize) -> ExitCode {
+    let book = Book::<S>::new(image, cores, ROOM);
     let book = match kind {
-        "fifo" => run(TicketLock::new(book), &image, cores),
-        "mutex" => run(Mutex::new(book), &image, cores),
+        "fifo" => run(TicketLock::new(book), image, cores),
+        "mutex" => run(Mutex::new(book), image, cores),
         _ => return ExitCode::from(2),
     };
-    let Some(report) = book.report(&image) else {
+    let Some(report) = book.report(image) else {
         eprintln!("stopped HistoryFull");
         return ExitCode::from(3);
     };
     print!("{report}");
     println!("entries {}", book.entries());
     ExitCode::SUCCESS
+}
+
+fn main() -> ExitCode {
+    let words: Vec<String> = std::env::args().skip(1).collect();
+    let (kind, store, cores) = (words[0].as_str(), words[1].as_str(), words[2].parse().unwrap());
+    let mut text = String::new();
+    std::io::stdin().read_to_string(&mut text).unwrap();
+    let image = Image::read(&text);
+    match store {
+        "caches" => print_run::<Caches>(&image, kind, cores),
+        "store" => print_run::<PlainStore>(&image, kind, cores),
+        _ => ExitCode::from(2),
+    }
 }
