@@ -1,12 +1,12 @@
-ghost use Rattle.std.specs.Prelude.{◌≡◌, ◌<◌, IfOk, MatchResult, Some, None, if◌then◌else◌, nat_lt};
-ghost use Rattle.spec_history.specs.FlatState.{first_state};
+ghost use Rattle.std.specs.Prelude.{◌≡◌, ◌<◌, IfOk, MatchResult, Some, None, if◌then◌else◌, nat_lt, option_map, option_and_then};
+ghost use Rattle.spec_history.specs.FlatState.{first_state, arrival_of};
 ghost use Rattle.spec_history.specs.Replay.{replay};
 ghost use Rattle.spec_history.specs.View as spec;
 
 use crate::entry::Entry;
 use crate::illegal::Illegal;
 use crate::machine::Machine;
-use rv32_exec::{End, Image, NoMemory};
+use rv32_exec::{Arrived, End, Image, NoMemory};
 use std::alloc::Global;
 use std::marker::Model;
 
@@ -85,6 +85,34 @@ impl Flat {
         ensures { result ≡ (spec.state_in self.now).published }
     {
         self.machine.published
+    }
+
+    /// The epoch that a core runs, hurt or not, if it runs one.
+    pub fn epoch(&self, core: u32) -> Option<u32>
+        ensures { result ≡ option_map (λ c. c.epoch) ((spec.state_in self.now).cores core) }
+    {
+        self.machine.core(core)?.epoch()
+    }
+
+    /// The next event of the epoch that a core runs: its hart at its last entry, the hart at that event, and the event.
+    pub fn next_event(&self, core: u32) -> Option<Arrived>
+        ensures { result ≡ option_map (λ c. arrival_of self.now.image c.hart) ((spec.state_in self.now).cores core) }
+    {
+        self.machine.core(core)?.next_event()
+    }
+
+    /// The byte at an address that a core has stored and not committed, if there is one.
+    pub fn own(&self, core: u32, addr: u32) -> Option<u8>
+        ensures { result ≡ option_and_then (λ c. c.own addr) ((spec.state_in self.now).cores core) }
+    {
+        self.machine.core(core)?.own_byte(addr)
+    }
+
+    /// The byte at an address that a core has read from outside its own, with the value read, if there is one.
+    pub fn outside(&self, core: u32, addr: u32) -> Option<u8>
+        ensures { result ≡ option_and_then (λ c. c.outside addr) ((spec.state_in self.now).cores core) }
+    {
+        self.machine.core(core)?.outside_byte(addr)
     }
 
     /// How the loop ended, where it is over.
