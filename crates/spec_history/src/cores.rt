@@ -1,7 +1,7 @@
 ghost use Rattle.std.specs.Prelude.{◌≡◌, ◌<◌, ◌≤◌, ◌+◌, ◌^◌, ℕ, OnOk, IsSome, None, Some, length, slice_index, option_map, option_and_then, nat_lt, not, is_some, ◌==◌};
 ghost use Rattle.memory_bytes.specs.Bytes.{IsWidth, number_at};
 ghost use Rattle.memory_bytes.specs.Maps.{over};
-ghost use Rattle.memory_bytes.specs.Shadow.{byte_in};
+ghost use Rattle.memory_bytes.specs.Shadow.{byte_in, IsAmong};
 ghost use Rattle.rv32_image.specs.Image.{LoadedImage};
 ghost use Rattle.rv32_exec.specs.Arrival.{IsAtLoad, IsAtStore, after_loading};
 ghost use Rattle.rv32_exec.specs.Hart.{stepped};
@@ -188,6 +188,14 @@ impl Core {
             Some(_) => self.outside.get(addr),
             None => None,
         }
+    }
+
+    /// Addresses in memory that have each at which it has read a byte from outside its own.
+    pub(crate) fn outside_addresses(&self) -> &[u32]
+        ensures within { (image : LoadedImage) (place : ℕ) → spec.IsCoreOf image self.now → place < length result.now → slice_index result.now place < image.size }
+        ensures each { (a byte : ℕ) → option_and_then (λ c. c.outside a) (spec.core_of self.now) ≡ Some byte → IsAmong a result.now }
+    {
+        self.outside.touched()
     }
 
     /// Its epoch ends, and the loop with it.

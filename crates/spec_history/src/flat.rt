@@ -1,4 +1,5 @@
-ghost use Rattle.std.specs.Prelude.{◌≡◌, ◌<◌, IfOk, MatchResult, Some, None, if◌then◌else◌, nat_lt, option_map, option_and_then};
+ghost use Rattle.std.specs.Prelude.{◌≡◌, ◌<◌, ℕ, IfOk, MatchResult, Some, None, if◌then◌else◌, length, nat_lt, option_map, option_and_then, slice_index};
+ghost use Rattle.memory_bytes.specs.Shadow.{IsAmong};
 ghost use Rattle.spec_history.specs.FlatState.{first_state, arrival_of};
 ghost use Rattle.spec_history.specs.Replay.{replay};
 ghost use Rattle.spec_history.specs.View as spec;
@@ -113,6 +114,19 @@ impl Flat {
         ensures { result ≡ option_and_then (λ c. c.outside addr) ((spec.state_in self.now).cores core) }
     {
         self.machine.core(core)?.outside_byte(addr)
+    }
+
+    /// Addresses in memory that have each at which a core has read a byte from outside its own, in no order.
+    ///
+    /// They are as many as the core has read so far, so that who asks for all need not go through memory.
+    pub fn read_addresses(&self, core: u32) -> &[u32]
+        ensures within { (place : ℕ) → place < length result.now → slice_index result.now place < self.now.image.size }
+        ensures each { (a byte : ℕ) → option_and_then (λ c. c.outside a) ((spec.state_in self.now).cores core) ≡ Some byte → IsAmong a result.now }
+    {
+        match self.machine.core(core) {
+            Some(core) => core.outside_addresses(),
+            None => &[],
+        }
     }
 
     /// How the loop ended, where it is over.
