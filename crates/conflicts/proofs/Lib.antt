@@ -1,1 +1,4 @@
+mod Searching
+mod Listed
+mod Explaining
 mod Needed

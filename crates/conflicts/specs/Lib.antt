@@ -7,3 +7,5 @@ pub mod Explained
 pub mod Blame
 pub mod Fates
 pub mod Laws
+-- What the code asks of bytes and lines.
+pub mod Parties
