@@ -6,6 +6,8 @@ use Rattle.rv32_exec.specs.declared.sequential.End.{End}
 use Rattle.rv32_exec.specs.declared.sequential.End.TheVariants.{Done, Exit}
 use Rattle.rv32_image.specs.Image.{LoadedImage}
 use Rattle.rv32_exec.specs.Hart.{HartState, start_of}
+use Rattle.rv32_exec.specs.NextEvent.{next_event}
+use Rattle.rv32_exec.specs.Arrival.{Arrival}
 use Rattle.rv32_exec.specs.Sequential.{exits}
 use Rattle.memory_bytes.specs.Maps.{nothing}
 
@@ -46,6 +48,10 @@ begun image epoch = record {
   straight = false;
   hurt = false;
 }
+
+-- where a hart stops next, beside that hart
+abbrev pub arrival_of : LoadedImage → HartState → Arrival
+arrival_of image h = record { base = h; now = (next_event image h).now; at = (next_event image h).at }
 
 -- the loop is over once all of its epochs have committed
 abbrev pub end_at : LoadedImage → ℕ → Option End

@@ -1,12 +1,12 @@
-ghost use Rattle.std.specs.Prelude.{◌≡◌, ◌<◌, ◌≤◌, ◌+◌, ◌^◌, ℕ, OnOk, IsSome, None, Some, length, slice_index, option_map, nat_lt, not, is_some, ◌==◌};
+ghost use Rattle.std.specs.Prelude.{◌≡◌, ◌<◌, ◌≤◌, ◌+◌, ◌^◌, ℕ, OnOk, IsSome, None, Some, length, slice_index, option_map, option_and_then, nat_lt, not, is_some, ◌==◌};
 ghost use Rattle.memory_bytes.specs.Bytes.{IsWidth, number_at};
 ghost use Rattle.memory_bytes.specs.Maps.{over};
-ghost use Rattle.memory_bytes.specs.Shadow.{byte_in};
+ghost use Rattle.memory_bytes.specs.Shadow.{byte_in, IsAmong};
 ghost use Rattle.rv32_image.specs.Image.{LoadedImage};
 ghost use Rattle.rv32_exec.specs.Arrival.{IsAtLoad, IsAtStore, after_loading};
 ghost use Rattle.rv32_exec.specs.Hart.{stepped};
 ghost use Rattle.rv32_exec.specs.NextEvent.{next_event};
-ghost use Rattle.spec_history.specs.FlatState.{begun};
+ghost use Rattle.spec_history.specs.FlatState.{begun, arrival_of};
 ghost use Rattle.spec_history.specs.Effect as effect;
 ghost use Rattle.spec_history.specs.Refusal as refusal;
 ghost use Rattle.spec_history.specs.Cores as spec;
@@ -147,6 +147,55 @@ impl Core {
             Some(attempt) => Some(attempt.next.at()),
             None => None,
         }
+    }
+
+    /// The epoch that it runs, if it runs one.
+    pub(crate) fn epoch(&self) -> Option<u32>
+        ensures { result ≡ option_map (λ c. c.epoch) (spec.core_of self.now) }
+    {
+        match &self.attempt {
+            Some(attempt) => Some(attempt.epoch),
+            None => None,
+        }
+    }
+
+    /// The next event of its epoch.
+    pub(crate) fn next_event(&self) -> Option<Arrived>
+        ensures { (image : LoadedImage) → spec.IsCoreOf image self.now
+            → result ≡ option_map (λ c. arrival_of image c.hart) (spec.core_of self.now) }
+    {
+        match &self.attempt {
+            Some(attempt) => Some(attempt.next),
+            None => None,
+        }
+    }
+
+    /// The byte at an address that it has stored and not committed, if there is one.
+    pub(crate) fn own_byte(&self, addr: u32) -> Option<u8>
+        ensures { result ≡ option_and_then (λ c. c.own addr) (spec.core_of self.now) }
+    {
+        match &self.attempt {
+            Some(_) => self.own.get(addr),
+            None => None,
+        }
+    }
+
+    /// The byte at an address that it has read from outside its own, if there is one.
+    pub(crate) fn outside_byte(&self, addr: u32) -> Option<u8>
+        ensures { result ≡ option_and_then (λ c. c.outside addr) (spec.core_of self.now) }
+    {
+        match &self.attempt {
+            Some(_) => self.outside.get(addr),
+            None => None,
+        }
+    }
+
+    /// Addresses in memory that have each at which it has read a byte from outside its own.
+    pub(crate) fn outside_addresses(&self) -> &[u32]
+        ensures within { (image : LoadedImage) (place : ℕ) → spec.IsCoreOf image self.now → place < length result.now → slice_index result.now place < image.size }
+        ensures each { (a byte : ℕ) → option_and_then (λ c. c.outside a) (spec.core_of self.now) ≡ Some byte → IsAmong a result.now }
+    {
+        self.outside.touched()
     }
 
     /// Its epoch ends, and the loop with it.

@@ -1,12 +1,13 @@
-ghost use Rattle.std.specs.Prelude.{◌≡◌, ◌<◌, IfOk, MatchResult, Some, None, if◌then◌else◌, nat_lt};
-ghost use Rattle.spec_history.specs.FlatState.{first_state};
+ghost use Rattle.std.specs.Prelude.{◌≡◌, ◌<◌, ℕ, IfOk, MatchResult, Some, None, if◌then◌else◌, length, nat_lt, option_map, option_and_then, slice_index};
+ghost use Rattle.memory_bytes.specs.Shadow.{IsAmong};
+ghost use Rattle.spec_history.specs.FlatState.{first_state, arrival_of};
 ghost use Rattle.spec_history.specs.Replay.{replay};
 ghost use Rattle.spec_history.specs.View as spec;
 
 use crate::entry::Entry;
 use crate::illegal::Illegal;
 use crate::machine::Machine;
-use rv32_exec::{End, Image, NoMemory};
+use rv32_exec::{Arrived, End, Image, NoMemory};
 use std::alloc::Global;
 use std::marker::Model;
 
@@ -85,6 +86,47 @@ impl Flat {
         ensures { result ≡ (spec.state_in self.now).published }
     {
         self.machine.published
+    }
+
+    /// The epoch that a core runs, hurt or not, if it runs one.
+    pub fn epoch(&self, core: u32) -> Option<u32>
+        ensures { result ≡ option_map (λ c. c.epoch) ((spec.state_in self.now).cores core) }
+    {
+        self.machine.core(core)?.epoch()
+    }
+
+    /// The next event of the epoch that a core runs: its hart at its last entry, the hart at that event, and the event.
+    pub fn next_event(&self, core: u32) -> Option<Arrived>
+        ensures { result ≡ option_map (λ c. arrival_of self.now.image c.hart) ((spec.state_in self.now).cores core) }
+    {
+        self.machine.core(core)?.next_event()
+    }
+
+    /// The byte at an address that a core has stored and not committed, if there is one.
+    pub fn own(&self, core: u32, addr: u32) -> Option<u8>
+        ensures { result ≡ option_and_then (λ c. c.own addr) ((spec.state_in self.now).cores core) }
+    {
+        self.machine.core(core)?.own_byte(addr)
+    }
+
+    /// The byte at an address that a core has read from outside its own, with the value read, if there is one.
+    pub fn outside(&self, core: u32, addr: u32) -> Option<u8>
+        ensures { result ≡ option_and_then (λ c. c.outside addr) ((spec.state_in self.now).cores core) }
+    {
+        self.machine.core(core)?.outside_byte(addr)
+    }
+
+    /// Addresses in memory that have each at which a core has read a byte from outside its own, in no order.
+    ///
+    /// They are as many as the core has read so far, so that who asks for all need not go through memory.
+    pub fn read_addresses(&self, core: u32) -> &[u32]
+        ensures within { (place : ℕ) → place < length result.now → slice_index result.now place < self.now.image.size }
+        ensures each { (a byte : ℕ) → option_and_then (λ c. c.outside a) ((spec.state_in self.now).cores core) ≡ Some byte → IsAmong a result.now }
+    {
+        match self.machine.core(core) {
+            Some(core) => core.outside_addresses(),
+            None => &[],
+        }
     }
 
     /// How the loop ended, where it is over.

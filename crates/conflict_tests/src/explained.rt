@@ -1,0 +1,58 @@
+//! Worked histories and what explains their violations.
+
+use crate::rows::{BUFFER_FULL, BUFFER_FULL_VIOLATIONS, HISTOGRAM, HISTOGRAM_VIOLATIONS};
+use conflicts::{Explanation, Kind, Runner, explain};
+use rv32_exec::image_of;
+use std::test::*;
+use trace_text::{image_part, read_trace};
+
+/// The number at a place of a row. Where there is none, one that no row has.
+fn number(row: &str, place: usize) -> u32 {
+    row.split(' ')
+        .nth(place)
+        .and_then(|word| word.parse().ok())
+        .unwrap_or(u32::MAX)
+}
+
+fn kind_of(word: &str) -> Option<Kind> {
+    for (name, kind) in [
+        ("true", Kind::TrueSharing),
+        ("silent", Kind::SilentStore),
+        ("false", Kind::FalseSharing),
+        ("buffer", Kind::FullBuffer),
+        ("other", Kind::Unexplained),
+    ] {
+        if name == word {
+            return Some(kind);
+        }
+    }
+    None
+}
+
+fn explanation_of(row: &str) -> Option<Explanation> {
+    Some(Explanation {
+        place: number(row, 0) as usize,
+        kind: kind_of(row.split(' ').nth(1)?)?,
+        causer: Runner { core: number(row, 3), epoch: number(row, 4) },
+        victim: Runner { core: number(row, 6), epoch: number(row, 7) },
+        cause: Some(number(row, 9) as usize),
+        lost: u64::from(number(row, 11)),
+        entered: u64::from(number(row, 12)),
+    })
+}
+
+#[test]
+fn explains_worked_histories(rt: HostRuntime) -> Result<(), Fail> {
+    for (text, rows) in [(HISTOGRAM, HISTOGRAM_VIOLATIONS), (BUFFER_FULL, BUFFER_FULL_VIOLATIONS)] {
+        let text = text.as_bytes();
+        let image = image_of(rt.alloc(), image_part(text))?;
+        let (cores, entries) = read_trace(rt.alloc(), text, image.version()).ok().ok_or("trace")?;
+        let found = explain(rt.alloc(), &image, cores, entries.as_slice()).ok().ok_or("history")?;
+        let wanted = rows.split('\n').filter(|row| !row.is_empty());
+        assert_eq!(rt; found.len(), rows.split('\n').filter(|row| !row.is_empty()).count());
+        for (explanation, row) in found.iter().zip(wanted) {
+            assert!(rt; Some(*explanation) == explanation_of(row), "{row}");
+        }
+    }
+    Ok(())
+}

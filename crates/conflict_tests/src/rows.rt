@@ -1,0 +1,227 @@
+//! Worked histories: an image with its trace, and the violations in it. Each row: the place and the kind, the core and the epoch that made it,
+//! the core and the epoch that were violated, the place of the cause, and the instructions lost and entered.
+
+/// A histogram: each epoch adds 1 to the bin that its sample names.
+pub const HISTOGRAM: &str = "\
+size 256\n\
+epochs 16\n\
+limit 100\n\
+code 93070003b387a70003c707009307000413172700b387e70003a707001307170023a0e70067800000\n\
+at 00000030 03010401050902060503050809070903\n\
+trace 3\n\
+0 start 0\n\
+0 load 00000030 1 00000003\n\
+0 load 0000004c 4 00000000\n\
+2 start 1\n\
+0 store 0000004c 4 00000001\n\
+1 start 2\n\
+0 commit\n\
+1 load 00000032 1 00000004\n\
+2 load 00000031 1 00000001\n\
+0 start 3\n\
+0 load 00000033 1 00000001\n\
+0 load 00000044 4 00000000\n\
+1 load 00000050 4 00000000\n\
+1 store 00000050 4 00000001\n\
+0 store 00000044 4 00000001\n\
+2 load 00000044 4 00000000\n\
+2 hurt 3\n\
+2 store 00000044 4 00000001\n\
+0 restart\n\
+0 load 00000033 1 00000001\n\
+2 commit\n\
+2 start 4\n\
+1 commit\n\
+2 load 00000034 1 00000005\n\
+1 start 5\n\
+2 load 00000054 4 00000000\n\
+0 load 00000044 4 00000001\n\
+0 store 00000044 4 00000002\n\
+0 commit\n\
+2 store 00000054 4 00000001\n\
+1 load 00000035 1 00000009\n\
+2 commit\n\
+2 start 6\n\
+1 load 00000064 4 00000000\n\
+2 load 00000036 1 00000002\n\
+0 start 7\n\
+0 load 00000037 1 00000006\n\
+0 load 00000058 4 00000000\n\
+0 store 00000058 4 00000001\n\
+2 load 00000048 4 00000000\n\
+1 store 00000064 4 00000001\n\
+1 commit\n\
+1 start 8\n\
+1 load 00000038 1 00000005\n\
+1 load 00000054 4 00000001\n\
+2 store 00000048 4 00000001\n\
+2 commit\n\
+0 hurt 8\n\
+0 commit\n\
+0 start 9\n\
+1 restart\n\
+1 load 00000038 1 00000005\n\
+2 start 10\n\
+2 load 0000003a 1 00000005\n\
+0 load 00000039 1 00000003\n\
+2 load 00000054 4 00000001\n\
+1 load 00000054 4 00000001\n\
+1 hurt 10\n\
+1 store 00000054 4 00000002\n\
+2 restart\n\
+0 load 0000004c 4 00000001\n\
+2 load 0000003a 1 00000005\n\
+1 commit\n\
+2 load 00000054 4 00000002\n\
+1 start 11\n\
+1 load 0000003b 1 00000008\n\
+2 store 00000054 4 00000003\n\
+0 store 0000004c 4 00000002\n\
+0 commit\n\
+2 commit\n\
+1 load 00000060 4 00000000\n\
+1 store 00000060 4 00000001\n\
+1 commit\n\
+0 start 12\n\
+0 load 0000003c 1 00000009\n\
+1 start 13\n\
+0 load 00000064 4 00000001\n\
+0 store 00000064 4 00000002\n\
+2 start 14\n\
+2 load 0000003e 1 00000009\n\
+1 load 0000003d 1 00000007\n\
+2 load 00000064 4 00000001\n\
+1 load 0000005c 4 00000000\n\
+2 store 00000064 4 00000002\n\
+1 store 0000005c 4 00000001\n\
+0 hurt 14\n\
+0 commit\n\
+0 start 15\n\
+1 commit\n\
+2 restart\n\
+0 load 0000003f 1 00000003\n\
+0 load 0000004c 4 00000002\n\
+0 store 0000004c 4 00000003\n\
+2 load 0000003e 1 00000009\n\
+2 load 00000064 4 00000002\n\
+2 store 00000064 4 00000003\n\
+2 commit\n\
+0 commit\n\
+";
+
+pub const HISTOGRAM_VIOLATIONS: &str = "\
+16 true by 2 1 victim 0 3 cause 17 lost 10 9\n\
+47 false by 0 7 victim 1 8 cause 48 lost 8 7\n\
+57 true by 1 8 victim 2 10 cause 58 lost 8 7\n\
+85 true by 0 12 victim 2 14 cause 86 lost 10 9\n\
+";
+
+/// Epoch 0 loads from five lines, and every other epoch stores to them: buffers of four lines fill up.
+pub const BUFFER_FULL: &str = "\
+size 256\n\
+epochs 6\n\
+limit 100\n\
+code 630e05002320a0042328a0042320a0062328a0062320a00867800000832200048322000583220006832200078322000867800000\n\
+trace 4\n\
+2 start 0\n\
+2 load 00000040 4 00000000\n\
+3 start 1\n\
+0 start 2\n\
+1 start 3\n\
+3 store 00000040 4 00000001\n\
+2 load 00000050 4 00000000\n\
+3 store 00000050 4 00000001\n\
+3 store 00000060 4 00000001\n\
+0 store 00000040 4 00000002\n\
+1 store 00000040 4 00000003\n\
+3 store 00000070 4 00000001\n\
+1 store 00000050 4 00000003\n\
+2 load 00000060 4 00000000\n\
+3 store 00000080 4 00000001\n\
+1 store 00000060 4 00000003\n\
+2 load 00000070 4 00000000\n\
+0 store 00000050 4 00000002\n\
+2 hurt 1\n\
+2 load 00000080 4 00000000\n\
+1 store 00000070 4 00000003\n\
+2 commit\n\
+0 store 00000060 4 00000002\n\
+2 start 4\n\
+2 store 00000040 4 00000004\n\
+0 store 00000070 4 00000002\n\
+1 store 00000080 4 00000003\n\
+2 store 00000050 4 00000004\n\
+3 restart\n\
+0 hurt 3\n\
+0 store 00000080 4 00000002\n\
+1 restart\n\
+3 store 00000040 4 00000001\n\
+1 store 00000040 4 00000003\n\
+3 store 00000050 4 00000001\n\
+1 store 00000050 4 00000003\n\
+2 store 00000060 4 00000004\n\
+2 store 00000070 4 00000004\n\
+3 store 00000060 4 00000001\n\
+3 store 00000070 4 00000001\n\
+1 store 00000060 4 00000003\n\
+3 hurt 2\n\
+3 store 00000080 4 00000001\n\
+1 store 00000070 4 00000003\n\
+3 commit\n\
+3 start 5\n\
+2 store 00000080 4 00000004\n\
+1 hurt 4\n\
+1 store 00000080 4 00000003\n\
+2 restart\n\
+3 store 00000040 4 00000005\n\
+0 restart\n\
+3 store 00000050 4 00000005\n\
+3 store 00000060 4 00000005\n\
+0 store 00000040 4 00000002\n\
+0 store 00000050 4 00000002\n\
+0 store 00000060 4 00000002\n\
+0 store 00000070 4 00000002\n\
+3 store 00000070 4 00000005\n\
+0 hurt 3\n\
+0 store 00000080 4 00000002\n\
+0 commit\n\
+1 restart\n\
+3 store 00000080 4 00000005\n\
+1 store 00000040 4 00000003\n\
+1 store 00000050 4 00000003\n\
+2 store 00000040 4 00000004\n\
+1 store 00000060 4 00000003\n\
+1 store 00000070 4 00000003\n\
+1 hurt 5\n\
+1 store 00000080 4 00000003\n\
+2 store 00000050 4 00000004\n\
+3 restart\n\
+3 store 00000040 4 00000005\n\
+1 commit\n\
+3 store 00000050 4 00000005\n\
+3 store 00000060 4 00000005\n\
+3 store 00000070 4 00000005\n\
+2 store 00000060 4 00000004\n\
+3 store 00000080 4 00000005\n\
+2 store 00000070 4 00000004\n\
+2 hurt 5\n\
+2 store 00000080 4 00000004\n\
+2 commit\n\
+3 restart\n\
+3 store 00000040 4 00000005\n\
+3 store 00000050 4 00000005\n\
+3 store 00000060 4 00000005\n\
+3 store 00000070 4 00000005\n\
+3 store 00000080 4 00000005\n\
+3 commit\n\
+";
+
+pub const BUFFER_FULL_VIOLATIONS: &str = "\
+18 buffer by 2 0 victim 3 1 cause 19 lost 7 6\n\
+29 buffer by 0 2 victim 1 3 cause 30 lost 7 6\n\
+41 buffer by 3 1 victim 0 2 cause 42 lost 7 6\n\
+47 buffer by 1 3 victim 2 4 cause 48 lost 7 6\n\
+59 buffer by 0 2 victim 1 3 cause 60 lost 7 6\n\
+69 buffer by 1 3 victim 3 5 cause 70 lost 7 6\n\
+81 buffer by 2 4 victim 3 5 cause 82 lost 7 6\n\
+";

@@ -1,0 +1,4 @@
+mod Searching
+mod Listed
+mod Explaining
+mod Needed

@@ -1,0 +1,27 @@
+use Rattle.std.proofs.Common.{◌≡◌, ◌<◌, ◌&&◌, ◌∙◌, ℕ, true, length, nat_lt, not, sym, ap, arith, lt-ltb}
+use Rattle.spec_history.proofs.CoreStates.{also_at}
+use Rattle.conflicts.specs.Attempts.{entry_is}
+use Rattle.conflicts.specs.Conflict.{is_notice}
+use Rattle.conflicts.proofs.Searching.{first_at, first_none, and_no}
+use Rattle.conflicts.proofs.causes.next_act.Goals as goal
+
+pub returns-then-is_act : goal.returns-then-is_act
+returns-then-is_act c =
+    let entries = c.args.entries.now in
+    let acts = λ (k : ℕ). entry_is entries k (λ entry. not (is_notice entry.what)) in
+    let test = λ (k : ℕ). nat_lt c.args.place k && acts k in
+    let below : c.loop-j.j < length entries = omega (arith, c.loop-j-test.true) in
+    let after : c.args.place < c.loop-j.j = omega (arith, c.loop-j.auto.j) in
+    let passes : test c.loop-j.j ≡ true = ap (λ b. b && acts c.loop-j.j) (lt-ltb c.args.place c.loop-j.j after) ∙ sym c.if-is_act.ensures in
+    sym (first_at (length entries) test c.loop-j.j below passes c.loop-j.invariant)
+
+pub loop-j-preserved : goal.loop-j-preserved
+loop-j-preserved c =
+    let acts = λ (k : ℕ). entry_is c.args.entries.now k (λ entry. not (is_notice entry.what)) in
+    let fails = ap (λ b. nat_lt c.args.place c.loop-j.j && b) (sym c.if-is_act.ensures) ∙ and_no (nat_lt c.args.place c.loop-j.j) in
+    also_at (λ k. nat_lt c.args.place k && acts k) c.loop-j.j c.loop-j.invariant fails
+
+pub returns : goal.returns
+returns c =
+    sym (first_none (length c.args.entries.now) (λ k. nat_lt c.args.place k && entry_is c.args.entries.now k (λ entry. not (is_notice entry.what)))
+    (λ k below. c.loop-j.invariant k (omega (arith, below, c.loop-j-test.false))))

@@ -1,0 +1,48 @@
+use Rattle.std.proofs.Common.{◌≡◌, ◌<◌, ◌∙◌, Result, Ok, Err, OnOk, All, false, length, sym, ap, subst, inl, arith}
+use Rattle.std.specs.Result.{is_err}
+use Rattle.std.proofs.lemmas.Option.{slice_get-get_or}
+use Rattle.spec_history.specs.View.{state_in, cores_in}
+use Rattle.spec_history.proofs.Reaching.{no_entries, audited_more, audited_fault}
+use Rattle.conflicts.specs.Explained.{IsExplained, places_of}
+use Rattle.conflicts.proofs.Explaining.{no_places, each_more, explained_more, legal_in}
+use Rattle.conflicts.proofs.history.explain.Goals as goal
+
+pub loop-place-init : goal.loop-place-init
+loop-place-init c =
+    let empty = c.new-explanations.ensures.items in record {
+      image = c.in-Ok.ensures.image;
+      cores = c.in-Ok.ensures.cores;
+      replays = rw c.in-Ok.ensures.state (no_entries c.args.image.now c.args.cores);
+      each = ap places_of empty ∙ no_places c.args.entries.now;
+      explained = λ k d below. absurd (omega (arith, below, ap length empty));
+    }
+
+pub returns-in-Err-clause-legal : goal.returns-in-Err-clause-legal
+returns-in-Err-clause-legal c =
+    let was = c.loop-place.invariant in
+    let below : c.loop-place.place < length c.args.entries.now = omega (arith, c.loop-place-test.true) in
+    inl (audited_fault c.args.image.now c.args.cores c.args.entries.now c.loop-place.place c.in-Err.illegal _ c.loop-place.flat c.apply.new.self was.image was.cores was.replays below c.in-Err.ensures.answer)
+
+kept : {A B : Type 0} (r : Result A B) (P : Type 0) → is_err r ≡ false → OnOk r P → P
+kept (Ok x) P is on = on
+kept (Err e) P is on = absurd cc
+
+pub loop-place-preserved : goal.loop-place-preserved
+loop-place-preserved c =
+    let was = c.loop-place.invariant in
+    let same = c.in_default-apply.ensures.same in
+    let applied = c.in_default-apply.ensures.answer in
+    let entries = c.args.entries.now in
+    let place = c.loop-place.place in
+    let below : place < length entries = omega (arith, c.loop-place-test.true) in
+    let found = c.explanation_at-found.ensures in
+    let legal = legal_in c.args.image.now c.loop-place.flat.image c.args.cores (cores_in c.loop-place.flat) (state_in c.loop-place.flat) _ was.image was.cores applied.legal in
+    let there = found.found _ (slice_get-get_or entries place _ below) legal in
+    let grown = kept c.keep.result _ (sym c.is_err.ensures.value ∙ c.if-is_err.false) c.keep.ensures in record {
+      image = same.image ∙ was.image;
+      cores = same.cores ∙ was.cores;
+      replays = audited_more c.args.image.now c.args.cores entries place _ c.loop-place.flat c.apply.new.self was.image was.cores was.replays below applied;
+      each = ap places_of grown ∙ each_more c.args.image.now (state_in c.loop-place.flat) entries place c.loop-place.explanations.items c.explanation_at-found.result there found.explained was.each;
+      explained = subst (All (IsExplained c.args.image.now c.args.cores entries)) (sym grown)
+          (explained_more c.args.image.now c.args.cores (state_in c.loop-place.flat) entries place c.loop-place.explanations.items c.explanation_at-found.result was.replays found.explained was.explained);
+    }

@@ -1,0 +1,131 @@
+-- Which load and which store a violation is blamed on, and at which bytes.
+use Rattle.std.specs.Prelude.{◌≡◌, ◌⊎◌, ℕ, ◌+◌, ◌-◌, ◌*◌, ◌<◌, ◌≤◌, ◌==◌, ◌&&◌, Bool, true, false, List, Option, Some, None, is_some, option_and_then, option_map}
+use Rattle.rv32_image.specs.Image.{LoadedImage}
+use Rattle.rv32_image.specs.Version.{limits_of}
+use Rattle.rv32_exec.specs.Hart.{HartState}
+use Rattle.spec_history.specs.declared.entry.Entry.{Entry}
+use Rattle.spec_history.specs.declared.entry.What.{What}
+use Rattle.spec_history.specs.declared.entry.What.TheVariants.{Load, Store}
+use Rattle.spec_history.specs.Refusal.{any_below}
+use Rattle.conflicts.specs.declared.explanation.Kind.{Kind}
+use Rattle.conflicts.specs.declared.explanation.Kind.TheVariants.{TrueSharing, SilentStore, FalseSharing}
+use Rattle.conflicts.specs.Searches.{first_below}
+use Rattle.conflicts.specs.Attempts.{attempt_does, last_store, first_read, hart_before}
+use Rattle.conflicts.specs.Conflict.{Meeting, is_shared, is_changed, is_beside, line_of}
+
+-- a violation with its cause: where both stand in the history, who made it, who was violated, and the bytes that meet
+pub record Violation : Type 0 where
+  pub place : ℕ
+  pub causer : ℕ
+  pub victim : ℕ
+  pub cause : ℕ
+  pub what : What
+  pub kind : Kind
+  pub bytes : Meeting
+
+-- the bytes that can be blamed: those that change, else those that are written, else those beside what is written
+abbrev pub blamed_by : LoadedImage → Kind → Meeting → ℕ → Bool
+blamed_by image TrueSharing m a = is_changed m a
+blamed_by image SilentStore m a = is_shared m a
+blamed_by image FalseSharing m a = is_beside image m a
+blamed_by image kind m a = false
+
+abbrev pub can_be_blamed : LoadedImage → Violation → ℕ → Bool
+can_be_blamed image v a = blamed_by image v.kind v.bytes a
+
+abbrev pub is_place : Option ℕ → ℕ → Bool
+is_place None place = false
+is_place (Some other) place = other == place
+
+-- the victim's load that read a byte from outside first
+abbrev pub read_at : List Entry → Violation → ℕ → Option ℕ
+read_at entries v a = first_read entries v.victim v.place a
+
+-- the load to blame: the first that read one of the bytes, since the work from there on was wrong
+abbrev pub blamed_load : LoadedImage → List Entry → Violation → Option ℕ
+blamed_load image entries v = first_below v.place (λ j. any_below image.size (λ a. can_be_blamed image v a && is_place (read_at entries v a) j))
+
+-- the byte to blame: the lowest of those that this load read first
+abbrev pub blamed_byte : LoadedImage → List Entry → Violation → Option ℕ
+blamed_byte image entries v =
+    option_and_then (λ load. first_below image.size (λ a. can_be_blamed image v a && is_place (read_at entries v a) load)) (blamed_load image entries v)
+
+-- the store that gave a byte the value that the cause writes: the cause, or the last one before it is committed
+abbrev pub stored_by : List Entry → ℕ → ℕ → ℕ → What → ℕ → Option ℕ
+stored_by entries place causer cause (Store address width value) a = Some cause
+stored_by entries place causer cause what a = last_store entries causer place a
+
+abbrev pub store_to : List Entry → Violation → ℕ → Option ℕ
+store_to entries v a = stored_by entries v.place v.causer v.cause v.what a
+
+-- the lowest byte of a line that the cause writes
+abbrev pub written_in : LoadedImage → Meeting → ℕ → Option ℕ
+written_in image m line = first_below image.size (λ a. (line_of image a == line) && is_some (m.writes a))
+
+-- the store to blame for a byte: that to the byte itself, or, where only the line is shared, to the lowest byte of the line that is written
+abbrev pub store_beside : LoadedImage → List Entry → Violation → Kind → ℕ → Option ℕ
+store_beside image entries v FalseSharing a = option_and_then (store_to entries v) (written_in image v.bytes (line_of image a))
+store_beside image entries v kind a = store_to entries v a
+
+abbrev pub blamed_store : LoadedImage → List Entry → Violation → ℕ → Option ℕ
+blamed_store image entries v a = store_beside image entries v v.kind a
+
+-- the bytes that go with a blamed one: of all that are written and were read, or of those that were read in its line
+abbrev pub goes_with : LoadedImage → Kind → Meeting → ℕ → ℕ → Bool
+goes_with image FalseSharing m byte a = is_beside image m a && (line_of image a == line_of image byte)
+goes_with image kind m byte a = is_shared m a
+
+-- they have the same load and the same store
+abbrev pub is_alike : LoadedImage → List Entry → Violation → ℕ → ℕ → ℕ → ℕ → Bool
+is_alike image entries v byte load store a =
+    goes_with image v.kind v.bytes byte a && (is_place (read_at entries v a) load && is_place (blamed_store image entries v a) store)
+
+-- the longest run of neighbours that pass the test, around a byte
+pub record IsRun (test : ℕ → Bool) (byte address long : ℕ) : Type 0 where
+  pub from : address ≤ byte
+  pub before : byte < address + long
+  pub each : (a : ℕ) → address ≤ a → a < address + long → test a ≡ true
+  pub begins : (address ≡ 0) ⊎ (test (address - 1) ≡ false)
+  pub ends : test (address + long) ≡ false
+
+-- a load, a store, and the bytes at which they met
+pub record Blame : Type 0 where
+  pub load : ℕ
+  pub store : ℕ
+  pub address : ℕ
+  pub long : ℕ
+
+-- true and false sharing, and silent stores: the blamed load, the blamed store, and the run around the blamed byte
+pub record IsBlamed (image : LoadedImage) (entries : List Entry) (v : Violation) (b : Blame) : Type 0 where
+  pub byte : ℕ
+  pub byte_is : blamed_byte image entries v ≡ Some byte
+  pub load_is : blamed_load image entries v ≡ Some b.load
+  pub store_is : blamed_store image entries v byte ≡ Some b.store
+  pub run : IsRun (is_alike image entries v byte b.load b.store) byte b.address b.long
+
+-- the line of an access
+abbrev pub accessed_line : LoadedImage → What → Option ℕ
+accessed_line image (Load address width value) = Some (line_of image address)
+accessed_line image (Store address width value) = Some (line_of image address)
+accessed_line image what = None
+
+abbrev pub stores_in : LoadedImage → ℕ → What → Bool
+stores_in image line (Store address width value) = line_of image address == line
+stores_in image line what = false
+
+-- a full buffer: the victim's first store in the line stands in place of the load, the access that asked for the line in place of the store
+pub record IsBlamedBuffer (image : LoadedImage) (entries : List Entry) (v : Violation) (b : Blame) : Type 0 where
+  pub line : ℕ
+  pub line_is : accessed_line image v.what ≡ Some line
+  pub held : first_below v.place (attempt_does entries v.victim v.place (stores_in image line)) ≡ Some b.load
+  pub asked : b.store ≡ v.cause
+  pub address : b.address ≡ line * (limits_of image.version).line_length
+  pub long : b.long ≡ (limits_of image.version).line_length
+
+-- the instruction of an access, by its address
+abbrev pub instruction_of : LoadedImage → ℕ → List Entry → ℕ → Option ℕ
+instruction_of image count entries place = option_map (λ (h : HartState). h.pc) (hart_before image count entries place)
+
+-- how many instructions of the attempt came before the one of an access: what a checkpoint there would have saved
+abbrev pub done_before : LoadedImage → ℕ → List Entry → ℕ → Option ℕ
+done_before image count entries place = option_map (λ (h : HartState). h.done) (hart_before image count entries place)

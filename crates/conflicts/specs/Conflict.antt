@@ -1,0 +1,121 @@
+-- What a violation was about: its cause, the bytes that meet, and their lines.
+-- Source: true and false sharing are those of Torrellas, Lam and Hennessy, "False Sharing and Spatial Locality in
+-- Multiprocessor Caches", IEEE Transactions on Computers, 1994; a silent store is that of Lepak and Lipasti, "On the Value Locality of
+-- Store Instructions", ISCA 2000; the ownership required buffer is that of Steffan, Colohan, Zhai and Mowry, "A Scalable
+-- Approach to Thread-Level Speculation", ISCA 2000.
+use Rattle.std.specs.Prelude.{ℕ, ◌+◌, ◌*◌, ◌/◌, ◌==◌, ◌&&◌, not, Bool, true, false, List, length, Option, Some, None, is_some, nat_le, nat_lt, option_and_then, if◌then◌else◌}
+use Rattle.memory_bytes.specs.Maps.{nothing, over, stored}
+use Rattle.rv32_image.specs.Image.{LoadedImage}
+use Rattle.rv32_image.specs.Version.{limits_of}
+use Rattle.spec_history.specs.declared.entry.Entry.{Entry}
+use Rattle.spec_history.specs.declared.entry.What.{What}
+use Rattle.spec_history.specs.declared.entry.What.TheVariants.{Load, Store, Hurt, Cancel, Publish, Commit, Fault}
+use Rattle.spec_history.specs.FlatState.{CoreState, FlatState}
+use Rattle.spec_history.specs.Refusal.{any_below}
+use Rattle.conflicts.specs.declared.explanation.Kind.{Kind}
+use Rattle.conflicts.specs.declared.explanation.Kind.TheVariants.{TrueSharing, SilentStore, FalseSharing, FullBuffer, Unexplained}
+use Rattle.conflicts.specs.Searches.{first_below, count_below}
+use Rattle.conflicts.specs.Attempts.{entry_is}
+
+-- what a turn tells of other cores before it acts
+abbrev pub is_notice : What → Bool
+is_notice (Hurt epoch) = true
+is_notice (Cancel epoch) = true
+is_notice what = false
+
+-- what can violate a later epoch
+abbrev pub can_cause : What → Bool
+can_cause (Load address width value) = true
+can_cause (Store address width value) = true
+can_cause Publish = true
+can_cause Commit = true
+can_cause (Fault cause pc) = true
+can_cause what = false
+
+-- the first entry after a place that is no notice
+abbrev pub next_act : List Entry → ℕ → Option ℕ
+next_act entries place = first_below (length entries) (λ j. nat_lt place j && entry_is entries j (λ entry. not (is_notice entry.what)))
+
+-- the cause of the violation that a core makes at a place: the next act, if it is the core's and can violate
+abbrev pub cause_of : List Entry → ℕ → ℕ → Option ℕ
+cause_of entries place core =
+    option_and_then (λ j. if entry_is entries j (λ entry. (entry.by == core) && can_cause entry.what) then Some j else None) (next_act entries place)
+
+-- the bytes that a core has stored and not committed, and those that it has read from outside
+abbrev pub own_bytes : Option CoreState → ℕ → Option ℕ
+own_bytes core a = option_and_then (λ (c : CoreState). c.own a) core
+
+abbrev pub read_bytes : Option CoreState → ℕ → Option ℕ
+read_bytes core a = option_and_then (λ (c : CoreState). c.outside a) core
+
+-- the bytes that a core's cause gives a value: those of a store, or those that it commits; one that has published has none left to commit
+abbrev pub written : Option CoreState → What → ℕ → Option ℕ
+written causer (Store address width value) = stored address width value
+written causer Publish = own_bytes causer
+written causer Commit = own_bytes causer
+written causer (Fault cause pc) = own_bytes causer
+written causer what = nothing
+
+-- the bytes that meet in a violation: those that the cause writes, those that the victim has read, and those that it has stored
+pub record Meeting : Type 0 where
+  pub committed : ℕ → ℕ
+  pub writes : ℕ → Option ℕ
+  pub reads : ℕ → Option ℕ
+  pub stores : ℕ → Option ℕ
+
+-- the notices before a cause change no byte, so the state is that before the violation
+abbrev pub meeting : FlatState → ℕ → What → ℕ → Meeting
+meeting s causer cause victim = record {
+  committed = s.committed;
+  writes = written (s.cores causer) cause;
+  reads = read_bytes (s.cores victim);
+  stores = own_bytes (s.cores victim);
+}
+
+-- a byte that the cause writes and the victim has read
+abbrev pub is_shared : Meeting → ℕ → Bool
+is_shared m a = is_some (m.writes a) && is_some (m.reads a)
+
+-- one whose committed value is not the one that is written
+abbrev pub is_changed : Meeting → ℕ → Bool
+is_changed m a = not (over m.writes m.committed a == m.committed a) && is_some (m.reads a)
+
+-- the line of the caches in which a byte lies
+abbrev pub line_of : LoadedImage → ℕ → ℕ
+line_of image a = a / (limits_of image.version).line_length
+
+-- some byte of the line passes the test
+abbrev pub line_has : LoadedImage → ℕ → (ℕ → Bool) → Bool
+line_has image line test =
+    let long = (limits_of image.version).line_length in
+    any_below long (λ x. test (line * long + x))
+
+-- a byte that the victim has read, in a line that the cause writes
+abbrev pub is_beside : LoadedImage → Meeting → ℕ → Bool
+is_beside image m a = is_some (m.reads a) && line_has image (line_of image a) (λ b. is_some (m.writes b))
+
+-- the victim has stored in this line
+abbrev pub holds_line : LoadedImage → Meeting → ℕ → Bool
+holds_line image m line = line_has image line (λ a. is_some (m.stores a))
+
+-- the victim has stored in the line, and in as many other lines as its buffer takes
+abbrev pub is_full_at : LoadedImage → Meeting → ℕ → Bool
+is_full_at image m line =
+    let limits = limits_of image.version in
+    holds_line image m line
+    && nat_le limits.buffer_lines (count_below (image.size / limits.line_length) (λ other. not (other == line) && holds_line image m other))
+
+-- the cause is an access, in memory as all that are legal, to a line for which the victim's full buffer has no place
+abbrev pub is_crowded : LoadedImage → Meeting → What → Bool
+is_crowded image m (Load address width value) = nat_lt address image.size && is_full_at image m (line_of image address)
+is_crowded image m (Store address width value) = nat_lt address image.size && is_full_at image m (line_of image address)
+is_crowded image m what = false
+
+-- the first of these that the violation is
+abbrev pub kind_with : LoadedImage → Meeting → What → Kind
+kind_with image m cause =
+    if any_below image.size (is_changed m) then TrueSharing
+    else if any_below image.size (is_shared m) then SilentStore
+    else if any_below image.size (is_beside image m) then FalseSharing
+    else if is_crowded image m cause then FullBuffer
+    else Unexplained

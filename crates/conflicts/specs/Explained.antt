@@ -1,0 +1,59 @@
+-- What an explanation says, and the explanations of a history.
+use Rattle.std.specs.Prelude.{◌≡◌, ℕ, zero, suc, ◌++◌, List, [], ◌∷◌, map, take, Bool, true, false, Option, Some, None, option_and_then, option_map, slice_get, if◌then◌else◌}
+use Rattle.rv32_image.specs.Image.{LoadedImage}
+use Rattle.rv32_exec.specs.NextEvent.{next_event}
+use Rattle.spec_history.specs.declared.entry.Entry.{Entry}
+use Rattle.spec_history.specs.declared.entry.What.{What}
+use Rattle.spec_history.specs.declared.entry.What.TheVariants.{Hurt}
+use Rattle.spec_history.specs.FlatState.{CoreState, FlatState}
+use Rattle.spec_history.specs.Replay.{replay}
+use Rattle.conflicts.specs.declared.explanation.Explanation.{Explanation}
+use Rattle.conflicts.specs.declared.explanation.Kind.{Kind}
+use Rattle.conflicts.specs.declared.explanation.Kind.TheVariants.{Unexplained}
+use Rattle.conflicts.specs.Attempts.{entry_is}
+use Rattle.conflicts.specs.Conflict.{cause_of, kind_with, meeting}
+
+-- what the entry at this place says, if there is one
+abbrev pub what_at : List Entry → Option ℕ → Option What
+what_at entries place = option_and_then (λ j. option_map (λ (entry : Entry). entry.what) (slice_get entries j)) place
+
+-- the kind of a violation of one core by another, in the state before it, with this cause
+abbrev pub kind_of : LoadedImage → FlatState → ℕ → ℕ → Option What → Kind
+kind_of image s causer victim None = Unexplained
+kind_of image s causer victim (Some cause) = kind_with image (meeting s causer cause victim) cause
+
+-- the explanation is that of the violation at its place, in the state before it
+pub record IsExplainedIn (image : LoadedImage) (s : FlatState) (entries : List Entry) (e : Explanation) : Type 0 where
+  -- the causer and the victim are two cores, with the epochs that they run
+  pub causing : CoreState
+  pub causer_runs : s.cores e.causer.core ≡ Some causing
+  pub causer_epoch : e.causer.epoch ≡ causing.epoch
+  pub violated : CoreState
+  pub victim_runs : s.cores e.victim.core ≡ Some violated
+  pub victim_epoch : e.victim.epoch ≡ violated.epoch
+  -- the entry says so
+  pub entry : slice_get entries e.place ≡ Some (record { by = e.causer.core; what = Hurt e.victim.epoch })
+  pub cause : e.cause ≡ cause_of entries e.place e.causer.core
+  pub kind : e.kind ≡ kind_of image s e.causer.core e.victim.core (what_at entries e.cause)
+  -- the attempt learns of the violation at its next event
+  pub lost : e.lost ≡ (next_event image violated.hart).now.done
+  pub entered : e.entered ≡ violated.hart.done
+
+-- the entries before the violation replay, and the explanation is right for the state after them
+pub record IsExplained (image : LoadedImage) (count : ℕ) (entries : List Entry) (e : Explanation) : Type 0 where
+  pub before : FlatState
+  pub replays : replay image count (take e.place entries) ≡ Some before
+  pub explained : IsExplainedIn image before entries e
+
+abbrev pub is_hurt : What → Bool
+is_hurt (Hurt epoch) = true
+is_hurt what = false
+
+-- the places of the violations before this place, in order
+unfoldable pub violations_before : List Entry → ℕ → List ℕ
+violations_before entries zero = []
+violations_before entries (suc place) =
+    if entry_is entries place (λ entry. is_hurt entry.what) then violations_before entries place ++ place ∷ [] else violations_before entries place
+
+abbrev pub places_of : List Explanation → List ℕ
+places_of explanations = map (λ (e : Explanation). e.place) explanations

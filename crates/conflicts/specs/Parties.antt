@@ -1,0 +1,23 @@
+-- What the code asks of bytes and lines, and what that means.
+use Rattle.std.specs.Prelude.{ℕ, Bool, is_some}
+use Rattle.rv32_image.specs.Image.{LoadedImage}
+use Rattle.spec_history.specs.View.{FlatView, state_in}
+use Rattle.conflicts.specs.declared.meeting.Parties.{Parties}
+use Rattle.conflicts.specs.declared.meeting.ByteTest.{ByteTest}
+use Rattle.conflicts.specs.declared.meeting.ByteTest.TheVariants.{Changed, Shared, Beside}
+use Rattle.conflicts.specs.declared.meeting.LineTest.{LineTest}
+use Rattle.conflicts.specs.declared.meeting.LineTest.TheVariants.{Written, Stored}
+use Rattle.conflicts.specs.Conflict.{Meeting, meeting, is_changed, is_shared, is_beside}
+
+-- the bytes that meet
+abbrev pub meeting_in : FlatView → Parties → Meeting
+meeting_in flat parties = meeting (state_in flat) parties.causer parties.cause parties.victim
+
+abbrev pub passes : LoadedImage → Meeting → ByteTest → ℕ → Bool
+passes image m Changed a = is_changed m a
+passes image m Shared a = is_shared m a
+passes image m Beside a = is_beside image m a
+
+abbrev pub is_of : Meeting → LineTest → ℕ → Bool
+is_of m Written a = is_some (m.writes a)
+is_of m Stored a = is_some (m.stores a)

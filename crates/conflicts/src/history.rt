@@ -1,0 +1,126 @@
+//! The explanations of a history.
+
+ghost use Rattle.std.specs.Prelude.{◌≡◌, ◌<◌, ◌++◌, All, IfOk, IfSome, MatchResult, None, OnOk, Some, option_to_list, is_some, length, slice_get, true};
+ghost use Rattle.spec_history.specs.declared.entry.Entry.{Entry};
+ghost use Rattle.spec_history.specs.Refusal.{refusal_of};
+ghost use Rattle.spec_history.specs.Replay.{replay};
+ghost use Rattle.spec_history.specs.View.{IsAuditFault, cores_in, state_in};
+ghost use Rattle.conflicts.specs.Attempts.{entry_is};
+ghost use Rattle.conflicts.specs.Explained as spec;
+
+use crate::causes::{cause_of, core_at};
+use crate::explanation::{Explanation, Kind, Runner};
+use crate::meeting::Parties;
+use rv32_exec::Image;
+use spec_history::{Entry, Flat, Illegal, What};
+use std::alloc::{AllocError, Global};
+
+/// The explanations of the violations of a history on a machine of so many cores: one for each, in order.
+///
+/// An Err is that of an audit: the place, counted from 0, of the first entry that is refused, and its refusal. `NoMemory` has
+/// the place at which memory was refused, and the number of entries where there was none for the machine itself or for the
+/// explanations.
+pub fn explain(
+    alloc: Global,
+    image: &Image,
+    cores: u32,
+    entries: &[Entry],
+) -> Result<Vec<Explanation>, (usize, Illegal)>
+    ensures each_once { IfOk result (λ found. spec.places_of found.items ≡ spec.violations_before entries.now (length entries.now)) }
+    ensures explained { IfOk result (λ found. All (spec.IsExplained image.now cores entries.now) found.items) }
+    ensures legal { MatchResult result (λ _. is_some (replay image.now cores entries.now) ≡ true)
+        (λ fault. IsAuditFault image.now cores entries.now fault.0 fault.1) }
+{
+    let Ok(mut flat) = Flat::new(alloc, image, cores) else {
+        return Err((entries.len(), Illegal::NoMemory));
+    };
+    let mut explanations = Vec::new(alloc);
+    for (place, entry) in entries.iter().enumerate() {
+        let found = explanation_at(image, cores, &flat, entries, place);
+        if let Err(illegal) = flat.apply(*entry) {
+            return Err((place, illegal));
+        }
+        if keep(&mut explanations, found).is_err() {
+            return Err((entries.len(), Illegal::NoMemory));
+        }
+    }
+    Ok(explanations)
+}
+
+/// The list with an explanation at its end, if there is one.
+fn keep(explanations: &mut Vec<Explanation>, found: Option<Explanation>) -> Result<(), AllocError>
+    ensures { OnOk result (explanations.new.items ≡ explanations.old.items ++ option_to_list found) }
+{
+    if let Some(explanation) = found {
+        explanations.push(explanation)?;
+    }
+    Ok(())
+}
+
+/// The explanation of the violation at a place, if the entry there is one and can be.
+fn explanation_at(
+    image: &Image,
+    cores: u32,
+    flat: &Flat,
+    entries: &[Entry],
+    place: usize,
+) -> Option<Explanation>
+    requires image { flat.now.image ≡ image.now }
+    requires cores { cores_in flat.now ≡ cores }
+    requires place { place < length entries.now }
+    ensures explained { IfSome result (λ e. (e.place ≡ place) × spec.IsExplainedIn image.now (state_in flat.now) entries.now e) }
+    ensures found { (entry : Entry) → slice_get entries.now place ≡ Some entry → refusal_of image.now cores (state_in flat.now) entry ≡ None
+        → is_some result ≡ entry_is entries.now place (λ e. spec.is_hurt e.what) }
+{
+    let Entry { by, what } = entries[place];
+    let What::Hurt(epoch) = what else {
+        return None;
+    };
+    let victim = core_at(flat, cores, epoch)?;
+    let causing = flat.epoch(by)?;
+    let next = flat.next_event(victim)?;
+    let stop = next.now();
+    let last = next.base();
+    let cause = cause_of(entries, place, by);
+    Some(Explanation {
+        place,
+        causer: Runner {
+            core: by,
+            epoch: causing,
+        },
+        victim: Runner {
+            core: victim,
+            epoch,
+        },
+        cause,
+        kind: kind_of(image, flat, entries, by, victim, cause),
+        lost: stop.done(),
+        entered: last.done(),
+    })
+}
+
+/// What kind a violation of one core by another is, with this cause.
+fn kind_of(
+    image: &Image,
+    flat: &Flat,
+    entries: &[Entry],
+    causer: u32,
+    victim: u32,
+    cause: Option<usize>,
+) -> Kind
+    requires { flat.now.image ≡ image.now }
+    ensures { result ≡ spec.kind_of image.now (state_in flat.now) causer victim (spec.what_at entries.now cause) }
+{
+    let Some(place) = cause else {
+        return Kind::Unexplained;
+    };
+    let Some(entry) = entries.get(place) else {
+        return Kind::Unexplained;
+    };
+    Parties {
+        causer,
+        cause: entry.what,
+        victim,
+    }
+    .kind(image, flat)
+}

@@ -1,0 +1,23 @@
+//! What makes true sharing mean something, over the definitions alone: the function does nothing, and its contract is the law.
+
+ghost use Rattle.std.specs.Prelude.{◌≡◌, ℕ, List, Some, None, true};
+ghost use Rattle.rv32_image.specs.Image.{LoadedImage, IsImage};
+ghost use Rattle.spec_history.specs.declared.entry.Entry.{Entry};
+ghost use Rattle.spec_history.specs.declared.entry.What.{What};
+ghost use Rattle.spec_history.specs.declared.entry.What.TheVariants.{Hurt};
+ghost use Rattle.spec_history.specs.FlatState.{CoreState, FlatState};
+ghost use Rattle.spec_history.specs.Effect.{effect};
+ghost use Rattle.spec_history.specs.Refusal.{refusal_of};
+ghost use Rattle.spec_history.specs.Replay.{replay};
+ghost use Rattle.conflicts.specs.Laws.{commits, missed_by};
+
+/// Where a violation is followed by its cause, and the cause commits bytes: without the violation, the cause is refused with
+/// `HurtMissing` where the violation is true sharing, and else it is as legal as before.
+pub fn only_true_sharing_is_missed()
+    ensures { (image : LoadedImage) (cores : ℕ) (entries : List Entry) (s : FlatState) (by victim : ℕ) (violated : CoreState) (cause : What) → IsImage image
+        → replay image cores entries ≡ Some s → s.cores victim ≡ Some violated
+        → refusal_of image cores s (record { by = by; what = Hurt violated.epoch }) ≡ None
+        → refusal_of image cores (effect image s (record { by = by; what = Hurt violated.epoch })) (record { by = by; what = cause }) ≡ None
+        → commits (s.cores by) cause ≡ true
+        → refusal_of image cores s (record { by = by; what = cause }) ≡ missed_by image s by cause victim }
+{}

@@ -1,0 +1,222 @@
+//! The bytes that meet in a violation, and its kind.
+
+ghost use Rattle.std.specs.Prelude.{◌≡◌, ◌<◌, ◌≤◌, ◌+◌, ◌*◌, ◌/◌, ◌^◌, ◌==◌, ◌&&◌, not};
+ghost use Rattle.memory_bytes.specs.Maps.{stored};
+ghost use Rattle.rv32_image.specs.Version.{limits_of};
+ghost use Rattle.spec_history.specs.Refusal.{any_below};
+ghost use Rattle.conflicts.specs.Searches.{count_below};
+ghost use Rattle.conflicts.specs.Conflict as conflict;
+ghost use Rattle.conflicts.specs.Parties as spec;
+
+use crate::explanation::Kind;
+use rv32_exec::Image;
+use spec_history::{Flat, What};
+
+/// Who meets in a violation: the core that makes it, what that core does next, and the core that is violated.
+#[derive(Clone, Copy)]
+pub(crate) struct Parties {
+    pub causer: u32,
+    pub cause: What,
+    pub victim: u32,
+}
+
+/// What is asked of a byte.
+#[derive(Clone, Copy)]
+pub(crate) enum ByteTest {
+    /// The cause changes it, and the victim has read it.
+    Changed,
+    /// The cause writes it, and the victim has read it.
+    Shared,
+    /// The victim has read it, and the cause writes its line.
+    Beside,
+}
+
+/// What is asked of a line.
+#[derive(Clone, Copy)]
+pub(crate) enum LineTest {
+    /// The cause writes it.
+    Written,
+    /// The victim has stored in it.
+    Stored,
+}
+
+impl Parties {
+    /// The byte of a store at an address.
+    #[tactic(auto, unfolding(memory_bytes::specs::Maps::stored))]
+    fn stored(addr: u32, width: u32, value: u32, at: u32) -> Option<u8>
+        ensures { result ≡ stored addr width value at }
+    {
+        if at < addr || at - addr >= width {
+            return None;
+        }
+        let place = at - addr;
+        if place < 4 {
+            Some(((value >> (8 * place)) % 256) as u8)
+        } else {
+            Some(0)
+        }
+    }
+
+    /// The byte at an address to which the cause gives a value.
+    fn written(&self, flat: &Flat, addr: u32) -> Option<u8>
+        ensures { result ≡ (spec.meeting_in flat.now self.now).writes addr }
+    {
+        match self.cause {
+            What::Store {
+                addr: first,
+                width,
+                value,
+            } => Parties::stored(first, width, value, addr),
+            What::Publish | What::Commit | What::Fault { .. } => flat.own(self.causer, addr),
+            What::Start(_) | What::Load { .. } | What::Hurt(_) | What::Cancel(_) | What::Restart =>
+                None,
+        }
+    }
+
+    /// The cause changes the byte, and the victim has read it.
+    fn is_changed(&self, flat: &Flat, addr: u32) -> bool
+        requires { addr < flat.now.image.size }
+        ensures { result ≡ conflict.is_changed (spec.meeting_in flat.now self.now) addr }
+    {
+        match (flat.committed(addr), self.written(flat, addr)) {
+            (Some(old), Some(new)) => new != old && flat.outside(self.victim, addr).is_some(),
+            _ => false,
+        }
+    }
+
+    /// The cause writes the byte, and the victim has read it.
+    fn is_shared(&self, flat: &Flat, addr: u32) -> bool
+        ensures { result ≡ conflict.is_shared (spec.meeting_in flat.now self.now) addr }
+    {
+        self.written(flat, addr).is_some() && flat.outside(self.victim, addr).is_some()
+    }
+
+    /// The byte passes the test of its line.
+    fn is_of(&self, flat: &Flat, test: LineTest, addr: u32) -> bool
+        ensures { result ≡ spec.is_of (spec.meeting_in flat.now self.now) test addr }
+    {
+        match test {
+            LineTest::Written => self.written(flat, addr).is_some(),
+            LineTest::Stored => flat.own(self.victim, addr).is_some(),
+        }
+    }
+
+    /// Some byte of the line passes the test.
+    fn line_has(&self, image: &Image, flat: &Flat, test: LineTest, line: u32) -> bool
+        requires { line * (limits_of image.now.version).line_length + (limits_of image.now.version).line_length < 2 ^ 32 }
+        ensures { result ≡ conflict.line_has image.now line (spec.is_of (spec.meeting_in flat.now self.now) test) }
+    {
+        let long = image.version().limits().line_length;
+        for x in 0..long {
+            if self.is_of(flat, test, line * long + x) {
+                return true;
+            }
+        }
+        false
+    }
+
+    /// The victim has read the byte, and the cause writes its line.
+    fn is_beside(&self, image: &Image, flat: &Flat, addr: u32) -> bool
+        requires { addr < image.now.size }
+        ensures { result ≡ conflict.is_beside image.now (spec.meeting_in flat.now self.now) addr }
+    {
+        flat.outside(self.victim, addr).is_some()
+            && self.line_has(image, flat, LineTest::Written, line_of(image, addr))
+    }
+
+    /// The byte passes the test.
+    fn passes(&self, image: &Image, flat: &Flat, test: ByteTest, addr: u32) -> bool
+        requires image { flat.now.image ≡ image.now }
+        requires within { addr < image.now.size }
+        ensures { result ≡ spec.passes image.now (spec.meeting_in flat.now self.now) test addr }
+    {
+        match test {
+            ByteTest::Changed => self.is_changed(flat, addr),
+            ByteTest::Shared => self.is_shared(flat, addr),
+            ByteTest::Beside => self.is_beside(image, flat, addr),
+        }
+    }
+
+    /// Some byte of memory passes the test. One that does is among those that the victim has read, so no other is tried.
+    fn any(&self, image: &Image, flat: &Flat, test: ByteTest) -> bool
+        requires { flat.now.image ≡ image.now }
+        ensures { result ≡ any_below image.now.size (spec.passes image.now (spec.meeting_in flat.now self.now) test) }
+    {
+        for addr in flat.read_addresses(self.victim) {
+            if self.passes(image, flat, test, *addr) {
+                return true;
+            }
+        }
+        false
+    }
+
+    /// It is another line, and the victim has stored in it.
+    fn holds_other(&self, image: &Image, flat: &Flat, line: u32, other: u32) -> bool
+        requires { other * (limits_of image.now.version).line_length + (limits_of image.now.version).line_length < 2 ^ 32 }
+        ensures { result ≡ (not (other == line) && conflict.holds_line image.now (spec.meeting_in flat.now self.now) other) }
+    {
+        other != line && self.line_has(image, flat, LineTest::Stored, other)
+    }
+
+    /// In how many other lines the victim has stored.
+    fn lines_beside(&self, image: &Image, flat: &Flat, line: u32) -> u32
+        ensures { result ≡ count_below (image.now.size / (limits_of image.now.version).line_length)
+            (λ other. not (other == line) && conflict.holds_line image.now (spec.meeting_in flat.now self.now) other) }
+    {
+        let mut count = 0;
+        for other in 0..image.size() / image.version().limits().line_length {
+            if self.holds_other(image, flat, line, other) {
+                count += 1;
+            }
+        }
+        count
+    }
+
+    /// The victim has stored in the line, and in as many other lines as its buffer takes.
+    fn is_full_at(&self, image: &Image, flat: &Flat, line: u32) -> bool
+        requires { line * (limits_of image.now.version).line_length + (limits_of image.now.version).line_length < 2 ^ 32 }
+        ensures { result ≡ conflict.is_full_at image.now (spec.meeting_in flat.now self.now) line }
+    {
+        self.line_has(image, flat, LineTest::Stored, line)
+            && image.version().limits().buffer_lines <= self.lines_beside(image, flat, line)
+    }
+
+    /// The cause is an access to a line for which the victim's full buffer has no place.
+    fn is_crowded(&self, image: &Image, flat: &Flat) -> bool
+        ensures { result ≡ conflict.is_crowded image.now (spec.meeting_in flat.now self.now) self.now.cause }
+    {
+        match self.cause {
+            What::Load { addr, .. } | What::Store { addr, .. } => {
+                addr < image.size() && self.is_full_at(image, flat, line_of(image, addr))
+            }
+            _ => false,
+        }
+    }
+
+    /// What kind the violation is.
+    pub(crate) fn kind(&self, image: &Image, flat: &Flat) -> Kind
+        requires { flat.now.image ≡ image.now }
+        ensures { result ≡ conflict.kind_with image.now (spec.meeting_in flat.now self.now) self.now.cause }
+    {
+        if self.any(image, flat, ByteTest::Changed) {
+            Kind::TrueSharing
+        } else if self.any(image, flat, ByteTest::Shared) {
+            Kind::SilentStore
+        } else if self.any(image, flat, ByteTest::Beside) {
+            Kind::FalseSharing
+        } else if self.is_crowded(image, flat) {
+            Kind::FullBuffer
+        } else {
+            Kind::Unexplained
+        }
+    }
+}
+
+/// The line of the caches in which a byte of memory lies.
+fn line_of(image: &Image, addr: u32) -> u32
+    requires { addr < image.now.size }
+    ensures line { result ≡ conflict.line_of image.now addr }
+    ensures within { result * (limits_of image.now.version).line_length + (limits_of image.now.version).line_length < 2 ^ 32 }
+{
+    addr / image.version().limits().line_length
+}
