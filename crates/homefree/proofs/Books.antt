@@ -1,5 +1,5 @@
 -- A book's first state, and its turns: from what the parts did to a turn of the book.
-use Rattle.std.proofs.Common.{◌≡◌, ◌≤◌, ◌<◌, ◌*◌, ℕ, ◌+◌, ◌-◌, All, [], ◌++◌, length, Option, Some, None, Ok, Err, refl, sym, ap, subst, ◌∙◌, arith, length-append, append-nil, vec_len, vec_capacity}
+use Rattle.std.proofs.Common.{◌≡◌, ◌≤◌, ◌<◌, ◌*◌, ℕ, ◌+◌, ◌-◌, All, List, [], ◌++◌, length, Option, Some, None, Ok, Err, refl, sym, ap, subst, ◌∙◌, arith, length-append, append-nil, vec_len, vec_capacity}
 use Rattle.std.proofs.lemmas.List.Elements.{All-nil, All-append}
 use Rattle.rv32_exec.specs.declared.sequential.End.{End}
 use Rattle.rv32_exec.specs.Arrival.{Arrival}
@@ -233,6 +233,18 @@ book_acts r q new v x w room core cause shares shares' next answer b unstopped s
     }
 
 -- ---- what the code's numbers say
+
+-- the history has at most so many entries more as a turn asks for
+pub acts_most : (r q new : Register) (v x w : StoreView) (room core : ℕ) (cause : Option StopCause) (shares shares' : Counts) (next : Option Arrival) (answer : Answer) → IsBook r v room cause → IsAsBefore r q
+    → Acted q new x w shares shares' core next answer → length new.history.items ≤ length r.history.items + (limits_of r.image.version).free_entries
+acts_most r q new v x w room core cause shares shares' next answer b same a =
+    let cores : length q.running.items ≡ length r.running.items = ap (λ v. length v.items) same.running in
+    let enough = most_entries r.image.version (length r.running.items) b.fits.core_count.most in
+    let short : length a.entries ≤ 2 * length r.running.items = subst (λ n. length a.entries ≤ 2 * n) cores a.short in
+    rw (a.steps.history, same.history, length-append r.history.items a.entries) (omega (arith, enough, short))
+
+pub same_most : (xs ys : List Entry) (n : ℕ) → ys ≡ xs → length ys ≤ length xs + n
+same_most xs ys n same = rw same (omega arith)
 
 pub has_free : (r : Register) (free room count : ℕ) → free ≡ (limits_of r.image.version).free_entries → count ≡ vec_len r.history
     → free ≤ room - count → length r.history.items ≤ room → length r.history.items + (limits_of r.image.version).free_entries ≤ room

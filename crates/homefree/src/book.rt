@@ -125,7 +125,8 @@ impl<S: EpochStore> Book<S> {
         let _ = &self.parts;
     }
 
-    /// One turn of a core, with the hart that it has in hand gone on to its next access, end or fault.
+    /// One turn of a core, with the hart that it has in hand gone on to its next access, end or fault. It makes no more entries than it
+    /// has to find free.
     ///
     /// `HistoryFull`: the history has fewer free entries than the image's version asks for, and nothing has changed. `NoMemory`:
     /// memory ran out, and nothing has changed but what the store can do without asking for it.
@@ -149,6 +150,7 @@ impl<S: EpochStore> Book<S> {
         ensures over { (end : End) (s : FlatState) → result ≡ Ok (Answer.Over end) → replay self.new.image self.new.cores self.new.history ≡ Some s
             → s.end ≡ Some end }
         ensures full { result ≡ Err TurnFault.HistoryFull → IsFull self.new }
+        ensures most { length self.new.history ≤ length self.old.history + (limits_of self.old.image.version).free_entries }
     {
         self.look();
         self.take_turn(core, next, shares)
@@ -164,8 +166,9 @@ impl<S: EpochStore> Book<S> {
         requires core { core < self.old.cores }
         requires next { IfArrived self.old.image (option_copied next) }
         requires shares { IsNoMore shares.old self.old.totals }
-        ensures { (s : FlatState) → replay self.old.image self.old.cores self.old.history ≡ Some s
+        ensures turned { (s : FlatState) → replay self.old.image self.old.cores self.old.history ≡ Some s
             → Turned S.view self.old s shares.old core (option_copied next.entry) result self.new shares.new }
+        ensures most { length self.new.history ≤ length self.old.history + (limits_of self.old.image.version).free_entries }
     {
         turn_within(
             &mut *self.parts,
@@ -210,6 +213,7 @@ fn turn_within<S: EpochStore>(
     ensures turned { (s : FlatState) → replay parts.old.register.image (length parts.old.register.running.items) parts.old.register.history.items ≡ Some s
         → Turned S.view (book_of parts.old.register parts.old.store room stopped) s shares.old core (option_copied next.entry) result
         (book_of parts.new.register parts.new.store room stopped) shares.new }
+    ensures most { length parts.new.register.history.items ≤ length parts.old.register.history.items + (limits_of parts.old.register.image.version).free_entries }
 {
     if let Some(end) = parts.register.end {
         return Ok(Answer::Over(end));

@@ -1,5 +1,5 @@
 use Rattle.std.proofs.Common.{option_copied}
-use Rattle.homefree.proofs.Books.{fits_same, book_same, turned_refused, turned_acts, may_note, book_acts, has_free, has_room}
+use Rattle.homefree.proofs.Books.{fits_same, book_same, turned_refused, turned_acts, may_note, book_acts, acts_most, same_most, has_free, has_room}
 use Rattle.homefree.proofs.book.turn_within.Goals as goal
 
 pub returns-in_default-make_room-clause-book : goal.returns-in_default-make_room-clause-book
@@ -48,3 +48,15 @@ returns-clause-turned g c =
     turned_acts g.S.EpochStore.view p.register q.register p.store q.store c.args.room c.args.core c.args.stopped c.args.shares.now
     (option_copied c.args.next) c.requires.book.fits c.in_default.is c.in_default-stopped.is free c.make_room.ensures.register c.make_room.ensures.store
     c.turn.new.self.register c.turn.new.self.store c.turn.new.shares c.turn.result c.turn.ensures
+
+pub returns-in_default-make_room-clause-most : goal.returns-in_default-make_room-clause-most
+returns-in_default-make_room-clause-most g c =
+    let p = c.args.parts.now in
+    same_most p.register.history.items c.make_room.new.parts.register.history.items _ c.make_room.ensures.register.history
+
+pub returns-clause-most : goal.returns-clause-most
+returns-clause-most g c =
+    let p = c.args.parts.now in
+    let q = c.make_room.new.parts in
+    acts_most p.register q.register c.turn.new.self.register (g.S.EpochStore.view p.store) (g.S.EpochStore.view q.store) (g.S.EpochStore.view c.turn.new.self.store) c.args.room c.args.core c.args.stopped
+    c.args.shares.now c.turn.new.shares (option_copied c.args.next) c.turn.result c.requires.book c.make_room.ensures.register c.turn.ensures
