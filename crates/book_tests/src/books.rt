@@ -12,6 +12,7 @@ use crate::words::{end_of, entries_of, is_row};
 use homefree::{Answer, Book, StopCause, TurnFault};
 use run_ledger::Shares;
 use rv32_exec::{End, Hart, Image, NoMemory, image_of};
+use spec_bus::CachedBus;
 use spec_history::{Entry, What};
 use std::alloc::{AllocError, Global};
 use std::process::Abort;
@@ -109,6 +110,8 @@ fn takes_turns_by_worked_schedules(rt: HostRuntime) -> Result<(), Fail> {
         let row = row_of(line).ok_or(line)?;
         if row.store == "waiting" {
             try_row::<Waiting<PlainStore>>(&rt, rt.alloc(), &row)?;
+        } else if row.store == "caches" {
+            try_row::<CachedBus>(&rt, rt.alloc(), &row)?;
         } else {
             try_row::<PlainStore>(&rt, rt.alloc(), &row)?;
         }
@@ -127,15 +130,15 @@ fn schedule_of(alloc: Global, number: u32, cores: u32, turns: u32) -> Result<Vec
     Ok(schedule)
 }
 
-/// A plain store's book by this schedule: no turn fails.
-fn drive_well(
+/// A book by this schedule: no turn fails.
+fn drive_well<S: EpochStore>(
     rt: &impl Abort,
     alloc: Global,
     image: &Image,
     cores: u32,
     schedule: &[u32],
 ) -> Result<(), Fail> {
-    let driven: (Book<PlainStore>, Result<Option<End>, TurnFault>) = drive_new(
+    let driven: (Book<S>, Result<Option<End>, TurnFault>) = drive_new(
         rt, alloc, image, cores, 1024, schedule,
     )?;
     assert!(rt; driven.1.is_ok());
@@ -143,11 +146,17 @@ fn drive_well(
 }
 
 /// Every schedule of so many turns, each history audited.
-fn try_all(rt: &impl Abort, alloc: Global, text: &str, cores: u32, turns: u32) -> Result<(), Fail> {
+fn try_all<S: EpochStore>(
+    rt: &impl Abort,
+    alloc: Global,
+    text: &str,
+    cores: u32,
+    turns: u32,
+) -> Result<(), Fail> {
     let image = image_of(alloc, text.as_bytes())?;
     for number in 0..cores.saturating_pow(turns) {
         let schedule = schedule_of(alloc, number, cores, turns)?;
-        drive_well(rt, alloc, &image, cores, schedule.as_slice())?;
+        drive_well::<S>(rt, alloc, &image, cores, schedule.as_slice())?;
     }
     Ok(())
 }
@@ -173,10 +182,12 @@ fn every_short_schedule_is_legal_and_ends_as_the_sequential_loop_does(
 ) -> Result<(), Fail> {
     for text in SMALL {
         for turns in 0..10 {
-            try_all(&rt, rt.alloc(), text, 2, turns)?;
+            try_all::<PlainStore>(&rt, rt.alloc(), text, 2, turns)?;
+            try_all::<CachedBus>(&rt, rt.alloc(), text, 2, turns)?;
         }
         for turns in 0..8 {
-            try_all(&rt, rt.alloc(), text, 3, turns)?;
+            try_all::<PlainStore>(&rt, rt.alloc(), text, 3, turns)?;
+            try_all::<CachedBus>(&rt, rt.alloc(), text, 3, turns)?;
         }
     }
     Ok(())
@@ -190,10 +201,10 @@ fn try_random(rt: &impl Abort, alloc: Global, random: &mut Random) -> Result<boo
     let cores = 1 + random.below(if second { 16 } else { 8 });
     let schedule = random.schedule(alloc, cores)?;
     let room = 32 + random.below(200);
-    if random.below(4) == 0 {
-        is_over::<Waiting<PlainStore>>(rt, alloc, &image, cores, room, schedule.as_slice())
-    } else {
-        is_over::<PlainStore>(rt, alloc, &image, cores, room, schedule.as_slice())
+    match random.below(4) {
+        0 => is_over::<Waiting<PlainStore>>(rt, alloc, &image, cores, room, schedule.as_slice()),
+        1 => is_over::<PlainStore>(rt, alloc, &image, cores, room, schedule.as_slice()),
+        _ => is_over::<CachedBus>(rt, alloc, &image, cores, room, schedule.as_slice()),
     }
 }
 

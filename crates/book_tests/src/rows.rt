@@ -64,6 +64,23 @@ const CALL: &str = "size 256\nepochs 2\nlimit 50\ncode 8322000493821200232050047
 /// `beq x10,x0,+12; lw x5,64(x0); ecall; jalr x0,0(x1)`
 const CALL_AT_ONE: &str = "size 256\nepochs 2\nlimit 50\ncode 63060500832200047300000067800000\n";
 
+/// Each epoch loads the words at 64, 128 and 192, whose lines are of one set.
+///
+/// `lw x5,64(x0); lw x6,128(x0); lw x7,192(x0); jalr x0,0(x1)`
+const ONE_SET: &str = "size 256\nepochs 2\nlimit 100\ncode 83220004032300088323000c67800000\n";
+
+/// Epoch 0 loads the words at 64, 80, 96, 112 and 128. Epoch 1 stores 1 to them.
+///
+/// `beq x10,x0,+28; sw x10` to 64, 80, 96, 112, 128; `jalr x0,0(x1); lw x5` from 64, 80, 96, 112, 128; `jalr x0,0(x1)`
+const FIVE_LOADS_FIRST: &str =
+    "size 256\nepochs 2\nlimit 100\ncode 630e05002320a0042328a0042320a0062328a0062320a00867800000832200048322000583220006832200078322000867800000\n";
+
+/// Epoch 0 stores 0 to the words at 64, 80, 96, 112 and 128. Epoch 1 loads them.
+///
+/// `beq x10,x0,+28; lw x5` from 64, 80, 96, 112, 128; `jalr x0,0(x1); sw x10` to 64, 80, 96, 112, 128; `jalr x0,0(x1)`
+const FIVE_STORES_FIRST: &str =
+    "size 256\nepochs 2\nlimit 100\ncode 630e05008322000483220005832200068322000783220008678000002320a0042328a0042320a0062328a0062320a00867800000\n";
+
 /// Nothing is to be run.
 const NOTHING: &str = "size 256\nepochs 0\nlimit 50\ncode 67800000\n";
 
@@ -97,6 +114,16 @@ less than 32 free entries in version 2 | plain | SUM_IN_VERSION_2 | 1 | 32 | 0 0
 a homefree core whose store waits goes straight | waiting | SUM_OF_ONE | 1 | 64 | 0 0 0 0 | go go go over | 0 start 0; 0 publish; 0 load 64 4 0; 0 store 64 4 0; 0 commit | 1 1 0 1 | done 1
 a later core whose store waits comes again | waiting | SUM_OF_TWO | 2 | 64 | 0 1 1 | go go NoWay | 0 start 0; 1 start 1 | 0 0 0 0 | -
 a straight core exits | waiting | EXIT | 2 | 64 | 0 1 0 0 | go go go over | 0 start 0; 1 start 1; 0 publish; 0 store 64 4 0; 0 cancel 1; 0 commit | 0 1 0 1 | exit 0
+a violation over caches | caches | SIGNAL | 2 | 64 | 0 1 0 1 0 1 1 1 | go go go go left go go over | 0 start 0; 1 start 1; 0 store 64 4 1; 1 load 64 4 0; 0 hurt 1; 0 commit; 1 restart; 1 load 64 4 1; 1 commit | 2 1 1 2 | done 2
+a load before the store of a later epoch, over caches | caches | LOAD_FIRST | 2 | 64 | 0 1 0 1 0 1 | go go go go left over | 0 start 0; 1 start 1; 0 load 64 4 0; 1 store 64 4 1; 0 commit; 1 commit | 1 1 0 2 | done 2
+stores to bytes of one line | caches | BYTES | 2 | 64 | 0 1 0 1 0 1 | go go go go left over | 0 start 0; 1 start 1; 0 store 64 1 255; 1 store 65 1 255; 0 commit; 1 commit | 0 2 0 2 | done 2
+a speculative store hurts who has loaded the line | caches | ADD | 3 | 64 | 0 1 2 2 1 0 0 0 | go go go go go go go left | 0 start 0; 1 start 1; 2 start 2; 2 load 64 4 0; 1 load 64 4 0; 0 load 64 4 0; 0 hurt 1; 0 hurt 2; 0 store 64 4 1; 0 commit | 3 1 0 1 | -
+both ways of a set are marked: a later core waits, the homefree one publishes | caches | ONE_SET | 2 | 64 | 0 1 1 1 1 0 0 0 | go go go go NoWay go go go | 0 start 0; 1 start 1; 1 load 64 4 0; 1 load 128 4 0; 0 load 64 4 0; 0 load 128 4 0; 0 publish; 0 load 192 4 0 | 5 0 0 0 | -
+a full buffer of its own | caches | FIVE_LOADS_FIRST | 2 | 64 | 0 0 0 0 0 0 1 1 1 1 1 1 0 1 1 | go go go go go go go go go go go OrbFull left go over | 0 start 0; 0 load 64 4 0; 0 load 80 4 0; 0 load 96 4 0; 0 load 112 4 0; 0 load 128 4 0; 1 start 1; 1 store 64 4 1; 1 store 80 4 1; 1 store 96 4 1; 1 store 112 4 1; 0 commit; 1 store 128 4 1; 1 commit | 5 5 0 2 | done 2
+a full buffer of an earlier core | caches | FIVE_STORES_FIRST | 2 | 64 | 0 0 0 0 0 0 1 1 1 1 1 1 0 | go go go go go go go go go go go OrbBusy left | 0 start 0; 0 store 64 4 0; 0 store 80 4 0; 0 store 96 4 0; 0 store 112 4 0; 0 store 128 4 0; 1 start 1; 1 load 64 4 0; 1 load 80 4 0; 1 load 96 4 0; 1 load 112 4 0; 0 hurt 1; 0 commit | 4 5 0 1 | -
+an exit cancels the later epoch, over caches | caches | EXIT | 2 | 64 | 0 1 0 1 0 | go go go go over | 0 start 0; 1 start 1; 0 store 64 4 0; 1 store 64 4 1; 0 cancel 1; 0 commit | 0 2 0 1 | exit 0
+less than 16 free entries, over caches | caches | SUM_OF_FOUR | 1 | 16 | 0 0 | go HistoryFull | 0 start 0 | 0 0 0 0 | -
+less than 32 free entries in version 2, over caches | caches | SUM_IN_VERSION_2 | 1 | 32 | 0 0 | go HistoryFull | 0 start 0 | 0 0 0 0 | -
 a straight core faults | waiting | CALL | 2 | 64 | 0 1 0 0 0 | go go go go over | 0 start 0; 1 start 1; 0 publish; 0 load 64 4 0; 0 store 64 4 1; 0 fault 2 12 | 1 1 0 0 | fault 0 2 12
 ";
 
@@ -132,7 +159,7 @@ pub fn row_of<'a>(line: &'a str) -> Option<Row<'a>> {
 }
 
 /// The texts of the images by name.
-const IMAGES: [(&str, &str); 13] = [
+const IMAGES: [(&str, &str); 16] = [
     ("SIGNAL", SIGNAL),
     ("LOAD_FIRST", LOAD_FIRST),
     ("BYTES", BYTES),
@@ -146,6 +173,9 @@ const IMAGES: [(&str, &str); 13] = [
     ("CALL", CALL),
     ("CALL_AT_ONE", CALL_AT_ONE),
     ("NOTHING", NOTHING),
+    ("ONE_SET", ONE_SET),
+    ("FIVE_LOADS_FIRST", FIVE_LOADS_FIRST),
+    ("FIVE_STORES_FIRST", FIVE_STORES_FIRST),
 ];
 
 /// The text of an image.
