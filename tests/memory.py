@@ -9,7 +9,7 @@ second and so on allocation refused, until a run meets none: a run that was
 refused one says `stopped NoMemory`, writes nothing on standard output and has
 status 3, and the last one answers as if nothing was refused. A run on threads
 may say `stopped NoThread` too, or go to its end although a thread was refused; so may one
-whose first, second and so on thread is refused. Where the C
+whose first, second and so on thread is refused. There is a thread for each core. Where the C
 compiler `cc` isn't installed the test is skipped, and a line says so. Exits
 with 1 where a run differs.
 """
@@ -150,7 +150,11 @@ def main():
         for name, words, text, expected in ON_THREADS:
             starts = (NO_THREAD, expected) if expected[0] else ()
             results.append(differences(command[:-1] + words, shim, name, text, expected, (STOPPED, *starts)))
-            results.append(differences(command[:-1] + words, shim, name, text, expected, starts, "thread"))
+            wrong, number = differences(command[:-1] + words, shim, name, text, expected, starts, "thread")
+            threads = int(words[2]) if starts else 0
+            if not wrong and number != threads + 1:
+                wrong = f"{name}: {number - 1} threads were started, not {threads}"
+            results.append((wrong, number))
     wrong = [text for text, _ in results if text]
     for text in wrong:
         print(f"FAILED {text}")
