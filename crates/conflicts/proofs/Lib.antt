@@ -1,4 +1,6 @@
 mod Searching
+mod Backwards
+mod Blaming
 mod Listed
 mod Explaining
 mod Needed

@@ -69,10 +69,14 @@ stores_byte a what = false
 abbrev pub last_store : List Entry → ℕ → ℕ → ℕ → Option ℕ
 last_store entries core before a = last_below before (attempt_does entries core before (stores_byte a))
 
--- the first load of the attempt that read a byte from outside: none of its stores had given it a value yet
+-- the entry at a place is a load of the attempt that reads this byte from outside: none of its stores had given it a value yet
+abbrev pub reads_outside : List Entry → ℕ → ℕ → ℕ → ℕ → Bool
+reads_outside entries core before a place =
+    attempt_does entries core before (loads_byte a) place && is_none (last_store entries core place a)
+
+-- the first load of the attempt that read a byte from outside
 abbrev pub first_read : List Entry → ℕ → ℕ → ℕ → Option ℕ
-first_read entries core before a =
-    first_below before (λ j. attempt_does entries core before (loads_byte a) j && is_none (last_store entries core j a))
+first_read entries core before a = first_below before (reads_outside entries core before a)
 
 -- the state before the entry at a place
 abbrev pub state_before : LoadedImage → ℕ → List Entry → ℕ → Option FlatState

@@ -6,11 +6,11 @@ use Rattle.rv32_exec.specs.Hart.{HartState}
 use Rattle.spec_history.specs.declared.entry.Entry.{Entry}
 use Rattle.spec_history.specs.declared.entry.What.{What}
 use Rattle.spec_history.specs.declared.entry.What.TheVariants.{Load, Store}
-use Rattle.spec_history.specs.Refusal.{any_below}
+use Rattle.conflicts.specs.declared.explanation.Blame.{Blame}
 use Rattle.conflicts.specs.declared.explanation.Kind.{Kind}
 use Rattle.conflicts.specs.declared.explanation.Kind.TheVariants.{TrueSharing, SilentStore, FalseSharing}
 use Rattle.conflicts.specs.Searches.{first_below}
-use Rattle.conflicts.specs.Attempts.{attempt_does, last_store, first_read, hart_before}
+use Rattle.conflicts.specs.Attempts.{attempt_does, last_store, first_read, hart_before, reads_outside}
 use Rattle.conflicts.specs.Conflict.{Meeting, is_shared, is_changed, is_beside, line_of}
 
 -- a violation with its cause: where both stand in the history, who made it, who was violated, and the bytes that meet
@@ -41,14 +41,17 @@ is_place (Some other) place = other == place
 abbrev pub read_at : List Entry → Violation → ℕ → Option ℕ
 read_at entries v a = first_read entries v.victim v.place a
 
--- the load to blame: the first that read one of the bytes, since the work from there on was wrong
-abbrev pub blamed_load : LoadedImage → List Entry → Violation → Option ℕ
-blamed_load image entries v = first_below v.place (λ j. any_below image.size (λ a. can_be_blamed image v a && is_place (read_at entries v a) j))
+-- the entry at a place is a load that read a byte from outside, and the byte can be blamed
+abbrev pub is_read_at : LoadedImage → List Entry → Violation → ℕ → ℕ → Bool
+is_read_at image entries v load a = can_be_blamed image v a && reads_outside entries v.victim v.place a load
 
--- the byte to blame: the lowest of those that this load read first
-abbrev pub blamed_byte : LoadedImage → List Entry → Violation → Option ℕ
-blamed_byte image entries v =
-    option_and_then (λ load. first_below image.size (λ a. can_be_blamed image v a && is_place (read_at entries v a) load)) (blamed_load image entries v)
+-- the byte to blame at a load: the lowest of these
+abbrev pub blamed_byte : LoadedImage → List Entry → Violation → ℕ → Option ℕ
+blamed_byte image entries v load = first_below image.size (is_read_at image entries v load)
+
+-- the load to blame: the first that read one, since the work from there on was wrong
+abbrev pub blamed_load : LoadedImage → List Entry → Violation → Option ℕ
+blamed_load image entries v = first_below v.place (λ j. is_some (blamed_byte image entries v j))
 
 -- the store that gave a byte the value that the cause writes: the cause, or the last one before it is committed
 abbrev pub stored_by : List Entry → ℕ → ℕ → ℕ → What → ℕ → Option ℕ
@@ -60,7 +63,9 @@ store_to entries v a = stored_by entries v.place v.causer v.cause v.what a
 
 -- the lowest byte of a line that the cause writes
 abbrev pub written_in : LoadedImage → Meeting → ℕ → Option ℕ
-written_in image m line = first_below image.size (λ a. (line_of image a == line) && is_some (m.writes a))
+written_in image m line =
+    let long = (limits_of image.version).line_length in
+    option_map (λ x. line * long + x) (first_below long (λ x. is_some (m.writes (line * long + x))))
 
 -- the store to blame for a byte: that to the byte itself, or, where only the line is shared, to the lowest byte of the line that is written
 abbrev pub store_beside : LoadedImage → List Entry → Violation → Kind → ℕ → Option ℕ
@@ -69,6 +74,14 @@ store_beside image entries v kind a = store_to entries v a
 
 abbrev pub blamed_store : LoadedImage → List Entry → Violation → ℕ → Option ℕ
 blamed_store image entries v a = store_beside image entries v v.kind a
+
+-- the load and the store to blame, and the byte; nothing, where the kind is none of true and false sharing and silent stores
+abbrev pub blame_at : LoadedImage → List Entry → Violation → ℕ → Option Blame
+blame_at image entries v load =
+    option_and_then (λ byte. option_map (λ store. record { load = load; store = store; byte = byte }) (blamed_store image entries v byte)) (blamed_byte image entries v load)
+
+abbrev pub blame_of : LoadedImage → List Entry → Violation → Option Blame
+blame_of image entries v = option_and_then (blame_at image entries v) (blamed_load image entries v)
 
 -- the bytes that go with a blamed one: of all that are written and were read, or of those that were read in its line
 abbrev pub goes_with : LoadedImage → Kind → Meeting → ℕ → ℕ → Bool
@@ -88,20 +101,10 @@ pub record IsRun (test : ℕ → Bool) (byte address long : ℕ) : Type 0 where
   pub begins : (address ≡ 0) ⊎ (test (address - 1) ≡ false)
   pub ends : test (address + long) ≡ false
 
--- a load, a store, and the bytes at which they met
-pub record Blame : Type 0 where
-  pub load : ℕ
-  pub store : ℕ
-  pub address : ℕ
-  pub long : ℕ
-
--- true and false sharing, and silent stores: the blamed load, the blamed store, and the run around the blamed byte
-pub record IsBlamed (image : LoadedImage) (entries : List Entry) (v : Violation) (b : Blame) : Type 0 where
-  pub byte : ℕ
-  pub byte_is : blamed_byte image entries v ≡ Some byte
-  pub load_is : blamed_load image entries v ≡ Some b.load
-  pub store_is : blamed_store image entries v byte ≡ Some b.store
-  pub run : IsRun (is_alike image entries v byte b.load b.store) byte b.address b.long
+-- the bytes at which a blamed load and a blamed store met
+pub record IsBlamedRun (image : LoadedImage) (entries : List Entry) (v : Violation) (b : Blame) (address long : ℕ) : Type 0 where
+  pub blame : blame_of image entries v ≡ Some b
+  pub run : IsRun (is_alike image entries v b.byte b.load b.store) b.byte address long
 
 -- the line of an access
 abbrev pub accessed_line : LoadedImage → What → Option ℕ
@@ -114,13 +117,13 @@ stores_in image line (Store address width value) = line_of image address == line
 stores_in image line what = false
 
 -- a full buffer: the victim's first store in the line stands in place of the load, the access that asked for the line in place of the store
-pub record IsBlamedBuffer (image : LoadedImage) (entries : List Entry) (v : Violation) (b : Blame) : Type 0 where
+pub record IsBlamedBuffer (image : LoadedImage) (entries : List Entry) (v : Violation) (held asked address long : ℕ) : Type 0 where
   pub line : ℕ
   pub line_is : accessed_line image v.what ≡ Some line
-  pub held : first_below v.place (attempt_does entries v.victim v.place (stores_in image line)) ≡ Some b.load
-  pub asked : b.store ≡ v.cause
-  pub address : b.address ≡ line * (limits_of image.version).line_length
-  pub long : b.long ≡ (limits_of image.version).line_length
+  pub held_is : first_below v.place (attempt_does entries v.victim v.place (stores_in image line)) ≡ Some held
+  pub asked_is : asked ≡ v.cause
+  pub address_is : address ≡ line * (limits_of image.version).line_length
+  pub long_is : long ≡ (limits_of image.version).line_length
 
 -- the instruction of an access, by its address
 abbrev pub instruction_of : LoadedImage → ℕ → List Entry → ℕ → Option ℕ

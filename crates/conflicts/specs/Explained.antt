@@ -7,10 +7,12 @@ use Rattle.spec_history.specs.declared.entry.What.{What}
 use Rattle.spec_history.specs.declared.entry.What.TheVariants.{Hurt}
 use Rattle.spec_history.specs.FlatState.{CoreState, FlatState}
 use Rattle.spec_history.specs.Replay.{replay}
+use Rattle.conflicts.specs.declared.explanation.Blame.{Blame}
 use Rattle.conflicts.specs.declared.explanation.Explanation.{Explanation}
 use Rattle.conflicts.specs.declared.explanation.Kind.{Kind}
 use Rattle.conflicts.specs.declared.explanation.Kind.TheVariants.{Unexplained}
 use Rattle.conflicts.specs.Attempts.{entry_is}
+use Rattle.conflicts.specs.Blame.{blame_of}
 use Rattle.conflicts.specs.Conflict.{cause_of, kind_with, meeting}
 
 -- what the entry at this place says, if there is one
@@ -21,6 +23,22 @@ what_at entries place = option_and_then (λ j. option_map (λ (entry : Entry). e
 abbrev pub kind_of : LoadedImage → FlatState → ℕ → ℕ → Option What → Kind
 kind_of image s causer victim None = Unexplained
 kind_of image s causer victim (Some cause) = kind_with image (meeting s causer cause victim) cause
+
+-- the load and the store that are blamed, where there is a cause
+abbrev pub blame_by : LoadedImage → FlatState → List Entry → ℕ → ℕ → ℕ → Kind → Option ℕ → Option What → Option Blame
+blame_by image s entries place causer victim kind (Some cause) (Some what) = blame_of image entries (record {
+  place = place;
+  causer = causer;
+  victim = victim;
+  cause = cause;
+  what = what;
+  kind = kind;
+  bytes = meeting s causer what victim;
+})
+blame_by image s entries place causer victim kind cause what = None
+
+abbrev pub blame_in : LoadedImage → FlatState → List Entry → Explanation → Option Blame
+blame_in image s entries e = blame_by image s entries e.place e.causer.core e.victim.core e.kind e.cause (what_at entries e.cause)
 
 -- the explanation is that of the violation at its place, in the state before it
 pub record IsExplainedIn (image : LoadedImage) (s : FlatState) (entries : List Entry) (e : Explanation) : Type 0 where
@@ -35,6 +53,7 @@ pub record IsExplainedIn (image : LoadedImage) (s : FlatState) (entries : List E
   pub entry : slice_get entries e.place ≡ Some (record { by = e.causer.core; what = Hurt e.victim.epoch })
   pub cause : e.cause ≡ cause_of entries e.place e.causer.core
   pub kind : e.kind ≡ kind_of image s e.causer.core e.victim.core (what_at entries e.cause)
+  pub blame : e.blame ≡ blame_in image s entries e
   -- the attempt learns of the violation at its next event
   pub lost : e.lost ≡ (next_event image violated.hart).now.done
   pub entered : e.entered ≡ violated.hart.done

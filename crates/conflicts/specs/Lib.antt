@@ -7,5 +7,6 @@ pub mod Explained
 pub mod Blame
 pub mod Fates
 pub mod Laws
--- What the code asks of bytes and lines.
+-- What the code asks of bytes and lines, and of a violation.
 pub mod Parties
+pub mod Violated

@@ -25,6 +25,18 @@ pub struct Runner {
     pub epoch: u32,
 }
 
+/// Which load and which store a violation is blamed on, by their places in the history, and a byte at which they met.
+#[derive(Clone, Copy, Debug, PartialEq, Eq)]
+pub struct Blame {
+    /// The first load of the victim's attempt that read one of the bytes that count for the kind.
+    pub load: usize,
+    /// The cause, if it is a store. Else the last store of the causer's attempt to the byte; for false sharing, to the lowest
+    /// byte of its line that the cause writes.
+    pub store: usize,
+    /// The lowest of these bytes that the load read.
+    pub byte: u32,
+}
+
 /// Why an epoch was violated, and what that cost.
 #[derive(Clone, Copy, Debug, PartialEq, Eq)]
 pub struct Explanation {
@@ -38,6 +50,8 @@ pub struct Explanation {
     pub cause: Option<usize>,
     /// What it was.
     pub kind: Kind,
+    /// Whom to blame, for true and false sharing and silent stores.
+    pub blame: Option<Blame>,
     /// How many instructions the violated attempt had executed when it learnt of it: up to its next event.
     pub lost: u64,
     /// How many of these it had executed up to its last entry.

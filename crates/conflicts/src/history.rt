@@ -8,8 +8,9 @@ ghost use Rattle.spec_history.specs.View.{IsAuditFault, cores_in, state_in};
 ghost use Rattle.conflicts.specs.Attempts.{entry_is};
 ghost use Rattle.conflicts.specs.Explained as spec;
 
+use crate::blame::Violated;
 use crate::causes::{cause_of, core_at};
-use crate::explanation::{Explanation, Kind, Runner};
+use crate::explanation::{Blame, Explanation, Kind, Runner};
 use crate::meeting::Parties;
 use rv32_exec::Image;
 use spec_history::{Entry, Flat, Illegal, What};
@@ -82,6 +83,7 @@ fn explanation_at(
     let stop = next.now();
     let last = next.base();
     let cause = cause_of(entries, place, by);
+    let (kind, blame) = conflict_of(image, flat, entries, place, by, victim, cause);
     Some(Explanation {
         place,
         causer: Runner {
@@ -93,34 +95,44 @@ fn explanation_at(
             epoch,
         },
         cause,
-        kind: kind_of(image, flat, entries, by, victim, cause),
+        kind,
+        blame,
         lost: stop.done(),
         entered: last.done(),
     })
 }
 
-/// What kind a violation of one core by another is, with this cause.
-fn kind_of(
+/// What kind a violation of one core by another is, with this cause, and whom to blame.
+fn conflict_of(
     image: &Image,
     flat: &Flat,
     entries: &[Entry],
+    place: usize,
     causer: u32,
     victim: u32,
     cause: Option<usize>,
-) -> Kind
+) -> (Kind, Option<Blame>)
     requires { flat.now.image ≡ image.now }
-    ensures { result ≡ spec.kind_of image.now (state_in flat.now) causer victim (spec.what_at entries.now cause) }
+    ensures kind { result.0 ≡ spec.kind_of image.now (state_in flat.now) causer victim (spec.what_at entries.now cause) }
+    ensures blame { result.1 ≡ spec.blame_by image.now (state_in flat.now) entries.now place causer victim result.0 cause (spec.what_at entries.now cause) }
 {
-    let Some(place) = cause else {
-        return Kind::Unexplained;
+    let Some(cause) = cause else {
+        return (Kind::Unexplained, None);
     };
-    let Some(entry) = entries.get(place) else {
-        return Kind::Unexplained;
+    let Some(entry) = entries.get(cause) else {
+        return (Kind::Unexplained, None);
     };
-    Parties {
+    let parties = Parties {
         causer,
         cause: entry.what,
         victim,
-    }
-    .kind(image, flat)
+    };
+    let kind = parties.kind(image, flat);
+    let violated = Violated {
+        parties,
+        kind,
+        place,
+        cause,
+    };
+    (kind, violated.blame(image, flat, entries))
 }

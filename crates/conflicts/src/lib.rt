@@ -1,11 +1,13 @@
 //! Which conflicts rolled back: an explanation of each violation of a history.
 #![tactic(auto)]
 
+mod accesses;
+mod blame;
 mod causes;
 mod explanation;
 mod history;
 pub mod laws;
 mod meeting;
 
-pub use explanation::{Explanation, Kind, Runner};
+pub use explanation::{Blame, Explanation, Kind, Runner};
 pub use history::explain;

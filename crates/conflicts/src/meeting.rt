@@ -5,6 +5,7 @@ ghost use Rattle.memory_bytes.specs.Maps.{stored};
 ghost use Rattle.rv32_image.specs.Version.{limits_of};
 ghost use Rattle.spec_history.specs.Refusal.{any_below};
 ghost use Rattle.conflicts.specs.Searches.{count_below};
+ghost use Rattle.conflicts.specs.Blame as blame;
 ghost use Rattle.conflicts.specs.Conflict as conflict;
 ghost use Rattle.conflicts.specs.Parties as spec;
 
@@ -74,7 +75,7 @@ impl Parties {
     }
 
     /// The cause changes the byte, and the victim has read it.
-    fn is_changed(&self, flat: &Flat, addr: u32) -> bool
+    pub(crate) fn is_changed(&self, flat: &Flat, addr: u32) -> bool
         requires { addr < flat.now.image.size }
         ensures { result ≡ conflict.is_changed (spec.meeting_in flat.now self.now) addr }
     {
@@ -85,7 +86,7 @@ impl Parties {
     }
 
     /// The cause writes the byte, and the victim has read it.
-    fn is_shared(&self, flat: &Flat, addr: u32) -> bool
+    pub(crate) fn is_shared(&self, flat: &Flat, addr: u32) -> bool
         ensures { result ≡ conflict.is_shared (spec.meeting_in flat.now self.now) addr }
     {
         self.written(flat, addr).is_some() && flat.outside(self.victim, addr).is_some()
@@ -115,8 +116,22 @@ impl Parties {
         false
     }
 
+    /// The lowest byte of the line that the cause writes.
+    pub(crate) fn written_in(&self, image: &Image, flat: &Flat, line: u32) -> Option<u32>
+        requires { line * (limits_of image.now.version).line_length + (limits_of image.now.version).line_length < 2 ^ 32 }
+        ensures { result ≡ blame.written_in image.now (spec.meeting_in flat.now self.now) line }
+    {
+        let long = image.version().limits().line_length;
+        for x in 0..long {
+            if self.written(flat, line * long + x).is_some() {
+                return Some(line * long + x);
+            }
+        }
+        None
+    }
+
     /// The victim has read the byte, and the cause writes its line.
-    fn is_beside(&self, image: &Image, flat: &Flat, addr: u32) -> bool
+    pub(crate) fn is_beside(&self, image: &Image, flat: &Flat, addr: u32) -> bool
         requires { addr < image.now.size }
         ensures { result ≡ conflict.is_beside image.now (spec.meeting_in flat.now self.now) addr }
     {
@@ -213,7 +228,7 @@ impl Parties {
 }
 
 /// The line of the caches in which a byte of memory lies.
-fn line_of(image: &Image, addr: u32) -> u32
+pub(crate) fn line_of(image: &Image, addr: u32) -> u32
     requires { addr < image.now.size }
     ensures line { result ≡ conflict.line_of image.now addr }
     ensures within { result * (limits_of image.now.version).line_length + (limits_of image.now.version).line_length < 2 ^ 32 }

@@ -1,0 +1,145 @@
+//! Which load and which store a violation is blamed on.
+
+ghost use Rattle.std.specs.Prelude.{◌≡◌, ◌<◌, ◌≤◌, ◌+◌, ◌*◌, ◌^◌, ℕ, IfSome, Some, true};
+ghost use Rattle.rv32_image.specs.Version.{limits_of};
+ghost use Rattle.conflicts.specs.Attempts as attempts;
+ghost use Rattle.conflicts.specs.Blame as blame;
+ghost use Rattle.conflicts.specs.Parties.{meeting_in};
+ghost use Rattle.conflicts.specs.Violated as spec;
+
+use crate::accesses::{attempt_place, last_store, reads_outside};
+use crate::explanation::{Blame, Kind};
+use crate::meeting::{Parties, line_of};
+use rv32_exec::Image;
+use spec_history::{Entry, Flat, What};
+
+/// A violation with its cause: who meets in it, of what kind it is, and where both stand.
+#[derive(Clone, Copy)]
+pub(crate) struct Violated {
+    pub parties: Parties,
+    pub kind: Kind,
+    pub place: usize,
+    pub cause: usize,
+}
+
+impl Violated {
+    /// The byte can be blamed.
+    fn can_be_blamed(&self, image: &Image, flat: &Flat, addr: u32) -> bool
+        requires image { flat.now.image ≡ image.now }
+        requires within { addr < image.now.size }
+        ensures { result ≡ blame.can_be_blamed image.now (spec.violation_in flat.now self.now) addr }
+    {
+        match self.kind {
+            Kind::TrueSharing => self.parties.is_changed(flat, addr),
+            Kind::SilentStore => self.parties.is_shared(flat, addr),
+            Kind::FalseSharing => self.parties.is_beside(image, flat, addr),
+            Kind::FullBuffer | Kind::Unexplained => false,
+        }
+    }
+
+    /// The entry at a place is a load that read the byte from outside, and the byte can be blamed.
+    fn is_read_at(
+        &self,
+        image: &Image,
+        flat: &Flat,
+        entries: &[Entry],
+        start: usize,
+        load: usize,
+        addr: u32,
+    ) -> bool
+        requires image { flat.now.image ≡ image.now }
+        requires within { addr < image.now.size }
+        requires start { attempts.attempt_place entries.now self.now.parties.victim self.now.place ≡ Some start }
+        ensures { result ≡ blame.is_read_at image.now entries.now (spec.violation_in flat.now self.now) load addr }
+    {
+        self.can_be_blamed(image, flat, addr)
+            && reads_outside(entries, self.parties.victim, start, addr, load)
+    }
+
+    /// The byte to blame at a load.
+    fn byte_at(
+        &self,
+        image: &Image,
+        flat: &Flat,
+        entries: &[Entry],
+        start: usize,
+        load: usize,
+    ) -> Option<u32>
+        requires image { flat.now.image ≡ image.now }
+        requires start { attempts.attempt_place entries.now self.now.parties.victim self.now.place ≡ Some start }
+        ensures byte { result ≡ blame.blamed_byte image.now entries.now (spec.violation_in flat.now self.now) load }
+        ensures within { IfSome result (λ addr. addr < image.now.size) }
+    {
+        let (first, end) = bytes_of(image, entries, load);
+        for addr in first..end {
+            if self.is_read_at(image, flat, entries, start, load, addr) {
+                return Some(addr);
+            }
+        }
+        None
+    }
+
+    /// The store that gave a byte the value that the cause writes.
+    fn store_to(&self, entries: &[Entry], flat: &Flat, addr: u32) -> Option<usize>
+        ensures { result ≡ blame.store_to entries.now (spec.violation_in flat.now self.now) addr }
+    {
+        match self.parties.cause {
+            What::Store { .. } => Some(self.cause),
+            _ => last_store(entries, self.parties.causer, self.place, addr),
+        }
+    }
+
+    /// The store to blame for a byte.
+    fn store(&self, image: &Image, flat: &Flat, entries: &[Entry], addr: u32) -> Option<usize>
+        requires { addr < image.now.size }
+        ensures { result ≡ blame.blamed_store image.now entries.now (spec.violation_in flat.now self.now) addr }
+    {
+        match self.kind {
+            Kind::FalseSharing => {
+                let beside = self.parties.written_in(image, flat, line_of(image, addr))?;
+                self.store_to(entries, flat, beside)
+            }
+            _ => self.store_to(entries, flat, addr),
+        }
+    }
+
+    /// The load and the store to blame, and the byte.
+    pub(crate) fn blame(&self, image: &Image, flat: &Flat, entries: &[Entry]) -> Option<Blame>
+        requires { flat.now.image ≡ image.now }
+        ensures { result ≡ blame.blame_of image.now entries.now (spec.violation_in flat.now self.now) }
+    {
+        let start = attempt_place(entries, self.parties.victim, self.place)?;
+        let load = self.load(image, flat, entries, start)?;
+        let byte = self.byte_at(image, flat, entries, start, load)?;
+        let store = self.store(image, flat, entries, byte)?;
+        Some(Blame { load, store, byte })
+    }
+
+    /// The load to blame.
+    fn load(&self, image: &Image, flat: &Flat, entries: &[Entry], start: usize) -> Option<usize>
+        requires image { flat.now.image ≡ image.now }
+        requires start { attempts.attempt_place entries.now self.now.parties.victim self.now.place ≡ Some start }
+        ensures { result ≡ blame.blamed_load image.now entries.now (spec.violation_in flat.now self.now) }
+    {
+        for load in start..self.place {
+            if self.byte_at(image, flat, entries, start, load).is_some() {
+                return Some(load);
+            }
+        }
+        None
+    }
+}
+
+/// The bytes of memory that the entry at a place loads: from the first of these up to the second.
+fn bytes_of(image: &Image, entries: &[Entry], place: usize) -> (u32, u32)
+    ensures within { result.1 ≤ image.now.size }
+    ensures loaded { (core a : ℕ) → attempts.core_does entries.now core place (attempts.loads_byte a) ≡ true → a < image.now.size → (result.0 ≤ a) × (a < result.1) }
+{
+    match entries.get(place) {
+        Some(entry) => match entry.what {
+            What::Load { addr, width, .. } => (addr, image.size().min(addr.saturating_add(width))),
+            _ => (0, 0),
+        },
+        None => (0, 0),
+    }
+}
