@@ -1,7 +1,7 @@
 //! Worked histories and what explains their violations.
 
 use crate::rows::{BUFFER_FULL, BUFFER_FULL_VIOLATIONS, HISTOGRAM, HISTOGRAM_VIOLATIONS};
-use conflicts::{Explanation, Kind, Runner, explain};
+use conflicts::{Blame, Explanation, Kind, Runner, explain};
 use rv32_exec::image_of;
 use std::test::*;
 use trace_text::{image_part, read_trace};
@@ -29,13 +29,28 @@ fn kind_of(word: &str) -> Option<Kind> {
     None
 }
 
+/// What the row says at the places of the blamed load, the store and the byte, if it blames any.
+fn blame_of(row: &str) -> Option<Blame> {
+    let load = row.split(' ').nth(14)?.parse().ok()?;
+    let store = row.split(' ').nth(16)?.parse().ok()?;
+    let byte = row.split(' ').nth(18)?.parse().ok()?;
+    Some(Blame { load, store, byte })
+}
+
 fn explanation_of(row: &str) -> Option<Explanation> {
     Some(Explanation {
         place: number(row, 0) as usize,
         kind: kind_of(row.split(' ').nth(1)?)?,
-        causer: Runner { core: number(row, 3), epoch: number(row, 4) },
-        victim: Runner { core: number(row, 6), epoch: number(row, 7) },
+        causer: Runner {
+            core: number(row, 3),
+            epoch: number(row, 4),
+        },
+        victim: Runner {
+            core: number(row, 6),
+            epoch: number(row, 7),
+        },
         cause: Some(number(row, 9) as usize),
+        blame: blame_of(row),
         lost: u64::from(number(row, 11)),
         entered: u64::from(number(row, 12)),
     })
@@ -43,13 +58,23 @@ fn explanation_of(row: &str) -> Option<Explanation> {
 
 #[test]
 fn explains_worked_histories(rt: HostRuntime) -> Result<(), Fail> {
-    for (text, rows) in [(HISTOGRAM, HISTOGRAM_VIOLATIONS), (BUFFER_FULL, BUFFER_FULL_VIOLATIONS)] {
+    for (text, rows) in [
+        (HISTOGRAM, HISTOGRAM_VIOLATIONS),
+        (BUFFER_FULL, BUFFER_FULL_VIOLATIONS),
+    ] {
         let text = text.as_bytes();
         let image = image_of(rt.alloc(), image_part(text))?;
-        let (cores, entries) = read_trace(rt.alloc(), text, image.version()).ok().ok_or("trace")?;
-        let found = explain(rt.alloc(), &image, cores, entries.as_slice()).ok().ok_or("history")?;
+        let (cores, entries) = read_trace(rt.alloc(), text, image.version())
+            .ok()
+            .ok_or("trace")?;
+        let found = explain(rt.alloc(), &image, cores, entries.as_slice())
+            .ok()
+            .ok_or("history")?;
         let wanted = rows.split('\n').filter(|row| !row.is_empty());
-        assert_eq!(rt; found.len(), rows.split('\n').filter(|row| !row.is_empty()).count());
+        assert_eq!(rt;
+            found.len(),
+            rows.split('\n').filter(|row| !row.is_empty()).count()
+        );
         for (explanation, row) in found.iter().zip(wanted) {
             assert!(rt; Some(*explanation) == explanation_of(row), "{row}");
         }

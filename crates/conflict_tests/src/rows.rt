@@ -1,5 +1,6 @@
 //! Worked histories: an image with its trace, and the violations in it. Each row: the place and the kind, the core and the epoch that made it,
-//! the core and the epoch that were violated, the place of the cause, and the instructions lost and entered.
+//! the core and the epoch that were violated, the place of the cause, the instructions lost and entered, and the blamed load and store with the
+//! byte. The values are those of another program, which was written from the definitions.
 
 /// A histogram: each epoch adds 1 to the bin that its sample names.
 pub const HISTOGRAM: &str = "\
@@ -110,10 +111,10 @@ trace 3\n\
 ";
 
 pub const HISTOGRAM_VIOLATIONS: &str = "\
-16 true by 2 1 victim 0 3 cause 17 lost 10 9\n\
-47 false by 0 7 victim 1 8 cause 48 lost 8 7\n\
-57 true by 1 8 victim 2 10 cause 58 lost 8 7\n\
-85 true by 0 12 victim 2 14 cause 86 lost 10 9\n\
+16 true by 2 1 victim 0 3 cause 17 lost 10 9 load 11 store 17 byte 68\n\
+47 false by 0 7 victim 1 8 cause 48 lost 8 7 load 44 store 38 byte 84\n\
+57 true by 1 8 victim 2 10 cause 58 lost 8 7 load 55 store 58 byte 84\n\
+85 true by 0 12 victim 2 14 cause 86 lost 10 9 load 81 store 77 byte 100\n\
 ";
 
 /// Epoch 0 loads from five lines, and every other epoch stores to them: buffers of four lines fill up.
@@ -217,11 +218,11 @@ trace 4\n\
 ";
 
 pub const BUFFER_FULL_VIOLATIONS: &str = "\
-18 buffer by 2 0 victim 3 1 cause 19 lost 7 6\n\
-29 buffer by 0 2 victim 1 3 cause 30 lost 7 6\n\
-41 buffer by 3 1 victim 0 2 cause 42 lost 7 6\n\
-47 buffer by 1 3 victim 2 4 cause 48 lost 7 6\n\
-59 buffer by 0 2 victim 1 3 cause 60 lost 7 6\n\
-69 buffer by 1 3 victim 3 5 cause 70 lost 7 6\n\
-81 buffer by 2 4 victim 3 5 cause 82 lost 7 6\n\
+18 buffer by 2 0 victim 3 1 cause 19 lost 7 6 load - store - byte -\n\
+29 buffer by 0 2 victim 1 3 cause 30 lost 7 6 load - store - byte -\n\
+41 buffer by 3 1 victim 0 2 cause 42 lost 7 6 load - store - byte -\n\
+47 buffer by 1 3 victim 2 4 cause 48 lost 7 6 load - store - byte -\n\
+59 buffer by 0 2 victim 1 3 cause 60 lost 7 6 load - store - byte -\n\
+69 buffer by 1 3 victim 3 5 cause 70 lost 7 6 load - store - byte -\n\
+81 buffer by 2 4 victim 3 5 cause 82 lost 7 6 load - store - byte -\n\
 ";
