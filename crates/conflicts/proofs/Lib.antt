@@ -4,3 +4,4 @@ mod Blaming
 mod Listed
 mod Explaining
 mod Needed
+mod Growing

@@ -1,14 +1,12 @@
 -- The attempts of a history, and the accesses in them.
 -- Source: an epoch that is violated is run again from its start, in Steffan, Colohan, Zhai and Mowry, "A Scalable
 -- Approach to Thread-Level Speculation", ISCA 2000; each of its runs is an attempt here.
-use Rattle.std.specs.Prelude.{ℕ, ◌+◌, ◌==◌, ◌&&◌, Bool, true, false, List, take, Option, Some, None, is_none, nat_le, nat_lt, option_and_then, option_map, slice_get}
+use Rattle.std.specs.Prelude.{ℕ, ◌+◌, ◌==◌, ◌&&◌, Bool, true, false, List, take, Option, Some, None, is_none, nat_le, nat_lt, slice_get}
 use Rattle.rv32_image.specs.Image.{LoadedImage}
-use Rattle.rv32_exec.specs.Hart.{HartState}
-use Rattle.rv32_exec.specs.NextEvent.{next_event}
 use Rattle.spec_history.specs.declared.entry.Entry.{Entry}
 use Rattle.spec_history.specs.declared.entry.What.{What}
 use Rattle.spec_history.specs.declared.entry.What.TheVariants.{Start, Load, Store, Restart}
-use Rattle.spec_history.specs.FlatState.{CoreState, FlatState}
+use Rattle.spec_history.specs.FlatState.{FlatState}
 use Rattle.spec_history.specs.Replay.{replay}
 use Rattle.conflicts.specs.Searches.{first_below, last_below, count_below}
 
@@ -81,9 +79,3 @@ first_read entries core before a = first_below before (reads_outside entries cor
 -- the state before the entry at a place
 abbrev pub state_before : LoadedImage → ℕ → List Entry → ℕ → Option FlatState
 state_before image count entries place = replay image count (take place entries)
-
--- the hart of the core of an access, before the instruction that makes it
-abbrev pub hart_before : LoadedImage → ℕ → List Entry → ℕ → Option HartState
-hart_before image count entries place =
-    let core = option_and_then (λ (s : FlatState). option_and_then (λ (entry : Entry). s.cores entry.by) (slice_get entries place)) (state_before image count entries place) in
-    option_map (λ (c : CoreState). (next_event image c.hart).now) core

@@ -2,7 +2,6 @@
 use Rattle.std.specs.Prelude.{◌≡◌, ◌⊎◌, ℕ, ◌+◌, ◌-◌, ◌*◌, ◌<◌, ◌≤◌, ◌==◌, ◌&&◌, Bool, true, false, List, Option, Some, None, is_some, option_and_then, option_map}
 use Rattle.rv32_image.specs.Image.{LoadedImage}
 use Rattle.rv32_image.specs.Version.{limits_of}
-use Rattle.rv32_exec.specs.Hart.{HartState}
 use Rattle.spec_history.specs.declared.entry.Entry.{Entry}
 use Rattle.spec_history.specs.declared.entry.What.{What}
 use Rattle.spec_history.specs.declared.entry.What.TheVariants.{Load, Store}
@@ -10,7 +9,7 @@ use Rattle.conflicts.specs.declared.explanation.Blame.{Blame}
 use Rattle.conflicts.specs.declared.explanation.Kind.{Kind}
 use Rattle.conflicts.specs.declared.explanation.Kind.TheVariants.{TrueSharing, SilentStore, FalseSharing}
 use Rattle.conflicts.specs.Searches.{first_below}
-use Rattle.conflicts.specs.Attempts.{attempt_does, last_store, first_read, hart_before, reads_outside}
+use Rattle.conflicts.specs.Attempts.{attempt_does, last_store, first_read, reads_outside}
 use Rattle.conflicts.specs.Conflict.{Meeting, is_shared, is_changed, is_beside, line_of}
 
 -- a violation with its cause: where both stand in the history, who made it, who was violated, and the bytes that meet
@@ -124,11 +123,3 @@ pub record IsBlamedBuffer (image : LoadedImage) (entries : List Entry) (v : Viol
   pub asked_is : asked ≡ v.cause
   pub address_is : address ≡ line * (limits_of image.version).line_length
   pub long_is : long ≡ (limits_of image.version).line_length
-
--- the instruction of an access, by its address
-abbrev pub instruction_of : LoadedImage → ℕ → List Entry → ℕ → Option ℕ
-instruction_of image count entries place = option_map (λ (h : HartState). h.pc) (hart_before image count entries place)
-
--- how many instructions of the attempt came before the one of an access: what a checkpoint there would have saved
-abbrev pub done_before : LoadedImage → ℕ → List Entry → ℕ → Option ℕ
-done_before image count entries place = option_map (λ (h : HartState). h.done) (hart_before image count entries place)

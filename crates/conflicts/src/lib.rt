@@ -8,6 +8,8 @@ mod explanation;
 mod history;
 pub mod laws;
 mod meeting;
+mod standing;
 
 pub use explanation::{Blame, Explanation, Kind, Runner};
 pub use history::explain;
+pub use standing::{Site, sites};
