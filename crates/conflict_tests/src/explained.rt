@@ -1,7 +1,7 @@
 //! Worked histories and what explains their violations.
 
 use crate::rows::{BUFFER_FULL, BUFFER_FULL_VIOLATIONS, HISTOGRAM, HISTOGRAM_VIOLATIONS};
-use conflicts::{Blame, Explanation, Kind, Runner, explain};
+use conflicts::{Blame, Explanation, Kind, Runner, Site, explain, sites};
 use rv32_exec::image_of;
 use std::test::*;
 use trace_text::{image_part, read_trace};
@@ -78,6 +78,36 @@ fn explains_worked_histories(rt: HostRuntime) -> Result<(), Fail> {
         for (explanation, row) in found.iter().zip(wanted) {
             assert!(rt; Some(*explanation) == explanation_of(row), "{row}");
         }
+    }
+    Ok(())
+}
+
+/// The addresses of the two instructions, and how many the attempt executed from the load on.
+fn since_of(blame: Blame, lost: u64, sites: &[Option<Site>]) -> Option<(u32, u32, u64)> {
+    let load = (*sites.get(blame.load)?)?;
+    let store = (*sites.get(blame.store)?)?;
+    Some((load.pc, store.pc, lost.checked_sub(load.done)?))
+}
+
+#[test]
+fn tells_the_instructions_of_a_pair(rt: HostRuntime) -> Result<(), Fail> {
+    let text = HISTOGRAM.as_bytes();
+    let image = image_of(rt.alloc(), image_part(text))?;
+    let (cores, entries) = read_trace(rt.alloc(), text, image.version())
+        .ok()
+        .ok_or("trace")?;
+    let stood = sites(rt.alloc(), &image, cores, entries.as_slice())
+        .ok()
+        .ok_or("history")?;
+    assert_eq!(rt; stood.len(), entries.len());
+    for row in HISTOGRAM_VIOLATIONS
+        .split('\n')
+        .filter(|row| !row.is_empty())
+    {
+        let wanted = (number(row, 20), number(row, 21), u64::from(number(row, 23)));
+        let blame = blame_of(row).ok_or("blame")?;
+        let told = since_of(blame, u64::from(number(row, 11)), stood.as_slice());
+        assert!(rt; told == Some(wanted), "{row}");
     }
     Ok(())
 }

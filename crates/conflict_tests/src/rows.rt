@@ -1,6 +1,6 @@
 //! Worked histories: an image with its trace, and the violations in it. Each row: the place and the kind, the core and the epoch that made it,
 //! the core and the epoch that were violated, the place of the cause, the instructions lost and entered, and the blamed load and store with the
-//! byte. The values are those of another program, which was written from the definitions.
+//! byte, the addresses of their instructions, and the instructions from the load on. The values are those of another program, which was written from the definitions.
 
 /// A histogram: each epoch adds 1 to the bin that its sample names.
 pub const HISTOGRAM: &str = "\
@@ -111,10 +111,10 @@ trace 3\n\
 ";
 
 pub const HISTOGRAM_VIOLATIONS: &str = "\
-16 true by 2 1 victim 0 3 cause 17 lost 10 9 load 11 store 17 byte 68\n\
-47 false by 0 7 victim 1 8 cause 48 lost 8 7 load 44 store 38 byte 84\n\
-57 true by 1 8 victim 2 10 cause 58 lost 8 7 load 55 store 58 byte 84\n\
-85 true by 0 12 victim 2 14 cause 86 lost 10 9 load 81 store 77 byte 100\n\
+16 true by 2 1 victim 0 3 cause 17 lost 10 9 load 11 store 17 byte 68 at 24 32 since 4\n\
+47 false by 0 7 victim 1 8 cause 48 lost 8 7 load 44 store 38 byte 84 at 24 32 since 2\n\
+57 true by 1 8 victim 2 10 cause 58 lost 8 7 load 55 store 58 byte 84 at 24 32 since 2\n\
+85 true by 0 12 victim 2 14 cause 86 lost 10 9 load 81 store 77 byte 100 at 24 32 since 4\n\
 ";
 
 /// Epoch 0 loads from five lines, and every other epoch stores to them: buffers of four lines fill up.
