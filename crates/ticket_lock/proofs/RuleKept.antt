@@ -16,7 +16,7 @@ use Rattle.ticket_lock.specs.declared.rule.Turn.{Turn}
 use Rattle.ticket_lock.specs.declared.rule.Turn.TheVariants.{Idle, Waiting, Holding}
 use Rattle.ticket_lock.specs.Past.{StartsWith, GrowsBy, is_of, entries_of}
 use Rattle.ticket_lock.specs.Rule.{IsLive, Covers, IsNoted, IsSound, AreApart, IsSeated, IsHome, IsOut, LockRule, ticket_of, first_view}
-use Rattle.ticket_lock.specs.Steps.{noticed, numbers_below, numbers_from, noted_of, both_of, spent, closed, looked, looked_next, recalled, drawn, IsHanded, served, handed_back}
+use Rattle.ticket_lock.specs.Steps.{noticed, numbers_below, numbers_from, noted_of, both_of, spent, closed, looked_next, recalled, drawn, IsHanded, served, handed_back}
 use Rattle.ticket_lock.proofs.Pasts.{starts_itself, starts_trans, longer_begins, first_begins, second_begins, own_between, own_of_both, own_of_part, no_entries}
 use Rattle.ticket_lock.proofs.Frames.{set_there, each_set, each_end, apart_set, apart_end, AllApart}
 
@@ -93,6 +93,23 @@ module _ {T F W : Type 0} where
     seen = h.seen;
   }
 
+module _ {T F W : Type 0} (fixed_of : T → F) (past_of : T → List (ℕ × W)) where
+  -- what a look tells the pass m that waits: with its ticket u found it has the value, and else it is as it was
+  abbrev pub Told : (m : Me (Option T) (View F W)) (n : ℕ) (m' : Me (Option T) (View F W)) → Type 0
+  Told m n m' = (u : ℕ) → m.0.turn ≡ Waiting u → MatchBool (eqb n u) ((x : T) × IsHanded fixed_of past_of m.0 u x m') (m' ≡ m)
+
+  pub taken : (m was : Me (Option T) (View F W)) (n t : ℕ) (m' : Me (Option T) (View F W)) → m ≡ was → was.0.turn ≡ Waiting t → Told m n m' → n ≡ t
+      → (x : T) × IsHanded fixed_of past_of was.0 t x m'
+  taken m was n t m' same waits tells is =
+      let given : (x : T) × IsHanded fixed_of past_of m.0 t x m' = subst (λ (b : Bool). MatchBool b ((x : T) × IsHanded fixed_of past_of m.0 t x m') (m' ≡ m)) (eq-eqb n t is) (tells t (ap (λ p. p.0.turn) same ∙ waits)) in
+      subst (λ (p : Me (Option T) (View F W)). (x : T) × IsHanded fixed_of past_of p.0 t x m') same given
+
+  pub not_taken : (m was : Me (Option T) (View F W)) (n t : ℕ) (m' : Me (Option T) (View F W)) → m ≡ was → was.0.turn ≡ Waiting t → Told m n m' → (n ≡ t → ⊥)
+      → m' ≡ was
+  not_taken m was n t m' same waits tells is =
+      let given : m' ≡ m = subst (λ (b : Bool). MatchBool b ((x : T) × IsHanded fixed_of past_of m.0 t x m') (m' ≡ m)) (ne_eqb n t is) (tells t (ap (λ p. p.0.turn) same ∙ waits)) in
+      given ∙ same
+
 module _ {T F W : Type 0} (fixed_of : T → F) (past_of : T → List (ℕ × W)) (o : Opening F) where
   live_of : (v w : View F W) → w.opening ≡ v.opening → IsLive w → IsLive v
   live_of v w e live = subst (λ (z : Option (Opening F)). IsSome z) e live
@@ -137,10 +154,6 @@ module _ {T F W : Type 0} (fixed_of : T → F) (past_of : T → List (ℕ × W))
   stays : (s : State (Option T) (View F W)) (id : ℕ) (v : View F W) → LockRule fixed_of past_of o s → get_elem? s.views id ≡ some v
       → LockRule fixed_of past_of o record { words = s.words; homes = s.homes; views = set s.views id v }
   stays s id v r at = subst (λ (vs : List (View F W)). LockRule fixed_of past_of o record { words = s.words; homes = s.homes; views = vs }) (sym (set_again s.views id v at)) r
-
-  -- a look at a word
-  pub looks : (slots id : ℕ) (m : Me (Option T) (View F W)) (i : ℕ) → Allows (LockRule fixed_of past_of o) slots id m i (λ n. n) (looked (step slots i 0 0 none) m)
-  looks slots id m i s r deep at fits = (m.0, keeps, tt, unmoved s i id m.1 m.0 (stays s id m.0 r at), refl)
 
   word_next : (s : State (Option T) (View F W)) (r : LockRule fixed_of past_of o s) → get_or s.words 0 0 ≡ r.next
   word_next s r = ap (λ ws. get_or ws 0 0) r.words
@@ -333,25 +346,30 @@ module _ {T F W : Type 0} (fixed_of : T → F) (past_of : T → List (ℕ × W))
       (λ h. absurd ((r.apart h.holder id h.view v (not_holder r.serving r.past s h id v at (λ t. waiting_is_not v.turn r.serving t waits)) h.seated (at, live)).tickets r.serving (ap ticket_of h.holds) (ap ticket_of waits)))
       r.value
 
+  -- what the look of a pass that waits with the ticket t tells, told of any ticket with which it waits
+  told : (slots n : ℕ) (v : View F W) (t : ℕ) → v.turn ≡ Waiting t → (m : Me (Option T) (View F W))
+      → MatchBool (eqb n t) ((x : T) × IsHanded fixed_of past_of v t x m) (m ≡ (v, [])) → served fixed_of past_of (step slots 1 0 0 none) (v, []) n m
+  told slots n v t waits m given u is =
+      let same : t ≡ u = cc in
+      subst (λ (k : ℕ). MatchBool (eqb n k) ((x : T) × IsHanded fixed_of past_of v k x m) (m ≡ (v, []))) same given
+
   serves : (slots id : ℕ) (v : View F W) (t : ℕ) → IsLive v → v.turn ≡ Waiting t
-      → Allows (LockRule fixed_of past_of o) slots id (v, []) 1 (λ n. either (eqb n t) t n) (served fixed_of past_of (step slots 1 t t none) (v, []))
+      → Allows (LockRule fixed_of past_of o) slots id (v, []) 1 (λ n. n) (served fixed_of past_of (step slots 1 0 0 none) (v, []))
   serves slots id v t live waits s r deep at fits =
       let n : ℕ = get_or s.words 1 0 in
-      let n' : ℕ = either (eqb n t) t n in
       dite (ℕ_discrete n t)
       (λ e.
       let now : r.serving ≡ t = sym (word_serving s r) ∙ e in
       let h = is_home s r id v at live (waits ∙ ap Waiting (sym now)) in
       let x : T = h.value in
       let w : View F W = record v { turn = Holding t; seen = past_of x; noted = [] } in
-      let here : n' ≡ r.serving = ap (λ (b : Bool). either b t n) (eq-eqb n t e) ∙ sym now in
-      let words : set s.words 1 n' ≡ r.next ∷ r.serving ∷ [] = ap (λ ws. set ws 1 n') r.words ∙ ap (λ k. r.next ∷ k ∷ []) here in
+      let words : set s.words 1 n ≡ r.next ∷ r.serving ∷ [] = ap (λ ws. set ws 1 n) r.words ∙ ap (λ k. r.next ∷ k ∷ []) (word_serving s r) in
       let was = r.each id v (at, live) in (
         w,
         takes 0 (Some x),
         ap (λ hs. get_elem? hs 0) h.slot,
-        took s r id v at live t waits now h (set s.words 1 n') words,
-        subst (λ (b : Bool). let m : Me (Option T) (View F W) = (w, (0, Some x) ∷ []) in MatchBool b ((x : T) × IsHanded fixed_of past_of v t x m) (m ≡ (v, []))) (sym (eq-eqb n t e)) (
+        took s r id v at live t waits now h (set s.words 1 n) words,
+        told slots n v t waits (w, (0, Some x) ∷ []) (subst (λ (b : Bool). let m : Me (Option T) (View F W) = (w, (0, Some x) ∷ []) in MatchBool b ((x : T) × IsHanded fixed_of past_of v t x m) (m ≡ (v, []))) (sym (eq-eqb n t e)) (
           x,
           record {
             seat = refl;
@@ -360,22 +378,21 @@ module _ {T F W : Type 0} (fixed_of : T → F) (past_of : T → List (ℕ × W))
             own = ap (λ l. entries_of v.lo v.hi l) h.past_is ∙ was.own;
             some = was.some;
           },
-        ),
+        )),
       ))
-      (λ ne.
-      let here : n' ≡ n = ap (λ (b : Bool). either b t n) (ne_eqb n t ne) in (
+      (λ ne. (
         v,
         keeps,
         tt,
-        subst (λ k. LockRule fixed_of past_of o (stepped s 1 k id [] v keeps)) (sym here) (unmoved s 1 id [] v (stays s id v r at)),
-        subst (λ (b : Bool). let m : Me (Option T) (View F W) = (v, []) in MatchBool b ((x : T) × IsHanded fixed_of past_of v t x m) (m ≡ m)) (sym (ne_eqb n t ne)) refl,
+        unmoved s 1 id [] v (stays s id v r at),
+        told slots n v t waits (v, []) (subst (λ (b : Bool). let m : Me (Option T) (View F W) = (v, []) in MatchBool b ((x : T) × IsHanded fixed_of past_of v t x m) (m ≡ m)) (sym (ne_eqb n t ne)) refl),
       ))
 
   pub serves_at : (slots id : ℕ) (m : Me (Option T) (View F W)) (t : ℕ) → IsLive m.0 → m.0.turn ≡ Waiting t → m.1 ≡ []
-      → Allows (LockRule fixed_of past_of o) slots id m 1 (λ n. either (eqb n t) t n) (served fixed_of past_of (step slots 1 t t none) m)
+      → Allows (LockRule fixed_of past_of o) slots id m 1 (λ n. n) (served fixed_of past_of (step slots 1 0 0 none) m)
   serves_at slots id m t live waits bare =
       let same : (m.0, []) ≡ m = λ i. (m.0, sym bare i) in
-      subst (λ (m : Me (Option T) (View F W)). Allows (LockRule fixed_of past_of o) slots id m 1 (λ n. either (eqb n t) t n) (served fixed_of past_of (step slots 1 t t none) m)) same (serves slots id m.0 t live waits)
+      subst (λ (m : Me (Option T) (View F W)). Allows (LockRule fixed_of past_of o) slots id m 1 (λ n. n) (served fixed_of past_of (step slots 1 0 0 none) m)) same (serves slots id m.0 t live waits)
 
   -- the pass that has the value gives it back, grown by entries of its own first number
   gave : (s : State (Option T) (View F W)) (r : LockRule fixed_of past_of o s) (id : ℕ) (v : View F W) → get_elem? s.views id ≡ some v → IsLive v → (t : ℕ) → v.turn ≡ Holding t

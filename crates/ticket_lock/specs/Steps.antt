@@ -43,10 +43,6 @@ module _ {F W : Type 0} where
   closed v = record v { opening = None }
 
 module _ {T F W : Type 0} where
-  -- a look that tells nothing
-  abbrev pub looked : Step (Option T) → Me (Option T) (View F W) → ℕ → Me (Option T) (View F W) → Type 0
-  looked st m found m' = m' ≡ m
-
   -- a look at `next`
   abbrev pub looked_next : Step (Option T) → Me (Option T) (View F W) → ℕ → Me (Option T) (View F W) → Type 0
   looked_next st m found m' = (found ≤ 2 ^ 63) × (m' ≡ (noticed found m.0, m.1))
@@ -67,9 +63,9 @@ module _ {T F W : Type 0} where
     pub own : entries_of v.lo v.hi (past_of x) ≡ entries_of v.lo v.hi v.seen
     pub some : v.lo < v.hi
 
-  -- the exchange on `serving` that finds the pass's own ticket, and takes the slot
+  -- a look at `serving` by a pass that waits with the ticket t: where it finds t, it takes the slot
   abbrev pub served : (T → F) → (T → List (ℕ × W)) → Step (Option T) → Me (Option T) (View F W) → ℕ → Me (Option T) (View F W) → Type 0
-  served fixed_of past_of st m found m' = MatchBool (found == st.first) ((x : T) × IsHanded fixed_of past_of m.0 st.first x m') (m' ≡ m)
+  served fixed_of past_of st m found m' = (t : ℕ) → m.0.turn ≡ Waiting t → MatchBool (found == t) ((x : T) × IsHanded fixed_of past_of m.0 t x m') (m' ≡ m)
 
   -- the exchange on `serving` that gives the slot back with the value x
   abbrev pub handed_back : (T → List (ℕ × W)) → Step (Option T) → Me (Option T) (View F W) → ℕ → Me (Option T) (View F W) → Type 0

@@ -6,15 +6,6 @@ use crate::rule::View;
 use atomic_table::{Join, Play, Split};
 use std::marker::{Brand, PhantomData};
 
-/// A look at `serving`, which tells nothing but the word.
-pub(crate) struct Look;
-
-impl<T, F, W> Play<Option<T>, View<F, W>> for Look {
-    ghost use Rattle.ticket_lock.specs.Steps.{looked};
-
-    ghost then = { looked };
-}
-
 /// A look at `next`, which may find that all tickets are drawn.
 pub(crate) struct LookNext;
 
@@ -42,7 +33,7 @@ impl<T, F, W> Play<Option<T>, View<F, W>> for Draw {
     ghost then = { drawn };
 }
 
-/// The exchange on `serving` that finds the own ticket and takes the value.
+/// A look at `serving`, which takes the value where it finds the own ticket.
 pub(crate) struct Serve;
 
 impl<T: Kept> Play<Option<T>, View<T::Fixed, T::What>> for Serve {

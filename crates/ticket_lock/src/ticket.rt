@@ -4,7 +4,7 @@ ghost use Rattle.ticket_lock.specs.declared.rule.Turn.TheVariants.{Waiting};
 ghost use Rattle.ticket_lock.specs.Steps.{IsHanded, Becomes, IsIdle, IsWaiting};
 
 use crate::kept::Kept;
-use crate::plays::{Draw, Look, LookNext, Serve};
+use crate::plays::{Draw, LookNext, Serve};
 use crate::rule::{END, NEXT, Place, SERVING, Words};
 use crossbeam_utils::Backoff;
 use std::sync::Wait;
@@ -37,7 +37,8 @@ pub(crate) fn draw<T: Kept, R: Wait>(rt: &R, words: &Words<T>, seat: &mut Place<
     unreachable!()
 }
 
-/// Waits until the ticket is served, and takes the value, which is then in the slot that the seat has.
+/// Waits until the ticket is served, and takes the value, which is then in the slot that the seat has. The look that finds the ticket takes
+/// it: no other thread has that ticket, so none has to be kept out by an exchange.
 ///
 /// It looks at first, and then sleeps. A thread that only looked, or that gave up its processor between two looks, would hold up the
 /// queue where more threads run than there are processors: each hand-over would wait until the scheduler comes round to the next.
@@ -50,10 +51,8 @@ pub(crate) fn wait<T: Kept, R: Wait>(rt: &R, words: &Words<T>, seat: &mut Place<
     let backoff = Backoff::new();
     let mut looks = 0u32;
     for _ in rt.forever() {
-        let served = words.load::<Look>(seat, SERVING);
-        if served == ticket
-            && words.compare_exchange::<Serve>(seat, SERVING, ticket, ticket) == ticket
-        {
+        let served = words.load::<Serve>(seat, SERVING);
+        if served == ticket {
             return;
         }
         if looks < LOOKS && ticket.saturating_sub(served) <= NEAR {
