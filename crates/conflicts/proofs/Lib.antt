@@ -5,3 +5,4 @@ mod Listed
 mod Explaining
 mod Needed
 mod Growing
+mod Nearing

@@ -70,7 +70,7 @@ impl Violated {
         ensures byte { result ≡ blame.blamed_byte image.now entries.now (spec.violation_in flat.now self.now) load }
         ensures within { IfSome result (λ addr. addr < image.now.size) }
     {
-        let (first, end) = bytes_of(image, entries, load);
+        let (first, end) = bytes_of(image, entries, self.parties.victim, load);
         for addr in first..end {
             if self.is_read_at(image, flat, entries, start, load, addr) {
                 return Some(addr);
@@ -130,16 +130,16 @@ impl Violated {
     }
 }
 
-/// The bytes of memory that the entry at a place loads: from the first of these up to the second.
-fn bytes_of(image: &Image, entries: &[Entry], place: usize) -> (u32, u32)
+/// The bytes of memory that a core loads at a place: from the first of these up to the second.
+fn bytes_of(image: &Image, entries: &[Entry], core: u32, place: usize) -> (u32, u32)
     ensures within { result.1 ≤ image.now.size }
-    ensures loaded { (core a : ℕ) → attempts.core_does entries.now core place (attempts.loads_byte a) ≡ true → a < image.now.size → (result.0 ≤ a) × (a < result.1) }
+    ensures loaded { (a : ℕ) → attempts.core_does entries.now core place (attempts.loads_byte a) ≡ true → a < image.now.size → (result.0 ≤ a) × (a < result.1) }
 {
     match entries.get(place) {
-        Some(entry) => match entry.what {
+        Some(entry) if entry.by == core => match entry.what {
             What::Load { addr, width, .. } => (addr, image.size().min(addr.saturating_add(width))),
             _ => (0, 0),
         },
-        None => (0, 0),
+        _ => (0, 0),
     }
 }
