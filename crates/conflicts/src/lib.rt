@@ -5,6 +5,7 @@ mod accesses;
 mod blame;
 mod causes;
 mod explanation;
+mod fates;
 mod history;
 pub mod laws;
 mod meeting;
