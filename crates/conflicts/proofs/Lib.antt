@@ -6,3 +6,4 @@ mod Explaining
 mod Needed
 mod Growing
 mod Nearing
+mod Numbering

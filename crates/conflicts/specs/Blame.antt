@@ -115,11 +115,6 @@ abbrev pub stores_in : LoadedImage → ℕ → What → Bool
 stores_in image line (Store address width value) = line_of image address == line
 stores_in image line what = false
 
--- a full buffer: the victim's first store in the line stands in place of the load, the access that asked for the line in place of the store
-pub record IsBlamedBuffer (image : LoadedImage) (entries : List Entry) (v : Violation) (held asked address long : ℕ) : Type 0 where
-  pub line : ℕ
-  pub line_is : accessed_line image v.what ≡ Some line
-  pub held_is : first_below v.place (attempt_does entries v.victim v.place (stores_in image line)) ≡ Some held
-  pub asked_is : asked ≡ v.cause
-  pub address_is : address ≡ line * (limits_of image.version).line_length
-  pub long_is : long ≡ (limits_of image.version).line_length
+-- the first store of the attempt that a core runs before a place in a line
+abbrev pub first_stored_in : LoadedImage → List Entry → ℕ → ℕ → ℕ → Option ℕ
+first_stored_in image entries core before line = first_below before (attempt_does entries core before (stores_in image line))

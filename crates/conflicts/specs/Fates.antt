@@ -1,17 +1,22 @@
 -- What became of a violation: the words of the report beside its kind.
 use Rattle.std.specs.Prelude.{ℕ, ◌-◌, ◌==◌, ◌&&◌, ◌||◌, not, Bool, true, false, List, length, Option, Some, None, nat_lt, option_and_then, option_map, slice_get, if◌then◌else◌}
+use Rattle.rv32_image.specs.Image.{LoadedImage}
 use Rattle.spec_history.specs.declared.entry.Entry.{Entry}
 use Rattle.spec_history.specs.declared.entry.What.{What}
 use Rattle.spec_history.specs.declared.entry.What.TheVariants.{Hurt, Cancel, Commit, Restart, Store}
 use Rattle.spec_history.specs.Refusal.{any_below}
 use Rattle.conflicts.specs.declared.explanation.Blame.{Blame}
 use Rattle.conflicts.specs.declared.explanation.Explanation.{Explanation}
+use Rattle.conflicts.specs.declared.explanation.Kind.{Kind}
+use Rattle.conflicts.specs.declared.explanation.Kind.TheVariants.{FullBuffer}
 use Rattle.conflicts.specs.declared.explanation.Runner.{Runner}
 use Rattle.conflicts.specs.declared.fates.Sign.{Sign}
 use Rattle.conflicts.specs.declared.fates.Sign.TheVariants.{Over, Settled}
 use Rattle.conflicts.specs.declared.standing.Site.{Site}
 use Rattle.conflicts.specs.Searches.{first_below}
 use Rattle.conflicts.specs.Attempts.{entry_is, is_begin, covers}
+use Rattle.conflicts.specs.Blame.{accessed_line, first_stored_in}
+use Rattle.conflicts.specs.Explained.{what_at}
 
 -- the first entry after a place that passes the test
 abbrev pub first_after : List Entry → ℕ → (Entry → Bool) → Option ℕ
@@ -67,6 +72,15 @@ is_stale_pair (Some pair) = nat_lt pair.store pair.load
 -- since: what was lost from the blamed load on, which a checkpoint before that load would not have saved
 abbrev pub since : List (Option Site) → Explanation → Option ℕ
 since sites e = option_and_then (λ (pair : Blame). option_and_then (λ (there : Option Site). option_map (λ (site : Site). e.lost - site.done) there) (slice_get sites pair.load)) e.blame
+
+abbrev pub held_by : LoadedImage → List Entry → Explanation → Kind → Option ℕ
+held_by image entries e FullBuffer =
+    option_and_then (first_stored_in image entries e.victim.core e.place) (option_and_then (accessed_line image) (what_at entries e.cause))
+held_by image entries e kind = None
+
+-- held, of a full buffer: the victim's first store in the line that the cause asks for
+abbrev pub held_at : LoadedImage → List Entry → Explanation → Option ℕ
+held_at image entries e = held_by image entries e e.kind
 
 -- a store to a byte that passes the test
 abbrev pub stores_one : ℕ → (ℕ → Bool) → What → Bool

@@ -15,6 +15,16 @@ fn begins(entries: &[Entry], core: u32, place: usize) -> bool
     }
 }
 
+/// A core starts an epoch at a place.
+fn starts(entries: &[Entry], core: u32, place: usize) -> bool
+    ensures { result ≡ spec.core_does entries.now core place spec.is_start }
+{
+    match entries.get(place) {
+        Some(entry) => entry.by == core && matches!(entry.what, What::Start(_)),
+        None => false,
+    }
+}
+
 /// An access to so many bytes is one to this byte.
 fn covers(first: u32, width: u32, addr: u32) -> bool
     ensures { result ≡ spec.covers first width addr }
@@ -81,6 +91,23 @@ pub(crate) fn attempt_place(entries: &[Entry], core: u32, before: usize) -> Opti
         }
     }
     None
+}
+
+/// Which run of its epoch the attempt is that a core runs before a place, counted from 1.
+pub(crate) fn attempt_number(entries: &[Entry], core: u32, before: usize) -> usize
+    ensures { result ≡ spec.attempt_number entries.now core before }
+{
+    let mut again = 0;
+    for i in 0..before {
+        let place = before - 1 - i;
+        if starts(entries, core, place) {
+            return again + 1;
+        }
+        if begins(entries, core, place) {
+            again += 1;
+        }
+    }
+    1
 }
 
 /// The last store to a byte of the attempt that a core runs before a place.

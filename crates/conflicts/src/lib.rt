@@ -6,6 +6,7 @@ mod blame;
 mod causes;
 mod explanation;
 mod fates;
+mod held;
 mod history;
 pub mod laws;
 mod meeting;
