@@ -1,5 +1,5 @@
 -- The nearest of the lines in which the victim has stored, and how many there are.
-use Rattle.std.proofs.Common.{◌≡◌, ℕ, zero, suc, ◌+◌, ◌*◌, ◌/◌, ◌<◌, ◌≤◌, ◌==◌, ◌&&◌, not, Bool, true, false, nat_le, nat_lt, is_some, List, length, slice_index, Option, Some, None, refl, sym, ap, ◌∙◌, inl, inr, arith, add-one, lt-ltb, le-leb, ltb-true, leb-true, ltb-false}
+use Rattle.std.proofs.Common.{◌≡◌, ℕ, zero, suc, ◌+◌, ◌*◌, ◌/◌, ◌<◌, ◌≤◌, ◌==◌, ◌&&◌, not, Bool, true, false, nat_le, nat_lt, is_some, List, length, slice_index, Option, Some, None, refl, sym, ap, ◌∙◌, inl, inr, arith, le-leb, ltb-true, leb-true, ltb-false}
 use Rattle.std.proofs.lemmas.Bool.{cases_eq, lt-leb}
 use Rattle.memory_bytes.specs.Shadow.{IsAmong}
 use Rattle.rv32_image.specs.Image.{LoadedImage}

@@ -1,5 +1,5 @@
 -- How often an attempt was begun again.
-use Rattle.std.proofs.Common.{◌≡◌, ℕ, zero, suc, ◌+◌, ◌<◌, ◌≤◌, ◌&&◌, Bool, true, false, nat_lt, Option, Some, None, refl, sym, ap, subst, ◌∙◌, inl, inr, arith, add-one, lt-ltb, le-ltb}
+use Rattle.std.proofs.Common.{◌≡◌, ℕ, zero, suc, ◌+◌, ◌<◌, ◌≤◌, ◌&&◌, Bool, true, false, nat_lt, Option, None, refl, sym, ap, subst, ◌∙◌, inl, inr, arith, add-one, lt-ltb, le-ltb}
 use Rattle.std.proofs.lemmas.Bool.{cases_eq}
 use Rattle.conflicts.specs.Searches.{count_below, last_below}
 use Rattle.conflicts.specs.Attempts.{is_after}

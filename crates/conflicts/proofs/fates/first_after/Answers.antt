@@ -1,4 +1,4 @@
-use Rattle.std.proofs.Common.{◌<◌, ◌&&◌, ◌∙◌, ℕ, Bool, nat_lt, length, sym, ap, arith, le-ltb}
+use Rattle.std.proofs.Common.{◌&&◌, ◌∙◌, ℕ, Bool, nat_lt, length, sym, ap, arith, le-ltb}
 use Rattle.spec_history.proofs.CoreStates.{also_at}
 use Rattle.conflicts.specs.Attempts.{entry_is}
 use Rattle.conflicts.specs.Fates.{shows}

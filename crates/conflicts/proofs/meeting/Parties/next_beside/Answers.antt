@@ -1,4 +1,4 @@
-use Rattle.std.proofs.Common.{◌<◌, ◌/◌, ◌&&◌, ℕ, Bool, nat_le, nat_lt, slice_index, sym, ap, ◌∙◌, arith}
+use Rattle.std.proofs.Common.{◌/◌, ◌&&◌, ℕ, Bool, nat_le, nat_lt, slice_index, sym, ap, ◌∙◌, arith}
 use Rattle.rv32_image.specs.Version.{limits_of}
 use Rattle.conflicts.specs.Conflict.{line_of}
 use Rattle.conflicts.specs.Parties.{holds_other, meeting_in}
