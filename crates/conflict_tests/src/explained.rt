@@ -1,6 +1,9 @@
 //! Worked histories and what explains their violations.
 
-use crate::rows::{BUFFER_FULL, BUFFER_FULL_VIOLATIONS, HISTOGRAM, HISTOGRAM_VIOLATIONS};
+use crate::rows::{
+    BUFFER_FULL, BUFFER_FULL_FATES, BUFFER_FULL_VIOLATIONS, HISTOGRAM, HISTOGRAM_FATES,
+    HISTOGRAM_VIOLATIONS,
+};
 use conflicts::{Blame, Explanation, Kind, Runner, Site, explain, sites};
 use rv32_exec::image_of;
 use std::test::*;
@@ -108,6 +111,47 @@ fn tells_the_instructions_of_a_pair(rt: HostRuntime) -> Result<(), Fail> {
         let blame = blame_of(row).ok_or("blame")?;
         let told = since_of(blame, u64::from(number(row, 11)), stood.as_slice());
         assert!(rt; told == Some(wanted), "{row}");
+    }
+    Ok(())
+}
+
+/// The place in the history that a row names, if it names one.
+fn place_in(row: &str, place: usize) -> Option<usize> {
+    row.split(' ').nth(place)?.parse().ok()
+}
+
+#[test]
+fn tells_what_became_of_violations(rt: HostRuntime) -> Result<(), Fail> {
+    for (text, rows) in [
+        (HISTOGRAM, HISTOGRAM_FATES),
+        (BUFFER_FULL, BUFFER_FULL_FATES),
+    ] {
+        let text = text.as_bytes();
+        let image = image_of(rt.alloc(), image_part(text))?;
+        let (cores, entries) = read_trace(rt.alloc(), text, image.version())
+            .ok()
+            .ok_or("trace")?;
+        let entries = entries.as_slice();
+        let found = explain(rt.alloc(), &image, cores, entries)
+            .ok()
+            .ok_or("history")?;
+        for (explanation, row) in found.iter().zip(rows.split('\n')) {
+            assert!(rt; Some(explanation.place) == place_in(row, 0), "{row}");
+            assert!(rt;
+                Some(explanation.attempt(entries)) == place_in(row, 2),
+                "{row}"
+            );
+            assert!(rt; explanation.undone_at(entries) == place_in(row, 4), "{row}");
+            assert!(rt; explanation.moot_at(entries) == place_in(row, 6), "{row}");
+            assert!(rt;
+                explanation.is_stale() == (row.split(' ').nth(8) == Some("yes")),
+                "{row}"
+            );
+            assert!(rt;
+                explanation.held_at(&image, entries) == place_in(row, 10),
+                "{row}"
+            );
+        }
     }
     Ok(())
 }

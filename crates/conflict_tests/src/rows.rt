@@ -226,3 +226,23 @@ pub const BUFFER_FULL_VIOLATIONS: &str = "\
 69 buffer by 1 3 victim 3 5 cause 70 lost 7 6 load - store - byte -\n\
 81 buffer by 2 4 victim 3 5 cause 82 lost 7 6 load - store - byte -\n\
 ";
+
+/// What became of the violations of the histogram: the place, the attempt, the places at which the causer's attempt was undone and the victim's epoch
+/// was cancelled, whether the blamed pair is stale, and the store that held the line. The values are those of the same other program.
+pub const HISTOGRAM_FATES: &str = "\
+16 try 1 undone - moot - stale no held -\n\
+47 try 1 undone - moot - stale yes held -\n\
+57 try 1 undone - moot - stale no held -\n\
+85 try 1 undone - moot - stale yes held -\n\
+";
+
+/// The same of the full buffers.
+pub const BUFFER_FULL_FATES: &str = "\
+18 try 1 undone - moot - stale no held 14\n\
+29 try 1 undone 41 moot - stale no held 26\n\
+41 try 1 undone - moot - stale no held 30\n\
+47 try 1 undone 59 moot - stale no held 46\n\
+59 try 2 undone - moot - stale no held 48\n\
+69 try 1 undone - moot - stale no held 63\n\
+81 try 2 undone - moot - stale no held 79\n\
+";
