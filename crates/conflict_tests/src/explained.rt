@@ -1,10 +1,11 @@
 //! Worked histories and what explains their violations.
 
 use crate::rows::{
-    BUFFER_FULL, BUFFER_FULL_FATES, BUFFER_FULL_VIOLATIONS, HISTOGRAM, HISTOGRAM_FATES,
-    HISTOGRAM_VIOLATIONS,
+    BUFFER_FULL, BUFFER_FULL_FATES, BUFFER_FULL_VIOLATIONS, COMMITTED_BYTES,
+    COMMITTED_BYTES_VIOLATIONS, HISTOGRAM, HISTOGRAM_FATES, HISTOGRAM_VIOLATIONS, STORED_BYTES,
+    STORED_BYTES_VIOLATIONS,
 };
-use conflicts::{Blame, Explanation, Kind, Runner, Site, explain, sites};
+use conflicts::{Blame, ByteRange, Explanation, Kind, Runner, Site, explain, sites};
 use rv32_exec::image_of;
 use std::test::*;
 use trace_text::{image_part, read_trace};
@@ -32,12 +33,21 @@ fn kind_of(word: &str) -> Option<Kind> {
     None
 }
 
-/// What the row says at the places of the blamed load, the store and the byte, if it blames any.
+/// What the row says at the places of the blamed load, the store, the byte and those that met alike, if it blames any.
 fn blame_of(row: &str) -> Option<Blame> {
     let load = row.split(' ').nth(14)?.parse().ok()?;
     let store = row.split(' ').nth(16)?.parse().ok()?;
     let byte = row.split(' ').nth(18)?.parse().ok()?;
-    Some(Blame { load, store, byte })
+    let bytes = ByteRange {
+        first: row.split(' ').nth(25)?.parse().ok()?,
+        length: row.split(' ').nth(26)?.parse().ok()?,
+    };
+    Some(Blame {
+        load,
+        store,
+        byte,
+        bytes,
+    })
 }
 
 fn explanation_of(row: &str) -> Option<Explanation> {
@@ -64,6 +74,8 @@ fn explains_worked_histories(rt: HostRuntime) -> Result<(), Fail> {
     for (text, rows) in [
         (HISTOGRAM, HISTOGRAM_VIOLATIONS),
         (BUFFER_FULL, BUFFER_FULL_VIOLATIONS),
+        (STORED_BYTES, STORED_BYTES_VIOLATIONS),
+        (COMMITTED_BYTES, COMMITTED_BYTES_VIOLATIONS),
     ] {
         let text = text.as_bytes();
         let image = image_of(rt.alloc(), image_part(text))?;
