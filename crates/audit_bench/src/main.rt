@@ -1,10 +1,12 @@
 //! The audit of a long history, and its text: `audit_bench TIMES` reads the history from standard input, audits it so many times,
 //! and prints how many entries it has and the homefree epoch after it. `audit_bench TIMES text` prints it as a trace so many times
-//! in place of that, reads that trace back, and prints how many bytes it has. Processor times go to the error stream.
+//! in place of that, reads that trace back, and prints how many bytes it has; `audit_bench TIMES explain` explains its violations
+//! so many times, and prints how many there are. Processor times go to the error stream.
 #![tactic(auto)]
 
 mod history;
 
+use conflicts::explain;
 use history::{entries_of, homefree_after};
 use rv32_exec::{Image, Version, image_of, read_input};
 use spec_history::Entry;
@@ -32,9 +34,9 @@ fn main(rt: HostRuntime) -> io::Result<()> {
     let times = words
         .nth(1)
         .and_then(|word| word.as_str().parse::<u32>().ok());
-    let is_text = words.next().is_some();
+    let measured = words.next();
     let Some(times) = times else {
-        return failed(&rt, "usage: audit_bench TIMES [text]");
+        return failed(&rt, "usage: audit_bench TIMES [text|explain]");
     };
     let Ok(bytes) = read_input(rt.alloc(), &mut rt.stdin(), LONGEST) else {
         return failed(&rt, "no input");
@@ -44,10 +46,12 @@ fn main(rt: HostRuntime) -> io::Result<()> {
     };
     let count = entries.len();
     println!(rt; "{count} entries")?;
-    if is_text {
-        measure_text(&rt, entries.as_slice(), times)
-    } else {
-        measure_audit(&rt, entries.as_slice(), times)
+    match measured {
+        Some(word) if word.as_str() == "explain" => {
+            measure_explain(&rt, entries.as_slice(), times)
+        }
+        Some(_) => measure_text(&rt, entries.as_slice(), times),
+        None => measure_audit(&rt, entries.as_slice(), times),
     }
 }
 
@@ -69,6 +73,27 @@ fn measure_audit(rt: &HostRuntime, entries: &[Entry], times: u32) -> io::Result<
     let taken = rt.thread_cpu_time()?.saturating_sub(begun).as_nanos();
     match answer {
         Some(Ok(homefree)) => println!(rt; "homefree {homefree}")?,
+        Some(Err((place, illegal))) => println!(rt; "refused {place} {illegal}")?,
+        None => {}
+    }
+    eprintln!(rt; "{taken} ns")
+}
+
+fn measure_explain(rt: &HostRuntime, entries: &[Entry], times: u32) -> io::Result<()> {
+    let Ok(image) = image_of(rt.alloc(), IMAGE.as_bytes()) else {
+        return failed(rt, "no image");
+    };
+    let begun = rt.thread_cpu_time()?;
+    let mut answer = None;
+    for _ in 0..times {
+        answer = Some(explain(rt.alloc(), &image, CORES, entries));
+    }
+    let taken = rt.thread_cpu_time()?.saturating_sub(begun).as_nanos();
+    match answer {
+        Some(Ok(explanations)) => {
+            let count = explanations.len();
+            println!(rt; "{count} violations")?;
+        }
         Some(Err((place, illegal))) => println!(rt; "refused {place} {illegal}")?,
         None => {}
     }

@@ -1,7 +1,11 @@
 //! Worked histories and what explains their violations.
 
-use crate::rows::{BUFFER_FULL, BUFFER_FULL_VIOLATIONS, HISTOGRAM, HISTOGRAM_VIOLATIONS};
-use conflicts::{Blame, Explanation, Kind, Runner, Site, explain, sites};
+use crate::rows::{
+    BUFFER_FULL, BUFFER_FULL_FATES, BUFFER_FULL_VIOLATIONS, COMMITTED_BYTES,
+    COMMITTED_BYTES_VIOLATIONS, HISTOGRAM, HISTOGRAM_FATES, HISTOGRAM_VIOLATIONS, STORED_BYTES,
+    STORED_BYTES_VIOLATIONS,
+};
+use conflicts::{Blame, ByteRange, Explanation, Kind, Runner, Site, explain, sites};
 use rv32_exec::image_of;
 use std::test::*;
 use trace_text::{image_part, read_trace};
@@ -29,12 +33,21 @@ fn kind_of(word: &str) -> Option<Kind> {
     None
 }
 
-/// What the row says at the places of the blamed load, the store and the byte, if it blames any.
+/// What the row says at the places of the blamed load, the store, the byte and those that met alike, if it blames any.
 fn blame_of(row: &str) -> Option<Blame> {
     let load = row.split(' ').nth(14)?.parse().ok()?;
     let store = row.split(' ').nth(16)?.parse().ok()?;
     let byte = row.split(' ').nth(18)?.parse().ok()?;
-    Some(Blame { load, store, byte })
+    let bytes = ByteRange {
+        first: row.split(' ').nth(25)?.parse().ok()?,
+        length: row.split(' ').nth(26)?.parse().ok()?,
+    };
+    Some(Blame {
+        load,
+        store,
+        byte,
+        bytes,
+    })
 }
 
 fn explanation_of(row: &str) -> Option<Explanation> {
@@ -61,6 +74,8 @@ fn explains_worked_histories(rt: HostRuntime) -> Result<(), Fail> {
     for (text, rows) in [
         (HISTOGRAM, HISTOGRAM_VIOLATIONS),
         (BUFFER_FULL, BUFFER_FULL_VIOLATIONS),
+        (STORED_BYTES, STORED_BYTES_VIOLATIONS),
+        (COMMITTED_BYTES, COMMITTED_BYTES_VIOLATIONS),
     ] {
         let text = text.as_bytes();
         let image = image_of(rt.alloc(), image_part(text))?;
@@ -108,6 +123,47 @@ fn tells_the_instructions_of_a_pair(rt: HostRuntime) -> Result<(), Fail> {
         let blame = blame_of(row).ok_or("blame")?;
         let told = since_of(blame, u64::from(number(row, 11)), stood.as_slice());
         assert!(rt; told == Some(wanted), "{row}");
+    }
+    Ok(())
+}
+
+/// The place in the history that a row names, if it names one.
+fn place_in(row: &str, place: usize) -> Option<usize> {
+    row.split(' ').nth(place)?.parse().ok()
+}
+
+#[test]
+fn tells_what_became_of_violations(rt: HostRuntime) -> Result<(), Fail> {
+    for (text, rows) in [
+        (HISTOGRAM, HISTOGRAM_FATES),
+        (BUFFER_FULL, BUFFER_FULL_FATES),
+    ] {
+        let text = text.as_bytes();
+        let image = image_of(rt.alloc(), image_part(text))?;
+        let (cores, entries) = read_trace(rt.alloc(), text, image.version())
+            .ok()
+            .ok_or("trace")?;
+        let entries = entries.as_slice();
+        let found = explain(rt.alloc(), &image, cores, entries)
+            .ok()
+            .ok_or("history")?;
+        for (explanation, row) in found.iter().zip(rows.split('\n')) {
+            assert!(rt; Some(explanation.place) == place_in(row, 0), "{row}");
+            assert!(rt;
+                Some(explanation.attempt(entries)) == place_in(row, 2),
+                "{row}"
+            );
+            assert!(rt; explanation.undone_at(entries) == place_in(row, 4), "{row}");
+            assert!(rt; explanation.moot_at(entries) == place_in(row, 6), "{row}");
+            assert!(rt;
+                explanation.is_stale() == (row.split(' ').nth(8) == Some("yes")),
+                "{row}"
+            );
+            assert!(rt;
+                explanation.held_at(&image, entries) == place_in(row, 10),
+                "{row}"
+            );
+        }
     }
     Ok(())
 }

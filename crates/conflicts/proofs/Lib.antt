@@ -5,3 +5,5 @@ mod Listed
 mod Explaining
 mod Needed
 mod Growing
+mod Nearing
+mod Numbering

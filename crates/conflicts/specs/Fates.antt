@@ -1,53 +1,94 @@
 -- What became of a violation: the words of the report beside its kind.
-use Rattle.std.specs.Prelude.{ℕ, ◌==◌, ◌&&◌, ◌||◌, not, Bool, true, false, List, length, Option, Some, None, nat_lt}
+use Rattle.std.specs.Prelude.{ℕ, ◌-◌, ◌==◌, ◌&&◌, ◌||◌, Bool, true, false, List, length, Option, Some, None, nat_lt, option_and_then, option_map, slice_get, if◌then◌else◌}
+use Rattle.rv32_image.specs.Image.{LoadedImage}
 use Rattle.spec_history.specs.declared.entry.Entry.{Entry}
 use Rattle.spec_history.specs.declared.entry.What.{What}
-use Rattle.spec_history.specs.declared.entry.What.TheVariants.{Hurt, Cancel, Restart, Store}
+use Rattle.spec_history.specs.declared.entry.What.TheVariants.{Hurt, Cancel, Commit, Restart, Store}
 use Rattle.spec_history.specs.Refusal.{any_below}
+use Rattle.conflicts.specs.declared.explanation.Blame.{Blame}
+use Rattle.conflicts.specs.declared.explanation.Explanation.{Explanation}
+use Rattle.conflicts.specs.declared.explanation.Kind.{Kind}
+use Rattle.conflicts.specs.declared.explanation.Kind.TheVariants.{FullBuffer}
+use Rattle.conflicts.specs.declared.explanation.Runner.{Runner}
+use Rattle.conflicts.specs.declared.fates.Sign.{Sign}
+use Rattle.conflicts.specs.declared.fates.Sign.TheVariants.{Over, Settled}
+use Rattle.conflicts.specs.declared.standing.Site.{Site}
 use Rattle.conflicts.specs.Searches.{first_below}
-use Rattle.conflicts.specs.Attempts.{entry_is, core_does, is_begin, covers}
+use Rattle.conflicts.specs.Attempts.{entry_is, is_begin, covers}
+use Rattle.conflicts.specs.Blame.{accessed_line, first_stored_in}
+use Rattle.conflicts.specs.Explained.{what_at}
 
 -- the first entry after a place that passes the test
 abbrev pub first_after : List Entry → ℕ → (Entry → Bool) → Option ℕ
 first_after entries place test = first_below (length entries) (λ j. nat_lt place j && entry_is entries j test)
 
-abbrev pub hurts : ℕ → What → Bool
-hurts epoch (Hurt e) = e == epoch
-hurts epoch what = false
+-- a place, if its entry passes the test
+abbrev pub only_if : List Entry → (Entry → Bool) → Option ℕ → Option ℕ
+only_if entries test place = option_and_then (λ j. if entry_is entries j test then Some j else None) place
 
 abbrev pub cancels : ℕ → What → Bool
 cancels epoch (Cancel e) = e == epoch
 cancels epoch what = false
 
+-- the epoch is violated or cancelled
+abbrev pub undoes : ℕ → What → Bool
+undoes epoch (Hurt e) = e == epoch
+undoes epoch (Cancel e) = e == epoch
+undoes epoch what = false
+
+abbrev pub is_commit : What → Bool
+is_commit Commit = true
+is_commit what = false
+
 abbrev pub is_restart : What → Bool
 is_restart Restart = true
 is_restart what = false
 
--- in vain: the first entry that violates or cancels the causer's epoch afterwards; before it, that epoch is still the same attempt
-abbrev pub undone_at : List Entry → ℕ → ℕ → Option ℕ
-undone_at entries place causer_epoch = first_after entries place (λ e. hurts causer_epoch e.what || cancels causer_epoch e.what)
+-- the attempt that a core makes at its epoch is over: the epoch is violated or cancelled, or the core commits it
+abbrev pub is_over : Runner → Entry → Bool
+is_over runner entry = undoes runner.epoch entry.what || ((entry.by == runner.core) && is_commit entry.what)
 
--- there is an entry at this place, if it is one, and it passes the test
-abbrev pub place_is : List Entry → Option ℕ → (Entry → Bool) → Bool
-place_is entries None test = false
-place_is entries (Some place) test = entry_is entries place test
+-- what a violated core does about it is settled: its epoch is cancelled, or it begins the epoch again
+abbrev pub is_settled : Runner → Entry → Bool
+is_settled runner entry = cancels runner.epoch entry.what || ((entry.by == runner.core) && is_restart entry.what)
 
--- moot: the victim's epoch is cancelled before its core restarts it, so nothing is run again
-abbrev pub is_moot : List Entry → ℕ → ℕ → ℕ → Bool
-is_moot entries place victim epoch =
-    place_is entries (first_after entries place (λ e. cancels epoch e.what || ((e.by == victim) && is_restart e.what))) (λ e. cancels epoch e.what)
+abbrev pub shows : Sign → Runner → Entry → Bool
+shows Over runner entry = is_over runner entry
+shows Settled runner entry = is_settled runner entry
+
+-- in vain: the causer's attempt does not commit, since this entry violates or cancels it
+abbrev pub undone_at : List Entry → Explanation → Option ℕ
+undone_at entries e = only_if entries (λ entry. undoes e.causer.epoch entry.what) (first_after entries e.place (shows Over e.causer))
+
+-- moot: the victim's epoch is cancelled, by this entry, before its core begins it again, so nothing is run again
+abbrev pub moot_at : List Entry → Explanation → Option ℕ
+moot_at entries e = only_if entries (λ entry. cancels e.victim.epoch entry.what) (first_after entries e.place (shows Settled e.victim))
 
 -- stale: the blamed store stands before the blamed load, so that the value was there and could not be seen
-abbrev pub is_stale : ℕ → ℕ → Bool
-is_stale store load = nat_lt store load
+abbrev pub is_stale_pair : Option Blame → Bool
+is_stale_pair None = false
+is_stale_pair (Some pair) = nat_lt pair.store pair.load
+
+-- since: what was lost from the blamed load on, which a checkpoint before that load would not have saved
+abbrev pub since : List (Option Site) → Explanation → Option ℕ
+since sites e = option_and_then (λ (pair : Blame). option_and_then (λ (there : Option Site). option_map (λ (site : Site). e.lost - site.done) there) (slice_get sites pair.load)) e.blame
+
+abbrev pub held_by : LoadedImage → List Entry → Explanation → Kind → Option ℕ
+held_by image entries e FullBuffer =
+    option_and_then (first_stored_in image entries e.victim.core e.place) (option_and_then (accessed_line image) (what_at entries e.cause))
+held_by image entries e kind = None
+
+-- held, of a full buffer: the victim's first store in the line that the cause asks for
+abbrev pub held_at : LoadedImage → List Entry → Explanation → Option ℕ
+held_at image entries e = held_by image entries e e.kind
 
 -- a store to a byte that passes the test
 abbrev pub stores_one : ℕ → (ℕ → Bool) → What → Bool
 stores_one size test (Store address width value) = any_below size (λ a. covers address width a && test a)
 stores_one size test what = false
 
--- later: false sharing that came true, since the causer's same attempt then stored to a byte that the victim had read
+-- later: false sharing that came true, since the causer stores to a byte that the victim had read before it begins another attempt
 abbrev pub came_true_at : ℕ → List Entry → ℕ → ℕ → (ℕ → Bool) → Option ℕ
-came_true_at size entries cause causer read =
-    first_below (length entries) (λ j. nat_lt cause j && (core_does entries causer j (stores_one size read)
-    && not (any_below j (λ k. nat_lt cause k && core_does entries causer k is_begin))))
+came_true_at size entries cause core read =
+    only_if entries (λ entry. stores_one size read entry.what)
+    (first_after entries cause (λ entry. (entry.by == core) && (is_begin entry.what || stores_one size read entry.what)))

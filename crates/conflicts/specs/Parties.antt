@@ -1,5 +1,5 @@
 -- What the code asks of bytes and lines, and what that means.
-use Rattle.std.specs.Prelude.{ℕ, Bool, is_some}
+use Rattle.std.specs.Prelude.{ℕ, ◌==◌, ◌&&◌, not, Bool, is_some}
 use Rattle.rv32_image.specs.Image.{LoadedImage}
 use Rattle.spec_history.specs.View.{FlatView, state_in}
 use Rattle.conflicts.specs.declared.meeting.Parties.{Parties}
@@ -7,7 +7,7 @@ use Rattle.conflicts.specs.declared.meeting.ByteTest.{ByteTest}
 use Rattle.conflicts.specs.declared.meeting.ByteTest.TheVariants.{Changed, Shared, Beside}
 use Rattle.conflicts.specs.declared.meeting.LineTest.{LineTest}
 use Rattle.conflicts.specs.declared.meeting.LineTest.TheVariants.{Written, Stored}
-use Rattle.conflicts.specs.Conflict.{Meeting, meeting, is_changed, is_shared, is_beside}
+use Rattle.conflicts.specs.Conflict.{Meeting, meeting, is_changed, is_shared, is_beside, holds_line}
 
 -- the bytes that meet
 abbrev pub meeting_in : FlatView → Parties → Meeting
@@ -21,3 +21,7 @@ passes image m Beside a = is_beside image m a
 abbrev pub is_of : Meeting → LineTest → ℕ → Bool
 is_of m Written a = is_some (m.writes a)
 is_of m Stored a = is_some (m.stores a)
+
+-- it is another line, and the victim has stored in it
+abbrev pub holds_other : LoadedImage → Meeting → ℕ → ℕ → Bool
+holds_other image m line other = not (other == line) && holds_line image m other

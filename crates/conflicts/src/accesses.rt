@@ -15,6 +15,16 @@ fn begins(entries: &[Entry], core: u32, place: usize) -> bool
     }
 }
 
+/// A core starts an epoch at a place.
+fn starts(entries: &[Entry], core: u32, place: usize) -> bool
+    ensures { result ≡ spec.core_does entries.now core place spec.is_start }
+{
+    match entries.get(place) {
+        Some(entry) => entry.by == core && matches!(entry.what, What::Start(_)),
+        None => false,
+    }
+}
+
 /// An access to so many bytes is one to this byte.
 fn covers(first: u32, width: u32, addr: u32) -> bool
     ensures { result ≡ spec.covers first width addr }
@@ -83,6 +93,23 @@ pub(crate) fn attempt_place(entries: &[Entry], core: u32, before: usize) -> Opti
     None
 }
 
+/// Which run of its epoch the attempt is that a core runs before a place, counted from 1.
+pub(crate) fn attempt_number(entries: &[Entry], core: u32, before: usize) -> usize
+    ensures { result ≡ spec.attempt_number entries.now core before }
+{
+    let mut again = 0;
+    for i in 0..before {
+        let place = before - 1 - i;
+        if starts(entries, core, place) {
+            return again + 1;
+        }
+        if begins(entries, core, place) {
+            again += 1;
+        }
+    }
+    1
+}
+
 /// The last store to a byte of the attempt that a core runs before a place.
 pub(crate) fn last_store(entries: &[Entry], core: u32, before: usize, addr: u32) -> Option<usize>
     ensures { result ≡ spec.last_store entries.now core before addr }
@@ -114,4 +141,23 @@ pub(crate) fn reads_outside(
     start < place
         && loads(entries, core, place, addr)
         && last_store(entries, core, place, addr).is_none()
+}
+
+/// The first load that read this byte from outside, of the attempt that a core runs before a place, which began at `start`.
+pub(crate) fn first_read(
+    entries: &[Entry],
+    core: u32,
+    start: usize,
+    before: usize,
+    addr: u32,
+) -> Option<usize>
+    requires { spec.attempt_place entries.now core before ≡ Some start }
+    ensures { result ≡ spec.first_read entries.now core before addr }
+{
+    for place in start..before {
+        if reads_outside(entries, core, start, addr, place) {
+            return Some(place);
+        }
+    }
+    None
 }

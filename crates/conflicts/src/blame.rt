@@ -8,6 +8,7 @@ ghost use Rattle.conflicts.specs.Parties.{meeting_in};
 ghost use Rattle.conflicts.specs.Violated as spec;
 
 use crate::accesses::{attempt_place, last_store, reads_outside};
+use crate::alike::Pair;
 use crate::explanation::{Blame, Kind};
 use crate::meeting::{Parties, line_of};
 use rv32_exec::Image;
@@ -70,7 +71,7 @@ impl Violated {
         ensures byte { result ≡ blame.blamed_byte image.now entries.now (spec.violation_in flat.now self.now) load }
         ensures within { IfSome result (λ addr. addr < image.now.size) }
     {
-        let (first, end) = bytes_of(image, entries, load);
+        let (first, end) = bytes_of(image, entries, self.parties.victim, load);
         for addr in first..end {
             if self.is_read_at(image, flat, entries, start, load, addr) {
                 return Some(addr);
@@ -90,7 +91,13 @@ impl Violated {
     }
 
     /// The store to blame for a byte.
-    fn store(&self, image: &Image, flat: &Flat, entries: &[Entry], addr: u32) -> Option<usize>
+    pub(crate) fn store(
+        &self,
+        image: &Image,
+        flat: &Flat,
+        entries: &[Entry],
+        addr: u32,
+    ) -> Option<usize>
         requires { addr < image.now.size }
         ensures { result ≡ blame.blamed_store image.now entries.now (spec.violation_in flat.now self.now) addr }
     {
@@ -103,7 +110,7 @@ impl Violated {
         }
     }
 
-    /// The load and the store to blame, and the byte.
+    /// The load and the store to blame, the byte, and its neighbours.
     pub(crate) fn blame(&self, image: &Image, flat: &Flat, entries: &[Entry]) -> Option<Blame>
         requires { flat.now.image ≡ image.now }
         ensures { result ≡ blame.blame_of image.now entries.now (spec.violation_in flat.now self.now) }
@@ -112,7 +119,13 @@ impl Violated {
         let load = self.load(image, flat, entries, start)?;
         let byte = self.byte_at(image, flat, entries, start, load)?;
         let store = self.store(image, flat, entries, byte)?;
-        Some(Blame { load, store, byte })
+        let bytes = self.range(image, flat, entries, start, Pair { load, store, byte });
+        Some(Blame {
+            load,
+            store,
+            byte,
+            bytes,
+        })
     }
 
     /// The load to blame.
@@ -130,16 +143,16 @@ impl Violated {
     }
 }
 
-/// The bytes of memory that the entry at a place loads: from the first of these up to the second.
-fn bytes_of(image: &Image, entries: &[Entry], place: usize) -> (u32, u32)
+/// The bytes of memory that a core loads at a place: from the first of these up to the second.
+fn bytes_of(image: &Image, entries: &[Entry], core: u32, place: usize) -> (u32, u32)
     ensures within { result.1 ≤ image.now.size }
-    ensures loaded { (core a : ℕ) → attempts.core_does entries.now core place (attempts.loads_byte a) ≡ true → a < image.now.size → (result.0 ≤ a) × (a < result.1) }
+    ensures loaded { (a : ℕ) → attempts.core_does entries.now core place (attempts.loads_byte a) ≡ true → a < image.now.size → (result.0 ≤ a) × (a < result.1) }
 {
     match entries.get(place) {
-        Some(entry) => match entry.what {
+        Some(entry) if entry.by == core => match entry.what {
             What::Load { addr, width, .. } => (addr, image.size().min(addr.saturating_add(width))),
             _ => (0, 0),
         },
-        None => (0, 0),
+        _ => (0, 0),
     }
 }

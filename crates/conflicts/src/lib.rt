@@ -2,14 +2,17 @@
 #![tactic(auto)]
 
 mod accesses;
+mod alike;
 mod blame;
 mod causes;
 mod explanation;
+mod fates;
+mod held;
 mod history;
 pub mod laws;
 mod meeting;
 mod standing;
 
-pub use explanation::{Blame, Explanation, Kind, Runner};
+pub use explanation::{Blame, ByteRange, Explanation, Kind, Runner};
 pub use history::explain;
 pub use standing::{Site, sites};

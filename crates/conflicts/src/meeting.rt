@@ -1,10 +1,10 @@
 //! The bytes that meet in a violation, and its kind.
 
-ghost use Rattle.std.specs.Prelude.{◌≡◌, ◌<◌, ◌≤◌, ◌+◌, ◌*◌, ◌/◌, ◌^◌, ◌==◌, ◌&&◌, not};
+ghost use Rattle.std.specs.Prelude.{◌≡◌, ◌<◌, ◌+◌, ◌*◌, ◌/◌, ◌^◌, ◌&&◌, nat_le, nat_lt};
 ghost use Rattle.memory_bytes.specs.Maps.{stored};
 ghost use Rattle.rv32_image.specs.Version.{limits_of};
 ghost use Rattle.spec_history.specs.Refusal.{any_below};
-ghost use Rattle.conflicts.specs.Searches.{count_below};
+ghost use Rattle.conflicts.specs.Searches.{IsNext, count_below};
 ghost use Rattle.conflicts.specs.Blame as blame;
 ghost use Rattle.conflicts.specs.Conflict as conflict;
 ghost use Rattle.conflicts.specs.Parties as spec;
@@ -168,36 +168,75 @@ impl Parties {
     /// It is another line, and the victim has stored in it.
     fn holds_other(&self, image: &Image, flat: &Flat, line: u32, other: u32) -> bool
         requires { other * (limits_of image.now.version).line_length + (limits_of image.now.version).line_length < 2 ^ 32 }
-        ensures { result ≡ (not (other == line) && conflict.holds_line image.now (spec.meeting_in flat.now self.now) other) }
+        ensures { result ≡ spec.holds_other image.now (spec.meeting_in flat.now self.now) line other }
     {
         other != line && self.line_has(image, flat, LineTest::Stored, other)
     }
 
-    /// In how many other lines the victim has stored.
-    fn lines_beside(&self, image: &Image, flat: &Flat, line: u32) -> u32
-        ensures { result ≡ count_below (image.now.size / (limits_of image.now.version).line_length)
-            (λ other. not (other == line) && conflict.holds_line image.now (spec.meeting_in flat.now self.now) other) }
+    /// It is such a line, from `from` on and before `next`.
+    fn is_nearer(
+        &self,
+        image: &Image,
+        flat: &Flat,
+        line: u32,
+        from: u32,
+        next: u32,
+        other: u32,
+    ) -> bool
+        requires { other * (limits_of image.now.version).line_length + (limits_of image.now.version).line_length < 2 ^ 32 }
+        ensures { result ≡ (nat_le from other && (nat_lt other next && spec.holds_other image.now (spec.meeting_in flat.now self.now) line other)) }
     {
-        let mut count = 0;
-        for other in 0..image.size() / image.version().limits().line_length {
-            if self.holds_other(image, flat, line, other) {
-                count += 1;
+        from <= other && other < next && self.holds_other(image, flat, line, other)
+    }
+
+    /// The first other line from this one on in which the victim has stored; the number of lines, where there is none. One that
+    /// has is among those of the bytes that it has stored, so no other is tried.
+    fn next_beside(&self, image: &Image, flat: &Flat, line: u32, from: u32) -> u32
+        requires { flat.now.image ≡ image.now }
+        ensures { IsNext (spec.holds_other image.now (spec.meeting_in flat.now self.now) line) from
+            (image.now.size / (limits_of image.now.version).line_length) result }
+    {
+        let mut next = lines_of(image);
+        for addr in flat.own_addresses(self.victim) {
+            let other = line_of(image, *addr);
+            if self.is_nearer(image, flat, line, from, next, other) {
+                next = other;
             }
         }
-        count
+        next
+    }
+
+    /// The victim has stored in so many other lines.
+    fn holds_beside(&self, image: &Image, flat: &Flat, line: u32, wanted: u32) -> bool
+        requires { flat.now.image ≡ image.now }
+        ensures { result ≡ nat_le wanted (count_below (image.now.size / (limits_of image.now.version).line_length)
+            (spec.holds_other image.now (spec.meeting_in flat.now self.now) line)) }
+    {
+        let lines = lines_of(image);
+        let mut from = 0;
+        for _ in 0..wanted {
+            let found = self.next_beside(image, flat, line, from);
+            if found >= lines {
+                return false;
+            }
+            from = found + 1;
+        }
+        true
     }
 
     /// The victim has stored in the line, and in as many other lines as its buffer takes.
     fn is_full_at(&self, image: &Image, flat: &Flat, line: u32) -> bool
-        requires { line * (limits_of image.now.version).line_length + (limits_of image.now.version).line_length < 2 ^ 32 }
+        requires image { flat.now.image ≡ image.now }
+        requires within { line * (limits_of image.now.version).line_length + (limits_of image.now.version).line_length < 2 ^ 32 }
         ensures { result ≡ conflict.is_full_at image.now (spec.meeting_in flat.now self.now) line }
     {
         self.line_has(image, flat, LineTest::Stored, line)
-            && image.version().limits().buffer_lines <= self.lines_beside(image, flat, line)
+            && self.holds_beside(image, flat, line, image.version().limits().buffer_lines)
     }
 
     /// The cause is an access to a line for which the victim's full buffer has no place.
     fn is_crowded(&self, image: &Image, flat: &Flat) -> bool
+        requires { flat.now.image ≡ image.now }
         ensures { result ≡ conflict.is_crowded image.now (spec.meeting_in flat.now self.now) self.now.cause }
     {
         match self.cause {
@@ -225,6 +264,13 @@ impl Parties {
             Kind::Unexplained
         }
     }
+}
+
+/// How many lines of the caches memory has.
+fn lines_of(image: &Image) -> u32
+    ensures { result ≡ image.now.size / (limits_of image.now.version).line_length }
+{
+    image.size() / image.version().limits().line_length
 }
 
 /// The line of the caches in which a byte of memory lies.

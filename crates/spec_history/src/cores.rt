@@ -198,6 +198,14 @@ impl Core {
         self.outside.touched()
     }
 
+    /// Addresses in memory that have each at which it has stored a byte and not committed it.
+    pub(crate) fn own_addresses(&self) -> &[u32]
+        ensures within { (image : LoadedImage) (place : ℕ) → spec.IsCoreOf image self.now → place < length result.now → slice_index result.now place < image.size }
+        ensures each { (a byte : ℕ) → option_and_then (λ c. c.own a) (spec.core_of self.now) ≡ Some byte → IsAmong a result.now }
+    {
+        self.own.touched()
+    }
+
     /// Its epoch ends, and the loop with it.
     pub(crate) fn exits(&self, image: &Image) -> bool
         requires { spec.IsCoreOf image.now self.now }

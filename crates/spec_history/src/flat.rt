@@ -129,6 +129,19 @@ impl Flat {
         }
     }
 
+    /// Addresses in memory that have each at which a core has stored a byte and not committed it, in no order.
+    ///
+    /// They are as many as the core has stored so far.
+    pub fn own_addresses(&self, core: u32) -> &[u32]
+        ensures within { (place : ℕ) → place < length result.now → slice_index result.now place < self.now.image.size }
+        ensures each { (a byte : ℕ) → option_and_then (λ c. c.own a) ((spec.state_in self.now).cores core) ≡ Some byte → IsAmong a result.now }
+    {
+        match self.machine.core(core) {
+            Some(core) => core.own_addresses(),
+            None => &[],
+        }
+    }
+
     /// How the loop ended, where it is over.
     pub fn ended(&self) -> Option<End>
         ensures { result ≡ (spec.state_in self.now).end }

@@ -11,7 +11,7 @@ pub loop-addr-init : goal.loop-addr-init
 loop-addr-init c a before below =
     unloaded c.args.image.now c.args.entries.now (violation_in c.args.flat.now c.args.self.now) c.args.load a
     (not_so (core_does c.args.entries.now c.args.self.now.parties.victim c.args.load (loads_byte a))
-    (λ loads. omega (arith, before, (c.bytes_of-first.ensures.loaded c.args.self.now.parties.victim a loads below).0)))
+    (λ loads. omega (arith, before, (c.bytes_of-first.ensures.loaded a loads below).0)))
 
 pub returns-then-is_read_at-clause-byte : goal.returns-then-is_read_at-clause-byte
 returns-then-is_read_at-clause-byte c =
@@ -33,5 +33,5 @@ returns-clause-byte c =
     let test : ℕ → Bool = is_read_at c.args.image.now c.args.entries.now v c.args.load in
     let all : c.bytes_of-first.result.1 ≤ c.loop-addr.addr = c.loop-addr-test.false in
     sym (first_none c.args.image.now.size test (λ a below. either_way (core_does c.args.entries.now v.victim c.args.load (loads_byte a)) (test a ≡ false)
-    (λ loads. c.loop-addr.invariant a (omega (arith, all, (c.bytes_of-first.ensures.loaded v.victim a loads below).1)) below)
+    (λ loads. c.loop-addr.invariant a (omega (arith, all, (c.bytes_of-first.ensures.loaded a loads below).1)) below)
     (λ is. unloaded c.args.image.now c.args.entries.now v c.args.load a is)))
