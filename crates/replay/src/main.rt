@@ -10,6 +10,8 @@ use work::work;
 
 mod print;
 mod schedule;
+#[cfg(test)]
+mod tests;
 mod turns;
 mod words;
 mod work;

@@ -11,7 +11,7 @@ returns-in-Ok-print_book-clause-shown g c =
       _,
       c.drive.new.book.history,
       makes g.S.EpochStore.view c.args.image.now c.args.cores c.args.room c.args.schedule.now c.in-Ok.book c.drive.new.book c.in-Ok.shares c.drive.new.shares _
-      new.image new.cores new.room new.history new.totals new.store new.stopped new.shares c.in-Ok-drive.ensures.driven,
+          new.image new.cores new.room new.history new.totals new.store new.stopped new.shares c.in-Ok-drive.ensures.driven,
       c.in-Ok-print_book.ensures,
     )
 
@@ -22,6 +22,6 @@ returns-in-Err-HistoryFull-clause-stopped g c =
     let is : c.in-Err-HistoryFull.field-0 ≡ fault.HistoryFull = search rules in (
       history,
       subst (λ (f : TurnFault). Makes g.S.EpochStore.view (loop_on c.args.image.now c.args.cores c.args.room) c.args.schedule.now (Err f) history) is
-      (makes g.S.EpochStore.view c.args.image.now c.args.cores c.args.room c.args.schedule.now c.in-Ok.book c.drive.new.book c.in-Ok.shares c.drive.new.shares _
-      new.image new.cores new.room new.history new.totals new.store new.stopped new.shares c.in-Err-HistoryFull.ensures.driven),
+          (makes g.S.EpochStore.view c.args.image.now c.args.cores c.args.room c.args.schedule.now c.in-Ok.book c.drive.new.book c.in-Ok.shares c.drive.new.shares _
+          new.image new.cores new.room new.history new.totals new.store new.stopped new.shares c.in-Err-HistoryFull.ensures.driven),
     )
