@@ -6,8 +6,10 @@ mod options;
 mod run;
 mod text;
 
+pub use memory::committed_bytes;
 pub use options::RunOptions;
 pub use run::do_run;
+pub use text::with_history;
 
 #[cfg(test)]
 mod tests;

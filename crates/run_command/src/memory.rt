@@ -6,7 +6,9 @@ use std::alloc::{AllocError, Global};
 use violations::EpochStore;
 
 /// Committed memory, from address 0 on; the size is that of the book's image. It is taken whole before a byte is copied.
-pub(crate) fn committed_bytes<S: EpochStore>(
+///
+/// `AllocError`: memory ran out.
+pub fn committed_bytes<S: EpochStore>(
     alloc: Global,
     book: &Book<S>,
     size: u32,

@@ -34,8 +34,13 @@ pub(crate) fn printed<S: EpochStore>(
     if !options.trace {
         return Ok(report);
     }
-    let trace = trace_of(alloc, options.cores, run.book.history())?;
-    with_trace(report, run.counted, trace.as_slice())
+    with_history(
+        alloc,
+        report,
+        options.cores,
+        run.counted,
+        run.book.history(),
+    )
 }
 
 /// The report of a run, with committed memory as the memory at its end.
@@ -50,6 +55,22 @@ fn report_of<S: EpochStore>(
 {
     let bytes = committed_bytes(alloc, &run.book, image.size())?;
     print_report(alloc, image, run.end, bytes.as_slice())
+}
+
+/// A report, with the line `counts LOADS STORES RESTARTS COMMITS` and the trace of a history below it.
+///
+/// `AllocError`: memory ran out.
+pub fn with_history(
+    alloc: Global,
+    report: Vec<u8>,
+    cores: u32,
+    counts: Counts,
+    history: &[Entry],
+) -> Result<Vec<u8>, AllocError>
+    ensures { IfOk result (λ text. text.items ≡ report.items ++ spec.counts_line counts ++ printed_trace cores history.now) }
+{
+    let trace = trace_of(alloc, cores, history)?;
+    with_trace(report, counts, trace.as_slice())
 }
 
 /// The text of a history's trace.

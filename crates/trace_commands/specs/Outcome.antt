@@ -16,7 +16,7 @@ use Rattle.trace_text.specs.declared.fault.TraceFaultKind.{TraceFaultKind}
 use Rattle.trace_text.specs.declared.fault.TraceFaultKind.TheVariants as trace
 use Rattle.trace_text.specs.Reading.{name_of as trace_name_of}
 use Rattle.trace_commands.specs.declared.outcome.Outcome.{Outcome}
-use Rattle.trace_commands.specs.declared.outcome.Outcome.TheVariants.{Reported, Audited, Usage, BadImage, BadTrace, Stopped}
+use Rattle.trace_commands.specs.declared.outcome.Outcome.TheVariants.{Reported, Audited, Usage, BadImage, BadTrace, Open, BadTurns, Stopped}
 use Rattle.trace_commands.specs.declared.outcome.Verdict.{Verdict}
 use Rattle.trace_commands.specs.declared.outcome.Verdict.TheVariants.{Legal, Illegal}
 use Rattle.trace_commands.specs.declared.outcome.StopCause.{StopCause}
@@ -46,6 +46,8 @@ status_of (Audited verdict) = status_of_verdict verdict
 status_of Usage = 2
 status_of (BadImage fault) = 2
 status_of (BadTrace fault) = 2
+status_of (Open homefree) = 0
+status_of (BadTurns fault) = 2
 status_of (Stopped cause) = 3
 
 abbrev pub image_line : ImageFault → List ℕ
@@ -53,6 +55,9 @@ image_line fault = codes "image " ++ decimal fault.line ++ codes " " ++ name_of 
 
 abbrev pub trace_line : TraceFault → List ℕ
 trace_line fault = codes "trace " ++ decimal fault.line ++ codes " " ++ trace_name_of fault.kind ++ codes "\n"
+
+abbrev pub turns_line : TraceFault → List ℕ
+turns_line fault = codes "turns " ++ decimal fault.line ++ codes " " ++ trace_name_of fault.kind ++ codes "\n"
 
 abbrev pub stopped_line : StopCause → List ℕ
 stopped_line cause = codes "stopped " ++ cause_name cause ++ codes "\n"
@@ -64,6 +69,8 @@ error_line (Audited verdict) = []
 error_line Usage = codes "usage\n"
 error_line (BadImage fault) = image_line fault
 error_line (BadTrace fault) = trace_line fault
+error_line (Open homefree) = []
+error_line (BadTurns fault) = turns_line fault
 error_line (Stopped cause) = stopped_line cause
 
 -- known bytes grow by some of the first of these
@@ -85,6 +92,8 @@ IsSeqOutcome text old new (Audited verdict) = ⊥
 IsSeqOutcome text old new Usage = ⊥
 IsSeqOutcome text old new (BadImage fault) = IsRefusal fault.kind fault (image_text text) × Keeps old new
 IsSeqOutcome text old new (BadTrace fault) = ⊥
+IsSeqOutcome text old new (Open homefree) = ⊥
+IsSeqOutcome text old new (BadTurns fault) = ⊥
 IsSeqOutcome text old new (Stopped NoMemory) = Keeps old new
 IsSeqOutcome text old new (Stopped Write) =
     MatchResult (image_text text) (λ image. AppendsPrefix old new (report_of image (sequential_result image))) (λ fault. ⊥)
@@ -99,6 +108,11 @@ outcome_of_fault other fault = BadImage fault
 abbrev pub outcome_of_trace_fault : TraceFaultKind → TraceFault → Outcome
 outcome_of_trace_fault trace.NoMemory fault = Stopped NoMemory
 outcome_of_trace_fault other fault = BadTrace fault
+
+-- what a fault of the lines of turns comes to
+abbrev pub outcome_of_turns_fault : TraceFaultKind → TraceFault → Outcome
+outcome_of_turns_fault trace.NoMemory fault = Stopped NoMemory
+outcome_of_turns_fault other fault = BadTurns fault
 
 -- what running this image came to is right, and this was written
 abbrev pub IsImageOutcome : LoadedImage → Option (List ℕ) → Option (List ℕ) → Outcome → Type 0

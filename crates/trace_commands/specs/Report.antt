@@ -29,3 +29,7 @@ row_lines loaded bytes (suc row) = row_lines loaded bytes row ++ row_line loaded
 
 unfoldable pub report_of : LoadedImage → SequentialResult → List ℕ
 report_of image result = end_line result.end ++ row_lines image.bytes result.bytes (image.size / 16)
+
+-- of a loop that isn't over: its homefree epoch, and memory that is not as it was loaded
+unfoldable pub open_report : LoadedImage → ℕ → List ℕ → List ℕ
+open_report image homefree bytes = codes "open " ++ decimal homefree ++ codes "\n" ++ row_lines image.bytes bytes (image.size / 16)

@@ -9,7 +9,7 @@ mod write;
 
 pub use audit::do_audit;
 pub use outcome::{Outcome, StopCause, Verdict};
-pub use report::print_report;
+pub use report::{print_open_report, print_report};
 pub use seq::do_seq;
 pub use write::write_whole;
 

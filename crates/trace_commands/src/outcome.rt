@@ -65,6 +65,10 @@ pub enum Outcome {
     BadImage(ImageFault),
     /// The trace was refused.
     BadTrace(TraceFault),
+    /// A schedule was used up before the loop was over, and what it came to was written: the homefree epoch.
+    Open(u32),
+    /// The lines of turns were refused. They are read as a trace is, and have its faults.
+    BadTurns(TraceFault),
     /// The command stopped.
     Stopped(StopCause),
 }
@@ -90,7 +94,17 @@ impl Outcome {
         }
     }
 
-    /// The status: 0 done, exited or legal, 1 an epoch faulted, 2 refused, 3 stopped, 4 illegal.
+    /// What lines of turns that could not be read come to: want of memory is no fault of theirs.
+    pub fn of_turns_fault(fault: TraceFault) -> Outcome
+        ensures { result ≡ spec.outcome_of_turns_fault fault.kind fault }
+    {
+        if let TraceFaultKind::NoMemory = fault.kind {
+            return Outcome::Stopped(StopCause::NoMemory);
+        }
+        Outcome::BadTurns(fault)
+    }
+
+    /// The status: 0 done, exited, legal or open, 1 an epoch faulted, 2 refused, 3 stopped, 4 illegal.
     pub fn status(self) -> u8
         ensures { result ≡ spec.status_of self }
     {
@@ -99,7 +113,9 @@ impl Outcome {
             Outcome::Reported(End::Fault { .. }) => 1,
             Outcome::Audited(Verdict::Legal { .. }) => 0,
             Outcome::Audited(Verdict::Illegal { .. }) => 4,
-            Outcome::Usage | Outcome::BadImage(_) | Outcome::BadTrace(_) => 2,
+            Outcome::Open(_) => 0,
+            Outcome::Usage => 2,
+            Outcome::BadImage(_) | Outcome::BadTrace(_) | Outcome::BadTurns(_) => 2,
             Outcome::Stopped(_) => 3,
         }
     }
@@ -109,10 +125,11 @@ impl Outcome {
         ensures { MatchOption result (spec.error_line self ≡ []) (λ line. line.bytes ≡ spec.error_line self) }
     {
         match self {
-            Outcome::Reported(_) | Outcome::Audited(_) => None,
+            Outcome::Reported(_) | Outcome::Audited(_) | Outcome::Open(_) => None,
             Outcome::Usage => Some(usage_line()),
             Outcome::BadImage(fault) => Some(refused_line("image ", fault.line, fault.name())),
             Outcome::BadTrace(fault) => Some(refused_line("trace ", fault.line, fault.name())),
+            Outcome::BadTurns(fault) => Some(refused_line("turns ", fault.line, fault.name())),
             Outcome::Stopped(cause) => Some(stopped_line(cause)),
         }
     }

@@ -24,6 +24,28 @@ pub fn print_report(
     Ok(text)
 }
 
+/// The report of a loop that isn't over: its homefree epoch, and each 16 bytes of committed memory that are not as they were
+/// loaded. The bytes are those of committed memory, from address 0 on.
+///
+/// `AllocError`: memory ran out, and nothing was made.
+#[tactic(auto, unfolding(crate::specs::Report::open_report))]
+pub fn print_open_report(
+    alloc: Global,
+    image: &Image,
+    homefree: u32,
+    bytes: &[u8],
+) -> Result<Vec<u8>, AllocError>
+    requires { length bytes.now ≡ image.now.size }
+    ensures { IfOk result (λ text. text.items ≡ spec.open_report image.now homefree bytes.now) }
+{
+    let mut text = Vec::from_slice(alloc, b"open ")?;
+    push_number(&mut text, homefree)?;
+    text.extend_from_slice(b"\n")?;
+    let rows = image.size() / 16;
+    push_rows(&mut text, image.bytes(), bytes, rows)?;
+    Ok(text)
+}
+
 /// The line that says how the loop ended.
 fn end_line(alloc: Global, end: End) -> Result<Vec<u8>, AllocError>
     ensures { IfOk result (λ line. line.items ≡ spec.end_line end) }

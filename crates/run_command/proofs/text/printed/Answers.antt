@@ -11,8 +11,7 @@ returns g c =
     let run = c.args.run.now in
     let report = c.in_ok-report.report.items in
     let above = report ++ counts_line run.counted in
-    let shown = c.as_slice.ensures.value ∙ (c.in_ok-trace.ensures ∙ ap (λ h. printed_trace options.cores h) c.history.ensures) in
-    if_ok c.with_trace.result (λ text. text.items ≡ above ++ c.as_slice.result.now) (λ text. IsPrinted image options text.items)
+    if_ok c.with_history.result (λ text. text.items ≡ above ++ printed_trace options.cores c.history.result.now) (λ text. IsPrinted image options text.items)
     (λ text is. printed_traced g.S.EpochStore.view image options run.book run.end run.totals run.counted c.requires report text.items
-    (on_is options.trace c.if-not-options.false) c.in_ok-report.ensures (is ∙ ap (λ t. above ++ t) shown))
-    c.with_trace.ensures
+    (on_is options.trace c.if-not-options.false) c.in_ok-report.ensures (is ∙ ap (λ h. above ++ printed_trace options.cores h) c.history.ensures))
+    c.with_history.ensures

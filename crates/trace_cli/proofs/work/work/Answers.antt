@@ -1,5 +1,5 @@
-use Rattle.std.proofs.Common.{refl, inr, rules}
-use Rattle.trace_commands.specs.declared.outcome.Outcome.TheVariants.{Stopped}
+use Rattle.std.proofs.Common.{refl, inl, inr, rules}
+use Rattle.trace_commands.specs.declared.outcome.Outcome.TheVariants.{Usage, Stopped}
 use Rattle.trace_commands.specs.declared.outcome.StopCause.TheVariants.{NoMemory}
 use Rattle.trace_commands.specs.Audit.{IsAuditOutcome}
 use Rattle.trace_commands.specs.Outcome.{IsSeqOutcome}
@@ -39,6 +39,12 @@ returns-in-Ok-Audit g c =
     (record { old = old; new = new })
     (record { old = g.E.Write.contents c.args.errors.now; new = g.E.Write.contents c.do_audit.new.errors })
     c.do_audit.result tt (λ text outcome is. (is, c.do_audit.ensures.taken)) c.do_audit.ensures.outcome
+
+pub returns-in-Err-Usage : goal.returns-in-Err-Usage
+returns-in-Err-Usage g c =
+    no_command_answers c.args.room (g.R.Read.remaining c.args.reader.now) (g.W.Write.contents c.args.writer.now)
+    (record { old = g.E.Write.contents c.args.errors.now; new = g.E.Write.contents c.conclude.new.errors })
+    Usage c.conclude.result (inl refl) c.conclude.ensures.status c.conclude.ensures.line
 
 pub returns-in-Err-NoMemory : goal.returns-in-Err-NoMemory
 returns-in-Err-NoMemory g c =

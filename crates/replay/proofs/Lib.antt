@@ -1,0 +1,5 @@
+pub mod Lines
+pub mod Cores
+pub mod Shows
+pub mod Outcomes
+pub mod Works

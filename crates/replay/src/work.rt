@@ -1,0 +1,44 @@
+ghost use Rattle.std.specs.Prelude.{◌≤◌};
+ghost use Rattle.rv32_image.specs.Reading.{ForText};
+ghost use Rattle.replay.specs.Work as spec;
+
+use crate::schedule::do_replay;
+use crate::words::{Request, Store, request_of};
+use spec_bus::CachedBus;
+use std::alloc::Global;
+use std::convert::AsStr;
+use std::io::{Read, Write};
+use trace_commands::Outcome;
+use violations::PlainStore;
+
+/// The whole program: replays over the store and on the cores that the words ask for, the first of which is the program's name,
+/// and answers its status.
+///
+/// Other words are refused as `usage`, with status 2, and nothing is read or written. The room is 16 to 1,048,576 entries.
+pub fn work<S: AsStr, R: Read, W: Write, E: Write>(
+    alloc: Global,
+    words: &[S],
+    room: u32,
+    reader: &mut R,
+    writer: &mut W,
+    errors: &mut E,
+) -> u8
+    requires least { 16 ≤ room }
+    requires most { room ≤ 1048576 }
+    ensures { ForText (R.remaining reader.old) (λ text. spec.WorkAnswers room text
+        (record { old = R.remaining reader.old; new = R.remaining reader.new })
+        (record { old = W.contents writer.old; new = W.contents writer.new })
+        (record { old = E.contents errors.old; new = E.contents errors.new }) result) }
+{
+    match request_of(words) {
+        Some(Request { store, cores }) => match store {
+            Store::Caches => {
+                do_replay::<CachedBus, R, W, E>(alloc, cores, room, reader, writer, errors)
+            }
+            Store::Plain => {
+                do_replay::<PlainStore, R, W, E>(alloc, cores, room, reader, writer, errors)
+            }
+        },
+        None => Outcome::Usage.conclude(errors),
+    }
+}
