@@ -1,2 +1,3 @@
 mod Parting
 mod Listing
+mod Keyed
