@@ -5,7 +5,7 @@ use crate::rows::{
     COMMITTED_BYTES_VIOLATIONS, HISTOGRAM, HISTOGRAM_FATES, HISTOGRAM_SUMS, HISTOGRAM_VIOLATIONS,
     STORED_BYTES, STORED_BYTES_VIOLATIONS,
 };
-use conflict_sums::{Pair, Part, Sum, pairs_of, rollbacks, sum_of};
+use conflict_sums::{Key, Pair, Part, Sum, pairs_of, rollbacks, sum_of, sums_by};
 use conflicts::{Blame, ByteRange, Explanation, Kind, Runner, Site, explain, sites};
 use rv32_exec::image_of;
 use std::test::*;
@@ -194,6 +194,23 @@ fn part_of(row: &str) -> Option<Part> {
     }
 }
 
+/// The number that tells the violations of a row of sums apart, where one does.
+fn key_of(row: &str) -> Option<(Key, u32)> {
+    let word = row.split(' ').nth(2)?;
+    let at = row.split(' ').nth(3)?.parse().ok()?;
+    for (name, key) in [
+        ("stored", Key::Store),
+        ("loaded", Key::Load),
+        ("line", Key::Line),
+        ("epoch", Key::Epoch),
+    ] {
+        if name == word {
+            return Some((key, at));
+        }
+    }
+    None
+}
+
 #[test]
 fn sums_what_violations_cost(rt: HostRuntime) -> Result<(), Fail> {
     for (text, rows, pairs) in [
@@ -226,6 +243,15 @@ fn sums_what_violations_cost(rt: HostRuntime) -> Result<(), Fail> {
             };
             let part = part_of(row).ok_or("part")?;
             assert!(rt; sum_of(summed.as_slice(), part) == Some(wanted), "{row}");
+            if let (Some((key, at)), Some(_)) = (
+                key_of(row),
+                sum_of(summed.as_slice(), Part::Whole),
+            ) {
+                let sums = sums_by(rt.alloc(), summed.as_slice(), key)?;
+                let told = sums.get(&at).copied();
+                assert!(rt; told.is_some() == (wanted.count > 0), "{row}");
+                assert!(rt; told.is_none() || told == Some(wanted), "{row}");
+            }
         }
         assert_eq!(rt; pairs_of(rt.alloc(), summed.as_slice())?.len(), pairs);
     }
