@@ -1,10 +1,11 @@
 //! Worked histories and what explains their violations.
 
 use crate::rows::{
-    BUFFER_FULL, BUFFER_FULL_FATES, BUFFER_FULL_VIOLATIONS, COMMITTED_BYTES,
-    COMMITTED_BYTES_VIOLATIONS, HISTOGRAM, HISTOGRAM_FATES, HISTOGRAM_VIOLATIONS, STORED_BYTES,
-    STORED_BYTES_VIOLATIONS,
+    BUFFER_FULL, BUFFER_FULL_FATES, BUFFER_FULL_SUMS, BUFFER_FULL_VIOLATIONS, COMMITTED_BYTES,
+    COMMITTED_BYTES_VIOLATIONS, HISTOGRAM, HISTOGRAM_FATES, HISTOGRAM_SUMS, HISTOGRAM_VIOLATIONS,
+    STORED_BYTES, STORED_BYTES_VIOLATIONS,
 };
+use conflict_sums::{Key, Pair, Part, Sum, pairs_of, rollbacks, sum_of, sums_by};
 use conflicts::{Blame, ByteRange, Explanation, Kind, Runner, Site, explain, sites};
 use rv32_exec::image_of;
 use std::test::*;
@@ -164,6 +165,95 @@ fn tells_what_became_of_violations(rt: HostRuntime) -> Result<(), Fail> {
                 "{row}"
             );
         }
+    }
+    Ok(())
+}
+
+/// The part that a row of sums names.
+fn part_of(row: &str) -> Option<Part> {
+    let word = row.split(' ').nth(2)?;
+    if word == "whole" {
+        Some(Part::Whole)
+    } else if word == "kind" {
+        Some(Part::OfKind(kind_of(row.split(' ').nth(3)?)?))
+    } else if word == "pair" {
+        Some(Part::OfPair(Pair {
+            store: number(row, 3),
+            load: number(row, 4),
+        }))
+    } else if word == "unpaired" {
+        Some(Part::Unpaired)
+    } else if word == "stored" {
+        Some(Part::StoredAt(number(row, 3)))
+    } else if word == "loaded" {
+        Some(Part::LoadedAt(number(row, 3)))
+    } else if word == "line" {
+        Some(Part::OfLine(number(row, 3)))
+    } else {
+        Some(Part::OfEpoch(number(row, 3)))
+    }
+}
+
+/// The number that tells the violations of a row of sums apart, where one does.
+fn key_of(row: &str) -> Option<(Key, u32)> {
+    let word = row.split(' ').nth(2)?;
+    let at = row.split(' ').nth(3)?.parse().ok()?;
+    for (name, key) in [
+        ("stored", Key::Store),
+        ("loaded", Key::Load),
+        ("line", Key::Line),
+        ("epoch", Key::Epoch),
+    ] {
+        if name == word {
+            return Some((key, at));
+        }
+    }
+    None
+}
+
+#[test]
+fn sums_what_violations_cost(rt: HostRuntime) -> Result<(), Fail> {
+    for (text, rows, pairs) in [
+        (HISTOGRAM, HISTOGRAM_SUMS, 1),
+        (BUFFER_FULL, BUFFER_FULL_SUMS, 2),
+    ] {
+        let text = text.as_bytes();
+        let image = image_of(rt.alloc(), image_part(text))?;
+        let (cores, entries) = read_trace(rt.alloc(), text, image.version())
+            .ok()
+            .ok_or("trace")?;
+        let entries = entries.as_slice();
+        let found = explain(rt.alloc(), &image, cores, entries)
+            .ok()
+            .ok_or("history")?;
+        let stood = sites(rt.alloc(), &image, cores, entries)
+            .ok()
+            .ok_or("sites")?;
+        let summed = rollbacks(
+            rt.alloc(),
+            &image,
+            entries,
+            stood.as_slice(),
+            found.as_slice(),
+        )?;
+        for row in rows.split('\n').filter(|row| !row.is_empty()) {
+            let wanted = Sum {
+                count: number(row, 0) as usize,
+                lost: u64::from(number(row, 1)),
+            };
+            let part = part_of(row).ok_or("part")?;
+            assert!(rt; sum_of(summed.as_slice(), part) == Some(wanted), "{row}");
+            if let (Some((key, at)), Some(_)) = (
+                key_of(row),
+                sum_of(summed.as_slice(), Part::Whole),
+            ) {
+                let sums = sums_by(rt.alloc(), summed.as_slice(), key)?;
+                let told = sums.get(&at).copied();
+                assert!(rt; told.is_some() == (wanted.count > 0), "{row}");
+                assert!(rt; told.is_none() || told == Some(wanted), "{row}");
+            }
+        }
+        assert_eq!(rt; pairs_of(rt.alloc(), summed.as_slice())?.len(), pairs);
     }
     Ok(())
 }

@@ -292,3 +292,48 @@ pub const BUFFER_FULL_FATES: &str = "\
 69 try 1 undone - moot - stale no held 63\n\
 81 try 2 undone - moot - stale no held 79\n\
 ";
+
+/// What the violations of the histogram cost, by parts: how many they are, what they lost, and the part. The values are those of the same other program.
+pub const HISTOGRAM_SUMS: &str = "\
+4 36 whole\n\
+3 28 kind true\n\
+0 0 kind silent\n\
+1 8 kind false\n\
+0 0 kind buffer\n\
+0 0 kind other\n\
+4 36 pair 32 24\n\
+0 0 pair 24 32\n\
+0 0 unpaired\n\
+4 36 stored 32\n\
+0 0 stored 24\n\
+4 36 loaded 24\n\
+0 0 loaded 32\n\
+1 10 line 4\n\
+2 16 line 5\n\
+1 10 line 6\n\
+0 0 line 7\n\
+1 10 epoch 3\n\
+1 8 epoch 8\n\
+1 8 epoch 10\n\
+1 10 epoch 14\n\
+0 0 epoch 15\n\
+";
+
+/// The same of the full buffers.
+pub const BUFFER_FULL_SUMS: &str = "\
+7 49 whole\n\
+0 0 kind true\n\
+7 49 kind buffer\n\
+1 7 pair 44 20\n\
+6 42 pair 20 20\n\
+0 0 unpaired\n\
+1 7 stored 44\n\
+6 42 stored 20\n\
+7 49 loaded 20\n\
+7 49 line 8\n\
+1 7 epoch 1\n\
+1 7 epoch 2\n\
+2 14 epoch 3\n\
+1 7 epoch 4\n\
+2 14 epoch 5\n\
+";

@@ -1,0 +1,3 @@
+mod Parting
+mod Listing
+mod Keyed

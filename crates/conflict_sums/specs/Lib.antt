@@ -1,0 +1,6 @@
+-- Definitions to believe: what of an explanation is summed, what parts there are, and their sums.
+pub mod Keys
+pub mod Rollbacks
+pub mod Parts
+pub mod Pairs
+pub mod Sums
