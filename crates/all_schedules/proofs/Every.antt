@@ -4,7 +4,7 @@ use Rattle.std.specs.List.{Contains, flat_map}
 use Rattle.std.proofs.lemmas.Bool.{cases_eq}
 use Rattle.std.proofs.lemmas.List.{append-nil, length-append, length_push, length-take-le, map_push, take_all, take_more, append_assoc}
 use Rattle.std.proofs.lemmas.List.Concat.{flat_map-append}
-use Rattle.std.proofs.lemmas.List.Elements.{All-nil, All-append, All-push, All-head, All-tail, All-take, All-get_or, Contains-append_left, Contains-append_right, Contains-append_cases, Contains-push, Contains-push_cases}
+use Rattle.std.proofs.lemmas.List.Elements.{All-nil, All-append, All-push, All-head, All-tail, All-take, All-weaker, All-get_or, Contains-append_left, Contains-append_right, Contains-append_cases, Contains-push, Contains-push_cases}
 use native.Mathlib.Nat.{pow-suc, pow-zero}
 use Rattle.std.specs.declared.alloc.Global.{Global}
 use Rattle.all_schedules.specs.Schedules.{AreAllSchedules, IsSchedule, lists_of}
@@ -151,3 +151,8 @@ longer_more cores schedules i d below =
     ∙ (ap (longer cores) (lists_of-push (take i schedules) (get_or schedules i d))
     ∙ (flat_map-append (λ l. going_on l cores) (lists_of (take i schedules)) (s ∷ [])
     ∙ ap (λ l. longer cores (lists_of (take i schedules)) ++ l) (append-nil (going_on s cores))))
+
+-- each of them is of the cores
+pub all_by_cores : (cores turns : ℕ) (schedules : List (List ℕ)) → AreAllSchedules cores turns schedules → All (All (λ core. core < cores)) schedules
+all_by_cores cores turns schedules all =
+    All-weaker (IsSchedule cores turns) (All (λ core. core < cores)) (λ schedule is. is.by_cores) schedules all.each
