@@ -1,0 +1,5 @@
+pub mod Every
+pub mod Drives
+pub mod Noting
+pub mod Surveying
+pub mod Runs

@@ -1,0 +1,17 @@
+use Rattle.std.proofs.Common.{Some, Vec, refl, ap, ◌∙◌}
+use Rattle.all_schedules.specs.declared.survey.Survey.{Survey}
+use Rattle.all_schedules.proofs.Noting.{adds_open, adds_over, on_ok}
+use Rattle.all_schedules.proofs.survey.Survey.add.Goals as goal
+use Rattle.all_schedules.proofs.survey.Survey.add.Goals.{then-is_over, else-is_over}
+
+pub returns : goal.returns
+returns c =
+    on_ok c.note.result (λ noted. elim c.if-is_over.branch [
+      | then-is_over w ↦
+          adds_over c.args.place c.args.restarts c.args.trace.items c.args.self.now c.if-is_over.self _ c.args.is_over w.if-is_over.true
+          (ap (λ (s : Survey). s.over) w.self-is) (ap (λ (s : Survey). s.traces) w.self-is)
+          (ap (λ (s : Survey). s.least) w.self-is ∙ ap Some w.lesser.ensures) (ap (λ (s : Survey). s.most) w.self-is ∙ ap Some w.greater.ensures)
+          refl refl refl noted
+      | else-is_over w ↦
+          adds_open c.args.place c.args.restarts c.args.trace.items c.args.self.now c.if-is_over.self _ c.args.is_over w.if-is_over.false w.self-is refl refl refl noted
+    ]) c.note.ensures

@@ -1,0 +1,49 @@
+-- What a schedule makes.
+-- Source: this project.
+use Rattle.std.specs.Prelude.{◌≡◌, ℕ, List, [], Option, None, Result, Ok, Err}
+use Rattle.rv32_image.specs.Image.{LoadedImage}
+use Rattle.rv32_exec.specs.declared.sequential.End.{End}
+use Rattle.run_ledger.specs.Counts.{no_counts}
+use Rattle.spec_history.specs.declared.entry.Entry.{Entry}
+use Rattle.violations.specs.View.{StoreView}
+use Rattle.violations.specs.Rule.{IsFresh}
+use Rattle.homefree.specs.declared.book.Loop.{Loop}
+use Rattle.homefree.specs.declared.fault.TurnFault.{TurnFault}
+use Rattle.homefree.specs.declared.fault.TurnFault.TheVariants.{HistoryFull, NoMemory}
+use Rattle.homefree.specs.BookView.{BookView}
+use Rattle.homefree.specs.Driven.{Driven, Driver, driver}
+use Rattle.homefree.specs.LockView.{loop_of}
+
+abbrev pub loop_on : LoadedImage → ℕ → ℕ → Loop
+loop_on image cores room = record { image = image; cores = cores; room = room }
+
+-- an empty history of the loop, over a fresh store
+pub record IsNew {S : Type 0} (view : S → StoreView) (l : Loop) (b : BookView S) : Type 0 where
+  pub loop : loop_of b ≡ l
+  pub history : b.history ≡ []
+  pub totals : b.totals ≡ no_counts
+  pub store : IsFresh l.image l.cores (view b.store)
+  pub stopped : b.stopped ≡ None
+
+-- the schedule's turns, one for each of its cores, in order, make this history and come to this
+pub record Makes {S : Type 0} (view : S → StoreView) (l : Loop) (schedule : List ℕ) (result : Result (Option End) TurnFault) (history : List Entry) : Type 0 where
+  pub first : BookView S
+  pub last : Driver S
+  pub is_new : IsNew view l first
+  pub driven : Driven view (λ _. None) (driver first no_counts) schedule result last
+  pub history_is : last.book.history ≡ history
+
+-- a turn of the schedule finds too few free entries
+abbrev pub IsFull : {S : Type 0} → (S → StoreView) → Loop → List ℕ → Type 0
+IsFull view l schedule = (history : List Entry) × Makes view l schedule (Err HistoryFull) history
+
+-- the turns may end in this fault
+abbrev pub IsFault : {S : Type 0} → (S → StoreView) → Loop → List ℕ → TurnFault → Type 0
+IsFault view l schedule HistoryFull = IsFull view l schedule
+IsFault view l schedule NoMemory = Unit {0}
+
+-- the book has the history that the schedule makes
+pub record IsMade {S : Type 0} (view : S → StoreView) (l : Loop) (schedule : List ℕ) (b : BookView S) : Type 0 where
+  pub loop : loop_of b ≡ l
+  pub result : Option End
+  pub makes : Makes view l schedule (Ok result) b.history

@@ -1,0 +1,12 @@
+//! Every schedule of so many turns of a loop: what each makes, and what they come to together.
+#![tactic(auto)]
+
+mod driving;
+mod schedules;
+mod survey;
+mod text;
+
+pub use driving::drive_schedule;
+pub use schedules::every_schedule;
+pub use survey::{Extreme, Survey, survey_schedules};
+pub use text::print_survey;

@@ -1,0 +1,157 @@
+//! What schedules come to together.
+ghost use Rattle.std.specs.Prelude.{◌≡◌, ◌≤◌, ◌<◌, ◌^◌, ◌↔◌, All, Contains, IfOk, IfErr, IsTrue, OnOk};
+ghost use Rattle.violations.specs.Rule.{IsCoreCount};
+ghost use Rattle.all_schedules.specs.Made as made_spec;
+ghost use Rattle.all_schedules.specs.Schedules.{lists_of};
+ghost use Rattle.all_schedules.specs.Survey as spec;
+ghost use Rattle.all_schedules.specs.Adding as inside;
+
+use crate::driving::drive_schedule;
+use homefree::{Book, TurnFault};
+use rv32_exec::Image;
+use std::alloc::{AllocError, Global};
+use trace_text::print_trace;
+use violations::EpochStore;
+
+/// A schedule whose loop is over.
+#[derive(Clone, Copy, Debug, PartialEq, Eq)]
+pub struct Extreme {
+    /// Its place in the list of schedules, counted from 0.
+    pub place: usize,
+    /// How many restarts it has.
+    pub restarts: u64,
+}
+
+/// What schedules come to together.
+#[derive(Drop)]
+pub struct Survey {
+    /// For how many schedules the loop is over.
+    pub over: usize,
+    /// The traces of the histories that they make, each once.
+    pub traces: Vec<Vec<u8>>,
+    /// Of those that are over one with the fewest restarts.
+    pub least: Option<Extreme>,
+    /// Of those that are over one with the most restarts.
+    pub most: Option<Extreme>,
+}
+
+/// Drives each of these schedules, and answers what they come to together. The cores are at least 1, and the room is 16 to 1,048,576
+/// entries.
+///
+/// `HistoryFull`: a turn of one of them found too few free entries. `NoMemory`: memory ran out.
+pub fn survey_schedules<S: EpochStore>(
+    alloc: Global,
+    image: &Image,
+    cores: u32,
+    room: u32,
+    schedules: &[Vec<u32>],
+) -> Result<Survey, TurnFault>
+    requires cores { IsCoreCount image.now cores }
+    requires least { 16 ≤ room }
+    requires most { room ≤ 1048576 }
+    requires schedules { All (All (λ core. core < cores)) (lists_of schedules.now) }
+    ensures made { IfOk result (spec.Surveys S.view (made_spec.loop_on image.now cores room) (lists_of schedules.now)) }
+    ensures fault { IfErr result (spec.IsFaultOfOne S.view (made_spec.loop_on image.now cores room) (lists_of schedules.now)) }
+{
+    let mut survey = Survey {
+        over: 0,
+        traces: Vec::new(alloc),
+        least: None,
+        most: None,
+    };
+    for (place, schedule) in schedules.iter().enumerate() {
+        let book: Book<S> = drive_schedule(alloc, image, cores, room, schedule.as_slice())?;
+        add_run(alloc, cores, place, &book, &mut survey)?;
+    }
+    Ok(survey)
+}
+
+/// Adds the history of a book, which the schedule at this place made.
+fn add_run<S: EpochStore>(
+    alloc: Global,
+    cores: u32,
+    place: usize,
+    book: &Book<S>,
+    survey: &mut Survey,
+) -> Result<(), TurnFault>
+    requires few { survey.old.over < 2 ^ 63 }
+    ensures added { OnOk result (inside.AddsBook S.view cores place book.now survey.old survey.new) }
+    ensures fault { IfErr result (λ fault. fault ≡ TurnFault.NoMemory) }
+{
+    book.look();
+    let Ok(trace) = print_trace(alloc, cores, book.history()) else {
+        return Err(TurnFault::NoMemory);
+    };
+    let is_over = book.ended().is_some();
+    match survey.add(place, is_over, book.totals().restarts, trace) {
+        Ok(()) => Ok(()),
+        Err(AllocError) => Err(TurnFault::NoMemory),
+    }
+}
+
+impl Survey {
+    /// Adds a run, over or not, with so many restarts and this trace.
+    fn add(
+        &mut self,
+        place: usize,
+        is_over: bool,
+        restarts: u64,
+        trace: Vec<u8>,
+    ) -> Result<(), AllocError>
+        requires few { self.old.over < 2 ^ 63 }
+        ensures { OnOk result (inside.Adds place is_over restarts trace.items self.old self.new) }
+    {
+        if is_over {
+            let found = Extreme { place, restarts };
+            self.over += 1;
+            self.least = Some(lesser(self.least, found));
+            self.most = Some(greater(self.most, found));
+        }
+        note(&mut self.traces, trace)
+    }
+}
+
+/// The one with fewer restarts; of two with as many, the older.
+fn lesser(old: Option<Extreme>, found: Extreme) -> Extreme
+    ensures { result ≡ inside.lesser old found }
+{
+    match old {
+        Some(old) if old.restarts <= found.restarts => old,
+        _ => found,
+    }
+}
+
+/// The one with more restarts; of two with as many, the older.
+fn greater(old: Option<Extreme>, found: Extreme) -> Extreme
+    ensures { result ≡ inside.greater old found }
+{
+    match old {
+        Some(old) if found.restarts <= old.restarts => old,
+        _ => found,
+    }
+}
+
+/// Notes a text, unless it stands there.
+fn note(texts: &mut Vec<Vec<u8>>, text: Vec<u8>) -> Result<(), AllocError>
+    ensures { OnOk result (inside.IsNoted (lists_of texts.old.items) (lists_of texts.new.items) text.items) }
+{
+    if is_noted(texts.as_slice(), text.as_slice()) {
+        return Ok(());
+    }
+    texts.push(text)?;
+    Ok(())
+}
+
+/// Whether a text stands there. The newest are looked at first.
+fn is_noted(texts: &[Vec<u8>], text: &[u8]) -> bool
+    ensures { IsTrue result ↔ Contains (lists_of texts.now) text.now }
+{
+    let mut left = texts.len();
+    while left > 0 {
+        left -= 1;
+        if texts[left].as_slice() == text {
+            return true;
+        }
+    }
+    false
+}
