@@ -46,10 +46,10 @@ cause_name (Some (Fault cause pc)) = codes "fault"
 cause_name other = codes "-"
 
 -- what undoes an attempt
-abbrev pub undoing_name : Option What → List ℕ
-undoing_name (Some (Hurt epoch)) = codes "hurt"
-undoing_name (Some (Cancel epoch)) = codes "cancelled"
-undoing_name other = codes "-"
+abbrev pub undoing_name : What → List ℕ
+undoing_name (Hurt epoch) = codes "hurt"
+undoing_name (Cancel epoch) = codes "cancelled"
+undoing_name what = codes "-"
 
 -- ---- accesses
 
@@ -123,13 +123,13 @@ hurt_line image entries sites e =
     codes "hurt " ++ decimal e.place ++ codes " " ++ kind_name e.kind
     ++ victim_text entries e ++ cost_text sites e ++ causer_text entries e ++ pair_text image entries sites e e.kind ++ codes "\n"
 
-abbrev pub vain_by : List Entry → ℕ → Option ℕ → List ℕ
-vain_by entries place None = []
-vain_by entries place (Some undone) = codes "vain " ++ decimal place ++ codes " " ++ undoing_name (what_at entries (Some undone)) ++ codes "\n"
+abbrev pub vain_by : ℕ → Option What → List ℕ
+vain_by place None = []
+vain_by place (Some what) = codes "vain " ++ decimal place ++ codes " " ++ undoing_name what ++ codes "\n"
 
 -- the causer's attempt was itself violated or cancelled
 unfoldable pub vain_line : List Entry → Explanation → List ℕ
-vain_line entries e = vain_by entries e.place (undone_at entries e)
+vain_line entries e = vain_by e.place (what_at entries (undone_at entries e))
 
 abbrev pub moot_by : ℕ → Option ℕ → List ℕ
 moot_by place None = []

@@ -2,6 +2,7 @@
 #![tactic(auto)]
 
 mod accesses;
+mod followed;
 mod lines;
 mod report;
 mod sums;

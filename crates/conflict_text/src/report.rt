@@ -1,6 +1,7 @@
 ghost use Rattle.std.specs.Prelude.{◌≡◌, ◌++◌, IfOk};
 ghost use Rattle.conflict_text.specs.Report as spec;
 
+use crate::followed::Followed;
 use crate::lines::push_violation;
 use crate::sums::{push_kinds, push_total};
 use conflicts::{Explanation, Site};
@@ -38,8 +39,9 @@ fn report_lines(
     ensures { IfOk result (λ text. text.items ≡ spec.printed_conflicts image.now homefree entries.now sites.now found.now) }
 {
     let mut text = Vec::new(alloc);
+    let mut followed = Followed::new();
     for e in found {
-        push_violation(&mut text, image, entries, sites, *e)?;
+        push_violation(&mut text, image, entries, sites, &mut followed, *e)?;
     }
     push_kinds(&mut text, found)?;
     push_total(&mut text, image, homefree, found)?;

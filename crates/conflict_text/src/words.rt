@@ -80,13 +80,13 @@ pub(crate) fn cause_name(cause: Option<What>) -> &'static str
     }
 }
 
-/// The name of what undoes an attempt, or a dash where nothing does.
-pub(crate) fn undoing_name(what: Option<What>) -> &'static str
+/// The name of what undoes an attempt.
+pub(crate) fn undoing_name(what: What) -> &'static str
     ensures { result.now ≡ spec.undoing_name what }
 {
     match what {
-        Some(What::Hurt(_)) => "hurt",
-        Some(What::Cancel(_)) => "cancelled",
+        What::Hurt(_) => "hurt",
+        What::Cancel(_) => "cancelled",
         _ => "-",
     }
 }

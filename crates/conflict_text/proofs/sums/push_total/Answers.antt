@@ -1,4 +1,4 @@
-use Rattle.std.proofs.Common.{◌≡◌, ◌++◌, ◌∙◌, ap, ℕ, List, length, codes, decimal, append_assoc, Result, Ok, Err, OnOk, sym}
+use Rattle.std.proofs.Common.{◌≡◌, ◌++◌, ◌∙◌, ap, ℕ, List, length, codes, decimal, append_assoc, Result, Ok, Err, OnOk}
 use Rattle.conflict_text.specs.Report.{sums_text, total_line}
 use Rattle.conflict_text.proofs.sums.push_total.Goals as goal
 
