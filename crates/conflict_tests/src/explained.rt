@@ -1,10 +1,12 @@
 //! Worked histories and what explains their violations.
 
 use crate::rows::{
-    BUFFER_FULL, BUFFER_FULL_FATES, BUFFER_FULL_VIOLATIONS, HISTOGRAM, HISTOGRAM_FATES,
-    HISTOGRAM_VIOLATIONS,
+    BUFFER_FULL, BUFFER_FULL_FATES, BUFFER_FULL_SUMS, BUFFER_FULL_VIOLATIONS, COMMITTED_BYTES,
+    COMMITTED_BYTES_VIOLATIONS, HISTOGRAM, HISTOGRAM_FATES, HISTOGRAM_SUMS, HISTOGRAM_VIOLATIONS,
+    STORED_BYTES, STORED_BYTES_VIOLATIONS,
 };
-use conflicts::{Blame, Explanation, Kind, Runner, Site, explain, sites};
+use conflict_sums::{Pair, Part, Sum, pairs_of, rollbacks, sum_of};
+use conflicts::{Blame, ByteRange, Explanation, Kind, Runner, Site, explain, sites};
 use rv32_exec::image_of;
 use std::test::*;
 use trace_text::{image_part, read_trace};
@@ -32,12 +34,21 @@ fn kind_of(word: &str) -> Option<Kind> {
     None
 }
 
-/// What the row says at the places of the blamed load, the store and the byte, if it blames any.
+/// What the row says at the places of the blamed load, the store, the byte and those that met alike, if it blames any.
 fn blame_of(row: &str) -> Option<Blame> {
     let load = row.split(' ').nth(14)?.parse().ok()?;
     let store = row.split(' ').nth(16)?.parse().ok()?;
     let byte = row.split(' ').nth(18)?.parse().ok()?;
-    Some(Blame { load, store, byte })
+    let bytes = ByteRange {
+        first: row.split(' ').nth(25)?.parse().ok()?,
+        length: row.split(' ').nth(26)?.parse().ok()?,
+    };
+    Some(Blame {
+        load,
+        store,
+        byte,
+        bytes,
+    })
 }
 
 fn explanation_of(row: &str) -> Option<Explanation> {
@@ -64,6 +75,8 @@ fn explains_worked_histories(rt: HostRuntime) -> Result<(), Fail> {
     for (text, rows) in [
         (HISTOGRAM, HISTOGRAM_VIOLATIONS),
         (BUFFER_FULL, BUFFER_FULL_VIOLATIONS),
+        (STORED_BYTES, STORED_BYTES_VIOLATIONS),
+        (COMMITTED_BYTES, COMMITTED_BYTES_VIOLATIONS),
     ] {
         let text = text.as_bytes();
         let image = image_of(rt.alloc(), image_part(text))?;
@@ -152,6 +165,69 @@ fn tells_what_became_of_violations(rt: HostRuntime) -> Result<(), Fail> {
                 "{row}"
             );
         }
+    }
+    Ok(())
+}
+
+/// The part that a row of sums names.
+fn part_of(row: &str) -> Option<Part> {
+    let word = row.split(' ').nth(2)?;
+    if word == "whole" {
+        Some(Part::Whole)
+    } else if word == "kind" {
+        Some(Part::OfKind(kind_of(row.split(' ').nth(3)?)?))
+    } else if word == "pair" {
+        Some(Part::OfPair(Pair {
+            store: number(row, 3),
+            load: number(row, 4),
+        }))
+    } else if word == "unpaired" {
+        Some(Part::Unpaired)
+    } else if word == "stored" {
+        Some(Part::StoredAt(number(row, 3)))
+    } else if word == "loaded" {
+        Some(Part::LoadedAt(number(row, 3)))
+    } else if word == "line" {
+        Some(Part::OfLine(number(row, 3)))
+    } else {
+        Some(Part::OfEpoch(number(row, 3)))
+    }
+}
+
+#[test]
+fn sums_what_violations_cost(rt: HostRuntime) -> Result<(), Fail> {
+    for (text, rows, pairs) in [
+        (HISTOGRAM, HISTOGRAM_SUMS, 1),
+        (BUFFER_FULL, BUFFER_FULL_SUMS, 2),
+    ] {
+        let text = text.as_bytes();
+        let image = image_of(rt.alloc(), image_part(text))?;
+        let (cores, entries) = read_trace(rt.alloc(), text, image.version())
+            .ok()
+            .ok_or("trace")?;
+        let entries = entries.as_slice();
+        let found = explain(rt.alloc(), &image, cores, entries)
+            .ok()
+            .ok_or("history")?;
+        let stood = sites(rt.alloc(), &image, cores, entries)
+            .ok()
+            .ok_or("sites")?;
+        let summed = rollbacks(
+            rt.alloc(),
+            &image,
+            entries,
+            stood.as_slice(),
+            found.as_slice(),
+        )?;
+        for row in rows.split('\n').filter(|row| !row.is_empty()) {
+            let wanted = Sum {
+                count: number(row, 0) as usize,
+                lost: u64::from(number(row, 1)),
+            };
+            let part = part_of(row).ok_or("part")?;
+            assert!(rt; sum_of(summed.as_slice(), part) == Some(wanted), "{row}");
+        }
+        assert_eq!(rt; pairs_of(rt.alloc(), summed.as_slice())?.len(), pairs);
     }
     Ok(())
 }

@@ -1,6 +1,6 @@
 //! Worked histories: an image with its trace, and the violations in it. Each row: the place and the kind, the core and the epoch that made it,
 //! the core and the epoch that were violated, the place of the cause, the instructions lost and entered, and the blamed load and store with the
-//! byte, the addresses of their instructions, and the instructions from the load on. The values are those of another program, which was written from the definitions.
+//! byte, the addresses of their instructions, the instructions from the load on, and the first and the number of the bytes that met alike. The values are those of another program, which was written from the definitions.
 
 /// A histogram: each epoch adds 1 to the bin that its sample names.
 pub const HISTOGRAM: &str = "\
@@ -111,10 +111,56 @@ trace 3\n\
 ";
 
 pub const HISTOGRAM_VIOLATIONS: &str = "\
-16 true by 2 1 victim 0 3 cause 17 lost 10 9 load 11 store 17 byte 68 at 24 32 since 4\n\
-47 false by 0 7 victim 1 8 cause 48 lost 8 7 load 44 store 38 byte 84 at 24 32 since 2\n\
-57 true by 1 8 victim 2 10 cause 58 lost 8 7 load 55 store 58 byte 84 at 24 32 since 2\n\
-85 true by 0 12 victim 2 14 cause 86 lost 10 9 load 81 store 77 byte 100 at 24 32 since 4\n\
+16 true by 2 1 victim 0 3 cause 17 lost 10 9 load 11 store 17 byte 68 at 24 32 since 4 range 68 4\n\
+47 false by 0 7 victim 1 8 cause 48 lost 8 7 load 44 store 38 byte 84 at 24 32 since 2 range 84 4\n\
+57 true by 1 8 victim 2 10 cause 58 lost 8 7 load 55 store 58 byte 84 at 24 32 since 2 range 84 4\n\
+85 true by 0 12 victim 2 14 cause 86 lost 10 9 load 81 store 77 byte 100 at 24 32 since 4 range 100 4\n\
+";
+
+/// Epoch 0 stores two bytes, and then the second of them again; epoch 1 has loaded the word, and is violated by the first of these stores.
+pub const STORED_BYTES: &str = "\
+size 256\n\
+epochs 2\n\
+limit 100\n\
+code 6306050083220004678000009302700023115004a301500467800000\n\
+trace 2\n\
+0 start 0\n\
+1 start 1\n\
+1 load 00000040 4 00000000\n\
+0 hurt 1\n\
+0 store 00000042 2 00000007\n\
+0 store 00000043 1 00000007\n\
+1 restart\n\
+0 commit\n\
+1 load 00000040 4 07070000\n\
+1 commit\n\
+";
+
+pub const STORED_BYTES_VIOLATIONS: &str = "\
+3 true by 0 0 victim 1 1 cause 4 lost 3 2 load 2 store 4 byte 66 at 4 16 since 2 range 66 2\n\
+";
+
+/// The same, but epoch 1 loads after the stores, and is violated when they are committed.
+pub const COMMITTED_BYTES: &str = "\
+size 256\n\
+epochs 2\n\
+limit 100\n\
+code 6306050083220004678000009302700023115004a301500467800000\n\
+trace 2\n\
+0 start 0\n\
+1 start 1\n\
+0 store 00000042 2 00000007\n\
+0 store 00000043 1 00000007\n\
+1 load 00000040 4 00000000\n\
+0 hurt 1\n\
+0 commit\n\
+1 restart\n\
+1 load 00000040 4 07070000\n\
+1 commit\n\
+";
+
+pub const COMMITTED_BYTES_VIOLATIONS: &str = "\
+5 true by 0 0 victim 1 1 cause 6 lost 3 2 load 4 store 2 byte 66 at 4 16 since 2 range 66 1\n\
 ";
 
 /// Epoch 0 loads from five lines, and every other epoch stores to them: buffers of four lines fill up.
@@ -245,4 +291,49 @@ pub const BUFFER_FULL_FATES: &str = "\
 59 try 2 undone - moot - stale no held 48\n\
 69 try 1 undone - moot - stale no held 63\n\
 81 try 2 undone - moot - stale no held 79\n\
+";
+
+/// What the violations of the histogram cost, by parts: how many they are, what they lost, and the part. The values are those of the same other program.
+pub const HISTOGRAM_SUMS: &str = "\
+4 36 whole\n\
+3 28 kind true\n\
+0 0 kind silent\n\
+1 8 kind false\n\
+0 0 kind buffer\n\
+0 0 kind other\n\
+4 36 pair 32 24\n\
+0 0 pair 24 32\n\
+0 0 unpaired\n\
+4 36 stored 32\n\
+0 0 stored 24\n\
+4 36 loaded 24\n\
+0 0 loaded 32\n\
+1 10 line 4\n\
+2 16 line 5\n\
+1 10 line 6\n\
+0 0 line 7\n\
+1 10 epoch 3\n\
+1 8 epoch 8\n\
+1 8 epoch 10\n\
+1 10 epoch 14\n\
+0 0 epoch 15\n\
+";
+
+/// The same of the full buffers.
+pub const BUFFER_FULL_SUMS: &str = "\
+7 49 whole\n\
+0 0 kind true\n\
+7 49 kind buffer\n\
+1 7 pair 44 20\n\
+6 42 pair 20 20\n\
+0 0 unpaired\n\
+1 7 stored 44\n\
+6 42 stored 20\n\
+7 49 loaded 20\n\
+7 49 line 8\n\
+1 7 epoch 1\n\
+1 7 epoch 2\n\
+2 14 epoch 3\n\
+1 7 epoch 4\n\
+2 14 epoch 5\n\
 ";

@@ -8,6 +8,7 @@ use Rattle.spec_history.specs.declared.entry.Entry.{Entry}
 use Rattle.spec_history.specs.declared.entry.What.{What}
 use Rattle.spec_history.specs.declared.entry.What.TheVariants.{Load, Store, Hurt, Cancel, Publish, Commit, Fault}
 use Rattle.conflicts.specs.declared.explanation.Blame.{Blame}
+use Rattle.conflicts.specs.declared.explanation.ByteRange.{ByteRange}
 use Rattle.conflicts.specs.declared.explanation.Explanation.{Explanation}
 use Rattle.conflicts.specs.declared.explanation.Kind.{Kind}
 use Rattle.conflicts.specs.declared.explanation.Kind.TheVariants.{TrueSharing, SilentStore, FalseSharing, FullBuffer, Unexplained}
@@ -66,14 +67,22 @@ access_text name sites place = name ++ number_or_dash place ++ codes " " ++ addr
 abbrev pub line_start : LoadedImage → ℕ → ℕ
 line_start image a = line_of image a * (limits_of image.version).line_length
 
-abbrev pub accessed : LoadedImage → What → Option ℕ
-accessed image (Load address width value) = Some (line_start image address)
-accessed image (Store address width value) = Some (line_start image address)
+abbrev pub line_at : LoadedImage → ℕ → ByteRange
+line_at image a = record { first = line_start image a; length = (limits_of image.version).line_length }
+
+abbrev pub accessed : LoadedImage → What → Option ByteRange
+accessed image (Load address width value) = Some (line_at image address)
+accessed image (Store address width value) = Some (line_at image address)
 accessed image what = None
 
--- the address of the line of an access
-abbrev pub line_address : LoadedImage → Option What → Option ℕ
-line_address image what = option_and_then (accessed image) what
+-- the bytes of the line of an access
+abbrev pub line_bytes : LoadedImage → Option What → Option ByteRange
+line_bytes image what = option_and_then (accessed image) what
+
+-- where two accesses met: the address of the first byte, and how many they are
+abbrev pub bytes_text : Option ByteRange → List ℕ
+bytes_text None = codes " at - -"
+bytes_text (Some bytes) = codes " at " ++ hex_word bytes.first ++ codes " " ++ decimal bytes.length
 
 abbrev pub load_of : Option Blame → Option ℕ
 load_of blame = option_map (λ (pair : Blame). pair.load) blame
@@ -81,20 +90,20 @@ load_of blame = option_map (λ (pair : Blame). pair.load) blame
 abbrev pub store_of : Option Blame → Option ℕ
 store_of blame = option_map (λ (pair : Blame). pair.store) blame
 
-abbrev pub byte_of : Option Blame → Option ℕ
-byte_of blame = option_map (λ (pair : Blame). pair.byte) blame
+abbrev pub bytes_of : Option Blame → Option ByteRange
+bytes_of blame = option_map (λ (pair : Blame). pair.bytes) blame
 
 -- of a full buffer: the victim's store that held the line, and the cause, which asked for it
 abbrev pub full_text : LoadedImage → List Entry → List (Option Site) → Explanation → List ℕ
 full_text image entries sites e =
     access_text (codes " held ") sites (held_at image entries e) ++ access_text (codes " asked ") sites e.cause
-    ++ codes " at " ++ address_or_dash (line_address image (what_at entries e.cause))
+    ++ bytes_text (line_bytes image (what_at entries e.cause))
 
--- else: the blamed load and store, and the byte at which they met
+-- else: the blamed load and store, and the bytes at which they met
 abbrev pub blame_text : List (Option Site) → Option Blame → List ℕ
 blame_text sites blame =
     access_text (codes " load ") sites (load_of blame) ++ access_text (codes " store ") sites (store_of blame)
-    ++ codes " at " ++ address_or_dash (byte_of blame)
+    ++ bytes_text (bytes_of blame)
 
 abbrev pub pair_text : LoadedImage → List Entry → List (Option Site) → Explanation → Kind → List ℕ
 pair_text image entries sites e FullBuffer = full_text image entries sites e

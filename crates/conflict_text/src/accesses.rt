@@ -3,11 +3,12 @@ ghost use Rattle.std.specs.Prelude.{◌≡◌, ◌++◌, ◌*◌, ◌/◌, ◌�
 ghost use Rattle.conflicts.specs.Explained as explained;
 ghost use Rattle.conflict_text.specs.Lines as spec;
 
-use crate::words::{push_address, push_place};
-use conflicts::{Blame, Explanation, Kind, Site};
+use crate::words::{push_address, push_named, push_place};
+use conflicts::{Blame, ByteRange, Explanation, Kind, Site};
 use rv32_exec::Image;
 use spec_history::{Entry, What};
 use std::alloc::AllocError;
+use trace_text::push_hex;
 
 /// What the entry at a place says, if there is one.
 pub(crate) fn what_at(entries: &[Entry], place: Option<usize>) -> Option<What>
@@ -40,22 +41,37 @@ fn push_access(
     push_address(text, pc_at(sites, place))
 }
 
-/// The first address of the line in which an address lies.
-fn line_start(image: &Image, addr: u32) -> u32
-    ensures { result ≡ spec.line_start image.now addr }
+/// The line in which an address lies.
+fn line_at(image: &Image, addr: u32) -> ByteRange
+    ensures { result ≡ spec.line_at image.now addr }
 {
-    let long = image.version().limits().line_length;
-    addr / long * long
+    let length = image.version().limits().line_length;
+    ByteRange {
+        first: addr / length * length,
+        length,
+    }
 }
 
-/// The address of the line of an access.
-fn line_address(image: &Image, what: Option<What>) -> Option<u32>
-    ensures { result ≡ spec.line_address image.now what }
+/// The bytes of the line of an access.
+fn line_bytes(image: &Image, what: Option<What>) -> Option<ByteRange>
+    ensures { result ≡ spec.line_bytes image.now what }
 {
     match what {
-        Some(What::Load { addr, .. } | What::Store { addr, .. }) => Some(line_start(image, addr)),
+        Some(What::Load { addr, .. } | What::Store { addr, .. }) => Some(line_at(image, addr)),
         _ => None,
     }
+}
+
+/// Where two accesses met: the address of the first byte, and how many they are.
+fn push_bytes(text: &mut Vec<u8>, bytes: Option<ByteRange>) -> Result<(), AllocError>
+    ensures { OnOk result (text.new.items ≡ text.old.items ++ spec.bytes_text bytes) }
+{
+    let Some(bytes) = bytes else {
+        return text.extend_from_slice(b" at - -");
+    };
+    text.extend_from_slice(b" at ")?;
+    push_hex(text, &bytes.first.to_be_bytes())?;
+    push_named(text, b" ", bytes.length as u128)
 }
 
 /// Of a full buffer: the victim's store that held the line, and the cause, which asked for it.
@@ -70,11 +86,10 @@ fn push_full(
 {
     push_access(text, b" held ", sites, e.held_at(image, entries))?;
     push_access(text, b" asked ", sites, e.cause)?;
-    text.extend_from_slice(b" at ")?;
-    push_address(text, line_address(image, what_at(entries, e.cause)))
+    push_bytes(text, line_bytes(image, what_at(entries, e.cause)))
 }
 
-/// Else: the blamed load and store, and the byte at which they met.
+/// Else: the blamed load and store, and the bytes at which they met.
 fn push_blame(
     text: &mut Vec<u8>,
     sites: &[Option<Site>],
@@ -82,14 +97,13 @@ fn push_blame(
 ) -> Result<(), AllocError>
     ensures { OnOk result (text.new.items ≡ text.old.items ++ spec.blame_text sites.now blame) }
 {
-    let (load, store, byte) = match blame {
-        Some(pair) => (Some(pair.load), Some(pair.store), Some(pair.byte)),
+    let (load, store, bytes) = match blame {
+        Some(pair) => (Some(pair.load), Some(pair.store), Some(pair.bytes)),
         None => (None, None, None),
     };
     push_access(text, b" load ", sites, load)?;
     push_access(text, b" store ", sites, store)?;
-    text.extend_from_slice(b" at ")?;
-    push_address(text, byte)
+    push_bytes(text, bytes)
 }
 
 /// The two accesses of a violation, and where they met.

@@ -1,14 +1,15 @@
 -- Which load and which store a violation is blamed on, and at which bytes.
-use Rattle.std.specs.Prelude.{◌≡◌, ◌⊎◌, ℕ, ◌+◌, ◌-◌, ◌*◌, ◌<◌, ◌≤◌, ◌==◌, ◌&&◌, Bool, true, false, List, Option, Some, None, is_some, option_and_then, option_map}
+use Rattle.std.specs.Prelude.{ℕ, ◌+◌, ◌-◌, ◌*◌, ◌==◌, ◌&&◌, not, nat_lt, Bool, false, List, Option, Some, None, is_some, option_and_then, option_map, unwrap_or}
 use Rattle.rv32_image.specs.Image.{LoadedImage}
 use Rattle.rv32_image.specs.Version.{limits_of}
 use Rattle.spec_history.specs.declared.entry.Entry.{Entry}
 use Rattle.spec_history.specs.declared.entry.What.{What}
 use Rattle.spec_history.specs.declared.entry.What.TheVariants.{Load, Store}
 use Rattle.conflicts.specs.declared.explanation.Blame.{Blame}
+use Rattle.conflicts.specs.declared.explanation.ByteRange.{ByteRange}
 use Rattle.conflicts.specs.declared.explanation.Kind.{Kind}
 use Rattle.conflicts.specs.declared.explanation.Kind.TheVariants.{TrueSharing, SilentStore, FalseSharing}
-use Rattle.conflicts.specs.Searches.{first_below}
+use Rattle.conflicts.specs.Searches.{first_below, last_below}
 use Rattle.conflicts.specs.Attempts.{attempt_does, last_store, first_read, reads_outside}
 use Rattle.conflicts.specs.Conflict.{Meeting, is_shared, is_changed, is_beside, line_of}
 
@@ -74,36 +75,43 @@ store_beside image entries v kind a = store_to entries v a
 abbrev pub blamed_store : LoadedImage → List Entry → Violation → ℕ → Option ℕ
 blamed_store image entries v a = store_beside image entries v v.kind a
 
--- the load and the store to blame, and the byte; nothing, where the kind is none of true and false sharing and silent stores
-abbrev pub blame_at : LoadedImage → List Entry → Violation → ℕ → Option Blame
-blame_at image entries v load =
-    option_and_then (λ byte. option_map (λ store. record { load = load; store = store; byte = byte }) (blamed_store image entries v byte)) (blamed_byte image entries v load)
-
-abbrev pub blame_of : LoadedImage → List Entry → Violation → Option Blame
-blame_of image entries v = option_and_then (blame_at image entries v) (blamed_load image entries v)
-
--- the bytes that go with a blamed one: of all that are written and were read, or of those that were read in its line
+-- the bytes that go with a blamed one: of all that are written and were read, or, where only the line is shared, of those that were read in its line
 abbrev pub goes_with : LoadedImage → Kind → Meeting → ℕ → ℕ → Bool
 goes_with image FalseSharing m byte a = is_beside image m a && (line_of image a == line_of image byte)
 goes_with image kind m byte a = is_shared m a
 
--- they have the same load and the same store
+-- a byte met at the same two accesses as the blamed one: the same load read it first, and the same store is to blame for it
 abbrev pub is_alike : LoadedImage → List Entry → Violation → ℕ → ℕ → ℕ → ℕ → Bool
-is_alike image entries v byte load store a =
+is_alike image entries v load store byte a =
     goes_with image v.kind v.bytes byte a && (is_place (read_at entries v a) load && is_place (blamed_store image entries v a) store)
 
--- the longest run of neighbours that pass the test, around a byte
-pub record IsRun (test : ℕ → Bool) (byte address long : ℕ) : Type 0 where
-  pub from : address ≤ byte
-  pub before : byte < address + long
-  pub each : (a : ℕ) → address ≤ a → a < address + long → test a ≡ true
-  pub begins : (address ≡ 0) ⊎ (test (address - 1) ≡ false)
-  pub ends : test (address + long) ≡ false
+-- the address after one, the first of all where there is none
+abbrev pub after : Option ℕ → ℕ
+after None = 0
+after (Some a) = a + 1
 
--- the bytes at which a blamed load and a blamed store met
-pub record IsBlamedRun (image : LoadedImage) (entries : List Entry) (v : Violation) (b : Blame) (address long : ℕ) : Type 0 where
-  pub blame : blame_of image entries v ≡ Some b
-  pub run : IsRun (is_alike image entries v b.byte b.load b.store) b.byte address long
+-- the longest range of neighbours around a byte of memory that pass a test: from after the last that fails below the byte, up to the first that fails above it
+abbrev pub range_around : ℕ → (ℕ → Bool) → ℕ → ByteRange
+range_around size test byte =
+    let first = after (last_below byte (λ a. not (test a))) in
+    let end = unwrap_or (first_below size (λ a. nat_lt byte a && not (test a))) size in
+    record { first = first; length = end - first }
+
+-- the neighbouring bytes at which a blamed load and a blamed store met
+abbrev pub blamed_range : LoadedImage → List Entry → Violation → ℕ → ℕ → ℕ → ByteRange
+blamed_range image entries v load store byte = range_around image.size (is_alike image entries v load store byte) byte
+
+-- the load and the store to blame, the byte, and its neighbours; nothing, where the kind is none of true and false sharing and silent stores
+abbrev pub blame_at : LoadedImage → List Entry → Violation → ℕ → Option Blame
+blame_at image entries v load = option_and_then (λ byte. option_map (λ store. record {
+  load = load;
+  store = store;
+  byte = byte;
+  bytes = blamed_range image entries v load store byte;
+}) (blamed_store image entries v byte)) (blamed_byte image entries v load)
+
+abbrev pub blame_of : LoadedImage → List Entry → Violation → Option Blame
+blame_of image entries v = option_and_then (blame_at image entries v) (blamed_load image entries v)
 
 -- the line of an access
 abbrev pub accessed_line : LoadedImage → What → Option ℕ

@@ -142,3 +142,22 @@ pub(crate) fn reads_outside(
         && loads(entries, core, place, addr)
         && last_store(entries, core, place, addr).is_none()
 }
+
+/// The first load that read this byte from outside, of the attempt that a core runs before a place, which began at `start`.
+pub(crate) fn first_read(
+    entries: &[Entry],
+    core: u32,
+    start: usize,
+    before: usize,
+    addr: u32,
+) -> Option<usize>
+    requires { spec.attempt_place entries.now core before ≡ Some start }
+    ensures { result ≡ spec.first_read entries.now core before addr }
+{
+    for place in start..before {
+        if reads_outside(entries, core, start, addr, place) {
+            return Some(place);
+        }
+    }
+    None
+}

@@ -8,6 +8,7 @@ ghost use Rattle.conflicts.specs.Parties.{meeting_in};
 ghost use Rattle.conflicts.specs.Violated as spec;
 
 use crate::accesses::{attempt_place, last_store, reads_outside};
+use crate::alike::Pair;
 use crate::explanation::{Blame, Kind};
 use crate::meeting::{Parties, line_of};
 use rv32_exec::Image;
@@ -90,7 +91,13 @@ impl Violated {
     }
 
     /// The store to blame for a byte.
-    fn store(&self, image: &Image, flat: &Flat, entries: &[Entry], addr: u32) -> Option<usize>
+    pub(crate) fn store(
+        &self,
+        image: &Image,
+        flat: &Flat,
+        entries: &[Entry],
+        addr: u32,
+    ) -> Option<usize>
         requires { addr < image.now.size }
         ensures { result ≡ blame.blamed_store image.now entries.now (spec.violation_in flat.now self.now) addr }
     {
@@ -103,7 +110,7 @@ impl Violated {
         }
     }
 
-    /// The load and the store to blame, and the byte.
+    /// The load and the store to blame, the byte, and its neighbours.
     pub(crate) fn blame(&self, image: &Image, flat: &Flat, entries: &[Entry]) -> Option<Blame>
         requires { flat.now.image ≡ image.now }
         ensures { result ≡ blame.blame_of image.now entries.now (spec.violation_in flat.now self.now) }
@@ -112,7 +119,13 @@ impl Violated {
         let load = self.load(image, flat, entries, start)?;
         let byte = self.byte_at(image, flat, entries, start, load)?;
         let store = self.store(image, flat, entries, byte)?;
-        Some(Blame { load, store, byte })
+        let bytes = self.range(image, flat, entries, start, Pair { load, store, byte });
+        Some(Blame {
+            load,
+            store,
+            byte,
+            bytes,
+        })
     }
 
     /// The load to blame.

@@ -25,7 +25,16 @@ pub struct Runner {
     pub epoch: u32,
 }
 
-/// Which load and which store a violation is blamed on, by their places in the history, and a byte at which they met.
+/// Neighbouring bytes of memory.
+#[derive(Clone, Copy, Debug, PartialEq, Eq)]
+pub struct ByteRange {
+    /// The address of the first.
+    pub first: u32,
+    /// How many they are.
+    pub length: u32,
+}
+
+/// Which load and which store a violation is blamed on, by their places in the history, and the bytes at which they met.
 #[derive(Clone, Copy, Debug, PartialEq, Eq)]
 pub struct Blame {
     /// The first load of the victim's attempt that read one of the bytes that count for the kind.
@@ -35,6 +44,9 @@ pub struct Blame {
     pub store: usize,
     /// The lowest of these bytes that the load read.
     pub byte: u32,
+    /// The neighbours around it that met at the same two accesses, itself among them: the cause writes them, the load was the
+    /// first to read them, and the store gave them their value; for false sharing, the load was the first to read them.
+    pub bytes: ByteRange,
 }
 
 /// Why an epoch was violated, and what that cost.

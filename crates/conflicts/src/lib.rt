@@ -2,6 +2,7 @@
 #![tactic(auto)]
 
 mod accesses;
+mod alike;
 mod blame;
 mod causes;
 mod explanation;
@@ -12,6 +13,6 @@ pub mod laws;
 mod meeting;
 mod standing;
 
-pub use explanation::{Blame, Explanation, Kind, Runner};
+pub use explanation::{Blame, ByteRange, Explanation, Kind, Runner};
 pub use history::explain;
 pub use standing::{Site, sites};

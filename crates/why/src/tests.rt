@@ -24,7 +24,7 @@ trace 2
 ";
 
 const WAITS_TOLD: &str =
-    "hurt 4 true epoch 1 try 1 core 1 lost 3 entered 2 since 2 by 0 core 0 cause 5 commit load 3 00000004 store 2 00000014 at 00000040
+    "hurt 4 true epoch 1 try 1 core 1 lost 3 entered 2 since 2 by 0 core 0 cause 5 commit load 3 00000004 store 2 00000014 at 00000040 4
 kind true rollbacks 1 lost 3
 total epochs 2 committed 2 rollbacks 1 lost 3
 ";
@@ -54,10 +54,10 @@ trace 3
 ";
 
 const EXITS_TOLD: &str =
-    "hurt 5 true epoch 2 try 1 core 2 lost 2 entered 1 since 2 by 1 core 1 cause 6 store load 3 00000000 store 6 00000008 at 00000040
+    "hurt 5 true epoch 2 try 1 core 2 lost 2 entered 1 since 2 by 1 core 1 cause 6 store load 3 00000000 store 6 00000008 at 00000040 4
 vain 5 hurt
 moot 5
-hurt 8 true epoch 1 try 1 core 1 lost 5 entered 3 since 5 by 0 core 0 cause 9 store load 4 00000000 store 9 00000008 at 00000040
+hurt 8 true epoch 1 try 1 core 1 lost 5 entered 3 since 5 by 0 core 0 cause 9 store load 4 00000000 store 9 00000008 at 00000040 4
 kind true rollbacks 2 lost 7
 total epochs 3 committed 1 rollbacks 2 lost 7
 ";
@@ -82,7 +82,7 @@ trace 2
 ";
 
 const BESIDE_TOLD: &str =
-    "hurt 4 false epoch 1 try 1 core 1 lost 1 entered 1 since 1 by 0 core 0 cause 5 store load 2 00000000 store 5 00000004 at 00000040
+    "hurt 4 false epoch 1 try 1 core 1 lost 1 entered 1 since 1 by 0 core 0 cause 5 store load 2 00000000 store 5 00000004 at 00000040 4
 kind false rollbacks 1 lost 1
 total epochs 2 committed 2 rollbacks 1 lost 1
 ";
@@ -108,7 +108,7 @@ trace 2
 ";
 
 const PUBLISHED_TOLD: &str =
-    "hurt 5 silent epoch 1 try 1 core 1 lost 1 entered 1 since 1 by 0 core 0 cause 6 publish load 2 00000000 store 4 00000004 at 00000040
+    "hurt 5 silent epoch 1 try 1 core 1 lost 1 entered 1 since 1 by 0 core 0 cause 6 publish load 2 00000000 store 4 00000004 at 00000040 4
 kind silent rollbacks 1 lost 1
 total epochs 2 committed 2 rollbacks 1 lost 1
 ";
@@ -129,7 +129,7 @@ trace 2
 ";
 
 const FOR_NOTHING_TOLD: &str =
-    "hurt 2 other epoch 1 try 1 core 1 lost 0 entered 0 since - by 0 core 0 cause - - load - - store - - at -
+    "hurt 2 other epoch 1 try 1 core 1 lost 0 entered 0 since - by 0 core 0 cause - - load - - store - - at - -
 kind other rollbacks 1 lost 0
 total epochs 2 committed 1 rollbacks 1 lost 0
 ";
@@ -150,7 +150,7 @@ trace 2
 ";
 
 const FAULTS_TOLD: &str =
-    "hurt 5 true epoch 1 try 1 core 1 lost 2 entered 1 since 2 by 0 core 0 cause 6 fault load 2 00000000 store 4 00000008 at 00000040
+    "hurt 5 true epoch 1 try 1 core 1 lost 2 entered 1 since 2 by 0 core 0 cause 6 fault load 2 00000000 store 4 00000008 at 00000040 4
 kind true rollbacks 1 lost 2
 total epochs 2 committed 0 rollbacks 1 lost 2
 ";
@@ -177,7 +177,7 @@ trace 2
 ";
 
 const FULL_TOLD: &str =
-    "hurt 11 buffer epoch 1 try 1 core 1 lost 7 entered 6 since - by 0 core 0 cause 12 load held 6 00000014 asked 12 0000002c at 00000080
+    "hurt 11 buffer epoch 1 try 1 core 1 lost 7 entered 6 since - by 0 core 0 cause 12 load held 6 00000014 asked 12 0000002c at 00000080 16
 kind buffer rollbacks 1 lost 7
 total epochs 6 committed 0 rollbacks 1 lost 7
 ";

@@ -1,0 +1,2 @@
+mod Parting
+mod Listing

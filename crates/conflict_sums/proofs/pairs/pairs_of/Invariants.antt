@@ -1,0 +1,7 @@
+use Rattle.std.proofs.Common.{◌≡◌, take}
+use Rattle.conflict_sums.specs.Pairs.{pairs_in}
+use Rattle.conflict_sums.proofs.pairs.pairs_of.Given as goal
+
+-- those so far
+abbrev pub invariant-loop-rollback : goal.invariant-loop-rollback
+invariant-loop-rollback l = l.found.items ≡ pairs_in (take l.rollback-index l.rollbacks)

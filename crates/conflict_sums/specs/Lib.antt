@@ -1,0 +1,5 @@
+-- Definitions to believe: what of an explanation is summed, what parts there are, and their sums.
+pub mod Rollbacks
+pub mod Parts
+pub mod Pairs
+pub mod Sums

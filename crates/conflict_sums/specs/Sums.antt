@@ -1,0 +1,15 @@
+-- How many violations belong to a part, and what they lost.
+use Rattle.std.specs.Prelude.{ℕ, List, if◌then◌else◌, count_by, sum_by}
+use Rattle.conflict_sums.specs.declared.part.Part.{Part}
+use Rattle.conflict_sums.specs.declared.rollback.Rollback.{Rollback}
+use Rattle.conflict_sums.specs.Parts.{belongs}
+
+abbrev pub count_in : Part → List Rollback → ℕ
+count_in part rollbacks = count_by (belongs part) rollbacks
+
+-- what a violation adds to what a part lost
+abbrev pub lost_by : Part → Rollback → ℕ
+lost_by part r = if belongs part r then r.lost else 0
+
+abbrev pub lost_in : Part → List Rollback → ℕ
+lost_in part rollbacks = sum_by (lost_by part) rollbacks

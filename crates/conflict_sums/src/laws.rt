@@ -1,0 +1,23 @@
+//! Parts that make up the whole, over the definitions alone: the functions do nothing, and their contracts are the laws.
+
+ghost use Rattle.std.specs.Prelude.{◌≡◌, ◌+◌, List, sum_by};
+ghost use Rattle.conflicts.specs.declared.explanation.Kind.TheVariants.{TrueSharing, SilentStore, FalseSharing, FullBuffer, Unexplained};
+ghost use Rattle.conflict_sums.specs.declared.part.Part.TheVariants.{Whole, OfKind, OfPair, Unpaired};
+ghost use Rattle.conflict_sums.specs.declared.rollback.Pair.{Pair};
+ghost use Rattle.conflict_sums.specs.declared.rollback.Rollback.{Rollback};
+ghost use Rattle.conflict_sums.specs.Pairs.{pairs_in};
+ghost use Rattle.conflict_sums.specs.Sums.{count_in, lost_in};
+
+/// The violations of the five kinds are all, and so is what they lost.
+pub fn kinds_make_up_all()
+    ensures count { (rs : List Rollback) → count_in Whole rs ≡ count_in (OfKind TrueSharing) rs + count_in (OfKind SilentStore) rs
+        + count_in (OfKind FalseSharing) rs + count_in (OfKind FullBuffer) rs + count_in (OfKind Unexplained) rs }
+    ensures lost { (rs : List Rollback) → lost_in Whole rs ≡ lost_in (OfKind TrueSharing) rs + lost_in (OfKind SilentStore) rs
+        + lost_in (OfKind FalseSharing) rs + lost_in (OfKind FullBuffer) rs + lost_in (OfKind Unexplained) rs }
+{}
+
+/// The violations of the pairs, and those without one, are all, and so is what they lost.
+pub fn pairs_make_up_all()
+    ensures count { (rs : List Rollback) → count_in Whole rs ≡ sum_by (λ (p : Pair). count_in (OfPair p) rs) (pairs_in rs) + count_in Unpaired rs }
+    ensures lost { (rs : List Rollback) → lost_in Whole rs ≡ sum_by (λ (p : Pair). lost_in (OfPair p) rs) (pairs_in rs) + lost_in Unpaired rs }
+{}

@@ -1,0 +1,32 @@
+//! How many violations belong to a part, and what they lost.
+
+ghost use Rattle.std.specs.Prelude.{◌≡◌, ◌<◌, ◌^◌, SomeIff};
+ghost use Rattle.conflict_sums.specs.Sums as spec;
+
+use crate::part::Part;
+use crate::rollback::Rollback;
+
+/// What the violations of a part cost.
+#[derive(Clone, Copy, Debug, PartialEq, Eq)]
+pub struct Sum {
+    /// How many they are.
+    pub count: usize,
+    /// How many instructions they lost.
+    pub lost: u64,
+}
+
+/// What the violations of a part cost; nothing, where they lost 2^64 instructions or more.
+pub fn sum_of(rollbacks: &[Rollback], part: Part) -> Option<Sum>
+    ensures { SomeIff result (spec.lost_in part rollbacks.now < 2 ^ 64)
+        (record { count = spec.count_in part rollbacks.now; lost = spec.lost_in part rollbacks.now }) }
+{
+    let mut count = 0;
+    let mut lost: u64 = 0;
+    for rollback in rollbacks {
+        if part.has(rollback) {
+            count += 1;
+            lost = lost.checked_add(rollback.lost)?;
+        }
+    }
+    Some(Sum { count, lost })
+}

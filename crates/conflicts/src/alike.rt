@@ -1,0 +1,142 @@
+//! The neighbouring bytes at which a blamed load and a blamed store met.
+
+ghost use Rattle.std.specs.Prelude.{◌≡◌, ◌<◌, ◌≤◌, ◌&&◌, not, nat_lt, Some, unwrap_or};
+ghost use Rattle.conflicts.specs.Attempts as attempts;
+ghost use Rattle.conflicts.specs.Blame as blame;
+ghost use Rattle.conflicts.specs.Parties.{meeting_in};
+ghost use Rattle.conflicts.specs.Searches.{first_below, last_below};
+ghost use Rattle.conflicts.specs.Violated as spec;
+
+use crate::accesses::first_read;
+use crate::blame::Violated;
+use crate::explanation::{ByteRange, Kind};
+use crate::meeting::line_of;
+use rv32_exec::Image;
+use spec_history::{Entry, Flat};
+
+/// A blamed byte, with its load and its store.
+#[derive(Clone, Copy)]
+pub(crate) struct Pair {
+    pub load: usize,
+    pub store: usize,
+    pub byte: u32,
+}
+
+/// A place was found, and it is this one.
+fn is_place(found: Option<usize>, place: usize) -> bool
+    ensures { result ≡ blame.is_place found place }
+{
+    match found {
+        Some(other) => other == place,
+        None => false,
+    }
+}
+
+impl Violated {
+    /// The byte goes with a blamed one.
+    fn goes_with(&self, image: &Image, flat: &Flat, byte: u32, addr: u32) -> bool
+        requires blamed { byte < image.now.size }
+        requires within { addr < image.now.size }
+        ensures { result ≡ blame.goes_with image.now self.now.kind (meeting_in flat.now self.now.parties) byte addr }
+    {
+        match self.kind {
+            Kind::FalseSharing => {
+                self.parties.is_beside(image, flat, addr)
+                    && line_of(image, addr) == line_of(image, byte)
+            }
+            _ => self.parties.is_shared(flat, addr),
+        }
+    }
+
+    /// The byte met at the same two accesses as the blamed one.
+    fn is_alike(
+        &self,
+        image: &Image,
+        flat: &Flat,
+        entries: &[Entry],
+        start: usize,
+        pair: Pair,
+        addr: u32,
+    ) -> bool
+        requires start { attempts.attempt_place entries.now self.now.parties.victim self.now.place ≡ Some start }
+        requires blamed { pair.byte < image.now.size }
+        requires within { addr < image.now.size }
+        ensures { result ≡ blame.is_alike image.now entries.now (spec.violation_in flat.now self.now) pair.load pair.store pair.byte addr }
+    {
+        if !self.goes_with(image, flat, pair.byte, addr) {
+            return false;
+        }
+        let read = first_read(entries, self.parties.victim, start, self.place, addr);
+        is_place(read, pair.load) && is_place(self.store(image, flat, entries, addr), pair.store)
+    }
+
+    /// The first of the neighbours of a blamed byte that met alike.
+    fn range_first(
+        &self,
+        image: &Image,
+        flat: &Flat,
+        entries: &[Entry],
+        start: usize,
+        pair: Pair,
+    ) -> u32
+        requires start { attempts.attempt_place entries.now self.now.parties.victim self.now.place ≡ Some start }
+        requires blamed { pair.byte < image.now.size }
+        ensures first { result ≡ blame.after (last_below pair.byte
+            (λ a. not (blame.is_alike image.now entries.now (spec.violation_in flat.now self.now) pair.load pair.store pair.byte a))) }
+        ensures most { result ≤ pair.byte }
+    {
+        for i in 0..pair.byte {
+            let addr = pair.byte - 1 - i;
+            if !self.is_alike(image, flat, entries, start, pair, addr) {
+                return addr + 1;
+            }
+        }
+        0
+    }
+
+    /// The first address above a blamed byte that is none of its neighbours that met alike.
+    fn range_end(
+        &self,
+        image: &Image,
+        flat: &Flat,
+        entries: &[Entry],
+        start: usize,
+        pair: Pair,
+    ) -> u32
+        requires start { attempts.attempt_place entries.now self.now.parties.victim self.now.place ≡ Some start }
+        requires blamed { pair.byte < image.now.size }
+        ensures end { result ≡ unwrap_or (first_below image.now.size
+            (λ a. nat_lt pair.byte a && not (blame.is_alike image.now entries.now (spec.violation_in flat.now self.now) pair.load pair.store pair.byte a)))
+            image.now.size }
+        ensures above { pair.byte < result }
+    {
+        let size = image.size();
+        for addr in pair.byte + 1..size {
+            if !self.is_alike(image, flat, entries, start, pair, addr) {
+                return addr;
+            }
+        }
+        size
+    }
+
+    /// The neighbours of a blamed byte that met at the same two accesses.
+    pub(crate) fn range(
+        &self,
+        image: &Image,
+        flat: &Flat,
+        entries: &[Entry],
+        start: usize,
+        pair: Pair,
+    ) -> ByteRange
+        requires start { attempts.attempt_place entries.now self.now.parties.victim self.now.place ≡ Some start }
+        requires blamed { pair.byte < image.now.size }
+        ensures { result ≡ blame.blamed_range image.now entries.now (spec.violation_in flat.now self.now) pair.load pair.store pair.byte }
+    {
+        let first = self.range_first(image, flat, entries, start, pair);
+        let end = self.range_end(image, flat, entries, start, pair);
+        ByteRange {
+            first,
+            length: end - first,
+        }
+    }
+}
