@@ -1,9 +1,9 @@
-mod Searching
-mod Backwards
+pub mod Searching
+pub mod Backwards
 mod Blaming
 mod Listed
 mod Explaining
 mod Needed
 mod Growing
 mod Nearing
-mod Numbering
+pub mod Numbering

@@ -6,7 +6,7 @@ use Rattle.conflicts.specs.Attempts.{is_after}
 use Rattle.conflicts.proofs.Backwards.{Passed, last_at, last_none, passed_more}
 use Rattle.conflicts.proofs.Searching.{count_one, count_other}
 
-no_one : (n : ℕ) (test : ℕ → Bool) → ((k : ℕ) → k < n → test k ≡ false) → count_below n test ≡ 0
+pub no_one : (n : ℕ) (test : ℕ → Bool) → ((k : ℕ) → k < n → test k ≡ false) → count_below n test ≡ 0
 unfolding count_below
 no_one zero test none = refl
 no_one (suc n) test none = rw (none n (omega arith), no_one n test (λ k below. none k (omega arith))) refl

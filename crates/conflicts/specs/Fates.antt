@@ -56,9 +56,13 @@ abbrev pub shows : Sign → Runner → Entry → Bool
 shows Over runner entry = is_over runner entry
 shows Settled runner entry = is_settled runner entry
 
+-- over: the causer's attempt ends by this entry
+abbrev pub over_at : List Entry → Explanation → Option ℕ
+over_at entries e = first_after entries e.place (is_over e.causer)
+
 -- in vain: the causer's attempt does not commit, since this entry violates or cancels it
 abbrev pub undone_at : List Entry → Explanation → Option ℕ
-undone_at entries e = only_if entries (λ entry. undoes e.causer.epoch entry.what) (first_after entries e.place (shows Over e.causer))
+undone_at entries e = only_if entries (λ entry. undoes e.causer.epoch entry.what) (over_at entries e)
 
 -- moot: the victim's epoch is cancelled, by this entry, before its core begins it again, so nothing is run again
 abbrev pub moot_at : List Entry → Explanation → Option ℕ

@@ -85,13 +85,23 @@ impl Explanation {
         attempt_number(entries, self.victim.core, self.place)
     }
 
+    /// Over: the place of the entry after this violation that ends the causer's attempt: it violates or cancels its epoch, or
+    /// commits it.
+    ///
+    /// It looks no further than that.
+    pub fn over_at(&self, entries: &[Entry]) -> Option<usize>
+        ensures { result ≡ spec.over_at entries.now self.now }
+    {
+        first_after(entries, self.place, Sign::Over, self.causer)
+    }
+
     /// In vain: the place of the entry that violates or cancels the causer's attempt, if it does not commit.
     ///
     /// It looks no further than the end of that attempt.
     pub fn undone_at(&self, entries: &[Entry]) -> Option<usize>
         ensures { result ≡ spec.undone_at entries.now self.now }
     {
-        let j = first_after(entries, self.place, Sign::Over, self.causer)?;
+        let j = self.over_at(entries)?;
         let entry = entries.get(j)?;
         if undoes(self.causer.epoch, entry.what) {
             Some(j)

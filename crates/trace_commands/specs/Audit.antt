@@ -1,5 +1,5 @@
 -- What an audit comes to, and what it wrote.
-use Rattle.std.specs.Prelude.{◌≡◌, ◌≢◌, ◌<◌, ◌≤◌, ℕ, ◌++◌, List, length, codes, Option, Some, Err, MatchResult}
+use Rattle.std.specs.Prelude.{◌≡◌, ◌≢◌, ◌<◌, ◌≤◌, ℕ, ◌++◌, List, length, codes, Option, Some, Ok, Err, MatchResult}
 use Rattle.std.specs.Fmt.{decimal}
 use Rattle.std.specs.Io.KnownBytes.{Appends, Keeps}
 use Rattle.rv32_image.specs.Image.{LoadedImage}
@@ -38,6 +38,11 @@ IsVerdictOn text verdict =
     (λ image. MatchResult (trace_text image.version text) (λ trace. IsVerdict image trace.cores trace.entries verdict) (λ fault. ⊥))
     (λ fault. ⊥)
 
+-- the image and the trace that an input says
+pub record IsTracedBy (text : List ℕ) (image : LoadedImage) (cores : ℕ) (entries : List Entry) : Type 0 where
+  pub image_said : image_text (image_part text) ≡ Ok image
+  pub trace_said : trace_text image.version text ≡ Ok (record { cores = cores; entries = entries })
+
 -- the trace is refused: the input is too long, a read failed, or the trace beside the image has this fault
 abbrev pub IsTraceRefusal : TraceFaultKind → TraceFault → List ℕ → Type 0
 IsTraceRefusal kind.TooLong fault text = (fault.line ≡ 0) × (longest_trace_text < length text)
@@ -51,6 +56,14 @@ IsNoVerdict text (BadImage fault) = (image_text (image_part text) ≡ Err fault)
 IsNoVerdict text (BadTrace fault) = IsTraceRefusal fault.kind fault text
 IsNoVerdict text (Stopped NoMemory) = Unit {0}
 IsNoVerdict text outcome = ⊥
+
+-- what auditing this trace came to is right, and this was written
+abbrev pub IsTracedOutcome : LoadedImage → ℕ → List Entry → Option (List ℕ) → Option (List ℕ) → Outcome → Type 0
+IsTracedOutcome image cores history old new (Audited verdict) = IsVerdict image cores history verdict × Appends old new (verdict_line verdict)
+IsTracedOutcome image cores history old new (Stopped Write) =
+    (verdict : Verdict) × IsVerdict image cores history verdict × AppendsPrefix old new (verdict_line verdict)
+IsTracedOutcome image cores history old new (Stopped NoMemory) = Keeps old new
+IsTracedOutcome image cores history old new outcome = ⊥
 
 -- what `audit` came to is right for this input, and this was written
 abbrev pub IsAuditOutcome : List ℕ → Option (List ℕ) → Option (List ℕ) → Outcome → Type 0

@@ -1,18 +1,18 @@
-ghost use Rattle.std.specs.Prelude.{◌≡◌, ◌≤◌, ◌+◌, IfSome, MatchResult, length};
+ghost use Rattle.std.specs.Prelude.{◌≡◌, ◌+◌, IfSome};
 ghost use Rattle.rv32_image.specs.Input.{TakesAtMost};
 ghost use Rattle.rv32_image.specs.Reading.{ForText};
 ghost use Rattle.trace_text.specs.TraceText.{longest_trace_text};
 ghost use Rattle.trace_commands.specs.Audit as spec;
 
 use crate::outcome::{Outcome, StopCause, Verdict};
+use crate::traced::{Traced, read_traced};
 use crate::write::write_whole;
 use arrayvec::ArrayString;
 use itoa::Buffer;
-use rv32_exec::{Image, image_of, read_input};
+use rv32_exec::Image;
 use spec_history::{Entry, Illegal, audit};
 use std::alloc::Global;
 use std::io::{Read, Write};
-use trace_text::{LONGEST_TRACE_TEXT, TraceFault, image_part, read_trace};
 
 /// `audit`: replays the trace that the reader gives below its image on the flat machine, and writes the verdict: `legal` with the
 /// number of entries and the homefree epoch after them, or `illegal` with the place of the first entry that is refused, counted
@@ -39,19 +39,22 @@ fn run_audit<R: Read, W: Write>(alloc: Global, reader: &mut R, writer: &mut W) -
     ensures outcome { ForText (R.remaining reader.old) (λ text. spec.IsAuditOutcome text (W.contents writer.old) (W.contents writer.new) result) }
     ensures taken { TakesAtMost (R.remaining reader.old) (R.remaining reader.new) (longest_trace_text + 1) }
 {
-    match read_input(alloc, reader, LONGEST_TRACE_TEXT) {
-        Ok(text) => audit_text(alloc, text.as_slice(), writer),
-        Err(fault) => Outcome::of_trace_fault(TraceFault::from(fault)),
+    match read_traced(alloc, reader) {
+        Ok(traced) => audit_traced(alloc, &traced, writer),
+        Err(outcome) => outcome,
     }
 }
 
-fn audit_text<W: Write>(alloc: Global, text: &[u8], writer: &mut W) -> Outcome
-    requires { length text.now ≤ longest_trace_text }
-    ensures { spec.IsAuditOutcome text.now (W.contents writer.old) (W.contents writer.new) result }
+fn audit_traced<W: Write>(alloc: Global, traced: &Traced, writer: &mut W) -> Outcome
+    ensures { spec.IsTracedOutcome traced.now.image traced.now.cores traced.now.entries.items (W.contents writer.old) (W.contents writer.new) result }
 {
-    let verdict = match verdict_on(alloc, text) {
-        Ok(verdict) => verdict,
-        Err(outcome) => return outcome,
+    let Some(verdict) = verdict_of(
+        alloc,
+        &traced.image,
+        traced.cores,
+        traced.entries.as_slice(),
+    ) else {
+        return Outcome::Stopped(StopCause::NoMemory);
     };
     if write_whole(writer, verdict_line(verdict).as_bytes()) {
         Outcome::Audited(verdict)
@@ -60,27 +63,8 @@ fn audit_text<W: Write>(alloc: Global, text: &[u8], writer: &mut W) -> Outcome
     }
 }
 
-/// The verdict on the trace of an input, or what it comes to where there is none.
-fn verdict_on(alloc: Global, text: &[u8]) -> Result<Verdict, Outcome>
-    requires { length text.now ≤ longest_trace_text }
-    ensures { MatchResult result (spec.IsVerdictOn text.now) (spec.IsNoVerdict text.now) }
-{
-    let image = match image_of(alloc, image_part(text)) {
-        Ok(image) => image,
-        Err(fault) => return Err(Outcome::of_fault(fault)),
-    };
-    let (cores, entries) = match read_trace(alloc, text, image.version()) {
-        Ok(trace) => trace,
-        Err(fault) => return Err(Outcome::of_trace_fault(fault)),
-    };
-    match verdict_of(alloc, &image, cores, entries.as_slice()) {
-        Some(verdict) => Ok(verdict),
-        None => Err(Outcome::Stopped(StopCause::NoMemory)),
-    }
-}
-
 /// The verdict on a history, or none where memory ran out.
-fn verdict_of(alloc: Global, image: &Image, cores: u32, entries: &[Entry]) -> Option<Verdict>
+pub fn verdict_of(alloc: Global, image: &Image, cores: u32, entries: &[Entry]) -> Option<Verdict>
     ensures { IfSome result (spec.IsVerdict image.now cores entries.now) }
 {
     match audit(alloc, image, cores, entries) {
@@ -94,7 +78,7 @@ fn verdict_of(alloc: Global, image: &Image, cores: u32, entries: &[Entry]) -> Op
 }
 
 /// The line of a verdict. It always fits, and takes no memory.
-fn verdict_line(verdict: Verdict) -> ArrayString<64>
+pub fn verdict_line(verdict: Verdict) -> ArrayString<64>
     ensures { result.bytes ≡ spec.verdict_line verdict }
 {
     let mut line = ArrayString::new();

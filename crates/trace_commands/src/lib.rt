@@ -5,12 +5,14 @@ mod audit;
 mod outcome;
 mod report;
 mod seq;
+mod traced;
 mod write;
 
-pub use audit::do_audit;
+pub use audit::{do_audit, verdict_line, verdict_of};
 pub use outcome::{Outcome, StopCause, Verdict};
 pub use report::{print_open_report, print_report};
 pub use seq::do_seq;
+pub use traced::{Traced, read_traced};
 pub use write::write_whole;
 
 #[cfg(test)]

@@ -1,14 +1,17 @@
-use Rattle.std.proofs.Common.{ap, Err}
-use Rattle.trace_commands.specs.Audit.{IsAuditOutcome}
-use Rattle.trace_commands.proofs.Audits.{for_input, refused_input}
+use Rattle.trace_commands.specs.Audit.{IsAuditOutcome, IsNoVerdict, IsTracedBy}
+use Rattle.trace_commands.proofs.Audits.{for_each, traced_outcome, without_verdict}
 use Rattle.trace_commands.proofs.audit.run_audit.Goals as goal
 
 pub returns-in-Ok-clause-outcome : goal.returns-in-Ok-clause-outcome
 returns-in-Ok-clause-outcome g c =
-    for_input (λ text. IsAuditOutcome text (g.W.Write.contents c.args.writer.now) _ c.audit_text.result) (g.R.Read.remaining c.args.reader.now) c.as_slice.result.now
-    (rw c.as_slice.ensures.value c.in-Ok.ensures.whole) c.audit_text.ensures
+    let old = g.W.Write.contents c.args.writer.now in
+    let new = g.W.Write.contents c.audit_traced.new.writer in
+    let t = c.in-Ok.traced in
+    for_each (λ text. IsTracedBy text t.image t.cores t.entries.items) (λ text. IsAuditOutcome text old new c.audit_traced.result) (g.R.Read.remaining c.args.reader.now)
+    (λ text by. traced_outcome text t.image t.cores t.entries.items old new c.audit_traced.result by c.audit_traced.ensures) c.in-Ok.ensures.said
 
 pub returns-in-Err-clause-outcome : goal.returns-in-Err-clause-outcome
 returns-in-Err-clause-outcome g c =
-    rw (c.of_trace_fault.ensures, c.from.ensures)
-    (refused_input (g.R.Read.remaining c.args.reader.now) c.in-Err.fault (g.W.Write.contents c.args.writer.now) (λ e. c.in-Err.ensures.long (ap Err e)))
+    let output = g.W.Write.contents c.args.writer.now in
+    for_each (λ text. IsNoVerdict text c.in-Err.outcome) (λ text. IsAuditOutcome text output output c.in-Err.outcome) (g.R.Read.remaining c.args.reader.now)
+    (λ text is. without_verdict text output c.in-Err.outcome is) c.in-Err.ensures.said

@@ -3,7 +3,7 @@ use Rattle.rv32_image.specs.ImageText.{image_text}
 use Rattle.trace_text.specs.TraceText.{trace_text}
 use Rattle.trace_text.specs.Reading.{IsFaultOf}
 use Rattle.trace_commands.proofs.Audits.{refused_trace}
-use Rattle.trace_commands.proofs.audit.verdict_on.Goals as goal
+use Rattle.trace_commands.proofs.traced.traced_in.Goals as goal
 
 pub returns-in-Err-read_trace : goal.returns-in-Err-read_trace
 returns-in-Err-read_trace c =

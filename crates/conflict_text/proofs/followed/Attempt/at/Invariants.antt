@@ -1,0 +1,14 @@
+use Rattle.std.proofs.Common.{◌≡◌, ◌-◌, ◌≤◌}
+use Rattle.conflict_text.specs.Followed.{IsAttempt}
+use Rattle.conflict_text.proofs.followed.Attempt.at.Given as goal
+
+-- it is right where it stands
+abbrev pub invariant-loop-attempt : goal.invariant-loop-attempt
+invariant-loop-attempt l = record {
+  known : IsAttempt l.entries l.attempt;
+  core : l.attempt.core ≡ l.fn.self.core;
+  within : l.attempt.place ≤ l.place;
+}
+
+abbrev pub decreases-loop-attempt : goal.decreases-loop-attempt
+decreases-loop-attempt l = l.place - l.attempt.place

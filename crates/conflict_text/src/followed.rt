@@ -1,0 +1,186 @@
+//! The numbers and the ends of the attempts that are told of, for each core, so that no entry is walked over twice for one.
+ghost use Rattle.std.specs.Prelude.{◌≡◌, ◌+◌, ◌<◌, ◌≤◌, IfSome, List, length};
+ghost use Rattle.std.specs.Bool.{OnTrue};
+ghost use Rattle.spec_history.specs.declared.entry.Entry.{Entry};
+ghost use Rattle.conflicts.specs.Attempts as attempts;
+ghost use Rattle.conflicts.specs.Fates as fates;
+ghost use Rattle.conflict_text.specs.Followed as spec;
+
+use conflicts::{Explanation, Runner};
+use spec_history::{Entry, What};
+
+/// Which run of its epoch a core is in before a place of the history.
+#[derive(Clone, Copy)]
+pub(crate) struct Attempt {
+    core: u32,
+    place: usize,
+    /// Counted from 1.
+    number: usize,
+    /// Whether the core has started an epoch.
+    started: bool,
+}
+
+/// Where the attempt of a runner that goes on after a place ends.
+#[derive(Clone, Copy)]
+pub(crate) struct Ending {
+    runner: Runner,
+    place: usize,
+    at: Option<usize>,
+}
+
+/// What a core does at a place, if the entry there is the core's.
+fn own_at(entries: &[Entry], core: u32, place: usize) -> Option<What>
+    ensures { result ≡ spec.own_at entries.now core place }
+{
+    match entries.get(place) {
+        Some(entry) if entry.by == core => Some(entry.what),
+        _ => None,
+    }
+}
+
+impl Attempt {
+    /// Before the history.
+    fn first(core: u32) -> Attempt
+        ensures known { (entries : List Entry) → spec.IsAttempt entries result }
+        ensures core { result.core ≡ core }
+        ensures place { result.place ≡ 0 }
+    {
+        Attempt {
+            core,
+            place: 0,
+            number: 1,
+            started: false,
+        }
+    }
+
+    /// One place further.
+    fn step(self, entries: &[Entry]) -> Attempt
+        requires few { self.number ≤ self.place + 1 }
+        requires within { self.place < length entries.now }
+        ensures { result ≡ spec.stepped (spec.own_at entries.now self.core self.place) self }
+    {
+        let Attempt {
+            core,
+            place,
+            number,
+            started,
+        } = self;
+        let place_after = place + 1;
+        match own_at(entries, core, place) {
+            Some(What::Start(_)) => Attempt {
+                core,
+                place: place_after,
+                number: 1,
+                started: true,
+            },
+            Some(What::Restart) => Attempt {
+                core,
+                place: place_after,
+                number: if started { number + 1 } else { number },
+                started,
+            },
+            _ => Attempt {
+                core,
+                place: place_after,
+                number,
+                started,
+            },
+        }
+    }
+
+    /// At a later place.
+    fn at(self, entries: &[Entry], place: usize) -> Attempt
+        requires known { spec.IsAttempt entries.now self }
+        requires later { self.place ≤ place }
+        requires within { place ≤ length entries.now }
+        ensures known { spec.IsAttempt entries.now result }
+        ensures core { result.core ≡ self.core }
+        ensures place { result.place ≡ place }
+    {
+        let mut attempt = self;
+        while attempt.place < place {
+            attempt = attempt.step(entries);
+        }
+        attempt
+    }
+}
+
+impl Ending {
+    /// The same attempt goes on after the violation.
+    fn is_of(self, e: Explanation) -> bool
+        ensures core { OnTrue result (self.runner.core ≡ e.causer.core) }
+        ensures epoch { OnTrue result (self.runner.epoch ≡ e.causer.epoch) }
+        ensures later { OnTrue result (self.place ≤ e.place) }
+        ensures before { OnTrue result (IfSome self.at (λ at. e.place < at)) }
+    {
+        let is_before = match self.at {
+            Some(at) => e.place < at,
+            None => true,
+        };
+        is_before
+            && self.runner.core == e.causer.core
+            && self.runner.epoch == e.causer.epoch
+            && self.place <= e.place
+    }
+}
+
+/// What was found last for each core.
+#[derive(Drop)]
+pub(crate) struct Followed {
+    attempts: [Option<Attempt>; 16],
+    endings: [Option<Ending>; 16],
+}
+
+impl Followed {
+    /// Nothing yet.
+    pub(crate) fn new() -> Followed
+        ensures { (entries : List Entry) → spec.IsFollowed entries result }
+    {
+        Followed {
+            attempts: [None; 16],
+            endings: [None; 16],
+        }
+    }
+
+    /// Which run of its epoch the violated attempt was. It walks on from the last place that it was asked for of the core.
+    pub(crate) fn attempt(&mut self, entries: &[Entry], e: Explanation) -> usize
+        requires { spec.IsFollowed entries.now self.old }
+        ensures number { result ≡ attempts.attempt_number entries.now e.victim.core e.place }
+        ensures known { spec.IsFollowed entries.now self.new }
+    {
+        if e.place > entries.len() {
+            return e.attempt(entries);
+        }
+        let slot = (e.victim.core % 16) as usize;
+        let mut known = Attempt::first(e.victim.core);
+        if let Some(last) = self.attempts[slot] {
+            if last.core == e.victim.core && last.place <= e.place {
+                known = last;
+            }
+        }
+        let attempt = known.at(entries, e.place);
+        self.attempts[slot] = Some(attempt);
+        attempt.number
+    }
+
+    /// Where the causer's attempt was over. It looks for that once an attempt.
+    pub(crate) fn over_at(&mut self, entries: &[Entry], e: Explanation) -> Option<usize>
+        requires { spec.IsFollowed entries.now self.old }
+        ensures over { result ≡ fates.over_at entries.now e }
+        ensures known { spec.IsFollowed entries.now self.new }
+    {
+        let slot = (e.causer.core % 16) as usize;
+        if let Some(ending) = self.endings[slot] {
+            if ending.is_of(e) {
+                return ending.at;
+            }
+        }
+        let at = e.over_at(entries);
+        self.endings[slot] = Some(Ending {
+            runner: e.causer,
+            place: e.place,
+            at,
+        });
+        at
+    }
+}

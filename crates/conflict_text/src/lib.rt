@@ -1,0 +1,11 @@
+//! The report of which conflicts rolled back, as text.
+#![tactic(auto)]
+
+mod accesses;
+mod followed;
+mod lines;
+mod report;
+mod sums;
+mod words;
+
+pub use report::print_conflicts;

@@ -1,0 +1,21 @@
+-- What the program answers, from what `why` does.
+use Rattle.std.proofs.Common.{ℕ, ◌+◌, List, inl}
+use Rattle.rv32_image.specs.Input.{TakesAtMost}
+use Rattle.rv32_image.specs.Reading.{ForText}
+use Rattle.trace_text.specs.TraceText.{longest_trace_text}
+use Rattle.trace_commands.proofs.Audits.{for_each}
+use Rattle.why.specs.Why.{WhyAnswers}
+use Rattle.why.specs.Work.{Stream, WorkAnswers}
+
+answers_for : (text : List ℕ) (input output errors : Stream) (status : ℕ) → TakesAtMost input.old input.new (longest_trace_text + 1)
+    → WhyAnswers text output.old output.new errors.old errors.new status → WorkAnswers text input output errors status
+answers_for text input output errors status taken answers =
+    record { outcome = answers.outcome; output = inl (answers.output, taken); status = answers.status; line = answers.line }
+
+-- the trace was explained
+pub why_answers : (input output errors : Stream) (status : ℕ) → TakesAtMost input.old input.new (longest_trace_text + 1)
+    → ForText input.old (λ text. WhyAnswers text output.old output.new errors.old errors.new status)
+    → ForText input.old (λ text. WorkAnswers text input output errors status)
+why_answers input output errors status taken =
+    for_each (λ text. WhyAnswers text output.old output.new errors.old errors.new status) (λ text. WorkAnswers text input output errors status) input.old
+    (λ text answers. answers_for text input output errors status taken answers)

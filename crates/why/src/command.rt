@@ -1,0 +1,98 @@
+ghost use Rattle.std.specs.Prelude.{◌≡◌, ◌+◌, IfSome};
+ghost use Rattle.rv32_image.specs.Input.{TakesAtMost};
+ghost use Rattle.rv32_image.specs.Reading.{ForText};
+ghost use Rattle.trace_text.specs.TraceText.{longest_trace_text};
+ghost use Rattle.why.specs.Explaining.{IsReport};
+ghost use Rattle.why.specs.Why as spec;
+
+use conflict_text::print_conflicts;
+use conflicts::{explain, sites};
+use std::alloc::Global;
+use std::io::{Read, Write};
+use trace_commands::{
+    Outcome, StopCause, Traced, Verdict, read_traced, verdict_line, verdict_of, write_whole,
+};
+
+/// `why`: replays the trace that the reader gives below its image on the flat machine, and writes the report of which conflicts
+/// rolled back; where the trace is illegal, the line of an audit.
+///
+/// The status is 0 where the trace is legal, 4 where it is illegal, 2 where the image or the trace can't be read, and 3
+/// where memory ran out or a write failed. In the last two cases one line on the error stream says which. Where the image or the trace
+/// is refused, or memory ran out, nothing was written; after a failed write a prefix of the report or of that line was.
+pub fn do_why<R: Read, W: Write, E: Write>(
+    alloc: Global,
+    reader: &mut R,
+    writer: &mut W,
+    errors: &mut E,
+) -> u8
+    ensures outcome { ForText (R.remaining reader.old) (λ text.
+        spec.WhyAnswers text (W.contents writer.old) (W.contents writer.new) (E.contents errors.old) (E.contents errors.new) result) }
+    ensures taken { TakesAtMost (R.remaining reader.old) (R.remaining reader.new) (longest_trace_text + 1) }
+{
+    run_why(alloc, reader, writer).conclude(errors)
+}
+
+/// Runs `why`, all but its line on the error stream.
+fn run_why<R: Read, W: Write>(alloc: Global, reader: &mut R, writer: &mut W) -> Outcome
+    ensures outcome { ForText (R.remaining reader.old) (λ text. spec.IsWhyOutcome text (W.contents writer.old) (W.contents writer.new) result) }
+    ensures taken { TakesAtMost (R.remaining reader.old) (R.remaining reader.new) (longest_trace_text + 1) }
+{
+    match read_traced(alloc, reader) {
+        Ok(traced) => explain_traced(alloc, &traced, writer),
+        Err(outcome) => outcome,
+    }
+}
+
+fn explain_traced<W: Write>(alloc: Global, traced: &Traced, writer: &mut W) -> Outcome
+    ensures { spec.IsTracedOutcome traced.now.image traced.now.cores traced.now.entries.items (W.contents writer.old) (W.contents writer.new) result }
+{
+    let Some(verdict) = verdict_of(
+        alloc,
+        &traced.image,
+        traced.cores,
+        traced.entries.as_slice(),
+    ) else {
+        return Outcome::Stopped(StopCause::NoMemory);
+    };
+    match verdict {
+        Verdict::Legal { homefree, .. } => match report_of(alloc, traced, homefree) {
+            Some(report) => tell(verdict, report.as_slice(), writer),
+            None => Outcome::Stopped(StopCause::NoMemory),
+        },
+        Verdict::Illegal { .. } => tell(verdict, verdict_line(verdict).as_bytes(), writer),
+    }
+}
+
+/// Writes what is told by a verdict.
+fn tell<W: Write>(verdict: Verdict, told: &[u8], writer: &mut W) -> Outcome
+    ensures { spec.IsToldBy verdict told.now (W.contents writer.old) (W.contents writer.new) result }
+{
+    if write_whole(writer, told) {
+        Outcome::Audited(verdict)
+    } else {
+        Outcome::Stopped(StopCause::Write)
+    }
+}
+
+/// The report of a history with this homefree epoch after it, or none where memory ran out.
+fn report_of(alloc: Global, traced: &Traced, homefree: u32) -> Option<Vec<u8>>
+    ensures { IfSome result (λ text. IsReport traced.now.image traced.now.cores traced.now.entries.items homefree text.items) }
+{
+    let image = &traced.image;
+    let entries = traced.entries.as_slice();
+    let Ok(found) = explain(alloc, image, traced.cores, entries) else {
+        return None;
+    };
+    let Ok(stood) = sites(alloc, image, traced.cores, entries) else {
+        return None;
+    };
+    let printed = print_conflicts(
+        alloc,
+        image,
+        homefree,
+        entries,
+        stood.as_slice(),
+        found.as_slice(),
+    );
+    printed.ok()
+}

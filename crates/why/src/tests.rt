@@ -1,0 +1,390 @@
+//! Worked histories and what is printed of them, and what no contract can say: that failed reads and writes end the program.
+
+use crate::work::work;
+use std::alloc::Global;
+use std::io;
+use std::io::{Error, ErrorKind, Read, Write};
+use std::test::Fail;
+
+/// Epoch 1 waits for the store of epoch 0, which commits it.
+const WAITS: &str = "size 256
+epochs 2
+limit 50
+code 6308050083220004e38e02fe67800000930210002320500467800000
+trace 2
+0 start 0
+1 start 1
+0 store 00000040 4 00000001
+1 load 00000040 4 00000000
+0 hurt 1
+0 commit
+1 restart
+1 load 00000040 4 00000001
+1 commit
+";
+
+const WAITS_TOLD: &str =
+    "hurt 4 true epoch 1 try 1 core 1 lost 3 entered 2 since 2 by 0 core 0 cause 5 commit load 3 00000004 store 2 00000014 at 00000040 4
+kind true rollbacks 1 lost 3
+total epochs 2 committed 2 rollbacks 1 lost 3
+";
+
+/// Each epoch adds 1 to a word and ends the loop: epoch 1 violates epoch 2, and is itself violated.
+const EXITS: &str = "size 256
+epochs 3
+limit 100
+exit
+code 8322000493821200232050041305100067800000
+trace 3
+0 start 0
+1 start 1
+2 start 2
+2 load 00000040 4 00000000
+1 load 00000040 4 00000000
+1 hurt 2
+1 store 00000040 4 00000001
+0 load 00000040 4 00000000
+0 hurt 1
+0 store 00000040 4 00000001
+1 restart
+1 load 00000040 4 00000000
+0 cancel 1
+0 cancel 2
+0 commit
+";
+
+const EXITS_TOLD: &str =
+    "hurt 5 true epoch 2 try 1 core 2 lost 2 entered 1 since 2 by 1 core 1 cause 6 store load 3 00000000 store 6 00000008 at 00000040 4
+vain 5 hurt
+moot 5
+hurt 8 true epoch 1 try 1 core 1 lost 5 entered 3 since 5 by 0 core 0 cause 9 store load 4 00000000 store 9 00000008 at 00000040 4
+kind true rollbacks 2 lost 7
+total epochs 3 committed 1 rollbacks 2 lost 7
+";
+
+/// Each epoch loads a word, and stores what it loaded to the next one.
+const BESIDE: &str = "size 256
+epochs 2
+limit 50
+code 832200042322500467800000
+trace 2
+0 start 0
+1 start 1
+1 load 00000040 4 00000000
+0 load 00000040 4 00000000
+0 hurt 1
+0 store 00000044 4 00000000
+1 restart
+0 commit
+1 load 00000040 4 00000000
+1 store 00000044 4 00000000
+1 commit
+";
+
+const BESIDE_TOLD: &str =
+    "hurt 4 false epoch 1 try 1 core 1 lost 1 entered 1 since 1 by 0 core 0 cause 5 store load 2 00000000 store 5 00000004 at 00000040 4
+kind false rollbacks 1 lost 1
+total epochs 2 committed 2 rollbacks 1 lost 1
+";
+
+/// Each epoch loads a word, and stores what it loaded there; epoch 0 publishes it.
+const PUBLISHED: &str = "size 256
+epochs 2
+limit 50
+code 832200042320500467800000
+trace 2
+0 start 0
+1 start 1
+1 load 00000040 4 00000000
+0 load 00000040 4 00000000
+0 store 00000040 4 00000000
+0 hurt 1
+0 publish
+1 restart
+0 commit
+1 load 00000040 4 00000000
+1 store 00000040 4 00000000
+1 commit
+";
+
+const PUBLISHED_TOLD: &str =
+    "hurt 5 silent epoch 1 try 1 core 1 lost 1 entered 1 since 1 by 0 core 0 cause 6 publish load 2 00000000 store 4 00000004 at 00000040 4
+kind silent rollbacks 1 lost 1
+total epochs 2 committed 2 rollbacks 1 lost 1
+";
+
+/// The first act after the violation is another core's.
+const FOR_NOTHING: &str = "size 256
+epochs 2
+limit 50
+code 832200042320500467800000
+trace 2
+0 start 0
+1 start 1
+0 hurt 1
+1 restart
+0 load 00000040 4 00000000
+0 store 00000040 4 00000000
+0 commit
+";
+
+const FOR_NOTHING_TOLD: &str =
+    "hurt 2 other epoch 1 try 1 core 1 lost 0 entered 0 since - by 0 core 0 cause - - load - - store - - at - -
+kind other rollbacks 1 lost 0
+total epochs 2 committed 1 rollbacks 1 lost 0
+";
+
+/// Each epoch adds 1 to a word, and faults.
+const FAULTS: &str = "size 256
+epochs 2
+limit 50
+code 83220004938212002320500473000000
+trace 2
+0 start 0
+1 start 1
+1 load 00000040 4 00000000
+0 load 00000040 4 00000000
+0 store 00000040 4 00000001
+0 hurt 1
+0 fault 2 0000000c
+";
+
+const FAULTS_TOLD: &str =
+    "hurt 5 true epoch 1 try 1 core 1 lost 2 entered 1 since 2 by 0 core 0 cause 6 fault load 2 00000000 store 4 00000008 at 00000040 4
+kind true rollbacks 1 lost 2
+total epochs 2 committed 0 rollbacks 1 lost 2
+";
+
+/// Epoch 0 loads from five lines, and epoch 1 stores to them, which its buffer of four lines can't hold.
+const FULL: &str = "size 256
+epochs 6
+limit 100
+code 630e05002320a0042328a0042320a0062328a0062320a00867800000832200048322000583220006832200078322000867800000
+trace 2
+0 start 0
+1 start 1
+1 store 00000040 4 00000001
+1 store 00000050 4 00000001
+1 store 00000060 4 00000001
+1 store 00000070 4 00000001
+1 store 00000080 4 00000001
+0 load 00000040 4 00000000
+0 load 00000050 4 00000000
+0 load 00000060 4 00000000
+0 load 00000070 4 00000000
+0 hurt 1
+0 load 00000080 4 00000000
+";
+
+const FULL_TOLD: &str =
+    "hurt 11 buffer epoch 1 try 1 core 1 lost 7 entered 6 since - by 0 core 0 cause 12 load held 6 00000014 asked 12 0000002c at 00000080 16
+kind buffer rollbacks 1 lost 7
+total epochs 6 committed 0 rollbacks 1 lost 7
+";
+
+const ILLEGAL: &str = "size 256
+epochs 2
+limit 50
+code 832200042320500467800000
+trace 2
+0 start 0
+1 commit
+";
+
+/// A committed word changes that another core has read.
+const MISSING: &str = "size 256
+epochs 2
+limit 50
+code 6308050083220004e38e02fe67800000930210002320500467800000
+trace 2
+0 start 0
+1 start 1
+0 store 00000040 4 00000001
+1 load 00000040 4 00000000
+0 commit
+";
+
+/// An input, what is printed, what is told on the error stream, and the status.
+const ROWS: [(&str, &str, &str, u8); 13] = [
+    (WAITS, WAITS_TOLD, "", 0),
+    (EXITS, EXITS_TOLD, "", 0),
+    (BESIDE, BESIDE_TOLD, "", 0),
+    (PUBLISHED, PUBLISHED_TOLD, "", 0),
+    (FOR_NOTHING, FOR_NOTHING_TOLD, "", 0),
+    (FAULTS, FAULTS_TOLD, "", 0),
+    (FULL, FULL_TOLD, "", 0),
+    (ILLEGAL, "illegal 1 NotThere\n", "", 4),
+    (MISSING, "illegal 4 HurtMissing\n", "", 4),
+    ("", "", "image 0 MissingOrRepeated\n", 2),
+    (
+        "size 256\nepochs 1\nlimit 1\ncode 67800000\n",
+        "",
+        "trace 0 Head\n",
+        2,
+    ),
+    (
+        "size 256\nepochs 1\nlimit 1\ncode 67800000\ntrace 9\n",
+        "",
+        "trace 5 Head\n",
+        2,
+    ),
+    (
+        "size 256\nepochs 1\nlimit 1\ncode 67800000\ntrace 1\n0 begin 0\n",
+        "",
+        "trace 6 Line\n",
+        2,
+    ),
+];
+
+/// What a run of the program left: its status, and the texts on standard output and standard error.
+#[derive(Drop)]
+struct Ran {
+    status: u8,
+    output: Vec<u8>,
+    errors: Vec<u8>,
+}
+
+impl Ran {
+    fn is(&self, status: u8, output: &str, errors: &str) -> bool {
+        self.status == status
+            && self.output.as_slice() == output.as_bytes()
+            && self.errors.as_slice() == errors.as_bytes()
+    }
+}
+
+fn run_on(alloc: Global, words: &[&str], input: &str) -> Ran {
+    let mut reader = input.as_bytes();
+    let mut output = Vec::new(alloc);
+    let mut errors = Vec::new(alloc);
+    let status = work(alloc, words, &mut reader, &mut output, &mut errors);
+    Ran {
+        status,
+        output,
+        errors,
+    }
+}
+
+#[test]
+fn explains_worked_histories(rt: HostRuntime) {
+    for (input, output, errors, status) in ROWS {
+        let ran = run_on(rt.alloc(), &["why"], input);
+        assert!(rt; ran.is(status, output, errors), "{input}");
+    }
+}
+
+#[test]
+fn takes_no_words(rt: HostRuntime) {
+    for words in [["why", "--help"], ["why", ""]] {
+        let ran = run_on(rt.alloc(), &words, WAITS);
+        assert!(rt; ran.is(2, "", "usage\n"));
+    }
+}
+
+/// It answers as with ample memory, or tells want of memory.
+#[test]
+fn tells_want_of_memory(rt: HostRuntime) {
+    let ran = run_on(rt.alloc(), &["why"], EXITS);
+    assert!(rt;
+        ran.is(0, EXITS_TOLD, "") || ran.is(3, "", "stopped NoMemory\n") || ran.is(3, "", "")
+    );
+}
+
+/// A reader that gives so many bytes of a text, three at a time, and fails then.
+#[derive(Drop)]
+struct FailingReader<'a> {
+    rest: &'a [u8],
+    kind: ErrorKind,
+}
+
+impl Read for FailingReader<'_> {
+    fn read(&mut self, buf: &mut [u8]) -> io::Result<usize> {
+        if self.rest.is_empty() {
+            return Err(Error::from(self.kind));
+        }
+        let count = self.rest.len().min(buf.len()).min(3);
+        let (now, later) = self.rest.split_at(count);
+        buf[..count].copy_from_slice(now);
+        self.rest = later;
+        Ok(count)
+    }
+}
+
+#[test]
+fn stops_at_a_failed_read(rt: HostRuntime) {
+    let text = WAITS.as_bytes();
+    for kind in [ErrorKind::BrokenPipe, ErrorKind::Interrupted] {
+        for good in 0..=text.len() {
+            let mut reader = FailingReader {
+                rest: &text[..good],
+                kind,
+            };
+            let mut output = Vec::new(rt.alloc());
+            let mut errors = Vec::new(rt.alloc());
+            let status = work(rt.alloc(), &["why"], &mut reader, &mut output, &mut errors);
+            let ran = Ran {
+                status,
+                output,
+                errors,
+            };
+            assert!(rt; ran.is(2, "", "trace 0 Read\n"));
+        }
+    }
+}
+
+/// A writer that takes so many bytes, at most 7 a call, and fails then.
+#[derive(Drop)]
+struct FailingWriter {
+    taken: Vec<u8>,
+    room: usize,
+    kind: ErrorKind,
+}
+
+impl Write for FailingWriter {
+    fn write(&mut self, buf: &[u8]) -> io::Result<usize> {
+        let count = buf.len().min(7).min(self.room);
+        if count == 0 && !buf.is_empty() {
+            return Err(Error::from(self.kind));
+        }
+        self.taken.extend_from_slice(&buf[..count])?;
+        self.room -= count;
+        Ok(count)
+    }
+
+    fn flush(&mut self) -> io::Result<()> {
+        Ok(())
+    }
+}
+
+/// An input and its answer into a writer with so much room: what was taken, and what was told.
+fn ran_into(
+    alloc: Global,
+    input: &str,
+    room: usize,
+    kind: ErrorKind,
+) -> (u8, FailingWriter, Vec<u8>) {
+    let mut reader = input.as_bytes();
+    let mut writer = FailingWriter {
+        taken: Vec::new(alloc),
+        room,
+        kind,
+    };
+    let mut errors = Vec::new(alloc);
+    let status = work(alloc, &["why"], &mut reader, &mut writer, &mut errors);
+    (status, writer, errors)
+}
+
+#[test]
+fn stops_at_a_failed_write(rt: HostRuntime) -> Result<(), Fail> {
+    for (input, answer) in [(WAITS, WAITS_TOLD), (ILLEGAL, "illegal 1 NotThere\n")] {
+        let answer = answer.as_bytes();
+        for kind in [ErrorKind::BrokenPipe, ErrorKind::Interrupted] {
+            for room in 0..answer.len() {
+                let (status, writer, errors) = ran_into(rt.alloc(), input, room, kind);
+                assert_eq!(rt; status, 3);
+                assert_eq!(rt; writer.taken.as_slice(), &answer[..room]);
+                assert_eq!(rt; errors.as_slice(), b"stopped Write\n".as_slice());
+            }
+        }
+    }
+    Ok(())
+}
