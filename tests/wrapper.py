@@ -34,8 +34,8 @@ cat >/dev/null
 [ "$crate" != "$REFUSED" ] || exit 1
 [ "$1" != run ] || [ -n "$NOTHING" ] || {
     mkdir -p out
-    printf '#!/bin/sh\\necho "words $*"\\ncat\\nexit 3\\n' >out/trace_cli
-    chmod +x out/trace_cli
+    printf '#!/bin/sh\\necho "words $*"\\ncat\\nexit 3\\n' >"out/$crate"
+    chmod +x "out/$crate"
 }
 """
 BUILD = ["low lib", "middle lib", "trace_cli run -- seq"]
@@ -55,7 +55,8 @@ class Tree:
         self.write("crates/low/proofs/Lib.antt", "proof")
         self.write("crates.txt", CRATES)
         self.write("HANDLES", "none")
-        self.write("examples/counter.image", "an image")
+        self.write("crates/trace_cli/args", "seq\n")
+        self.write("crates/bench/src/main.rt", "bench")
         self.write("trace_cli", WRAPPER.read_text()).chmod(0o755)
         self.bin.mkdir()
         (self.bin / "rt").write_text(STUB)
@@ -118,6 +119,11 @@ def rows():
         near.symlink_to("far")
         return tree.is_run(BUILD, near) or tree.is_run([], far)
 
+    def another_program(tree):
+        (tree.top / "bench").symlink_to("trace_cli")
+        return (tree.is_run(["low lib", "middle lib", "bench run --"], tree.top / "bench") or tree.is_run([], tree.top / "bench")
+                or tree.is_run(["low lib", "middle lib", "trace_cli run -- seq"]))
+
     def from_its_folder(tree):
         tree.is_run(BUILD)
         done = subprocess.run(["sh", "trace_cli", "seq"], cwd=tree.top, input="", text=True, capture_output=True, check=False)
@@ -173,6 +179,7 @@ def rows():
             ["low lib", "middle lib", "other lib", "trace_cli run -- seq"])),
         ("the program went", after(lambda tree: (tree.top / "crates/trace_cli/out/trace_cli").unlink(), BUILD)),
         ("symbolic links", links),
+        ("a link of another program's name", another_program),
         ("from its own folder", from_its_folder),
         ("a crate that is refused", refused),
         ("no program was made", no_program),
