@@ -65,22 +65,26 @@ def goes_on(process, other):
 
 
 def cores_of(process):
-    """The threads of the two cores, once both are started."""
-    while True:
+    """The threads of the two cores, once both are started; None where they aren't within ten seconds."""
+    for _ in range(1000):
         threads = [int(entry.name) for entry in Path(f"/proc/{process.pid}/task").iterdir()]
         cores = sorted(thread for thread in threads if thread != process.pid)
         if len(cores) == 2:
             return cores
-        time.sleep(0.001)
+        time.sleep(0.01)
+    return None
 
 
 def went_on(command):
-    """How many times the other core went on."""
+    """How many times the other core went on; 0 where there were no two threads beside the first."""
     with subprocess.Popen(command, stdin=subprocess.PIPE, stdout=subprocess.DEVNULL, text=True) as process:
         try:
             process.stdin.write(IMAGE)
             process.stdin.close()
-            first, other = cores_of(process)
+            cores = cores_of(process)
+            if cores is None:
+                return 0
+            first, other = cores
             ptrace(PTRACE_SEIZE, first)
             count = 0
             for turn in range(STOPS):
