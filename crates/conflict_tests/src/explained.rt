@@ -3,7 +3,7 @@
 use crate::rows::{
     BUFFER_FULL, BUFFER_FULL_FATES, BUFFER_FULL_SUMS, BUFFER_FULL_VIOLATIONS, COMMITTED_BYTES,
     COMMITTED_BYTES_VIOLATIONS, HISTOGRAM, HISTOGRAM_FATES, HISTOGRAM_SUMS, HISTOGRAM_VIOLATIONS,
-    STORED_BYTES, STORED_BYTES_VIOLATIONS,
+    LATER_BYTES, LATER_BYTES_VIOLATIONS, STORED_BYTES, STORED_BYTES_VIOLATIONS,
 };
 use conflict_sums::{Key, Pair, Part, Sum, pairs_of, rollbacks, sum_of, sums_by};
 use conflicts::{Blame, ByteRange, Explanation, Kind, Runner, Site, explain, sites};
@@ -65,6 +65,7 @@ fn explanation_of(row: &str) -> Option<Explanation> {
         },
         cause: Some(number(row, 9) as usize),
         blame: blame_of(row),
+        later: place_in(row, 28),
         lost: u64::from(number(row, 11)),
         entered: u64::from(number(row, 12)),
     })
@@ -77,6 +78,7 @@ fn explains_worked_histories(rt: HostRuntime) -> Result<(), Fail> {
         (BUFFER_FULL, BUFFER_FULL_VIOLATIONS),
         (STORED_BYTES, STORED_BYTES_VIOLATIONS),
         (COMMITTED_BYTES, COMMITTED_BYTES_VIOLATIONS),
+        (LATER_BYTES, LATER_BYTES_VIOLATIONS),
     ] {
         let text = text.as_bytes();
         let image = image_of(rt.alloc(), image_part(text))?;

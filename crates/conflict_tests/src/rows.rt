@@ -1,6 +1,7 @@
 //! Worked histories: an image with its trace, and the violations in it. Each row: the place and the kind, the core and the epoch that made it,
 //! the core and the epoch that were violated, the place of the cause, the instructions lost and entered, and the blamed load and store with the
-//! byte, the addresses of their instructions, the instructions from the load on, and the first and the number of the bytes that met alike. The values are those of another program, which was written from the definitions.
+//! byte, the addresses of their instructions, the instructions from the load on, the first and the number of the bytes that met alike, and,
+//! for false sharing that came true, the place of the store by which it did. The values are those of another program, which was written from the definitions.
 
 /// A histogram: each epoch adds 1 to the bin that its sample names.
 pub const HISTOGRAM: &str = "\
@@ -161,6 +162,29 @@ trace 2\n\
 
 pub const COMMITTED_BYTES_VIOLATIONS: &str = "\
 5 true by 0 0 victim 1 1 cause 6 lost 3 2 load 4 store 2 byte 66 at 4 16 since 2 range 66 1\n\
+";
+
+/// Epoch 0 stores beside a byte that epoch 1 has loaded, and then to that byte.
+pub const LATER_BYTES: &str = "\
+size 256\n\
+epochs 2\n\
+limit 100\n\
+code 63060500830200046780000093027000231150042300500467800000\n\
+trace 2\n\
+0 start 0\n\
+1 start 1\n\
+1 load 00000040 1 00000000\n\
+0 hurt 1\n\
+0 store 00000042 2 00000007\n\
+0 store 00000040 1 00000007\n\
+1 restart\n\
+0 commit\n\
+1 load 00000040 1 00000007\n\
+1 commit\n\
+";
+
+pub const LATER_BYTES_VIOLATIONS: &str = "\
+3 false by 0 0 victim 1 1 cause 4 lost 3 2 load 2 store 4 byte 64 at 4 16 since 2 range 64 1 later 5\n\
 ";
 
 /// Epoch 0 loads from five lines, and every other epoch stores to them: buffers of four lines fill up.

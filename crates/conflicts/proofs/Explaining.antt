@@ -17,6 +17,7 @@ use Rattle.conflicts.specs.declared.explanation.Explanation.{Explanation}
 use Rattle.conflicts.specs.declared.explanation.Kind.{Kind}
 use Rattle.conflicts.specs.Attempts.{entry_is, passes}
 use Rattle.conflicts.specs.Conflict.{cause_of}
+use Rattle.conflicts.specs.Later.{later_by}
 use Rattle.conflicts.specs.Explained.{IsExplained, IsExplainedIn, blame_by, is_hurt, kind_of, places_of, violations_before, what_at}
 
 -- ---- one violation for each place
@@ -115,7 +116,7 @@ next_of image (Some c) next is = (c, refl, cc)
 runs_it : (core : Option CoreState) (c : CoreState) (epoch : ℕ) → core ≡ Some c → is_at epoch core ≡ true → epoch ≡ c.epoch
 runs_it core c epoch at is = sym (eqb-true c.epoch epoch (sym (ap (is_at epoch) at) ∙ is))
 
-pub explained_by : (image own : LoadedImage) (s : FlatState) (entries : List Entry) (place : ℕ) (entry : Entry) (epoch causing victim : ℕ) (next : Arrival) (cause : Option ℕ) (kind : Kind) (blame : Option Blame) (lost entered : ℕ)
+pub explained_by : (image own : LoadedImage) (s : FlatState) (entries : List Entry) (place : ℕ) (entry : Entry) (epoch causing victim : ℕ) (next : Arrival) (cause : Option ℕ) (kind : Kind) (blame : Option Blame) (later : Option ℕ) (lost entered : ℕ)
     → own ≡ image → slice_get entries place ≡ Some entry → entry.what ≡ Hurt epoch
     → option_map (λ (c : CoreState). c.epoch) (s.cores entry.by) ≡ Some causing
     → is_at epoch (s.cores victim) ≡ true
@@ -123,6 +124,7 @@ pub explained_by : (image own : LoadedImage) (s : FlatState) (entries : List Ent
     → cause ≡ cause_of entries place entry.by
     → kind ≡ kind_of image s entry.by victim (what_at entries cause)
     → blame ≡ blame_by image s entries place entry.by victim kind cause (what_at entries cause)
+    → later ≡ later_by image s entries entry.by victim kind cause
     → lost ≡ next.now.done → entered ≡ next.base.done
     → IsExplainedIn image s entries (record {
       place = place;
@@ -131,10 +133,11 @@ pub explained_by : (image own : LoadedImage) (s : FlatState) (entries : List Ent
       cause = cause;
       kind = kind;
       blame = blame;
+      later = later;
       lost = lost;
       entered = entered;
     })
-explained_by image own s entries place entry epoch causing victim next cause kind blame lost entered same at is by_epoch here by_next by_cause by_kind by_blame by_lost by_entered =
+explained_by image own s entries place entry epoch causing victim next cause kind blame later lost entered same at is by_epoch here by_next by_cause by_kind by_blame by_later by_lost by_entered =
     let a = epoch_of (s.cores entry.by) causing by_epoch in
     let v = next_of own (s.cores victim) next by_next in
     record {
@@ -148,6 +151,7 @@ explained_by image own s entries place entry epoch causing victim next cause kin
       cause = by_cause;
       kind = by_kind;
       blame = by_blame;
+      later = by_later;
       lost = by_lost ∙ (ap (λ (n : Arrival). n.now.done) v.2 ∙ ap (λ (i : LoadedImage). (arrival_of i v.0.hart).now.done) same);
       entered = by_entered ∙ ap (λ (n : Arrival). n.base.done) v.2;
     }

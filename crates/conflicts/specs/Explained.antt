@@ -14,6 +14,7 @@ use Rattle.conflicts.specs.declared.explanation.Kind.TheVariants.{Unexplained}
 use Rattle.conflicts.specs.Attempts.{entry_is}
 use Rattle.conflicts.specs.Blame.{blame_of}
 use Rattle.conflicts.specs.Conflict.{cause_of, kind_with, meeting}
+use Rattle.conflicts.specs.Later.{later_by}
 
 -- what the entry at this place says, if there is one
 abbrev pub what_at : List Entry → Option ℕ → Option What
@@ -54,6 +55,7 @@ pub record IsExplainedIn (image : LoadedImage) (s : FlatState) (entries : List E
   pub cause : e.cause ≡ cause_of entries e.place e.causer.core
   pub kind : e.kind ≡ kind_of image s e.causer.core e.victim.core (what_at entries e.cause)
   pub blame : e.blame ≡ blame_in image s entries e
+  pub later : e.later ≡ later_by image s entries e.causer.core e.victim.core e.kind e.cause
   -- the attempt learns of the violation at its next event
   pub lost : e.lost ≡ (next_event image violated.hart).now.done
   pub entered : e.entered ≡ violated.hart.done

@@ -3,8 +3,7 @@ use Rattle.std.specs.Prelude.{ℕ, ◌-◌, ◌==◌, ◌&&◌, ◌||◌, Bool, 
 use Rattle.rv32_image.specs.Image.{LoadedImage}
 use Rattle.spec_history.specs.declared.entry.Entry.{Entry}
 use Rattle.spec_history.specs.declared.entry.What.{What}
-use Rattle.spec_history.specs.declared.entry.What.TheVariants.{Hurt, Cancel, Commit, Restart, Store}
-use Rattle.spec_history.specs.Refusal.{any_below}
+use Rattle.spec_history.specs.declared.entry.What.TheVariants.{Hurt, Cancel, Commit, Restart}
 use Rattle.conflicts.specs.declared.explanation.Blame.{Blame}
 use Rattle.conflicts.specs.declared.explanation.Explanation.{Explanation}
 use Rattle.conflicts.specs.declared.explanation.Kind.{Kind}
@@ -14,7 +13,7 @@ use Rattle.conflicts.specs.declared.fates.Sign.{Sign}
 use Rattle.conflicts.specs.declared.fates.Sign.TheVariants.{Over, Settled}
 use Rattle.conflicts.specs.declared.standing.Site.{Site}
 use Rattle.conflicts.specs.Searches.{first_below}
-use Rattle.conflicts.specs.Attempts.{entry_is, is_begin, covers}
+use Rattle.conflicts.specs.Attempts.{entry_is}
 use Rattle.conflicts.specs.Blame.{accessed_line, first_stored_in}
 use Rattle.conflicts.specs.Explained.{what_at}
 
@@ -85,14 +84,3 @@ held_by image entries e kind = None
 -- held, of a full buffer: the victim's first store in the line that the cause asks for
 abbrev pub held_at : LoadedImage → List Entry → Explanation → Option ℕ
 held_at image entries e = held_by image entries e e.kind
-
--- a store to a byte that passes the test
-abbrev pub stores_one : ℕ → (ℕ → Bool) → What → Bool
-stores_one size test (Store address width value) = any_below size (λ a. covers address width a && test a)
-stores_one size test what = false
-
--- later: false sharing that came true, since the causer stores to a byte that the victim had read before it begins another attempt
-abbrev pub came_true_at : ℕ → List Entry → ℕ → ℕ → (ℕ → Bool) → Option ℕ
-came_true_at size entries cause core read =
-    only_if entries (λ entry. stores_one size read entry.what)
-    (first_after entries cause (λ entry. (entry.by == core) && (is_begin entry.what || stores_one size read entry.what)))

@@ -3,6 +3,7 @@
 pub mod Searches
 pub mod Attempts
 pub mod Conflict
+pub mod Later
 pub mod Explained
 pub mod Blame
 pub mod Fates

@@ -64,6 +64,9 @@ pub struct Explanation {
     pub kind: Kind,
     /// Whom to blame, for true and false sharing and silent stores.
     pub blame: Option<Blame>,
+    /// For false sharing that came true: the place of the first store after the cause, by the same attempt of the causer, to a
+    /// byte that the victim had read. The line only told sooner, and lines of their own would not have spared the victim.
+    pub later: Option<usize>,
     /// How many instructions the violated attempt had executed when it learnt of it: up to its next event.
     pub lost: u64,
     /// How many of these it had executed up to its last entry.

@@ -11,6 +11,7 @@ ghost use Rattle.conflicts.specs.Explained as spec;
 use crate::blame::Violated;
 use crate::causes::{cause_of, core_at};
 use crate::explanation::{Blame, Explanation, Kind, Runner};
+use crate::later::later_of;
 use crate::meeting::Parties;
 use rv32_exec::Image;
 use spec_history::{Entry, Flat, Illegal, What};
@@ -84,6 +85,7 @@ fn explanation_at(
     let last = next.base();
     let cause = cause_of(entries, place, by);
     let (kind, blame) = conflict_of(image, flat, entries, place, by, victim, cause);
+    let later = later_of(image, flat, entries, by, victim, kind, cause);
     Some(Explanation {
         place,
         causer: Runner {
@@ -97,6 +99,7 @@ fn explanation_at(
         cause,
         kind,
         blame,
+        later,
         lost: stop.done(),
         entered: last.done(),
     })

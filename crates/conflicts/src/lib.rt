@@ -9,6 +9,7 @@ mod explanation;
 mod fates;
 mod held;
 mod history;
+mod later;
 pub mod laws;
 mod meeting;
 mod standing;

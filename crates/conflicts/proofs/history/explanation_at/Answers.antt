@@ -34,9 +34,9 @@ unfolding none
 returns-clause-explained c = (
   refl,
   explained_by c.args.image.now c.args.flat.now.image (state_in c.args.flat.now) c.args.entries.now c.args.place (get_or c.args.entries.now c.args.place none) c.in-Hurt.epoch
-      c.in_ok-causing.causing c.in_ok-victim.victim c.in_ok-next.next c.cause_of-cause.result c.conflict_of-kind.result.0 c.conflict_of-kind.result.1 c.done.result c.done-2.result c.requires.image
+      c.in_ok-causing.causing c.in_ok-victim.victim c.in_ok-next.next c.cause_of-cause.result c.conflict_of-kind.result.0 c.conflict_of-kind.result.1 c.later_of-later.result c.done.result c.done-2.result c.requires.image
       (slice_get-get_or c.args.entries.now c.args.place none c.requires.place) c.in-Hurt.is (sym c.in_ok-causing.ensures) c.in_ok-victim.ensures (sym c.in_ok-next.ensures)
-      c.cause_of-cause.ensures c.conflict_of-kind.ensures.kind c.conflict_of-kind.ensures.blame (c.done.ensures ∙ ap (λ (h : HartState). h.done) c.now-stop.ensures) (c.done-2.ensures ∙ ap (λ (h : HartState). h.done) c.base-last.ensures),
+      c.cause_of-cause.ensures c.conflict_of-kind.ensures.kind c.conflict_of-kind.ensures.blame c.later_of-later.ensures (c.done.ensures ∙ ap (λ (h : HartState). h.done) c.now-stop.ensures) (c.done-2.ensures ∙ ap (λ (h : HartState). h.done) c.base-last.ensures),
 )
 
 pub returns-clause-found : goal.returns-clause-found
