@@ -7,7 +7,6 @@ use Rattle.violations.specs.View.{StoreView}
 use Rattle.violations.specs.Plain as plain
 use Rattle.spec_bus.specs.Cached as caches
 use Rattle.trace_text.specs.TraceText.{longest_trace_text}
-use Rattle.trace_commands.specs.declared.outcome.Outcome.{Outcome}
 use Rattle.trace_commands.specs.declared.outcome.Outcome.TheVariants.{Usage}
 use Rattle.trace_commands.specs.Outcome.{Conclusion}
 use Rattle.replay.specs.declared.words.Store.{Store}

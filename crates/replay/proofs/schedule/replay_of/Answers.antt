@@ -1,4 +1,4 @@
-use Rattle.std.proofs.Common.{◌≡◌, ◌≤◌, ◌<◌, All, ap, sym, subst, ◌∙◌, rules}
+use Rattle.std.proofs.Common.{◌<◌, All, ap, sym, subst, ◌∙◌, rules}
 use Rattle.rv32_image.specs.ImageText.{image_text}
 use Rattle.violations.specs.Rule.{IsCoreCount}
 use Rattle.trace_text.specs.Reading.{IsFaultOf}

@@ -1,4 +1,4 @@
-use Rattle.std.proofs.Common.{◌+◌, ℕ, List, Option, sym, subst}
+use Rattle.std.proofs.Common.{◌+◌, ℕ, Option, sym, subst}
 use Rattle.rv32_image.specs.ImageText.{longest_image_text}
 use Rattle.rv32_image.specs.Input.{TakesAtMost}
 use Rattle.rv32_image.specs.Reading.{ForText}

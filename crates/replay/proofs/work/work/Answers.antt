@@ -1,4 +1,4 @@
-use Rattle.std.proofs.Common.{◌≡◌, ℕ, List, inl, sym, subst}
+use Rattle.std.proofs.Common.{inl, sym, subst}
 use Rattle.violations.specs.Plain as plain
 use Rattle.spec_bus.specs.Cached as caches
 use Rattle.run_command.proofs.Outcomes.{for_text}
