@@ -3,3 +3,4 @@ pub mod Cores
 pub mod Shows
 pub mod Outcomes
 pub mod Works
+pub mod Alls

@@ -1,5 +1,5 @@
 -- What the replay of a text comes to, from what its parts answer.
-use Rattle.std.proofs.Common.{◌≡◌, ℕ, ◌+◌, ◌<◌, ◌≤◌, List, [], length, replicate, Option, Some, None, Result, Ok, Err, IfSome, MatchResult, refl, sym, ap, subst, ◌∙◌, arith}
+use Rattle.std.proofs.Common.{◌≡◌, ℕ, ◌+◌, ◌<◌, List, length, replicate, Option, Some, None, Result, Ok, Err, IfSome, MatchResult, refl, sym, subst, arith}
 use Rattle.std.proofs.lemmas.List.{length-replicate}
 use Rattle.std.specs.Io.KnownBytes.{Appends, Keeps}
 use Rattle.rv32_image.specs.declared.fault.ImageFault.{ImageFault}
@@ -9,15 +9,9 @@ use Rattle.rv32_image.specs.Image.{LoadedImage}
 use Rattle.rv32_image.specs.ImageText.{image_text}
 use Rattle.rv32_image.specs.Reading.{ForText}
 use Rattle.rv32_exec.specs.declared.sequential.End.{End}
-use Rattle.run_ledger.specs.declared.counts.Counts.{Counts}
-use Rattle.run_ledger.specs.Counts.{no_counts}
-use Rattle.spec_history.specs.declared.entry.Entry.{Entry}
 use Rattle.violations.specs.View.{StoreView}
-use Rattle.violations.specs.Rule.{IsCoreCount, IsFresh}
+use Rattle.violations.specs.Rule.{IsCoreCount}
 use Rattle.homefree.specs.declared.book.Loop.{Loop}
-use Rattle.homefree.specs.declared.fault.TurnFault.{TurnFault}
-use Rattle.homefree.specs.BookView.{BookView}
-use Rattle.homefree.specs.Driven.{Driven, driver}
 use Rattle.trace_text.specs.declared.fault.TraceFault.{TraceFault}
 use Rattle.trace_text.specs.declared.fault.TraceFaultKind.{TraceFaultKind}
 use Rattle.trace_text.specs.declared.fault.TraceFaultKind.TheVariants.{Head, Line, TooLong, Read, NoMemory}
@@ -28,28 +22,10 @@ use Rattle.trace_commands.specs.declared.outcome.Outcome.TheVariants.{Reported, 
 use Rattle.trace_commands.specs.declared.outcome.StopCause.{StopCause}
 use Rattle.trace_commands.specs.declared.outcome.StopCause.TheVariants as cause
 use Rattle.trace_commands.specs.Outcome.{outcome_of_turns_fault}
-use Rattle.replay.specs.Replay.{IsFull, IsNew, IsNoReplay, IsReplay, IsReplayOn, IsReplayOutcome, IsShown, IsStop, Makes, OfText, loop_on, outcome_at}
+use Rattle.all_schedules.specs.Made.{IsFull, loop_on}
+use Rattle.replay.specs.Replay.{IsNoReplay, IsReplay, IsReplayOn, IsReplayOutcome, IsStop, OfText, outcome_at}
 use Rattle.replay.specs.Turns.{image_part, schedule_text}
 use Rattle.replay.proofs.Cores.{is_line}
-
--- a drive of an empty book makes its history
-pub makes : {S : Type 0} (view : S → StoreView) (image : LoadedImage) (cores room : ℕ) (schedule : List ℕ) (first last : BookView S) (shares shares' : Counts)
-    (result : Result (Option End) TurnFault) → first.image ≡ image → first.cores ≡ cores → first.room ≡ room → first.history ≡ [] → first.totals ≡ no_counts
-    → IsFresh image cores (view first.store) → first.stopped ≡ None → shares ≡ no_counts
-    → Driven view (λ _. None) (driver first shares) schedule result (driver last shares') → Makes view (loop_on image cores room) schedule result last.history
-makes view image cores room schedule first last shares shares' result image_is cores_are room_is history totals fresh stopped none driven = record {
-  first = first;
-  last = driver last shares';
-  is_new = record {
-    loop = (λ k. record { image = image_is k; cores = cores_are k; room = room_is k });
-    history = history;
-    totals = totals;
-    store = fresh;
-    stopped = stopped;
-  };
-  driven = subst (λ (c : Counts). Driven view (λ _. None) (driver first c) schedule result (driver last shares')) none driven;
-  history_is = refl;
-}
 
 -- what holds of the image that the text says
 pub by_image : (text : List ℕ) (image : LoadedImage) (P : LoadedImage → Type 0) → image_text (image_part text) ≡ Ok image → P image

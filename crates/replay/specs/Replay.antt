@@ -1,26 +1,20 @@
 -- What the replay of a schedule comes to, and what it wrote.
 -- Source: this project.
-use Rattle.std.specs.Prelude.{◌≡◌, ℕ, ◌<◌, ◌≤◌, ◌++◌, List, [], length, Option, Some, None, Result, Ok, Err, MatchResult}
+use Rattle.std.specs.Prelude.{◌≡◌, ℕ, ◌<◌, ◌≤◌, ◌++◌, List, length, Option, Some, None, Ok, Err, MatchResult}
 use Rattle.std.specs.Io.KnownBytes.{Appends, Keeps}
 use Rattle.rv32_image.specs.Image.{LoadedImage}
 use Rattle.rv32_image.specs.Version.{limits_of}
 use Rattle.rv32_image.specs.ImageText.{image_text}
 use Rattle.rv32_exec.specs.declared.sequential.End.{End}
 use Rattle.rv32_exec.specs.Sequential.{sequential_result}
-use Rattle.run_ledger.specs.Counts.{no_counts}
 use Rattle.spec_history.specs.declared.entry.Entry.{Entry}
 use Rattle.spec_history.specs.FlatState.{FlatState}
 use Rattle.spec_history.specs.Laws.{IsPublished}
 use Rattle.spec_history.specs.Replay.{replay}
 use Rattle.violations.specs.View.{StoreView}
-use Rattle.violations.specs.Rule.{IsCoreCount, IsFresh}
+use Rattle.violations.specs.Rule.{IsCoreCount}
 use Rattle.homefree.specs.declared.book.Loop.{Loop}
-use Rattle.homefree.specs.declared.fault.TurnFault.{TurnFault}
-use Rattle.homefree.specs.declared.fault.TurnFault.TheVariants as fault
-use Rattle.homefree.specs.BookView.{BookView}
 use Rattle.homefree.specs.Counted.{counted_in}
-use Rattle.homefree.specs.Driven.{Driven, Driver, driver}
-use Rattle.homefree.specs.LockView.{loop_of}
 use Rattle.trace_text.specs.declared.fault.TraceFault.{TraceFault}
 use Rattle.trace_text.specs.declared.fault.TraceFaultKind.{TraceFaultKind}
 use Rattle.trace_text.specs.declared.fault.TraceFaultKind.TheVariants as kind
@@ -33,25 +27,8 @@ use Rattle.trace_commands.specs.declared.outcome.StopCause.TheVariants.{Write, N
 use Rattle.trace_commands.specs.Outcome.{AppendsPrefix}
 use Rattle.trace_commands.specs.Report.{open_report, report_of}
 use Rattle.run_command.specs.Run.{counts_line}
+use Rattle.all_schedules.specs.Made.{IsFull, Makes, loop_on}
 use Rattle.replay.specs.Turns.{image_part, schedule_text}
-
--- ---- the history that a schedule makes
-
--- an empty history of the loop, over a fresh store
-pub record IsNew {S : Type 0} (view : S → StoreView) (l : Loop) (b : BookView S) : Type 0 where
-  pub loop : loop_of b ≡ l
-  pub history : b.history ≡ []
-  pub totals : b.totals ≡ no_counts
-  pub store : IsFresh l.image l.cores (view b.store)
-  pub stopped : b.stopped ≡ None
-
--- the schedule's turns, one for each of its cores, in order, make this history and come to this
-pub record Makes {S : Type 0} (view : S → StoreView) (l : Loop) (schedule : List ℕ) (result : Result (Option End) TurnFault) (history : List Entry) : Type 0 where
-  pub first : BookView S
-  pub last : Driver S
-  pub is_new : IsNew view l first
-  pub driven : Driven view (λ _. None) (driver first no_counts) schedule result last
-  pub history_is : last.book.history ≡ history
 
 -- ---- what is printed of it
 
@@ -81,10 +58,6 @@ abbrev pub IsReplay : {S : Type 0} → (S → StoreView) → Loop → List ℕ �
 IsReplay view l schedule outcome text = (result : Option End) × (history : List Entry)
     × Makes view l schedule (Ok result) history × IsShown l.image l.cores history outcome text
 
--- a turn of the schedule finds too few free entries
-abbrev pub IsFull : {S : Type 0} → (S → StoreView) → Loop → List ℕ → Type 0
-IsFull view l schedule = (history : List Entry) × Makes view l schedule (Err fault.HistoryFull) history
-
 -- turns may stop so
 abbrev pub IsStop : {S : Type 0} → (S → StoreView) → Loop → List ℕ → StopCause → Type 0
 IsStop view l schedule HistoryFull = IsFull view l schedule
@@ -92,9 +65,6 @@ IsStop view l schedule NoMemory = Unit {0}
 IsStop view l schedule other = ⊥
 
 -- ---- the whole input
-
-abbrev pub loop_on : LoadedImage → ℕ → ℕ → Loop
-loop_on image cores room = record { image = image; cores = cores; room = room }
 
 -- of the image and the schedule that a text says for so many cores, which the image's version allows
 abbrev pub OfText : ℕ → ℕ → List ℕ → (Loop → List ℕ → Type 0) → Type 0

@@ -8,6 +8,7 @@ use std::{env, io};
 use trace_commands::{Outcome, StopCause};
 use work::work;
 
+mod all;
 mod print;
 mod schedule;
 #[cfg(test)]

@@ -5,12 +5,13 @@ ghost use Rattle.rv32_image.specs.Reading.{ForText};
 ghost use Rattle.trace_text.specs.TraceText.{longest_trace_text};
 ghost use Rattle.trace_commands.specs.Outcome.{Conclusion};
 ghost use Rattle.violations.specs.Rule.{IsCoreCount};
+ghost use Rattle.all_schedules.specs.Made.{loop_on};
 ghost use Rattle.replay.specs.Replay as spec;
 
 use crate::print::print_book;
 use crate::turns::{image_part, parts_of, read_turns};
-use homefree::{Book, TurnFault, drive};
-use run_ledger::Shares;
+use all_schedules::drive_schedule;
+use homefree::TurnFault;
 use rv32_image::{Image, image_of, read_input};
 use std::alloc::{AllocError, Global};
 use std::io::{Read, Write};
@@ -130,15 +131,11 @@ fn replay_turns<S: EpochStore>(
     requires least { 16 ≤ room }
     requires most { room ≤ 1048576 }
     requires schedule { All (λ core. core < cores) schedule.now }
-    ensures shown { IfOk result (λ shown. spec.IsReplay S.view (spec.loop_on image.now cores room) schedule.now shown.0 shown.1.items) }
-    ensures stopped { IfErr result (spec.IsStop S.view (spec.loop_on image.now cores room) schedule.now) }
+    ensures shown { IfOk result (λ shown. spec.IsReplay S.view (loop_on image.now cores room) schedule.now shown.0 shown.1.items) }
+    ensures stopped { IfErr result (spec.IsStop S.view (loop_on image.now cores room) schedule.now) }
 {
-    let made: Result<(Book<S>, Shares), _> = Book::new(alloc, image, cores, room);
-    let Ok((mut book, mut shares)) = made else {
-        return Err(StopCause::NoMemory);
-    };
-    match drive(&mut book, schedule, &mut shares) {
-        Ok(_) => match print_book(alloc, image, cores, &book) {
+    match drive_schedule::<S>(alloc, image, cores, room, schedule) {
+        Ok(book) => match print_book(alloc, image, cores, &book) {
             Ok(shown) => Ok(shown),
             Err(AllocError) => Err(StopCause::NoMemory),
         },

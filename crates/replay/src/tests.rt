@@ -208,7 +208,19 @@ trace 1
 0 fault 2 0000000c
 ";
 
-const ROWS: [Row; 24] = [
+/// Start, store and commit of each of the two epochs.
+const ONE_CORE: &str = "schedules 1
+over 1
+histories 1
+least 0
+turns 0 0 0 0 0 0
+most 0
+turns 0 0 0 0 0 0
+end done 2
+at 00000040 ffff0000000000000000000000000000
+";
+
+const ROWS: [Row; 30] = [
     (PLAIN, SIGNAL, "turns 0 1 0 1 0 1 1 1\n", 0, VIOLATED, ""),
     (CACHES, SIGNAL, "turns 0 1 0 1 0 1 1 1\n", 0, VIOLATED, ""),
     (
@@ -317,6 +329,54 @@ const ROWS: [Row; 24] = [
         "usage\n",
     ),
     (&["replay", "plain"], SIGNAL, "turns 0\n", 2, "", "usage\n"),
+    (
+        &["replay", "all", "plain", "2", "2"],
+        BYTES,
+        "",
+        0,
+        "schedules 4\nover 0\nhistories 4\n",
+        "",
+    ),
+    (
+        &["replay", "all", "caches", "1", "6"],
+        BYTES,
+        "",
+        0,
+        ONE_CORE,
+        "",
+    ),
+    (
+        &["replay", "all", "caches", "2", "3"],
+        NOTHING,
+        "",
+        0,
+        "schedules 8\nover 8\nhistories 1\nleast 0\nturns 0 0 0\nmost 0\nturns 0 0 0\nend done 0\n",
+        "",
+    ),
+    (
+        &["replay", "all", "plain", "9", "2"],
+        BYTES,
+        "",
+        2,
+        "",
+        "usage\n",
+    ),
+    (
+        &["replay", "all", "plain", "2", "17"],
+        BYTES,
+        "",
+        2,
+        "",
+        "usage\n",
+    ),
+    (
+        &["replay", "all", "plain", "2", "2"],
+        BYTES,
+        "turns 0\n",
+        2,
+        "",
+        "image 5 Line\n",
+    ),
 ];
 
 #[test]

@@ -18,18 +18,48 @@ pub enum Store {
 pub struct Request {
     pub store: Store,
     pub cores: u32,
+    /// Every schedule of so many turns. None: the schedule of the input.
+    pub turns: Option<u32>,
 }
 
-/// What these words ask for, `STORE CORES` below the program's name. None: other words.
+/// What these words ask for, `STORE CORES` or `all STORE CORES TURNS` below the program's name. None: other words.
 pub fn request_of<S: AsStr>(words: &[S]) -> Option<Request>
     ensures { IfSome result IsRequest }
 {
-    if words.len() != 3 {
+    if words.len() == 3 {
+        return asked(words[1].as_str(), words[2].as_str(), None);
+    }
+    if words.len() != 5 || words[1].as_str() != "all" {
         return None;
     }
-    let store = store_named(words[1].as_str())?;
-    let cores = cores_in(words[2].as_str())?;
-    Some(Request { store, cores })
+    let turns = number_up_to_16(words[4].as_str())?;
+    asked(words[2].as_str(), words[3].as_str(), Some(turns))
+}
+
+/// The request of these words. None: they name no store or number, or there are more than 65,536 schedules of so many turns.
+fn asked(store: &str, cores: &str, turns: Option<u32>) -> Option<Request>
+    ensures { IfSome result IsRequest }
+{
+    let store = store_named(store)?;
+    let cores = number_up_to_16(cores)?;
+    if !is_small(cores, turns) {
+        return None;
+    }
+    Some(Request {
+        store,
+        cores,
+        turns,
+    })
+}
+
+/// Whether there are at most 65,536 schedules of so many turns.
+fn is_small(cores: u32, turns: Option<u32>) -> bool {
+    match turns {
+        Some(turns) => cores
+            .checked_pow(turns)
+            .is_some_and(|count| count <= 65_536),
+        None => true,
+    }
 }
 
 fn store_named(word: &str) -> Option<Store> {
@@ -40,12 +70,12 @@ fn store_named(word: &str) -> Option<Store> {
     }
 }
 
-/// A number of cores, 1 to 16.
-fn cores_in(word: &str) -> Option<u32>
-    ensures { IfSome result (λ cores. (1 ≤ cores) × (cores ≤ 16)) }
+/// A number of cores or of turns, 1 to 16.
+fn number_up_to_16(word: &str) -> Option<u32>
+    ensures { IfSome result (λ n. (1 ≤ n) × (n ≤ 16)) }
 {
     match number_in(word.as_bytes()) {
-        Ok(cores) if 1 <= cores && cores <= 16 => Some(cores as u32),
+        Ok(n) if 1 <= n && n <= 16 => Some(n as u32),
         _ => None,
     }
 }

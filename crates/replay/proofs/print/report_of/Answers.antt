@@ -1,4 +1,4 @@
-use Rattle.std.proofs.Common.{◌≡◌, ℕ, List, ap, sym, subst, ◌∙◌}
+use Rattle.std.proofs.Common.{ℕ, List, ap, sym, subst}
 use Rattle.run_command.specs.Committed.{IsCommitted}
 use Rattle.replay.specs.Replay.{IsReport, outcome_at}
 use Rattle.replay.proofs.Shows.{of_ended, of_open}

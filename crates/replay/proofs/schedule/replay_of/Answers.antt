@@ -1,8 +1,9 @@
-use Rattle.std.proofs.Common.{◌≡◌, ◌≤◌, ◌<◌, All, ap, sym, subst, ◌∙◌, rules}
+use Rattle.std.proofs.Common.{◌<◌, All, ap, sym, subst, ◌∙◌, rules}
 use Rattle.rv32_image.specs.ImageText.{image_text}
 use Rattle.violations.specs.Rule.{IsCoreCount}
 use Rattle.trace_text.specs.Reading.{IsFaultOf}
-use Rattle.replay.specs.Replay.{IsReplay, loop_on}
+use Rattle.all_schedules.specs.Made.{loop_on}
+use Rattle.replay.specs.Replay.{IsReplay}
 use Rattle.replay.proofs.Cores.{are_cores}
 use Rattle.replay.proofs.Outcomes.{by_text, refused_turns}
 use Rattle.replay.proofs.schedule.replay_of.Goals as goal

@@ -1,33 +1,44 @@
+use Rattle.std.proofs.Common.{inl, sym, subst}
 use Rattle.violations.specs.Plain as plain
 use Rattle.spec_bus.specs.Cached as caches
-use Rattle.replay.specs.declared.words.Request.{Request}
-use Rattle.replay.specs.declared.words.Store.TheVariants.{Caches, Plain}
-use Rattle.replay.specs.Replay.{IsReplayOutcome}
-use Rattle.replay.specs.Work.{IsRequest}
-use Rattle.replay.proofs.Works.{refused_answers, replay_answers}
+use Rattle.run_command.proofs.Outcomes.{for_text}
+use Rattle.replay.specs.declared.words.Store.{Store}
+use Rattle.replay.specs.Streams.{Stream}
+use Rattle.replay.specs.Work.{StoreAnswers, TurnsAnswer, WorkAnswers}
+use Rattle.replay.proofs.Works.{refused_answers}
 use Rattle.replay.proofs.work.work.Goals as goal
 
 pub returns-in-Caches : goal.returns-in-Caches
 returns-in-Caches g c =
-    let old = g.W.Write.contents c.args.writer.now in
-    let new = g.W.Write.contents c.do_replay.new.writer in
-    let request : Request = record { store = Caches; cores = c.in-Some.field-0.cores } in
-    let is : IsRequest request = c.in-Some.ensures in
-    replay_answers (λ text outcome. IsReplayOutcome caches.store_view c.in-Some.field-0.cores c.args.room text old new outcome) c.args.room request
-    (g.R.Read.remaining c.args.reader.now) (g.R.Read.remaining c.do_replay.new.reader)
-    (record { old = old; new = new }) (record { old = g.E.Write.contents c.args.errors.now; new = g.E.Write.contents c.do_replay.new.errors })
-    c.do_replay.result is (λ text outcome right. right) c.do_replay.ensures.taken c.do_replay.ensures.outcome
+    let request = c.in-Some.request in
+    let input : Stream = record { old = g.R.Read.remaining c.args.reader.now; new = g.R.Read.remaining c.answer.new.reader } in
+    let output : Stream = record { old = g.W.Write.contents c.args.writer.now; new = g.W.Write.contents c.answer.new.writer } in
+    let errors : Stream = record { old = g.E.Write.contents c.args.errors.now; new = g.E.Write.contents c.answer.new.errors } in
+    for_text (g.R.Read.remaining c.args.reader.now)
+    (λ text. TurnsAnswer caches.store_view request.cores c.args.room request.turns text input output errors c.answer.result)
+    (λ text. WorkAnswers c.args.room text input output errors c.answer.result)
+    (λ text so. inl (
+      request,
+      c.in-Some.ensures,
+      subst (λ (s : Store). StoreAnswers s request.cores c.args.room request.turns text input output errors c.answer.result)
+          (sym c.in-Caches.is) so,
+    )) c.answer.ensures
 
 pub returns-in-Plain : goal.returns-in-Plain
 returns-in-Plain g c =
-    let old = g.W.Write.contents c.args.writer.now in
-    let new = g.W.Write.contents c.do_replay-in-Plain.new.writer in
-    let request : Request = record { store = Plain; cores = c.in-Some.field-0.cores } in
-    let is : IsRequest request = c.in-Some.ensures in
-    replay_answers (λ text outcome. IsReplayOutcome plain.store_view c.in-Some.field-0.cores c.args.room text old new outcome) c.args.room request
-    (g.R.Read.remaining c.args.reader.now) (g.R.Read.remaining c.do_replay-in-Plain.new.reader)
-    (record { old = old; new = new }) (record { old = g.E.Write.contents c.args.errors.now; new = g.E.Write.contents c.do_replay-in-Plain.new.errors })
-    c.do_replay-in-Plain.result is (λ text outcome right. right) c.do_replay-in-Plain.ensures.taken c.do_replay-in-Plain.ensures.outcome
+    let request = c.in-Some.request in
+    let input : Stream = record { old = g.R.Read.remaining c.args.reader.now; new = g.R.Read.remaining c.answer-in-Plain.new.reader } in
+    let output : Stream = record { old = g.W.Write.contents c.args.writer.now; new = g.W.Write.contents c.answer-in-Plain.new.writer } in
+    let errors : Stream = record { old = g.E.Write.contents c.args.errors.now; new = g.E.Write.contents c.answer-in-Plain.new.errors } in
+    for_text (g.R.Read.remaining c.args.reader.now)
+    (λ text. TurnsAnswer plain.store_view request.cores c.args.room request.turns text input output errors c.answer-in-Plain.result)
+    (λ text. WorkAnswers c.args.room text input output errors c.answer-in-Plain.result)
+    (λ text so. inl (
+      request,
+      c.in-Some.ensures,
+      subst (λ (s : Store). StoreAnswers s request.cores c.args.room request.turns text input output errors c.answer-in-Plain.result)
+          (sym c.in-Plain.is) so,
+    )) c.answer-in-Plain.ensures
 
 pub returns-in-None : goal.returns-in-None
 returns-in-None g c =
