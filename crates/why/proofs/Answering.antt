@@ -1,5 +1,5 @@
 -- What `why` comes to, from what its parts answer.
-use Rattle.std.proofs.Common.{◌≡◌, ℕ, List, Option, inl, inr, refl, subst, sym}
+use Rattle.std.proofs.Common.{ℕ, List, Option, inl, inr, subst, sym}
 use Rattle.rv32_image.specs.Image.{LoadedImage}
 use Rattle.spec_history.specs.declared.entry.Entry.{Entry}
 use Rattle.trace_commands.specs.declared.outcome.Outcome.{Outcome}
