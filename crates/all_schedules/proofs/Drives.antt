@@ -1,5 +1,5 @@
 -- A drive of an empty book makes its history.
-use Rattle.std.proofs.Common.{◌≡◌, ℕ, List, [], Option, None, Result, Ok, Err, refl, subst}
+use Rattle.std.proofs.Common.{◌≡◌, ℕ, List, [], Option, None, Result, Err, refl, subst}
 use Rattle.rv32_image.specs.Image.{LoadedImage}
 use Rattle.rv32_exec.specs.declared.sequential.End.{End}
 use Rattle.run_ledger.specs.declared.counts.Counts.{Counts}

@@ -1,6 +1,6 @@
 -- From every schedule of so many turns to every schedule of one turn more.
-use Rattle.std.proofs.Common.{◌≡◌, ◌⊎◌, inl, inr, ⊎_elim, ℕ, zero, suc, ◌+◌, ◌*◌, ◌^◌, ◌<◌, ◌≤◌, List, [], ◌∷◌, ◌++◌, All, length, get_or, take, map, Vec, refl, sym, ap, subst, ◌∙◌, arith, add-one}
-use Rattle.std.specs.List.{Contains, flat_map}
+use Rattle.std.proofs.Common.{◌≡◌, inl, inr, ℕ, zero, suc, ◌+◌, ◌*◌, ◌<◌, ◌≤◌, List, [], ◌∷◌, ◌++◌, All, length, get_or, take, Vec, refl, sym, ap, subst, ◌∙◌, arith, add-one}
+use Rattle.std.specs.List.{Contains}
 use Rattle.std.proofs.lemmas.Bool.{cases_eq}
 use Rattle.std.proofs.lemmas.List.{append-nil, length-append, length_push, length-take-le, map_push, take_all, take_more, append_assoc}
 use Rattle.std.proofs.lemmas.List.Concat.{flat_map-append}

@@ -1,14 +1,12 @@
 -- The run of a book that its schedule has made, and a survey with it.
-use Rattle.std.proofs.Common.{◌≡◌, ℕ, ◌+◌, ◌<◌, ◌≤◌, List, [], ◌∷◌, ◌++◌, All, length, get_or, map, take, Option, Some, None, IfSome, Result, Err, IfErr, Vec, refl, sym, ap, subst, ◌∙◌, arith}
+use Rattle.std.proofs.Common.{◌≡◌, ℕ, ◌+◌, ◌<◌, ◌≤◌, List, [], ◌∷◌, ◌++◌, All, length, get_or, take, Option, Some, None, IfSome, Result, Err, IfErr, Vec, refl, sym, ap, subst, ◌∙◌, arith}
 use Rattle.std.specs.declared.alloc.Global.{Global}
 use Rattle.std.specs.List.{Contains}
 use Rattle.std.proofs.lemmas.List.{get_or-map, length-map, length-take-le, map_push, take_more}
 use Rattle.std.proofs.lemmas.List.Elements.{All-get_or, All-nil, All-push, Contains-get_or}
 use Rattle.std.proofs.lemmas.List.Sums.{count_by-le-length}
 use Rattle.std.proofs.lemmas.Option.{slice_get_within}
-use Rattle.rv32_image.specs.Image.{LoadedImage}
 use Rattle.rv32_exec.specs.declared.sequential.End.{End}
-use Rattle.spec_history.specs.FlatState.{FlatState}
 use Rattle.spec_history.specs.Replay.{replay}
 use Rattle.spec_history.proofs.Replays.{replayed}
 use Rattle.violations.specs.View.{StoreView}
@@ -16,7 +14,6 @@ use Rattle.homefree.specs.declared.book.Loop.{Loop}
 use Rattle.homefree.specs.declared.fault.TurnFault.{TurnFault}
 use Rattle.homefree.specs.declared.fault.TurnFault.TheVariants.{HistoryFull, NoMemory}
 use Rattle.homefree.specs.BookView.{BookView}
-use Rattle.homefree.specs.Driven.{IsInOrder}
 use Rattle.homefree.specs.InStep.{InStep}
 use Rattle.homefree.specs.LockView.{loop_of}
 use Rattle.all_schedules.specs.declared.survey.Extreme.{Extreme}
@@ -24,7 +21,7 @@ use Rattle.all_schedules.specs.declared.survey.Survey.{Survey}
 use Rattle.all_schedules.specs.Schedules.{lists_of}
 use Rattle.all_schedules.specs.Made.{IsFault, IsMade}
 use Rattle.all_schedules.specs.Adding.{AddsBook}
-use Rattle.all_schedules.specs.Survey.{IsEnd, IsExtreme, IsFaultOfOne, IsLeast, IsMost, IsRun, IsSurvey, Run, Surveys, is_over}
+use Rattle.all_schedules.specs.Survey.{IsEnd, IsExtreme, IsFaultOfOne, IsLeast, IsMost, IsRun, Run, Surveys, is_over}
 use Rattle.all_schedules.proofs.Every.{lists_of-push}
 use Rattle.all_schedules.proofs.Surveying.{none_surveyed, surveyed_more}
 

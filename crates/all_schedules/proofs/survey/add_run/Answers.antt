@@ -1,4 +1,4 @@
-use Rattle.std.proofs.Common.{◌≡◌, ap, is_some, ◌∙◌}
+use Rattle.std.proofs.Common.{ap, is_some, ◌∙◌}
 use Rattle.run_ledger.specs.declared.counts.Counts.{Counts}
 use Rattle.homefree.specs.Counted.{counted_in}
 use Rattle.trace_text.specs.Printing.{printed_trace}

@@ -1,4 +1,4 @@
-use Rattle.std.proofs.Common.{Some, Vec, refl, ap, ◌∙◌}
+use Rattle.std.proofs.Common.{Some, refl, ap, ◌∙◌}
 use Rattle.all_schedules.specs.declared.survey.Survey.{Survey}
 use Rattle.all_schedules.proofs.Noting.{adds_open, adds_over, on_ok}
 use Rattle.all_schedules.proofs.survey.Survey.add.Goals as goal
