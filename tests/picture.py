@@ -1,0 +1,102 @@
+#!/usr/bin/env python3
+"""Tests tools/picture and tools/trace, with stubs in the place of `why` and of `trace_cli`: nothing has to be built.
+
+Usage: tests/picture.py
+
+The image, its trace and the report are worked by hand; the pictures are read back as XML and as JSON. Exits with 1 where a check failed.
+"""
+
+import json
+import shutil
+import subprocess
+import sys
+import tempfile
+import xml.etree.ElementTree as xml
+from pathlib import Path
+
+ROOT = Path(__file__).resolve().parent.parent
+SVG = "{http://www.w3.org/2000/svg}"
+# Epoch 1 loads the word at 40 before epoch 0 stores it; epoch 0 publishes by its commit.
+IMAGE = ("# Two epochs, of which one waits. And more.\n# flag 00000040 4\n# code 00000004 waits.c:7\nsize 256\nepochs 2\nlimit 50\n"
+         "code 6308050083220004e38e02fe67800000930210002320500467800000\n")
+TRACE = ("trace 2\n0 start 0\n1 start 1\n0 store 00000040 4 00000001\n1 load 00000040 4 00000000\n0 hurt 1\n0 commit\n1 restart\n"
+         "1 load 00000040 4 00000001\n1 commit\n")
+REPORT = ("hurt 4 true epoch 1 try 1 core 1 lost 3 entered 2 since 2 by 0 core 0 cause 5 commit load 3 00000004 store 2 00000014 at 00000040 4\n"
+          "kind true rollbacks 1 lost 3\ntotal epochs 2 committed 2 rollbacks 1 lost 3\n")
+SENTENCE = "epoch 1's load at 00000004 at waits.c:7 of flag, 4 bytes was hit by epoch 0's store at 00000014, committed; 3 instructions lost; true sharing"
+FULL = REPORT.replace("true", "buffer").replace("since 2", "since -").replace("load 3 00000004 store 2 00000014", "held 3 00000004 asked 2 00000014")
+BARE = REPORT.replace("true", "other").replace("load 3 00000004 store 2 00000014 at 00000040 4", "load - - store - - at - -")
+
+
+def stub(folder, name, output, error="", status=0):
+    """A program that prints this, whatever it is given."""
+    path = Path(folder, name)
+    path.write_text(f"#!/bin/sh\ncat >/dev/null\ncat <<'END'\n{output}END\n" + (f"echo '{error}' >&2\n" if error else "") + f"exit {status}\n")
+    path.chmod(0o755)
+    return path
+
+
+def picture(folder, report, *words, **more):
+    why = stub(folder, "why", report, **more)
+    return subprocess.run([ROOT / "tools" / "picture", "--why", why, *words], input=IMAGE + TRACE, capture_output=True, text=True, check=False)
+
+
+def svg(folder, report, *words):
+    """All texts of a picture, and all its hover texts."""
+    done = picture(folder, report, *words)
+    root = xml.fromstring(done.stdout)
+    return [text.text or "" for text in root.iter(f"{SVG}text")], [tip.text for tip in root.iter(f"{SVG}title")]
+
+
+def rows(folder):
+    """(what it shows, whether it holds)"""
+    texts, tips = svg(folder, REPORT)
+    yield "the heading", "2 epochs on 2 cores: 1 rollback, 2 committed" in texts and "Two epochs, of which one waits." in texts
+    yield "what was lost", "3 attempts; 3 instructions lost to rollbacks" in texts
+    yield "each attempt has its name", [text for text in texts if text.startswith("e")] == ["e0", "e1", "e1 try 2"]
+    yield "the arrow tells the conflict", tips.count(SENTENCE) == 2 and "flag" in texts
+    yield "the lost attempt", "epoch 1, try 1: violated, 3 instructions lost" in tips
+    yield "the pair to blame", "3 of 3 lost, 1 rollback on flag (1 true)" in texts
+    texts, tips = svg(folder, REPORT, "--overview")
+    yield "the overview", SENTENCE in tips and "instructions that each epoch lost to rollbacks, a block for each" in texts
+    texts, tips = svg(folder, FULL)
+    yield "a full buffer", "1 rollback on flag (1 buffer)" in " ".join(texts) and any("held in a full buffer" in tip for tip in tips)
+    texts, tips = svg(folder, BARE)
+    yield "without a pair", "No rollback to blame on a pair of instructions." in texts and any("has no cause" in tip for tip in tips)
+    texts, tips = svg(folder, REPORT.splitlines(True)[0] + "vain 4 hurt\n")
+    yield "in vain", any(tip.endswith("in vain, since that epoch was undone itself") for tip in tips)
+    events = json.loads(picture(folder, REPORT, "--perfetto").stdout)["traceEvents"]
+    yield "a slice for each attempt", [told["name"] for told in events if told["ph"] == "X"] == ["epoch 0", "epoch 1 lost", "epoch 1 try 2"]
+    yield "a flow for each violation", [told["ph"] for told in events if told.get("cat") == "rollback"] == ["s", "i", "f"]
+    refused = picture(folder, "", error="trace 3 Line", status=2)
+    yield "a refused trace", (refused.stdout, refused.stderr, refused.returncode) == ("", "trace 3 Line\n", 2)
+
+
+def traces(folder):
+    """The same of tools/trace, in a tree of its own."""
+    tools = Path(folder, "tools")
+    tools.mkdir()
+    shutil.copy(ROOT / "tools" / "trace", tools)
+    image = Path(folder, "waits.image")
+    image.write_text(IMAGE)
+    stub(folder, "trace_cli", "end done 2\ncounts 2 1 1 2\n" + TRACE)
+    done = subprocess.run([tools / "trace", image, "2"], capture_output=True, text=True, check=False)
+    yield "an image with its trace", (done.stdout, done.stderr, done.returncode) == (IMAGE + TRACE, "", 0)
+    stub(folder, "trace_cli", "", error="usage", status=2)
+    done = subprocess.run([tools / "trace", image, "99"], capture_output=True, text=True, check=False)
+    yield "a refused run", (done.stdout, done.stderr, done.returncode) == ("", "usage\n", 2)
+
+
+def main():
+    with tempfile.TemporaryDirectory() as folder:
+        results = [*rows(folder), *traces(folder)]
+    for name, holds in results:
+        if not holds:
+            print(f"FAILED {name}")
+    failed = sum(not holds for _, holds in results)
+    print(f"{len(results) - failed} checks passed, {failed} failed")
+    return 1 if failed else 0
+
+
+if __name__ == "__main__":
+    sys.exit(main())

@@ -1,0 +1,1 @@
+"""Pictures of runs, from an image, a trace and the report of `why`."""

@@ -1,0 +1,99 @@
+"""The attempts of a run, and the turns that made entries: what a picture's lanes are."""
+
+from dataclasses import dataclass, field
+
+from .inputs import Entry, Violation
+
+
+@dataclass
+class Attempt:
+    """One run of an epoch on a core, from its start or restart until it commits, is violated, is cancelled or faults."""
+    core: int
+    epoch: int
+    number: int
+    first: int                              # the turn of its start
+    last: int | None = None                 # the turn in which the core left it
+    straight: int | None = None             # the turn from which on it was straight
+    violation: Violation | None = None
+    undone: int | None = None               # the turn in which it was violated or cancelled
+    fate: str = "open"                      # committed, fault, violated, cancelled
+    accesses: list = field(default_factory=list)    # (turn, entry)
+
+
+class Run:
+    """The attempts of a trace. A turn is what one core did while it had the lock: violations and cancellations first, then its act."""
+
+    def __init__(self, image, cores, entries, violations):
+        self.image, self.cores, self.entries, self.violations = image, cores, entries, violations
+        self.attempts, self.turns, self.turn_of = [], 0, []
+        self.end = None
+        self._told = {violation.place: violation for violation in violations}
+        self._now = [None] * cores
+        self._tries = {}
+        for entry in entries:
+            self.turn_of.append(self.turns)
+            getattr(self, "_" + entry.what)(entry)
+            if entry.what not in ("hurt", "cancel", "publish"):
+                self.turns += 1
+
+    def _begin(self, core, epoch):
+        self._tries[epoch] = self._tries.get(epoch, 0) + 1
+        self._now[core] = Attempt(core, epoch, self._tries[epoch], self.turns)
+        self.attempts.append(self._now[core])
+
+    def _running(self, epoch):
+        return next((attempt for attempt in self._now if attempt and attempt.epoch == epoch), None)
+
+    def _start(self, entry: Entry):
+        self._begin(entry.core, int(entry.words[0]))
+
+    def _restart(self, entry):
+        before = self._now[entry.core]
+        before.last = self.turns
+        self._begin(entry.core, before.epoch)
+
+    def _load(self, entry):
+        self._now[entry.core].accesses.append((self.turns, entry))
+
+    _store = _load
+
+    def _hurt(self, entry):
+        victim = self._running(int(entry.words[0]))
+        victim.fate, victim.undone, victim.violation = "violated", self.turns, self._told[entry.place]
+
+    def _cancel(self, entry):
+        victim = self._running(int(entry.words[0]))
+        victim.last = self.turns
+        if victim.fate == "open":
+            victim.fate, victim.undone = "cancelled", self.turns
+        self._now[victim.core] = None
+
+    def _publish(self, entry):
+        self._now[entry.core].straight = self.turns
+
+    def _commit(self, entry):
+        self._leave(entry.core, "committed")
+        self._now[entry.core] = None
+
+    def _fault(self, entry):
+        self._leave(entry.core, "fault")
+
+    def _leave(self, core, fate):
+        self._now[core].fate, self._now[core].last = fate, self.turns
+
+    @property
+    def committed(self):
+        return sum(attempt.fate == "committed" for attempt in self.attempts)
+
+    @property
+    def lost(self):
+        return sum(violation.lost for violation in self.violations)
+
+    def pairs(self):
+        """The violations by their two instructions and whether a buffer was full, those that lost most first."""
+        groups = {}
+        for violation in self.violations:
+            if violation.victims and violation.causers:
+                key = (violation.causers.pc, violation.victims.pc, violation.kind == "buffer")
+                groups.setdefault(key, []).append(violation)
+        return sorted(groups.items(), key=lambda group: (-sum(v.lost for v in group[1]), -len(group[1]), group[0]))

@@ -1,0 +1,74 @@
+"""A page of SVG that stands alone: no script, no font or style from elsewhere."""
+
+import math
+from html import escape
+
+# The kinds of conflicts as the report names them, their colours, and what they say.
+COLOURS = {"true": "#c1121f", "silent": "#7b2cbf", "false": "#e07a00", "buffer": "#495057", "other": "#000000"}
+MEANINGS = {
+    "true": "true sharing: the victim had read these bytes, too early",
+    "silent": "silent store: the same bytes, but the value was there already",
+    "false": "false sharing: other bytes of the same line",
+    "buffer": "full buffer: no place for the victim's line",
+    "other": "unexplained: no cause in the trace",
+}
+USEFUL, STRAIGHT, GONE, INK, PALE, GRID = "#a9d6e5", "#2a6f97", "#dddddd", "#1d2733", "#6b7785", "#e6e9ec"
+LOST = "url(#lost)"
+# The width of a character of the font, as a part of its size; generous, so that text fits.
+CHARACTER = 0.62
+
+
+class Page:
+    """Shapes, and the room that they take."""
+
+    def __init__(self):
+        self.parts, self.width, self.height = [], 0, 0
+
+    def reach(self, x, y):
+        self.width, self.height = max(self.width, x), max(self.height, y)
+
+    def text(self, x, y, words, size=11, fill=INK, anchor="start", bold=False, halo=False):
+        style = ' stroke="#fff" stroke-width="3" paint-order="stroke" stroke-linejoin="round"' if halo else ""
+        weight = ' font-weight="bold"' if bold else ""
+        self.parts.append(f'<text x="{x:.1f}" y="{y:.1f}" font-size="{size:g}" fill="{fill}" text-anchor="{anchor}"{weight}{style}>'
+                          f"{escape(words)}</text>")
+        self.reach(x + (len(words) * size * CHARACTER if anchor == "start" else 4), y + 6)
+
+    def box(self, x, y, width, height, fill, stroke="none", tip="", line=1.0):
+        title = f"<title>{escape(tip)}</title>" if tip else ""
+        self.parts.append(f'<rect x="{x:.1f}" y="{y:.1f}" width="{max(width, 0):.1f}" height="{max(height, 0):.1f}" fill="{fill}" '
+                          f'stroke="{stroke}" stroke-width="{line:g}">{title}</rect>')
+        self.reach(x + width, y + height)
+
+    def line(self, x1, y1, x2, y2, stroke, width=1.0, dashes=""):
+        dashed = f' stroke-dasharray="{dashes}"' if dashes else ""
+        self.parts.append(f'<line x1="{x1:.1f}" y1="{y1:.1f}" x2="{x2:.1f}" y2="{y2:.1f}" stroke="{stroke}" stroke-width="{width:g}"{dashed}/>')
+
+    def path(self, steps, fill="none", stroke="none", width=1.0, tip=""):
+        title = f"<title>{escape(tip)}</title>" if tip else ""
+        self.parts.append(f'<path d="{steps}" fill="{fill}" stroke="{stroke}" stroke-width="{width:g}">{title}</path>')
+
+    def dot(self, x, y, radius, fill):
+        self.parts.append(f'<circle cx="{x:.1f}" cy="{y:.1f}" r="{radius:g}" fill="{fill}"/>')
+
+    def ring(self, x, y, colour):
+        self.parts.append(f'<circle cx="{x:.1f}" cy="{y:.1f}" r="5" fill="none" stroke="{colour}" stroke-width="1.8"/>')
+
+    def arrow(self, x1, y1, x2, y2, colour, tip=""):
+        turn = math.atan2(y2 - y1, x2 - x1)
+        along, across = math.cos(turn), math.sin(turn)
+        corners = [(x2 - 8 * along - side * across, y2 - 8 * across + side * along) for side in (4, -4)]
+        self.path(f"M{x1:.1f} {y1:.1f} L{x2:.1f} {y2:.1f}", stroke=colour, width=1.8, tip=tip)
+        self.path(f"M{corners[0][0]:.1f} {corners[0][1]:.1f} L{x2:.1f} {y2:.1f} L{corners[1][0]:.1f} {corners[1][1]:.1f} Z", fill=colour, tip=tip)
+
+    def flag(self, x, y, tip=""):
+        """The sign of a commit."""
+        self.path(f"M{x:.1f} {y:.1f} v10 l9 -5 z", fill="#1b7f3b", tip=tip)
+
+    def whole(self, title):
+        width, height = math.ceil(self.width) + 24, math.ceil(self.height) + 16
+        return (f'<svg xmlns="http://www.w3.org/2000/svg" width="{width}" height="{height}" viewBox="0 0 {width} {height}" '
+                f'font-family="DejaVu Sans, Helvetica, Arial, sans-serif">\n<title>{escape(title)}</title>\n'
+                '<defs><pattern id="lost" width="6" height="6" patternUnits="userSpaceOnUse" patternTransform="rotate(45)">'
+                '<rect width="6" height="6" fill="#f6c6c8"/><rect width="2" height="6" fill="#e5989b"/></pattern></defs>\n'
+                '<rect width="100%" height="100%" fill="#fff"/>\n' + "\n".join(self.parts) + "\n</svg>\n")
