@@ -1,8 +1,11 @@
 -- What the program answers, from what `why` does.
-use Rattle.std.proofs.Common.{ℕ, ◌+◌, List, inl}
+use Rattle.std.proofs.Common.{◌≡◌, ℕ, ◌+◌, List, [], Option, Some, None, refl, inl, inr}
+use Rattle.std.specs.Io.KnownBytes.{Keeps}
 use Rattle.rv32_image.specs.Input.{TakesAtMost}
 use Rattle.rv32_image.specs.Reading.{ForText}
 use Rattle.trace_text.specs.TraceText.{longest_trace_text}
+use Rattle.trace_commands.specs.declared.outcome.Outcome.TheVariants.{Usage}
+use Rattle.trace_commands.specs.Outcome.{AppendsPrefix, error_line, status_of}
 use Rattle.trace_commands.proofs.Audits.{for_each}
 use Rattle.why.specs.Why.{WhyAnswers}
 use Rattle.why.specs.Work.{Stream, WorkAnswers}
@@ -19,3 +22,19 @@ pub why_answers : (input output errors : Stream) (status : ℕ) → TakesAtMost 
 why_answers input output errors status taken =
     for_each (λ text. WhyAnswers text output.old output.new errors.old errors.new status) (λ text. WorkAnswers text input output errors status) input.old
     (λ text answers. answers_for text input output errors status taken answers)
+
+keeps_itself : (known : Option (List ℕ)) → Keeps known known
+keeps_itself None = tt
+keeps_itself (Some bytes) = refl
+
+abbrev kept : Option (List ℕ) → Stream
+kept known = record { old = known; new = known }
+
+-- there are words
+pub refused_answers : (input output : Option (List ℕ)) (errors : Stream) (status : ℕ)
+    → status ≡ status_of Usage → AppendsPrefix errors.old errors.new (error_line Usage)
+    → ForText input (λ text. WorkAnswers text (kept input) (kept output) errors status)
+refused_answers None output errors status is line =
+    ([], record { outcome = Usage; output = inr (refl, keeps_itself None, keeps_itself output); status = is; line = line })
+refused_answers (Some text) output errors status is line =
+    record { outcome = Usage; output = inr (refl, keeps_itself (Some text), keeps_itself output); status = is; line = line }

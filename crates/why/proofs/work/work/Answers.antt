@@ -1,4 +1,4 @@
-use Rattle.why.proofs.Works.{why_answers}
+use Rattle.why.proofs.Works.{why_answers, refused_answers}
 use Rattle.why.proofs.work.work.Goals as goal
 
 pub returns : goal.returns
@@ -7,3 +7,9 @@ returns g c =
     (record { old = g.W.Write.contents c.args.writer.now; new = g.W.Write.contents c.do_why.new.writer })
     (record { old = g.E.Write.contents c.args.errors.now; new = g.E.Write.contents c.do_why.new.errors })
     c.do_why.result c.do_why.ensures.taken c.do_why.ensures.outcome
+
+pub returns-then-words-gt1 : goal.returns-then-words-gt1
+returns-then-words-gt1 g c =
+    refused_answers (g.R.Read.remaining c.args.reader.now) (g.W.Write.contents c.args.writer.now)
+    (record { old = g.E.Write.contents c.args.errors.now; new = g.E.Write.contents c.conclude.new.errors })
+    c.conclude.result c.conclude.ensures.status c.conclude.ensures.line
