@@ -1,0 +1,104 @@
+#!/usr/bin/env python3
+"""Tests the program `why` on real traces: loops of examples/ run on 2, 4 and 8 cores, and what it answers where `audit` refuses.
+
+Usage: tests/why.py [COMMAND ..]
+
+COMMAND is a command of `trace_cli` that ends with the word `seq`, such as crates/trace_cli/out/trace_cli seq; `why` is the program that was built beside it.
+Without it ./trace_cli and ./why of this repository are tested. Where no such program is beside it the test is skipped, and a line says so.
+Of each run: one line for each violation of its trace, in their places; no violation is unexplained; the sums of the kinds, and the total, are those of the lines. Exits
+with 1 where a check failed.
+"""
+
+import re
+import subprocess
+import sys
+from pathlib import Path
+
+ROOT = Path(__file__).resolve().parent.parent
+LOOPS = ["byte_search", "counter", "first_match", "hash_insert", "histogram", "list_walk", "maximum", "moving_pointer", "own_counters", "padded_counters",
+         "recurrence", "shift_left", "wait_for_flag", "wide_lines"]
+CORES = [2, 4, 8]
+WAITS = "size 256\nepochs 2\nlimit 50\ncode 6308050083220004e38e02fe67800000930210002320500467800000\n"
+# (what it shows, input, standard output, standard error, status)
+REFUSED = [
+    ("an image without its code", "size 256\ntrace 2\n", "", "image 0 MissingOrRepeated\n", 2),
+    ("a trace without its head", WAITS, "", "trace 0 Head\n", 2),
+    ("a line that is none", WAITS + "trace 2\n0 begin 0\n", "", "trace 6 Line\n", 2),
+    ("an entry that is refused", WAITS + "trace 2\n0 start 1\n", "illegal 0 NotNext\n", "", 4),
+    ("no entry", WAITS + "trace 2\n", "total epochs 2 committed 0 rollbacks 0 lost 0\n", "", 0),
+]
+
+
+def why_beside(command):
+    """The program `why` that belongs to a command of `trace_cli`, or None."""
+    program = Path(command[0]).resolve()
+    beside = ROOT / "why" if program == ROOT / "trace_cli" else program.parents[2] / "why" / "out" / "why" if len(program.parents) > 2 else None
+    return beside if beside is not None and beside.is_file() else None
+
+
+def outcome(command, text):
+    done = subprocess.run([str(word) for word in command], input=text, capture_output=True, text=True, check=False)
+    return done.stdout, done.stderr, done.returncode
+
+
+def value_of(words, name):
+    return int(words[words.index(name) + 1])
+
+
+def differences(report, trace):
+    """What is wrong with the report on a trace, or None."""
+    entries = trace.splitlines()[1:]
+    places = [place for place, entry in enumerate(entries) if entry.split()[1] == "hurt"]
+    lines = [line.split() for line in report.splitlines()]
+    hurts, kinds = [[words for words in lines if words[0] == first] for first in ("hurt", "kind")]
+    total = lines[-1]
+    if [int(words[1]) for words in hurts] != places:
+        return f"violations stand at {places}"
+    if any(words[2] == "other" for words in hurts):
+        return "a violation is unexplained"
+    for words in kinds:
+        of_kind = [value_of(hurt, "lost") for hurt in hurts if hurt[2] == words[1]]
+        if (value_of(words, "rollbacks"), value_of(words, "lost")) != (len(of_kind), sum(of_kind)):
+            return f"{' '.join(words)}, but the lines have {len(of_kind)} and {sum(of_kind)}"
+    if {words[1] for words in kinds} != {words[2] for words in hurts}:
+        return "the kinds are not those that occur"
+    sums = (len(hurts), sum(value_of(words, "lost") for words in hurts))
+    return None if (value_of(total, "rollbacks"), value_of(total, "lost")) == sums else f"{' '.join(total)}, but the lines have {sums}"
+
+
+def real(command, why):
+    """(what it shows, what is wrong or None) of each run."""
+    for name in LOOPS:
+        image = (ROOT / "examples" / f"{name}.image").read_text()
+        for cores in CORES:
+            printed, _, _ = outcome([*command[:-1], "run", "--cores", cores, "--trace"], image)
+            trace = printed[re.search(r"^trace \d+\n", printed, re.MULTILINE).start():]
+            report, errors, status = outcome([why], image + trace)
+            yield f"{name} on {cores} cores", f"{errors!r}, status {status}" if (errors, status) != ("", 0) else differences(report, trace)
+
+
+def refused(why):
+    for name, text, output, errors, status in REFUSED:
+        got = outcome([why], text)
+        yield name, None if got == (output, errors, status) else f"got {got}"
+    got = outcome([why, "seq"], WAITS)
+    yield "a word", None if got == ("", "usage\n", 2) else f"got {got}"
+
+
+def main():
+    command = sys.argv[1:] or [str(ROOT / "trace_cli"), "seq"]
+    why = why_beside(command)
+    if why is None:
+        print("SKIPPED: why, since no program of that name was built beside the one that is tested")
+        return 0
+    results = [*real(command, why), *refused(why)]
+    for name, wrong in results:
+        if wrong:
+            print(f"FAILED {name}: {wrong}")
+    failed = sum(wrong is not None for _, wrong in results)
+    print(f"{len(results)} reports, {failed} failed")
+    return 1 if failed else 0
+
+
+if __name__ == "__main__":
+    sys.exit(main())
