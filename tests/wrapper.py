@@ -91,7 +91,7 @@ def rows():
         output, errors, status, calls = tree.run()
         wanted = [
             "trace_cli: not built for these sources yet; rt proves 3 crates first, where it hasn't yet, each in about"
-            " 1 to 2 minutes; see out/trace_cli.log",
+            " a minute; see out/trace_cli.log",
             "trace_cli: low (1 of 3)", "trace_cli: middle (2 of 3)", "trace_cli: trace_cli (3 of 3)",
         ]
         log = (tree.top / "out" / "trace_cli.log").read_text()
