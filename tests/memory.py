@@ -1,5 +1,5 @@
 #!/usr/bin/env python3
-"""Refuses each allocation of `trace_cli seq`, `trace_cli run` and `trace_cli audit` in turn, and each thread of a run.
+"""Refuses each allocation of `trace_cli seq`, `trace_cli run` and `trace_cli audit`, of `why` and of `replay` in turn, and each thread of a run.
 
 Usage: tests/memory.py [COMMAND ..]
 
@@ -9,7 +9,8 @@ second and so on allocation refused, until a run meets none: a run that was
 refused one says `stopped NoMemory`, writes nothing on standard output and has
 status 3, and the last one answers as if nothing was refused. A run on threads
 may say `stopped NoThread` too, or go to its end although a thread was refused; so may one
-whose first, second and so on thread is refused. There is a thread for each core. Where the C
+whose first, second and so on thread is refused. There is a thread for each core. `why` and `replay` are the
+programs that were built beside the one that is tested; a line says where one isn't there. Where the C
 compiler `cc` isn't installed the test is skipped, and a line says so. Exits
 with 1 where a run differs.
 """
@@ -102,6 +103,18 @@ ON_THREADS = [
     ("more cores than the version allows", ["run", "--cores", "9"], FOUR, ("", "usage\n", 2)),
 ]
 
+# the same, of the other programs: (what it shows, program, words, input, what is printed)
+CRATES = ROOT / "crates"
+OTHERS = [
+    ("why of a worked history", "why", [], (CRATES / "why" / "stdin").read_text(), ((CRATES / "why" / "stdout").read_text(), "", 0)),
+    ("a worked schedule", "replay", ["caches", "2"], (CRATES / "replay" / "stdin").read_text(), ((CRATES / "replay" / "stdout").read_text(), "", 0)),
+    ("one schedule", "replay", ["all", "plain", "1", "4"], image(COUNTER),
+     ("schedules 1\nover 1\nhistories 1\nleast 0\nturns 0 0 0 0\nmost 0\nturns 0 0 0 0\nend done 1\n", "", 0)),
+    # The core that is first takes the epoch, and needs three of the other four turns to start, load, store and commit.
+    ("32 schedules", "replay", ["all", "caches", "2", "5"], image(COUNTER),
+     ("schedules 32\nover 10\nhistories 8\nleast 0\nturns 0 0 0 0 0\nmost 0\nturns 0 0 0 0 0\nend done 1\n", "", 0)),
+]
+
 
 def run(command, shim, text, kind, number):
     """The outcome with the allocation or thread of this number refused, and whether there was such a one."""
@@ -136,6 +149,13 @@ def without_the_wrapper(command):
     return [str(ROOT / "crates" / "trace_cli" / "out" / "trace_cli"), *command[1:]]
 
 
+def beside(command, name):
+    """The program of this name that was built beside the one that is tested, or None."""
+    crates = Path(command[0]).resolve().parents
+    program = crates[2] / name / "out" / name if len(crates) > 2 else None
+    return program if program and program.is_file() else None
+
+
 def main():
     command = without_the_wrapper(sys.argv[1:] or [str(ROOT / "trace_cli"), "seq"])
     if shutil.which("cc") is None:
@@ -155,10 +175,16 @@ def main():
             if not wrong and number != threads + 1:
                 wrong = f"{name}: {number - 1} threads were started, not {threads}"
             results.append((wrong, number))
+        built = [(row, beside(command, row[1])) for row in OTHERS]
+        results += [differences([program, *words], shim, name, text, expected)
+                    for (name, _, words, text, expected), program in built if program]
+    for name in sorted({row[1] for row, program in built if program is None}):
+        print(f"SKIPPED: refused allocations of {name}, since no such program was built beside the one that is tested")
     wrong = [text for text, _ in results if text]
     for text in wrong:
         print(f"FAILED {text}")
-    print(f"{sum(number for _, number in results)} runs of {len(RUNS + AUDITS + ON_THREADS)} rows, {len(wrong)} failed")
+    rows = len(RUNS + AUDITS + ON_THREADS) + sum(program is not None for _, program in built)
+    print(f"{sum(number for _, number in results)} runs of {rows} rows, {len(wrong)} failed")
     return 1 if wrong else 0
 
 
