@@ -19,11 +19,11 @@ impl<S: EpochStore> Parts<S> {
         &mut self,
         shares: &mut Shares,
         core: u32,
-        now: Running,
+        now: &Running,
         arrived: &Arrived,
     ) -> Answer
         requires budget { 2 ≤ S.budget self.old.store }
-        requires arrives { Arrives self.old.register (S.view self.old.store) shares.old core now arrived.now arrived.now.at }
+        requires arrives { Arrives self.old.register (S.view self.old.store) shares.old core now.now arrived.now arrived.now.at }
         requires ended { arrived.now.at ≡ Stop.Ended }
         ensures { Acted self.old.register self.new.register (S.view self.old.store) (S.view self.new.store) shares.old shares.new core (Some arrived.entry.now) result }
     {
@@ -38,12 +38,12 @@ impl<S: EpochStore> Parts<S> {
     }
 
     /// The homefree core publishes, unless it is straight, and notes whom that hurts.
-    fn settle(&mut self, core: u32, now: Running)
+    fn settle(&mut self, core: u32, now: &Running)
         requires budget { 1 ≤ S.budget self.old.store }
-        requires runs { RunsEpoch self.old.register (S.view self.old.store) core now }
+        requires runs { RunsEpoch self.old.register (S.view self.old.store) core now.now }
         requires room { vec_len self.old.register.history + length self.old.register.running.items ≤ vec_capacity self.old.register.history }
-        requires homefree { now.epoch ≡ self.old.register.homefree }
-        ensures settled { Settled self.old.register self.new.register (S.view self.old.store) (S.view self.new.store) core now }
+        requires homefree { now.now.epoch ≡ self.old.register.homefree }
+        ensures settled { Settled self.old.register self.new.register (S.view self.old.store) (S.view self.new.store) core now.now }
         ensures budget { S.budget self.old.store ≤ S.budget self.new.store + 1 }
     {
         if now.straight {
@@ -54,32 +54,30 @@ impl<S: EpochStore> Parts<S> {
     }
 
     /// The homefree epoch commits, and is left.
-    fn commit(&mut self, shares: &mut Shares, core: u32, now: Running, arrived: &Arrived) -> Answer
+    fn commit(&mut self, shares: &mut Shares, core: u32, now: &Running, arrived: &Arrived) -> Answer
         requires budget { 2 ≤ S.budget self.old.store }
-        requires arrives { Arrives self.old.register (S.view self.old.store) shares.old core now arrived.now arrived.now.at }
+        requires arrives { Arrives self.old.register (S.view self.old.store) shares.old core now.now arrived.now arrived.now.at }
         requires ended { arrived.now.at ≡ Stop.Ended }
-        requires homefree { now.epoch ≡ self.old.register.homefree }
+        requires homefree { now.now.epoch ≡ self.old.register.homefree }
         requires stays { spec.exits self.old.register.image arrived.now.now ≡ false }
         ensures { Acted self.old.register self.new.register (S.view self.old.store) (S.view self.new.store) shares.old shares.new core (Some arrived.entry.now) result }
     {
-        let run = now;
-        self.settle(core, run);
+        self.settle(core, now);
         self.register.commit(shares, core, now, arrived);
         self.store.leave(core);
         left_or_over(self.register.end)
     }
 
     /// The homefree epoch exits the loop: all other cores are cancelled, and it commits.
-    fn exit(&mut self, shares: &mut Shares, core: u32, now: Running, arrived: &Arrived) -> Answer
+    fn exit(&mut self, shares: &mut Shares, core: u32, now: &Running, arrived: &Arrived) -> Answer
         requires budget { 2 ≤ S.budget self.old.store }
-        requires arrives { Arrives self.old.register (S.view self.old.store) shares.old core now arrived.now arrived.now.at }
+        requires arrives { Arrives self.old.register (S.view self.old.store) shares.old core now.now arrived.now arrived.now.at }
         requires ended { arrived.now.at ≡ Stop.Ended }
-        requires homefree { now.epoch ≡ self.old.register.homefree }
+        requires homefree { now.now.epoch ≡ self.old.register.homefree }
         requires exits { spec.exits self.old.register.image arrived.now.now ≡ true }
         ensures { Acted self.old.register self.new.register (S.view self.old.store) (S.view self.new.store) shares.old shares.new core (Some arrived.entry.now) result }
     {
-        let run = now;
-        self.settle(core, run);
+        self.settle(core, now);
         cancel_attempts(&mut self.store, &self.register.running, core);
         self.register.cancel_all(core);
         self.register.commit(shares, core, now, arrived);
@@ -92,13 +90,13 @@ impl<S: EpochStore> Parts<S> {
         &mut self,
         shares: &mut Shares,
         core: u32,
-        now: Running,
+        now: &Running,
         arrived: &Arrived,
         cause: u32,
         pc: u32,
     ) -> Answer
         requires budget { 2 ≤ S.budget self.old.store }
-        requires arrives { Arrives self.old.register (S.view self.old.store) shares.old core now arrived.now arrived.now.at }
+        requires arrives { Arrives self.old.register (S.view self.old.store) shares.old core now.now arrived.now arrived.now.at }
         requires faulted { arrived.now.at ≡ Stop.Fault cause pc }
         ensures { Acted self.old.register self.new.register (S.view self.old.store) (S.view self.new.store) shares.old shares.new core (Some arrived.entry.now) result }
     {
@@ -108,8 +106,7 @@ impl<S: EpochStore> Parts<S> {
         if epoch != self.register.homefree {
             return Answer::Again(Cause::NotHomefree);
         }
-        let run = now;
-        self.settle(core, run);
+        self.settle(core, now);
         self.register.fault(core, now, cause, pc);
         Answer::Over(End::Fault { epoch, cause, pc })
     }

@@ -34,13 +34,13 @@ impl<S: EpochStore> Parts<S> {
             None => self.start(shares, core, next),
             Some(now) => {
                 if now.hurt {
-                    self.restart(shares, core, now, next)
+                    self.restart(shares, core, &now, next)
                 } else {
                     match next {
                         None => Answer::Go(now.hart),
                         Some(arrived) => {
                             if arrived.base() == now.hart {
-                                self.run(shares, core, now, arrived)
+                                self.run(shares, core, &now, arrived)
                             } else {
                                 Answer::Go(now.hart)
                             }
@@ -52,9 +52,9 @@ impl<S: EpochStore> Parts<S> {
     }
 
     /// A core that runs its epoch hands in its next event.
-    fn run(&mut self, shares: &mut Shares, core: u32, now: Running, arrived: &Arrived) -> Answer
+    fn run(&mut self, shares: &mut Shares, core: u32, now: &Running, arrived: &Arrived) -> Answer
         requires budget { 2 ≤ S.budget self.old.store }
-        requires arrives { Arrives self.old.register (S.view self.old.store) shares.old core now arrived.now arrived.now.at }
+        requires arrives { Arrives self.old.register (S.view self.old.store) shares.old core now.now arrived.now arrived.now.at }
         ensures { Acted self.old.register self.new.register (S.view self.old.store) (S.view self.new.store) shares.old shares.new core (Some arrived.entry.now) result }
     {
         let at = arrived.at();
@@ -109,7 +109,7 @@ impl<S: EpochStore> Parts<S> {
         &mut self,
         shares: &mut Shares,
         core: u32,
-        now: Running,
+        now: &Running,
         next: Option<&Arrived>,
     ) -> Answer
         requires core { core < length self.old.register.running.items }
@@ -117,8 +117,8 @@ impl<S: EpochStore> Parts<S> {
         requires notes { MayNote self.old.register shares.old }
         requires fits { Fits self.old.register (S.view self.old.store) }
         requires going { self.old.register.end ≡ None }
-        requires runs { running_at self.old.register.running.items core ≡ Some now }
-        requires hurt { now.hurt ≡ true }
+        requires runs { running_at self.old.register.running.items core ≡ Some now.now }
+        requires hurt { now.now.hurt ≡ true }
         ensures { Acted self.old.register self.new.register (S.view self.old.store) (S.view self.new.store) shares.old shares.new core (option_copied next.entry) result }
     {
         let _ = next;

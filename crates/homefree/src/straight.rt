@@ -12,19 +12,18 @@ use violations::EpochStore;
 
 impl<S: EpochStore> Parts<S> {
     /// The homefree core publishes, unless it is straight. Answers what it runs then.
-    fn go_straight(&mut self, core: u32, now: Running) -> Running
+    fn go_straight(&mut self, core: u32, now: &Running) -> Running
         requires budget { 1 ≤ S.budget self.old.store }
-        requires runs { RunsEpoch self.old.register (S.view self.old.store) core now }
+        requires runs { RunsEpoch self.old.register (S.view self.old.store) core now.now }
         requires room { vec_len self.old.register.history + length self.old.register.running.items ≤ vec_capacity self.old.register.history }
-        requires homefree { now.epoch ≡ self.old.register.homefree }
-        ensures straight { WentStraight self.old.register self.new.register (S.view self.old.store) (S.view self.new.store) core now result }
+        requires homefree { now.now.epoch ≡ self.old.register.homefree }
+        ensures straight { WentStraight self.old.register self.new.register (S.view self.old.store) (S.view self.new.store) core now.now result }
         ensures budget { S.budget self.old.store ≤ S.budget self.new.store + 1 }
     {
         if now.straight {
-            return now;
+            return *now;
         }
-        let run = now;
-        let straight = run.straightened();
+        let straight = now.straightened();
         let hurt = self.store.publish(core);
         self.store.look();
         self.register.publish(core, now, hurt);
@@ -36,14 +35,14 @@ impl<S: EpochStore> Parts<S> {
         &mut self,
         shares: &mut Shares,
         core: u32,
-        now: Running,
+        now: &Running,
         arrived: &Arrived,
         addr: u32,
         width: u32,
     ) -> Answer
         requires budget { 2 ≤ S.budget self.old.store }
-        requires arrives { Arrives self.old.register (S.view self.old.store) shares.old core now arrived.now arrived.now.at }
-        requires homefree { now.epoch ≡ self.old.register.homefree }
+        requires arrives { Arrives self.old.register (S.view self.old.store) shares.old core now.now arrived.now arrived.now.at }
+        requires homefree { now.now.epoch ≡ self.old.register.homefree }
         requires load { (signed : Bool) × (rd : ℕ) × (arrived.now.at ≡ Stop.Load addr width signed rd) }
         ensures { Acted self.old.register self.new.register (S.view self.old.store) (S.view self.new.store) shares.old shares.new core (Some arrived.entry.now) result }
     {
@@ -52,7 +51,7 @@ impl<S: EpochStore> Parts<S> {
         self.store.look();
         let hart = self
             .register
-            .load(shares, core, straight, arrived, addr, width, value, hurt);
+            .load(shares, core, &straight, arrived, addr, width, value, hurt);
         Answer::Go(hart)
     }
 
@@ -61,15 +60,15 @@ impl<S: EpochStore> Parts<S> {
         &mut self,
         shares: &mut Shares,
         core: u32,
-        now: Running,
+        now: &Running,
         arrived: &Arrived,
         addr: u32,
         width: u32,
         value: u32,
     ) -> Answer
         requires budget { 2 ≤ S.budget self.old.store }
-        requires arrives { Arrives self.old.register (S.view self.old.store) shares.old core now arrived.now arrived.now.at }
-        requires homefree { now.epoch ≡ self.old.register.homefree }
+        requires arrives { Arrives self.old.register (S.view self.old.store) shares.old core now.now arrived.now arrived.now.at }
+        requires homefree { now.now.epoch ≡ self.old.register.homefree }
         requires store { arrived.now.at ≡ Stop.Store addr width value }
         ensures { Acted self.old.register self.new.register (S.view self.old.store) (S.view self.new.store) shares.old shares.new core (Some arrived.entry.now) result }
     {
@@ -78,7 +77,7 @@ impl<S: EpochStore> Parts<S> {
         self.store.look();
         let hart = self
             .register
-            .store(shares, core, straight, arrived, addr, width, value, hurt);
+            .store(shares, core, &straight, arrived, addr, width, value, hurt);
         Answer::Go(hart)
     }
 }

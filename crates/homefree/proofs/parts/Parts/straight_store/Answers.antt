@@ -14,8 +14,8 @@ straight_store-hurt-requires-clause-access g c =
     let old = c.args.self.now in
     let mid = c.go_straight-straight.new.self in
     may_store mid.register (view mid.store) c.args.core c.go_straight-straight.result c.args.arrived.now c.args.addr c.args.width c.args.value c.go_straight-straight.ensures.straight.running.fits
-    (at_after old.register mid.register (view old.store) (view mid.store) c.args.core c.args.now c.go_straight-straight.result c.args.arrived.now _ c.go_straight-straight.ensures.straight
-    (at_this old.register c.args.core c.args.now c.args.arrived.now _ c.requires.arrives.is_at c.requires.store))
+    (at_after old.register mid.register (view old.store) (view mid.store) c.args.core c.args.now.now c.go_straight-straight.result c.args.arrived.now _ c.go_straight-straight.ensures.straight
+    (at_this old.register c.args.core c.args.now.now c.args.arrived.now _ c.requires.arrives.is_at c.requires.store))
 
 pub store-hart-requires-clause-may : goal.store-hart-requires-clause-may
 store-hart-requires-clause-may g c =
@@ -24,7 +24,7 @@ store-hart-requires-clause-may g c =
     let mid = c.go_straight-straight.new.self in
     may_hurt mid.register (view mid.store) (view c.straight_store-hurt.new.self) c.args.core c.go_straight-straight.result (is_in c.straight_store-hurt.result) c.go_straight-straight.ensures.straight.running
     c.straight_store-hurt.ensures.stores.others
-    (room_of_other old.register mid.register (view old.store) (view mid.store) c.args.core c.args.now c.go_straight-straight.result c.go_straight-straight.ensures.straight c.requires.arrives.notes.room)
+    (room_of_other old.register mid.register (view old.store) (view mid.store) c.args.core c.args.now.now c.go_straight-straight.result c.go_straight-straight.ensures.straight c.requires.arrives.notes.room)
 
 pub store-hart-requires-clause-totals : goal.store-hart-requires-clause-totals
 store-hart-requires-clause-totals g c =
@@ -36,14 +36,14 @@ store-hart-requires-clause-at g c =
     let view = g.S.EpochStore.view in
     let old = c.args.self.now in
     let mid = c.go_straight-straight.new.self in
-    at_after old.register mid.register (view old.store) (view mid.store) c.args.core c.args.now c.go_straight-straight.result c.args.arrived.now _ c.go_straight-straight.ensures.straight
-    (at_this old.register c.args.core c.args.now c.args.arrived.now _ c.requires.arrives.is_at c.requires.store)
+    at_after old.register mid.register (view old.store) (view mid.store) c.args.core c.args.now.now c.go_straight-straight.result c.args.arrived.now _ c.go_straight-straight.ensures.straight
+    (at_this old.register c.args.core c.args.now.now c.args.arrived.now _ c.requires.arrives.is_at c.requires.store)
 
 pub returns : goal.returns
 returns g c =
     let view = g.S.EpochStore.view in
     let old = c.args.self.now in
     let mid = c.go_straight-straight.new.self in
-    stored_straight old.register mid.register (view old.store) (view mid.store) c.args.core c.args.now c.go_straight-straight.result c.requires.arrives.running c.requires.homefree c.go_straight-straight.ensures.straight
+    stored_straight old.register mid.register (view old.store) (view mid.store) c.args.core c.args.now.now c.go_straight-straight.result c.requires.arrives.running c.requires.homefree c.go_straight-straight.ensures.straight
     c.store-hart.new.self (view c.straight_store-hurt.new.self) c.args.shares.now c.store-hart.new.shares c.args.arrived.now c.args.addr c.args.width c.args.value (is_in c.straight_store-hurt.result) c.store-hart.result
-    (at_this old.register c.args.core c.args.now c.args.arrived.now _ c.requires.arrives.is_at c.requires.store) c.look.ensures c.straight_store-hurt.ensures.stores c.store-hart.ensures.hart c.store-hart.ensures.steps
+    (at_this old.register c.args.core c.args.now.now c.args.arrived.now _ c.requires.arrives.is_at c.requires.store) c.look.ensures c.straight_store-hurt.ensures.stores c.store-hart.ensures.hart c.store-hart.ensures.steps
