@@ -12,9 +12,10 @@ ghost use Rattle.homefree.specs.Turned.{Turned, turn_at};
 ghost use Rattle.homefree.specs.Grown.{GrowsBy};
 ghost use Rattle.homefree.specs.Again.{IfAgain, IsWhy};
 ghost use Rattle.homefree.specs.Acted.{IfArrived};
+ghost use Rattle.homefree.specs.Came as spec;
 ghost use Rattle.homefree.specs.Counted.{IsNoMore};
 
-use crate::answer::{Answer, Cause, StopCause};
+use crate::answer::{Answer, Came, Cause, StopCause};
 use crate::fault::TurnFault;
 use crate::opening::{end_at_first, idle_cores};
 use crate::parts::Parts;
@@ -228,7 +229,24 @@ fn turn_within<S: EpochStore>(
     let Ok(()) = make_room(parts, free) else {
         return Err(TurnFault::NoMemory);
     };
-    Ok(parts.turn(shares, core, next))
+    let came = parts.turn(shares, core, next);
+    Ok(answer_of(&parts.register, core, came))
+}
+
+/// What the book answers, where a turn at its parts came to this.
+fn answer_of(register: &Register, core: u32, came: Came) -> Answer
+    requires { core < length register.now.running.items }
+    ensures { result ≡ spec.answer_of register.now.running.items core came }
+{
+    match came {
+        Came::Goes => match &register.running[core as usize] {
+            Some(now) => Answer::Go(now.hart),
+            None => Answer::Left,
+        },
+        Came::Again(cause) => Answer::Again(cause),
+        Came::Left => Answer::Left,
+        Came::Over(end) => Answer::Over(end),
+    }
 }
 
 /// How many entries of the history a turn has to find free.

@@ -5,6 +5,7 @@ ghost use Rattle.rv32_exec.specs.Hart.{start_of, stepped};
 ghost use Rattle.rv32_exec.specs.Arrival.{after_loading, IsAtLoad};
 ghost use Rattle.run_ledger.specs.declared.counts.Counts.{Counts};
 ghost use Rattle.homefree.specs.Kept.{running_at};
+ghost use Rattle.homefree.specs.Came.{answer_of};
 ghost use Rattle.homefree.specs.Arms.{MayHurt};
 ghost use Rattle.homefree.specs.AtStop.{IsAtStop};
 ghost use Rattle.homefree.specs.Noted.{hurts_noted};
@@ -13,6 +14,7 @@ ghost use Rattle.homefree.specs.Steps.{Steps};
 ghost use Rattle.spec_history.specs.FlatState as flat;
 ghost use Rattle.homefree.specs.Hurts as spec;
 
+use crate::answer::{Answer, Came};
 use crate::register::{Register, Running};
 use run_ledger::{Shares, count_commit, count_load, count_restart, count_store};
 use rv32_exec::{Arrived, End, Hart, Image, Stop, loaded, start, stored};
@@ -55,14 +57,14 @@ pub(crate) fn set_hart(running: &mut Vec<Option<Running>>, core: u32, hart: &Har
 }
 
 impl Register {
-    /// An idle core starts the next epoch. Answers the hart at its start.
-    pub(crate) fn start(&mut self, core: u32) -> Hart
+    /// An idle core starts the next epoch.
+    pub(crate) fn start(&mut self, core: u32)
         requires core { core < length self.old.running.items }
         requires room { vec_len self.old.history < vec_capacity self.old.history }
         requires image { IsImage self.old.image }
         requires left { self.old.next_epoch < self.old.image.epochs }
         requires idle { running_at self.old.running.items core ≡ None }
-        ensures hart { result ≡ start_of self.old.image self.old.next_epoch }
+        ensures hart { answer_of self.new.running.items core Came.Goes ≡ Answer.Go (start_of self.old.image self.old.next_epoch) }
         ensures steps { (shares : Counts) → Steps self.old self.new shares shares (spec.entry core (What.Start self.old.next_epoch)) }
     {
         let epoch = self.next_epoch;
@@ -76,17 +78,16 @@ impl Register {
         };
         set_running(&mut self.running, core, Some(now));
         self.next_epoch = epoch + 1;
-        hart
     }
 
-    /// A core that was hurt begins its epoch again. Answers the hart at its start.
-    pub(crate) fn restart(&mut self, shares: &mut Shares, core: u32, epoch: u32) -> Hart
+    /// A core that was hurt begins its epoch again.
+    pub(crate) fn restart(&mut self, shares: &mut Shares, core: u32, epoch: u32)
         requires core { core < length self.old.running.items }
         requires room { vec_len self.old.history < vec_capacity self.old.history }
         requires totals { self.old.totals.restarts < 2 ^ 63 }
         requires shares { shares.old.restarts < 2 ^ 63 }
         requires runs { (now : Running) × (running_at self.old.running.items core ≡ Some now) × (now.epoch ≡ epoch) }
-        ensures hart { result ≡ start_of self.old.image epoch }
+        ensures hart { answer_of self.new.running.items core Came.Goes ≡ Answer.Go (start_of self.old.image epoch) }
         ensures steps { Steps self.old self.new shares.old shares.new (spec.entry core What.Restart) }
     {
         note(&mut self.history, core, What::Restart);
@@ -99,10 +100,9 @@ impl Register {
             hurt: false,
         };
         set_running(&mut self.running, core, Some(now));
-        hart
     }
 
-    /// The core's load hurts these others, and gives this value. Answers its hart then.
+    /// The core's load hurts these others, and gives this value.
     pub(crate) fn load(
         &mut self,
         shares: &mut Shares,
@@ -113,13 +113,13 @@ impl Register {
         width: u32,
         value: u32,
         hurt: CoreSet,
-    ) -> Hart
+    )
         requires may { MayHurt self.old core now.now (is_in hurt) }
         requires totals { self.old.totals.loads < 2 ^ 63 }
         requires shares { shares.old.loads < 2 ^ 63 }
         requires at { IsAtStop self.old core now.now arrived.now arrived.now.at }
         requires value { IsAtLoad arrived.now.at value }
-        ensures hart { result ≡ after_loading arrived.entry.now value }
+        ensures hart { answer_of self.new.running.items core Came.Goes ≡ Answer.Go (after_loading arrived.entry.now value) }
         ensures steps { Steps self.old self.new shares.old shares.new (hurts_noted core (is_in hurt) self.old.running.items (length self.old.running.items) ++ spec.entry core (What.Load addr width value)) }
     {
         self.hurt_all(core, hurt);
@@ -127,10 +127,9 @@ impl Register {
         count_load(&mut self.totals, shares);
         let hart = loaded(arrived, value);
         set_hart(&mut self.running, core, &hart);
-        hart
     }
 
-    /// The core's store hurts these others. Answers its hart then.
+    /// The core's store hurts these others.
     pub(crate) fn store(
         &mut self,
         shares: &mut Shares,
@@ -141,12 +140,12 @@ impl Register {
         width: u32,
         value: u32,
         hurt: CoreSet,
-    ) -> Hart
+    )
         requires may { MayHurt self.old core now.now (is_in hurt) }
         requires totals { self.old.totals.stores < 2 ^ 63 }
         requires shares { shares.old.stores < 2 ^ 63 }
         requires at { IsAtStop self.old core now.now arrived.now (Stop.Store addr width value) }
-        ensures hart { result ≡ stepped arrived.entry.now.now }
+        ensures hart { answer_of self.new.running.items core Came.Goes ≡ Answer.Go (stepped arrived.entry.now.now) }
         ensures steps { Steps self.old self.new shares.old shares.new (hurts_noted core (is_in hurt) self.old.running.items (length self.old.running.items) ++ spec.entry core (What.Store addr width value)) }
     {
         self.hurt_all(core, hurt);
@@ -154,7 +153,6 @@ impl Register {
         count_store(&mut self.totals, shares);
         let hart = stored(arrived);
         set_hart(&mut self.running, core, &hart);
-        hart
     }
 
     /// The homefree core publishes, which hurts these others.

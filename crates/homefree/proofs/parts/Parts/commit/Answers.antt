@@ -47,6 +47,6 @@ returns g c =
     let old = c.args.self.now in
     let mid = c.settle.new.self in
     committed old.register mid.register (view old.store) (view mid.store) c.args.core c.args.now.now c.requires.arrives.running c.requires.homefree c.settle.ensures.settled
-    c.commit.new.self (view c.leave.new.self) c.args.shares.now c.commit.new.shares c.args.arrived.now c.left_or_over.result
-    (at_this old.register c.args.core c.args.now.now c.args.arrived.now Ended c.requires.arrives.is_at c.requires.ended) c.requires.stays c.leave.ensures.leaves c.left_or_over.ensures c.commit.ensures.end
+    c.commit.new.self (view c.leave.new.self) c.args.shares.now c.commit.new.shares c.args.arrived.now _
+    (at_this old.register c.args.core c.args.now.now c.args.arrived.now Ended c.requires.arrives.is_at c.requires.ended) c.requires.stays c.leave.ensures.leaves (c.left_or_over.ensures c.commit.new.self.running.items c.args.core) c.commit.ensures.end
     c.commit.ensures.steps

@@ -80,5 +80,5 @@ returns g c =
     let mid = c.settle.new.self in
     exited old.register mid.register (view old.store) (view mid.store) c.args.core c.args.now.now c.requires.arrives.running c.requires.homefree c.settle.ensures.settled c.args.arrived.now
     (at_this old.register c.args.core c.args.now.now c.args.arrived.now Ended c.requires.arrives.is_at c.requires.ended) c.requires.exits c.cancel_all.new.self c.cancel_all.ensures.steps
-    c.commit.new.self (view c.cancel_attempts.new.store) (view c.leave.new.self) c.args.shares.now c.commit.new.shares c.left_or_over.result
-    c.cancel_attempts.ensures.cancels c.leave.ensures.leaves c.left_or_over.ensures c.commit.ensures.end c.commit.ensures.steps
+    c.commit.new.self (view c.cancel_attempts.new.store) (view c.leave.new.self) c.args.shares.now c.commit.new.shares _
+    c.cancel_attempts.ensures.cancels c.leave.ensures.leaves (c.left_or_over.ensures c.commit.new.self.running.items c.args.core) c.commit.ensures.end c.commit.ensures.steps
