@@ -12,7 +12,7 @@ use crate::gate::Gate;
 use crossbeam_utils::Backoff;
 use homefree::{Answer, Book, StopCause, TurnFault};
 use run_ledger::Shares;
-use rv32_exec::{Arrived, End, Hart, Image, advance};
+use rv32_exec::{Arrived, End, Hart, Image, advance, start};
 use std::sync::Wait;
 use ticket_lock::{Pass, TicketLock};
 use violations::EpochStore;
@@ -30,8 +30,8 @@ pub enum LoopEnd {
 
 /// What comes of a turn.
 enum After {
-    /// The core goes on from this hart.
-    Goes(Hart),
+    /// The core goes on from the hart that the turn has set.
+    Goes,
     /// It has to come again with what it has.
     Waits,
     /// It is idle.
@@ -67,6 +67,8 @@ pub fn core_loop<S: EpochStore, G: Gate, R: Wait>(
     let mut pass = pass;
     let mut shares = shares;
     let mut next = None;
+    // In one place, since a hart is large: each turn that goes on sets it.
+    let mut hart = start(image, 0);
     let mut turn = 0u64;
     for _ in rt.forever() {
         if gate.pass(core, turn, next.as_ref()).is_err() {
@@ -74,11 +76,11 @@ pub fn core_loop<S: EpochStore, G: Gate, R: Wait>(
             return (later, shares, end);
         }
         turn = turn.saturating_add(1);
-        let (later, counted, after) = one_turn(rt, lock, pass, shares, next.as_ref());
+        let (later, counted, after) = one_turn(rt, lock, pass, shares, next.as_ref(), &mut hart);
         pass = later;
         shares = counted;
         match after {
-            After::Goes(hart) => {
+            After::Goes => {
                 backoff.reset();
                 next = Some(advance(image, hart));
             }
@@ -90,13 +92,14 @@ pub fn core_loop<S: EpochStore, G: Gate, R: Wait>(
     unreachable!()
 }
 
-/// Takes the lock for one turn.
+/// Takes the lock for one turn. Sets the hart where the core goes on.
 fn one_turn<S: EpochStore, R: Wait>(
     rt: &R,
     lock: &TicketLock<Book<S>>,
     pass: Pass<Book<S>>,
     shares: Shares,
     next: Option<&Arrived>,
+    hart: &mut Hart,
 ) -> (Pass<Book<S>>, Shares, After)
     requires own { pass.lock ≡ Some lock.now }
     requires core { (pass.lo < lock.now.fixed.cores) × (lock.now.fixed.cores ≤ 16) }
@@ -111,19 +114,20 @@ fn one_turn<S: EpochStore, R: Wait>(
     let mut shares = shares;
     match lock.lock(rt, pass) {
         Ok(mut held) => {
-            let after = take_turn(held.value(), core, next, &mut shares);
+            let after = take_turn(held.value(), core, next, &mut shares, hart);
             (held.release(), shares, after)
         }
         Err((_, pass)) => (pass, shares, After::Ends(LoopEnd::Spent)),
     }
 }
 
-/// One turn of a core at the book. Where it fails, the book is stopped for that.
+/// One turn of a core at the book. Sets the hart where the core goes on. Where the turn fails, the book is stopped for that.
 fn take_turn<S: EpochStore>(
     book: &mut Book<S>,
     core: u32,
     next: Option<&Arrived>,
     shares: &mut Shares,
+    hart: &mut Hart,
 ) -> After
     requires core { core < book.old.cores }
     requires next { IfArrived book.old.image (option_copied next) }
@@ -134,26 +138,27 @@ fn take_turn<S: EpochStore>(
     ensures spent { result ≢ After.Ends LoopEnd.Spent }
 {
     book.look();
-    match book.turn(core, next, shares) {
-        Ok(answer) => {
-            book.look();
-            goes_on(answer)
-        }
+    let turned = book.turn(core, next, shares);
+    book.look();
+    match &turned {
+        Ok(answer) => goes_on(answer, hart),
         Err(fault) => {
-            book.look();
-            stop_for(book, fault);
+            stop_for(book, *fault);
             After::Ends(LoopEnd::Stopped)
         }
     }
 }
 
-/// What comes of an answer.
-fn goes_on(answer: Answer) -> After
-    ensures over { result ≡ After.Ends LoopEnd.Over → (end : End) × (answer ≡ Answer.Over end) }
+/// What comes of an answer. Sets the hart where the core goes on.
+fn goes_on(answer: &Answer, hart: &mut Hart) -> After
+    ensures over { result ≡ After.Ends LoopEnd.Over → (end : End) × (answer.now ≡ Answer.Over end) }
     ensures spent { result ≢ After.Ends LoopEnd.Spent }
 {
     match answer {
-        Answer::Go(hart) => After::Goes(hart),
+        Answer::Go(reached) => {
+            *hart = *reached;
+            After::Goes
+        }
         Answer::Again(_) => After::Waits,
         Answer::Left => After::Leaves,
         Answer::Over(_) => After::Ends(LoopEnd::Over),

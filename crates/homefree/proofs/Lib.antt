@@ -9,6 +9,7 @@ pub mod NeverAgain
 pub mod Steps
 pub mod Noting
 pub mod Acting
+pub mod Coming
 pub mod Batches
 pub mod Hurting
 pub mod Standing

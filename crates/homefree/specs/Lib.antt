@@ -16,6 +16,7 @@ pub mod Kept
 pub mod Steps
 pub mod AtStop
 pub mod Acted
+pub mod Came
 pub mod Noted
 pub mod Arms
 pub mod Again

@@ -15,6 +15,19 @@ pub enum Answer {
     Stopped(StopCause),
 }
 
+/// What a turn at the book's parts came to. It has no hart, which is large: the register has it.
+#[derive(Clone, Copy)]
+pub(crate) enum Came {
+    /// The core goes on from the hart that the register has of it.
+    Goes,
+    /// The core has to come again with what it has.
+    Again(Cause),
+    /// The core's epoch has committed, and the core is idle.
+    Left,
+    /// The loop is over.
+    Over(End),
+}
+
 /// Why a core has to come again.
 #[derive(Clone, Copy, Debug, PartialEq, Eq)]
 pub enum Cause {

@@ -12,9 +12,10 @@ ghost use Rattle.homefree.specs.Turned.{Turned, turn_at};
 ghost use Rattle.homefree.specs.Grown.{GrowsBy};
 ghost use Rattle.homefree.specs.Again.{IfAgain, IsWhy};
 ghost use Rattle.homefree.specs.Acted.{IfArrived};
+ghost use Rattle.homefree.specs.Came as spec;
 ghost use Rattle.homefree.specs.Counted.{IsNoMore};
 
-use crate::answer::{Answer, Cause, StopCause};
+use crate::answer::{Answer, Came, Cause, StopCause};
 use crate::fault::TurnFault;
 use crate::opening::{end_at_first, idle_cores};
 use crate::parts::Parts;
@@ -30,10 +31,19 @@ use violations::EpochStore;
 /// A history of speculative epochs, with the store and the cores that it has led to.
 #[derive(Drop)]
 pub struct Book<S: EpochStore> {
-    /// In a block of their own, so that a lock hands over a few words.
-    pub(crate) parts: Box<Parts<S>>,
-    pub(crate) room: u32,
-    pub(crate) stopped: Option<StopCause>,
+    /// In a block of its own, so that a lock hands over one word.
+    pub(crate) inside: Box<Inside<S>>,
+}
+
+/// What a book has.
+#[derive(Drop)]
+pub(crate) struct Inside<S: EpochStore> {
+    /// The history, where it has led, and the store.
+    pub parts: Parts<S>,
+    /// How many entries the history may have.
+    pub room: u32,
+    /// Why no more turns are taken, where that is so.
+    pub stopped: Option<StopCause>,
 }
 
 impl<S: EpochStore> Model for Book<S> {
@@ -43,9 +53,9 @@ impl<S: EpochStore> Model for Book<S> {
 
     ghost Value = { BookView S };
 
-    ghost view = { λ b. record { image = b.parts.value.register.image; cores = length b.parts.value.register.running.items; room = b.room; history = b.parts.value.register.history.items; totals = b.parts.value.register.totals; store = b.parts.value.store; stopped = b.stopped } };
+    ghost view = { λ b. record { image = b.inside.value.parts.register.image; cores = length b.inside.value.parts.register.running.items; room = b.inside.value.room; history = b.inside.value.parts.register.history.items; totals = b.inside.value.parts.register.totals; store = b.inside.value.parts.store; stopped = b.inside.value.stopped } };
 
-    ghost invariant = { λ b. IsBook b.parts.value.register (S.view b.parts.value.store) b.room b.stopped };
+    ghost invariant = { λ b. IsBook b.inside.value.parts.register (S.view b.inside.value.parts.store) b.inside.value.room b.inside.value.stopped };
 }
 
 /// What stays as it was while turns are taken. No value of it is made.
@@ -107,14 +117,15 @@ impl<S: EpochStore> Book<S> {
             next_epoch: 0,
             end,
         };
-        let Ok(parts) = Box::new(alloc, Parts { register, store }) else {
-            return Err(NoMemory);
-        };
-        let book = Book {
-            parts,
+        let inside = Inside {
+            parts: Parts { register, store },
             room,
             stopped: None,
         };
+        let Ok(inside) = Box::new(alloc, inside) else {
+            return Err(NoMemory);
+        };
+        let book = Book { inside };
         Ok((book, shares))
     }
 
@@ -122,7 +133,7 @@ impl<S: EpochStore> Book<S> {
     pub fn look(&self)
         ensures { InStep S.view self.now }
     {
-        let _ = &self.parts;
+        let _ = &self.inside;
     }
 
     /// One turn of a core, with the hart that it has in hand gone on to its next access, end or fault. It makes no more entries than it
@@ -170,10 +181,11 @@ impl<S: EpochStore> Book<S> {
             → Turned S.view self.old s shares.old core (option_copied next.entry) result self.new shares.new }
         ensures most { length self.new.history ≤ length self.old.history + (limits_of self.old.image.version).free_entries }
     {
+        let inside = &mut *self.inside;
         turn_within(
-            &mut *self.parts,
-            self.room,
-            self.stopped,
+            &mut inside.parts,
+            inside.room,
+            inside.stopped,
             core,
             next,
             shares,
@@ -188,10 +200,10 @@ impl<S: EpochStore> Book<S> {
             → result ≡ (is_none s.end && is_none self.old.stopped) }
         ensures book { self.new ≡ (if result then record self.old { stopped = Some cause } else self.old) }
     {
-        if self.parts.register.end.is_some() || self.stopped.is_some() {
+        if self.inside.parts.register.end.is_some() || self.inside.stopped.is_some() {
             return false;
         }
-        self.stopped = Some(cause);
+        self.inside.stopped = Some(cause);
         true
     }
 }
@@ -228,7 +240,24 @@ fn turn_within<S: EpochStore>(
     let Ok(()) = make_room(parts, free) else {
         return Err(TurnFault::NoMemory);
     };
-    Ok(parts.turn(shares, core, next))
+    let came = parts.turn(shares, core, next);
+    Ok(answer_of(&parts.register, core, came))
+}
+
+/// What the book answers, where a turn at its parts came to this.
+fn answer_of(register: &Register, core: u32, came: Came) -> Answer
+    requires { core < length register.now.running.items }
+    ensures { result ≡ spec.answer_of register.now.running.items core came }
+{
+    match came {
+        Came::Goes => match &register.running[core as usize] {
+            Some(now) => Answer::Go(now.hart),
+            None => Answer::Left,
+        },
+        Came::Again(cause) => Answer::Again(cause),
+        Came::Left => Answer::Left,
+        Came::Over(end) => Answer::Over(end),
+    }
 }
 
 /// How many entries of the history a turn has to find free.

@@ -1,11 +1,13 @@
 //! Epochs that have ended or faulted.
-ghost use Rattle.std.specs.Prelude.{◌≡◌, ◌≢◌, ◌+◌, ◌≤◌, ℕ, true, false, length, vec_len, vec_capacity, Some};
+ghost use Rattle.std.specs.Prelude.{List, Option, ◌≡◌, ◌≢◌, ◌+◌, ◌≤◌, ℕ, true, false, length, vec_len, vec_capacity, Some};
 ghost use Rattle.rv32_exec.specs.Sequential as spec;
+ghost use Rattle.homefree.specs.Came.{answer_of};
 ghost use Rattle.homefree.specs.Acted.{Acted};
 ghost use Rattle.homefree.specs.Arms.{Arrives, RunsEpoch, Settled};
 ghost use Rattle.homefree.specs.Turned as turn;
+ghost use Rattle.homefree.specs.declared.register.Running.{Running};
 
-use crate::answer::{Answer, Cause};
+use crate::answer::{Came, Cause};
 use crate::attempts::cancel_attempts;
 use crate::parts::Parts;
 use crate::register::Running;
@@ -19,16 +21,16 @@ impl<S: EpochStore> Parts<S> {
         &mut self,
         shares: &mut Shares,
         core: u32,
-        now: Running,
+        now: &Running,
         arrived: &Arrived,
-    ) -> Answer
+    ) -> Came
         requires budget { 2 ≤ S.budget self.old.store }
-        requires arrives { Arrives self.old.register (S.view self.old.store) shares.old core now arrived.now arrived.now.at }
+        requires arrives { Arrives self.old.register (S.view self.old.store) shares.old core now.now arrived.now arrived.now.at }
         requires ended { arrived.now.at ≡ Stop.Ended }
-        ensures { Acted self.old.register self.new.register (S.view self.old.store) (S.view self.new.store) shares.old shares.new core (Some arrived.entry.now) result }
+        ensures { Acted self.old.register self.new.register (S.view self.old.store) (S.view self.new.store) shares.old shares.new core (Some arrived.entry.now) (answer_of self.new.register.running.items core result) }
     {
         if now.epoch != self.register.homefree {
-            return Answer::Again(Cause::NotHomefree);
+            return Came::Again(Cause::NotHomefree);
         }
         if arrived.now().exits(&self.register.image) {
             self.exit(shares, core, now, arrived)
@@ -38,12 +40,12 @@ impl<S: EpochStore> Parts<S> {
     }
 
     /// The homefree core publishes, unless it is straight, and notes whom that hurts.
-    fn settle(&mut self, core: u32, now: Running)
+    fn settle(&mut self, core: u32, now: &Running)
         requires budget { 1 ≤ S.budget self.old.store }
-        requires runs { RunsEpoch self.old.register (S.view self.old.store) core now }
+        requires runs { RunsEpoch self.old.register (S.view self.old.store) core now.now }
         requires room { vec_len self.old.register.history + length self.old.register.running.items ≤ vec_capacity self.old.register.history }
-        requires homefree { now.epoch ≡ self.old.register.homefree }
-        ensures settled { Settled self.old.register self.new.register (S.view self.old.store) (S.view self.new.store) core now }
+        requires homefree { now.now.epoch ≡ self.old.register.homefree }
+        ensures settled { Settled self.old.register self.new.register (S.view self.old.store) (S.view self.new.store) core now.now }
         ensures budget { S.budget self.old.store ≤ S.budget self.new.store + 1 }
     {
         if now.straight {
@@ -54,32 +56,30 @@ impl<S: EpochStore> Parts<S> {
     }
 
     /// The homefree epoch commits, and is left.
-    fn commit(&mut self, shares: &mut Shares, core: u32, now: Running, arrived: &Arrived) -> Answer
+    fn commit(&mut self, shares: &mut Shares, core: u32, now: &Running, arrived: &Arrived) -> Came
         requires budget { 2 ≤ S.budget self.old.store }
-        requires arrives { Arrives self.old.register (S.view self.old.store) shares.old core now arrived.now arrived.now.at }
+        requires arrives { Arrives self.old.register (S.view self.old.store) shares.old core now.now arrived.now arrived.now.at }
         requires ended { arrived.now.at ≡ Stop.Ended }
-        requires homefree { now.epoch ≡ self.old.register.homefree }
+        requires homefree { now.now.epoch ≡ self.old.register.homefree }
         requires stays { spec.exits self.old.register.image arrived.now.now ≡ false }
-        ensures { Acted self.old.register self.new.register (S.view self.old.store) (S.view self.new.store) shares.old shares.new core (Some arrived.entry.now) result }
+        ensures { Acted self.old.register self.new.register (S.view self.old.store) (S.view self.new.store) shares.old shares.new core (Some arrived.entry.now) (answer_of self.new.register.running.items core result) }
     {
-        let run = now;
-        self.settle(core, run);
+        self.settle(core, now);
         self.register.commit(shares, core, now, arrived);
         self.store.leave(core);
         left_or_over(self.register.end)
     }
 
     /// The homefree epoch exits the loop: all other cores are cancelled, and it commits.
-    fn exit(&mut self, shares: &mut Shares, core: u32, now: Running, arrived: &Arrived) -> Answer
+    fn exit(&mut self, shares: &mut Shares, core: u32, now: &Running, arrived: &Arrived) -> Came
         requires budget { 2 ≤ S.budget self.old.store }
-        requires arrives { Arrives self.old.register (S.view self.old.store) shares.old core now arrived.now arrived.now.at }
+        requires arrives { Arrives self.old.register (S.view self.old.store) shares.old core now.now arrived.now arrived.now.at }
         requires ended { arrived.now.at ≡ Stop.Ended }
-        requires homefree { now.epoch ≡ self.old.register.homefree }
+        requires homefree { now.now.epoch ≡ self.old.register.homefree }
         requires exits { spec.exits self.old.register.image arrived.now.now ≡ true }
-        ensures { Acted self.old.register self.new.register (S.view self.old.store) (S.view self.new.store) shares.old shares.new core (Some arrived.entry.now) result }
+        ensures { Acted self.old.register self.new.register (S.view self.old.store) (S.view self.new.store) shares.old shares.new core (Some arrived.entry.now) (answer_of self.new.register.running.items core result) }
     {
-        let run = now;
-        self.settle(core, run);
+        self.settle(core, now);
         cancel_attempts(&mut self.store, &self.register.running, core);
         self.register.cancel_all(core);
         self.register.commit(shares, core, now, arrived);
@@ -92,35 +92,34 @@ impl<S: EpochStore> Parts<S> {
         &mut self,
         shares: &mut Shares,
         core: u32,
-        now: Running,
+        now: &Running,
         arrived: &Arrived,
         cause: u32,
         pc: u32,
-    ) -> Answer
+    ) -> Came
         requires budget { 2 ≤ S.budget self.old.store }
-        requires arrives { Arrives self.old.register (S.view self.old.store) shares.old core now arrived.now arrived.now.at }
+        requires arrives { Arrives self.old.register (S.view self.old.store) shares.old core now.now arrived.now arrived.now.at }
         requires faulted { arrived.now.at ≡ Stop.Fault cause pc }
-        ensures { Acted self.old.register self.new.register (S.view self.old.store) (S.view self.new.store) shares.old shares.new core (Some arrived.entry.now) result }
+        ensures { Acted self.old.register self.new.register (S.view self.old.store) (S.view self.new.store) shares.old shares.new core (Some arrived.entry.now) (answer_of self.new.register.running.items core result) }
     {
         let _ = shares;
         let _ = arrived;
         let epoch = now.epoch;
         if epoch != self.register.homefree {
-            return Answer::Again(Cause::NotHomefree);
+            return Came::Again(Cause::NotHomefree);
         }
-        let run = now;
-        self.settle(core, run);
+        self.settle(core, now);
         self.register.fault(core, now, cause, pc);
-        Answer::Over(End::Fault { epoch, cause, pc })
+        Came::Over(End::Fault { epoch, cause, pc })
     }
 }
 
 /// The answer after a commit.
-fn left_or_over(end: Option<End>) -> Answer
-    ensures { result ≡ turn.left_or_over end }
+fn left_or_over(end: Option<End>) -> Came
+    ensures { (running : List (Option Running)) (core : ℕ) → answer_of running core result ≡ turn.left_or_over end }
 {
     match end {
-        Some(end) => Answer::Over(end),
-        None => Answer::Left,
+        Some(end) => Came::Over(end),
+        None => Came::Left,
     }
 }

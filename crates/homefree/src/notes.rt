@@ -1,10 +1,11 @@
 //! What the register notes of a core's own deeds: one entry each, counted by the ledger.
-ghost use Rattle.std.specs.Prelude.{◌≡◌, ◌+◌, ◌<◌, ◌≤◌, ◌^◌, ◌++◌, ◌∷◌, [], ◌==◌, ℕ, Bool, true, false, length, vec_len, vec_capacity, Some, None, if◌then◌else◌};
+ghost use Rattle.std.specs.Prelude.{◌≡◌, ◌+◌, ◌<◌, ◌≤◌, ◌^◌, ◌++◌, ◌∷◌, [], ◌==◌, ℕ, Bool, true, false, length, vec_len, vec_capacity, Some, None, IsSome, if◌then◌else◌};
 ghost use Rattle.rv32_image.specs.Image.{IsImage};
 ghost use Rattle.rv32_exec.specs.Hart.{start_of, stepped};
 ghost use Rattle.rv32_exec.specs.Arrival.{after_loading, IsAtLoad};
 ghost use Rattle.run_ledger.specs.declared.counts.Counts.{Counts};
 ghost use Rattle.homefree.specs.Kept.{running_at};
+ghost use Rattle.homefree.specs.Came.{answer_of};
 ghost use Rattle.homefree.specs.Arms.{MayHurt};
 ghost use Rattle.homefree.specs.AtStop.{IsAtStop};
 ghost use Rattle.homefree.specs.Noted.{hurts_noted};
@@ -13,6 +14,7 @@ ghost use Rattle.homefree.specs.Steps.{Steps};
 ghost use Rattle.spec_history.specs.FlatState as flat;
 ghost use Rattle.homefree.specs.Hurts as spec;
 
+use crate::answer::{Answer, Came};
 use crate::register::{Register, Running};
 use run_ledger::{Shares, count_commit, count_load, count_restart, count_store};
 use rv32_exec::{Arrived, End, Hart, Image, Stop, loaded, start, stored};
@@ -41,15 +43,28 @@ pub(crate) fn set_running(running: &mut Vec<Option<Running>>, core: u32, now: Op
     running[core as usize] = now;
 }
 
+/// Sets the hart of a core that runs an epoch, and copies nothing else of what it runs.
+pub(crate) fn set_hart(running: &mut Vec<Option<Running>>, core: u32, hart: &Hart)
+    requires core { core < length running.old.items }
+    requires runs { IsSome (running_at running.old.items core) }
+    ensures len { length running.new.items ≡ length running.old.items }
+    ensures each { (now : Running) → running_at running.old.items core ≡ Some now → (k : ℕ) → running_at running.new.items k ≡ (if k == core then Some (record now { hart = hart.now }) else running_at running.old.items k) }
+{
+    match &mut running[core as usize] {
+        Some(now) => now.hart = *hart,
+        None => unreachable!(),
+    }
+}
+
 impl Register {
-    /// An idle core starts the next epoch. Answers the hart at its start.
-    pub(crate) fn start(&mut self, core: u32) -> Hart
+    /// An idle core starts the next epoch.
+    pub(crate) fn start(&mut self, core: u32)
         requires core { core < length self.old.running.items }
         requires room { vec_len self.old.history < vec_capacity self.old.history }
         requires image { IsImage self.old.image }
         requires left { self.old.next_epoch < self.old.image.epochs }
         requires idle { running_at self.old.running.items core ≡ None }
-        ensures hart { result ≡ start_of self.old.image self.old.next_epoch }
+        ensures hart { answer_of self.new.running.items core Came.Goes ≡ Answer.Go (start_of self.old.image self.old.next_epoch) }
         ensures steps { (shares : Counts) → Steps self.old self.new shares shares (spec.entry core (What.Start self.old.next_epoch)) }
     {
         let epoch = self.next_epoch;
@@ -63,17 +78,16 @@ impl Register {
         };
         set_running(&mut self.running, core, Some(now));
         self.next_epoch = epoch + 1;
-        hart
     }
 
-    /// A core that was hurt begins its epoch again. Answers the hart at its start.
-    pub(crate) fn restart(&mut self, shares: &mut Shares, core: u32, epoch: u32) -> Hart
+    /// A core that was hurt begins its epoch again.
+    pub(crate) fn restart(&mut self, shares: &mut Shares, core: u32, epoch: u32)
         requires core { core < length self.old.running.items }
         requires room { vec_len self.old.history < vec_capacity self.old.history }
         requires totals { self.old.totals.restarts < 2 ^ 63 }
         requires shares { shares.old.restarts < 2 ^ 63 }
         requires runs { (now : Running) × (running_at self.old.running.items core ≡ Some now) × (now.epoch ≡ epoch) }
-        ensures hart { result ≡ start_of self.old.image epoch }
+        ensures hart { answer_of self.new.running.items core Came.Goes ≡ Answer.Go (start_of self.old.image epoch) }
         ensures steps { Steps self.old self.new shares.old shares.new (spec.entry core What.Restart) }
     {
         note(&mut self.history, core, What::Restart);
@@ -86,69 +100,66 @@ impl Register {
             hurt: false,
         };
         set_running(&mut self.running, core, Some(now));
-        hart
     }
 
-    /// The core's load hurts these others, and gives this value. Answers its hart then.
+    /// The core's load hurts these others, and gives this value.
     pub(crate) fn load(
         &mut self,
         shares: &mut Shares,
         core: u32,
-        now: Running,
+        now: &Running,
         arrived: &Arrived,
         addr: u32,
         width: u32,
         value: u32,
         hurt: CoreSet,
-    ) -> Hart
-        requires may { MayHurt self.old core now (is_in hurt) }
+    )
+        requires may { MayHurt self.old core now.now (is_in hurt) }
         requires totals { self.old.totals.loads < 2 ^ 63 }
         requires shares { shares.old.loads < 2 ^ 63 }
-        requires at { IsAtStop self.old core now arrived.now arrived.now.at }
+        requires at { IsAtStop self.old core now.now arrived.now arrived.now.at }
         requires value { IsAtLoad arrived.now.at value }
-        ensures hart { result ≡ after_loading arrived.entry.now value }
+        ensures hart { answer_of self.new.running.items core Came.Goes ≡ Answer.Go (after_loading arrived.entry.now value) }
         ensures steps { Steps self.old self.new shares.old shares.new (hurts_noted core (is_in hurt) self.old.running.items (length self.old.running.items) ++ spec.entry core (What.Load addr width value)) }
     {
         self.hurt_all(core, hurt);
         note(&mut self.history, core, What::Load { addr, width, value });
         count_load(&mut self.totals, shares);
         let hart = loaded(arrived, value);
-        set_running(&mut self.running, core, Some(Running { hart, ..now }));
-        hart
+        set_hart(&mut self.running, core, &hart);
     }
 
-    /// The core's store hurts these others. Answers its hart then.
+    /// The core's store hurts these others.
     pub(crate) fn store(
         &mut self,
         shares: &mut Shares,
         core: u32,
-        now: Running,
+        now: &Running,
         arrived: &Arrived,
         addr: u32,
         width: u32,
         value: u32,
         hurt: CoreSet,
-    ) -> Hart
-        requires may { MayHurt self.old core now (is_in hurt) }
+    )
+        requires may { MayHurt self.old core now.now (is_in hurt) }
         requires totals { self.old.totals.stores < 2 ^ 63 }
         requires shares { shares.old.stores < 2 ^ 63 }
-        requires at { IsAtStop self.old core now arrived.now (Stop.Store addr width value) }
-        ensures hart { result ≡ stepped arrived.entry.now.now }
+        requires at { IsAtStop self.old core now.now arrived.now (Stop.Store addr width value) }
+        ensures hart { answer_of self.new.running.items core Came.Goes ≡ Answer.Go (stepped arrived.entry.now.now) }
         ensures steps { Steps self.old self.new shares.old shares.new (hurts_noted core (is_in hurt) self.old.running.items (length self.old.running.items) ++ spec.entry core (What.Store addr width value)) }
     {
         self.hurt_all(core, hurt);
         note(&mut self.history, core, What::Store { addr, width, value });
         count_store(&mut self.totals, shares);
         let hart = stored(arrived);
-        set_running(&mut self.running, core, Some(Running { hart, ..now }));
-        hart
+        set_hart(&mut self.running, core, &hart);
     }
 
     /// The homefree core publishes, which hurts these others.
-    pub(crate) fn publish(&mut self, core: u32, now: Running, hurt: CoreSet)
-        requires may { MayHurt self.old core now (is_in hurt) }
+    pub(crate) fn publish(&mut self, core: u32, now: &Running, hurt: CoreSet)
+        requires may { MayHurt self.old core now.now (is_in hurt) }
         ensures steps { (shares : Counts) → Steps self.old self.new shares shares (hurts_noted core (is_in hurt) self.old.running.items (length self.old.running.items) ++ spec.entry core What.Publish) }
-        ensures runs { running_at self.new.running.items core ≡ Some (record now { straight = true }) }
+        ensures runs { running_at self.new.running.items core ≡ Some (record now.now { straight = true }) }
     {
         self.hurt_all(core, hurt);
         note(&mut self.history, core, What::Publish);
@@ -157,13 +168,19 @@ impl Register {
 
     /// The homefree core's epoch has ended, and commits: the core is idle, and the next epoch is homefree. Where the epoch
     /// exits, or was the last, the loop is over.
-    pub(crate) fn commit(&mut self, shares: &mut Shares, core: u32, now: Running, arrived: &Arrived)
+    pub(crate) fn commit(
+        &mut self,
+        shares: &mut Shares,
+        core: u32,
+        now: &Running,
+        arrived: &Arrived,
+    )
         requires core { core < length self.old.running.items }
         requires room { vec_len self.old.history < vec_capacity self.old.history }
         requires totals { self.old.totals.commits < 2 ^ 63 }
         requires shares { shares.old.commits < 2 ^ 63 }
         requires homefree { self.old.homefree < 2 ^ 16 }
-        requires at { IsAtStop self.old core now arrived.now Stop.Ended }
+        requires at { IsAtStop self.old core now.now arrived.now Stop.Ended }
         ensures steps { Steps self.old self.new shares.old shares.new (spec.entry core What.Commit) }
         ensures end { self.new.end ≡ flat.end_after self.old.image arrived.entry.now.now self.old.homefree }
     {
@@ -175,11 +192,11 @@ impl Register {
     }
 
     /// The homefree core's epoch has faulted: the loop is over.
-    pub(crate) fn fault(&mut self, core: u32, now: Running, cause: u32, pc: u32)
+    pub(crate) fn fault(&mut self, core: u32, now: &Running, cause: u32, pc: u32)
         requires room { vec_len self.old.history < vec_capacity self.old.history }
-        requires runs { running_at self.old.running.items core ≡ Some now }
+        requires runs { running_at self.old.running.items core ≡ Some now.now }
         ensures steps { (shares : Counts) → Steps self.old self.new shares shares (spec.entry core (What.Fault cause pc)) }
-        ensures end { self.new.end ≡ Some (End.Fault now.epoch cause pc) }
+        ensures end { self.new.end ≡ Some (End.Fault now.now.epoch cause pc) }
     {
         note(&mut self.history, core, What::Fault { cause, pc });
         self.end = Some(End::Fault {

@@ -1,10 +1,11 @@
 //! The book's register and store, which may be out of step within a turn: one method for each case of a turn.
 ghost use Rattle.std.specs.Prelude.{◌≡◌, ◌<◌, ◌≤◌, ℕ, length, None, Some, true, option_copied};
+ghost use Rattle.homefree.specs.Came.{answer_of};
 ghost use Rattle.homefree.specs.Acted.{Acted, MayNote, IfArrived};
 ghost use Rattle.homefree.specs.Arms.{Arrives};
 ghost use Rattle.homefree.specs.Kept.{Fits, running_at};
 
-use crate::answer::{Answer, Cause};
+use crate::answer::{Came, Cause};
 use crate::register::{Register, Running};
 use run_ledger::Shares;
 use rv32_exec::{Arrived, Stop};
@@ -21,28 +22,28 @@ pub(crate) struct Parts<S: EpochStore> {
 
 impl<S: EpochStore> Parts<S> {
     /// A turn of a core, with the stop that it hands in, where the loop isn't over and there is room for the turn.
-    pub(crate) fn turn(&mut self, shares: &mut Shares, core: u32, next: Option<&Arrived>) -> Answer
+    pub(crate) fn turn(&mut self, shares: &mut Shares, core: u32, next: Option<&Arrived>) -> Came
         requires core { core < length self.old.register.running.items }
         requires budget { 4 ≤ S.budget self.old.store }
         requires notes { MayNote self.old.register shares.old }
         requires fits { Fits self.old.register (S.view self.old.store) }
         requires going { self.old.register.end ≡ None }
         requires next { IfArrived self.old.register.image (option_copied next) }
-        ensures { Acted self.old.register self.new.register (S.view self.old.store) (S.view self.new.store) shares.old shares.new core (option_copied next.entry) result }
+        ensures { Acted self.old.register self.new.register (S.view self.old.store) (S.view self.new.store) shares.old shares.new core (option_copied next.entry) (answer_of self.new.register.running.items core result) }
     {
         match self.register.running[core as usize] {
             None => self.start(shares, core, next),
             Some(now) => {
                 if now.hurt {
-                    self.restart(shares, core, now, next)
+                    self.restart(shares, core, &now, next)
                 } else {
                     match next {
-                        None => Answer::Go(now.hart),
+                        None => Came::Goes,
                         Some(arrived) => {
                             if arrived.base() == now.hart {
-                                self.run(shares, core, now, arrived)
+                                self.run(shares, core, &now, arrived)
                             } else {
-                                Answer::Go(now.hart)
+                                Came::Goes
                             }
                         }
                     }
@@ -52,10 +53,10 @@ impl<S: EpochStore> Parts<S> {
     }
 
     /// A core that runs its epoch hands in its next event.
-    fn run(&mut self, shares: &mut Shares, core: u32, now: Running, arrived: &Arrived) -> Answer
+    fn run(&mut self, shares: &mut Shares, core: u32, now: &Running, arrived: &Arrived) -> Came
         requires budget { 2 ≤ S.budget self.old.store }
-        requires arrives { Arrives self.old.register (S.view self.old.store) shares.old core now arrived.now arrived.now.at }
-        ensures { Acted self.old.register self.new.register (S.view self.old.store) (S.view self.new.store) shares.old shares.new core (Some arrived.entry.now) result }
+        requires arrives { Arrives self.old.register (S.view self.old.store) shares.old core now.now arrived.now arrived.now.at }
+        ensures { Acted self.old.register self.new.register (S.view self.old.store) (S.view self.new.store) shares.old shares.new core (Some arrived.entry.now) (answer_of self.new.register.running.items core result) }
     {
         let at = arrived.at();
         match at {
@@ -84,24 +85,25 @@ impl<S: EpochStore> Parts<S> {
     }
 
     /// An idle core begins the next epoch, if one is left.
-    pub(crate) fn start(&mut self, shares: &mut Shares, core: u32, next: Option<&Arrived>) -> Answer
+    pub(crate) fn start(&mut self, shares: &mut Shares, core: u32, next: Option<&Arrived>) -> Came
         requires core { core < length self.old.register.running.items }
         requires budget { 1 ≤ S.budget self.old.store }
         requires notes { MayNote self.old.register shares.old }
         requires fits { Fits self.old.register (S.view self.old.store) }
         requires going { self.old.register.end ≡ None }
         requires idle { running_at self.old.register.running.items core ≡ None }
-        ensures { Acted self.old.register self.new.register (S.view self.old.store) (S.view self.new.store) shares.old shares.new core (option_copied next.entry) result }
+        ensures { Acted self.old.register self.new.register (S.view self.old.store) (S.view self.new.store) shares.old shares.new core (option_copied next.entry) (answer_of self.new.register.running.items core result) }
     {
         let _ = shares;
         let _ = next;
         let epoch = self.register.next_epoch;
         if epoch >= self.register.image.epochs() {
-            return Answer::Again(Cause::NoEpoch);
+            return Came::Again(Cause::NoEpoch);
         }
         self.store.look();
         self.store.begin(core, epoch);
-        Answer::Go(self.register.start(core))
+        self.register.start(core);
+        Came::Goes
     }
 
     /// A core that was hurt begins its epoch again.
@@ -109,21 +111,22 @@ impl<S: EpochStore> Parts<S> {
         &mut self,
         shares: &mut Shares,
         core: u32,
-        now: Running,
+        now: &Running,
         next: Option<&Arrived>,
-    ) -> Answer
+    ) -> Came
         requires core { core < length self.old.register.running.items }
         requires budget { 1 ≤ S.budget self.old.store }
         requires notes { MayNote self.old.register shares.old }
         requires fits { Fits self.old.register (S.view self.old.store) }
         requires going { self.old.register.end ≡ None }
-        requires runs { running_at self.old.register.running.items core ≡ Some now }
-        requires hurt { now.hurt ≡ true }
-        ensures { Acted self.old.register self.new.register (S.view self.old.store) (S.view self.new.store) shares.old shares.new core (option_copied next.entry) result }
+        requires runs { running_at self.old.register.running.items core ≡ Some now.now }
+        requires hurt { now.now.hurt ≡ true }
+        ensures { Acted self.old.register self.new.register (S.view self.old.store) (S.view self.new.store) shares.old shares.new core (option_copied next.entry) (answer_of self.new.register.running.items core result) }
     {
         let _ = next;
         self.store.look();
         self.store.begin(core, now.epoch);
-        Answer::Go(self.register.restart(shares, core, now.epoch))
+        self.register.restart(shares, core, now.epoch);
+        Came::Goes
     }
 }

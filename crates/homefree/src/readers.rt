@@ -16,8 +16,8 @@ impl<S: EpochStore> Book<S> {
     pub fn committed(&self, addr: u32) -> Option<u8>
         ensures { result ≡ (if nat_lt addr self.now.image.size then Some ((S.view self.now.store).committed addr) else None) }
     {
-        if addr < self.parts.register.image.size() {
-            Some(self.parts.store.committed_byte(addr))
+        if addr < self.inside.parts.register.image.size() {
+            Some(self.inside.parts.store.committed_byte(addr))
         } else {
             None
         }
@@ -27,28 +27,28 @@ impl<S: EpochStore> Book<S> {
     pub fn entry(&self, place: usize) -> Option<Entry>
         ensures { result ≡ slice_get self.now.history place }
     {
-        self.parts.register.history.get(place).copied()
+        self.inside.parts.register.history.get(place).copied()
     }
 
     /// The history: all entries, in order.
     pub fn history(&self) -> &[Entry]
         ensures { result.now ≡ self.now.history }
     {
-        self.parts.register.history.as_slice()
+        self.inside.parts.register.history.as_slice()
     }
 
     /// The store.
     pub fn store(&self) -> &S
         ensures { result.now ≡ self.now.store }
     {
-        &self.parts.store
+        &self.inside.parts.store
     }
 
     /// How many entries the history has.
     pub fn len(&self) -> usize
         ensures { result ≡ length self.now.history }
     {
-        self.parts.register.history.len()
+        self.inside.parts.register.history.len()
     }
 
     /// The homefree epoch: the first that has not committed.
@@ -56,7 +56,7 @@ impl<S: EpochStore> Book<S> {
         ensures homefree { (s : FlatState) → replay self.now.image self.now.cores self.now.history ≡ Some s → result ≡ s.homefree }
         ensures step { InStep S.view self.now }
     {
-        self.parts.register.homefree
+        self.inside.parts.register.homefree
     }
 
     /// How the loop ended, where it is over.
@@ -64,27 +64,27 @@ impl<S: EpochStore> Book<S> {
         ensures end { (s : FlatState) → replay self.now.image self.now.cores self.now.history ≡ Some s → result ≡ s.end }
         ensures step { InStep S.view self.now }
     {
-        self.parts.register.end
+        self.inside.parts.register.end
     }
 
     /// Why the book takes no more turns, where it was stopped.
     pub fn stopped(&self) -> Option<StopCause>
         ensures { result ≡ self.now.stopped }
     {
-        self.stopped
+        self.inside.stopped
     }
 
     /// How many loads, stores, restarts and commits the history has.
     pub fn totals(&self) -> Counts
         ensures { result ≡ self.now.totals }
     {
-        self.parts.register.totals.counts()
+        self.inside.parts.register.totals.counts()
     }
 
     /// The image of the loop.
     pub(crate) fn image(&self) -> &Image
         ensures { result.now ≡ self.now.image }
     {
-        &self.parts.register.image
+        &self.inside.parts.register.image
     }
 }

@@ -19,12 +19,12 @@ pub(crate) struct Running {
 
 impl Running {
     /// The same, straight.
-    pub(crate) fn straightened(self) -> Running
-        ensures { result ≡ record self { straight = true } }
+    pub(crate) fn straightened(&self) -> Running
+        ensures { result ≡ record self.now { straight = true } }
     {
         Running {
             straight: true,
-            ..self
+            ..*self
         }
     }
 }

@@ -1,10 +1,11 @@
 //! Accesses of a core that isn't straight.
 ghost use Rattle.std.specs.Prelude.{◌≡◌, ◌≤◌, ℕ, Bool, false, Some};
+ghost use Rattle.homefree.specs.Came.{answer_of};
 ghost use Rattle.homefree.specs.Acted.{Acted};
 ghost use Rattle.homefree.specs.Arms.{Arrives};
 ghost use Rattle.homefree.specs.Turned as turn;
 
-use crate::answer::{Answer, Cause};
+use crate::answer::{Came, Cause};
 use crate::parts::Parts;
 use crate::register::Running;
 use run_ledger::Shares;
@@ -17,29 +18,28 @@ impl<S: EpochStore> Parts<S> {
         &mut self,
         shares: &mut Shares,
         core: u32,
-        now: Running,
+        now: &Running,
         arrived: &Arrived,
         addr: u32,
         width: u32,
-    ) -> Answer
+    ) -> Came
         requires budget { 2 ≤ S.budget self.old.store }
-        requires arrives { Arrives self.old.register (S.view self.old.store) shares.old core now arrived.now arrived.now.at }
-        requires speculates { now.straight ≡ false }
+        requires arrives { Arrives self.old.register (S.view self.old.store) shares.old core now.now arrived.now arrived.now.at }
+        requires speculates { now.now.straight ≡ false }
         requires load { (signed : Bool) × (rd : ℕ) × (arrived.now.at ≡ Stop.Load addr width signed rd) }
-        ensures { Acted self.old.register self.new.register (S.view self.old.store) (S.view self.new.store) shares.old shares.new core (Some arrived.entry.now) result }
+        ensures { Acted self.old.register self.new.register (S.view self.old.store) (S.view self.new.store) shares.old shares.new core (Some arrived.entry.now) (answer_of self.new.register.running.items core result) }
     {
         match self.store.load(core, addr, width) {
             Step::Done { value, hurt } => {
-                let hart = self
-                    .register
+                self.register
                     .load(shares, core, now, arrived, addr, width, value, hurt);
-                Answer::Go(hart)
+                Came::Goes
             }
             Step::Wait(cause) => {
                 if now.epoch == self.register.homefree {
                     self.straight_load(shares, core, now, arrived, addr, width)
                 } else {
-                    Answer::Again(cause_of(cause))
+                    Came::Again(cause_of(cause))
                 }
             }
         }
@@ -50,30 +50,29 @@ impl<S: EpochStore> Parts<S> {
         &mut self,
         shares: &mut Shares,
         core: u32,
-        now: Running,
+        now: &Running,
         arrived: &Arrived,
         addr: u32,
         width: u32,
         value: u32,
-    ) -> Answer
+    ) -> Came
         requires budget { 2 ≤ S.budget self.old.store }
-        requires arrives { Arrives self.old.register (S.view self.old.store) shares.old core now arrived.now arrived.now.at }
-        requires speculates { now.straight ≡ false }
+        requires arrives { Arrives self.old.register (S.view self.old.store) shares.old core now.now arrived.now arrived.now.at }
+        requires speculates { now.now.straight ≡ false }
         requires store { arrived.now.at ≡ Stop.Store addr width value }
-        ensures { Acted self.old.register self.new.register (S.view self.old.store) (S.view self.new.store) shares.old shares.new core (Some arrived.entry.now) result }
+        ensures { Acted self.old.register self.new.register (S.view self.old.store) (S.view self.new.store) shares.old shares.new core (Some arrived.entry.now) (answer_of self.new.register.running.items core result) }
     {
         match self.store.store(core, addr, width, value) {
             Step::Done { value: _, hurt } => {
-                let hart = self
-                    .register
+                self.register
                     .store(shares, core, now, arrived, addr, width, value, hurt);
-                Answer::Go(hart)
+                Came::Goes
             }
             Step::Wait(cause) => {
                 if now.epoch == self.register.homefree {
                     self.straight_store(shares, core, now, arrived, addr, width, value)
                 } else {
-                    Answer::Again(cause_of(cause))
+                    Came::Again(cause_of(cause))
                 }
             }
         }

@@ -1,9 +1,10 @@
 //! Accesses of the homefree core once it has published.
 ghost use Rattle.std.specs.Prelude.{◌≡◌, ◌+◌, ◌*◌, ◌≤◌, ℕ, Bool, length, vec_len, vec_capacity, Some};
+ghost use Rattle.homefree.specs.Came.{answer_of};
 ghost use Rattle.homefree.specs.Acted.{Acted};
 ghost use Rattle.homefree.specs.Arms.{Arrives, RunsEpoch, WentStraight};
 
-use crate::answer::Answer;
+use crate::answer::Came;
 use crate::parts::Parts;
 use crate::register::Running;
 use run_ledger::Shares;
@@ -12,19 +13,18 @@ use violations::EpochStore;
 
 impl<S: EpochStore> Parts<S> {
     /// The homefree core publishes, unless it is straight. Answers what it runs then.
-    fn go_straight(&mut self, core: u32, now: Running) -> Running
+    fn go_straight(&mut self, core: u32, now: &Running) -> Running
         requires budget { 1 ≤ S.budget self.old.store }
-        requires runs { RunsEpoch self.old.register (S.view self.old.store) core now }
+        requires runs { RunsEpoch self.old.register (S.view self.old.store) core now.now }
         requires room { vec_len self.old.register.history + length self.old.register.running.items ≤ vec_capacity self.old.register.history }
-        requires homefree { now.epoch ≡ self.old.register.homefree }
-        ensures straight { WentStraight self.old.register self.new.register (S.view self.old.store) (S.view self.new.store) core now result }
+        requires homefree { now.now.epoch ≡ self.old.register.homefree }
+        ensures straight { WentStraight self.old.register self.new.register (S.view self.old.store) (S.view self.new.store) core now.now result }
         ensures budget { S.budget self.old.store ≤ S.budget self.new.store + 1 }
     {
         if now.straight {
-            return now;
+            return *now;
         }
-        let run = now;
-        let straight = run.straightened();
+        let straight = now.straightened();
         let hurt = self.store.publish(core);
         self.store.look();
         self.register.publish(core, now, hurt);
@@ -36,24 +36,23 @@ impl<S: EpochStore> Parts<S> {
         &mut self,
         shares: &mut Shares,
         core: u32,
-        now: Running,
+        now: &Running,
         arrived: &Arrived,
         addr: u32,
         width: u32,
-    ) -> Answer
+    ) -> Came
         requires budget { 2 ≤ S.budget self.old.store }
-        requires arrives { Arrives self.old.register (S.view self.old.store) shares.old core now arrived.now arrived.now.at }
-        requires homefree { now.epoch ≡ self.old.register.homefree }
+        requires arrives { Arrives self.old.register (S.view self.old.store) shares.old core now.now arrived.now arrived.now.at }
+        requires homefree { now.now.epoch ≡ self.old.register.homefree }
         requires load { (signed : Bool) × (rd : ℕ) × (arrived.now.at ≡ Stop.Load addr width signed rd) }
-        ensures { Acted self.old.register self.new.register (S.view self.old.store) (S.view self.new.store) shares.old shares.new core (Some arrived.entry.now) result }
+        ensures { Acted self.old.register self.new.register (S.view self.old.store) (S.view self.new.store) shares.old shares.new core (Some arrived.entry.now) (answer_of self.new.register.running.items core result) }
     {
         let straight = self.go_straight(core, now);
         let (value, hurt) = self.store.straight_load(core, addr, width);
         self.store.look();
-        let hart = self
-            .register
-            .load(shares, core, straight, arrived, addr, width, value, hurt);
-        Answer::Go(hart)
+        self.register
+            .load(shares, core, &straight, arrived, addr, width, value, hurt);
+        Came::Goes
     }
 
     /// A store of the homefree core, which publishes first unless it is straight.
@@ -61,24 +60,23 @@ impl<S: EpochStore> Parts<S> {
         &mut self,
         shares: &mut Shares,
         core: u32,
-        now: Running,
+        now: &Running,
         arrived: &Arrived,
         addr: u32,
         width: u32,
         value: u32,
-    ) -> Answer
+    ) -> Came
         requires budget { 2 ≤ S.budget self.old.store }
-        requires arrives { Arrives self.old.register (S.view self.old.store) shares.old core now arrived.now arrived.now.at }
-        requires homefree { now.epoch ≡ self.old.register.homefree }
+        requires arrives { Arrives self.old.register (S.view self.old.store) shares.old core now.now arrived.now arrived.now.at }
+        requires homefree { now.now.epoch ≡ self.old.register.homefree }
         requires store { arrived.now.at ≡ Stop.Store addr width value }
-        ensures { Acted self.old.register self.new.register (S.view self.old.store) (S.view self.new.store) shares.old shares.new core (Some arrived.entry.now) result }
+        ensures { Acted self.old.register self.new.register (S.view self.old.store) (S.view self.new.store) shares.old shares.new core (Some arrived.entry.now) (answer_of self.new.register.running.items core result) }
     {
         let straight = self.go_straight(core, now);
         let hurt = self.store.straight_store(core, addr, width, value);
         self.store.look();
-        let hart = self
-            .register
-            .store(shares, core, straight, arrived, addr, width, value, hurt);
-        Answer::Go(hart)
+        self.register
+            .store(shares, core, &straight, arrived, addr, width, value, hurt);
+        Came::Goes
     }
 }

@@ -17,15 +17,15 @@ returns-in_default-make_room-clause-turned g c =
     turned_refused g.S.EpochStore.view p.register q.register p.store q.store c.args.room c.args.core c.args.stopped c.args.shares.now
     (option_copied c.args.next) c.requires.book.fits c.in_default.is c.in_default-stopped.is free c.make_room.ensures.register c.make_room.ensures.store
 
-pub turn-requires-clause-notes : goal.turn-requires-clause-notes
-turn-requires-clause-notes g c κs lives =
+pub turn-came-requires-clause-notes : goal.turn-came-requires-clause-notes
+turn-came-requires-clause-notes g c κs lives =
     let p = c.args.parts.now in
     let q = c.make_room.new.parts in
     may_note p.register q.register (g.S.EpochStore.view p.store) c.args.room c.args.shares.now c.args.stopped c.requires.book c.make_room.ensures.register
     (has_room p.register q.register c.free_entries-free.result c.free_entries-free.ensures c.in-Ok.ensures.room) c.requires.shares
 
-pub turn-requires-clause-fits : goal.turn-requires-clause-fits
-turn-requires-clause-fits g c κs lives =
+pub turn-came-requires-clause-fits : goal.turn-came-requires-clause-fits
+turn-came-requires-clause-fits g c κs lives =
     let p = c.args.parts.now in
     let q = c.make_room.new.parts in
     fits_same p.register q.register (g.S.EpochStore.view p.store) (g.S.EpochStore.view q.store)
@@ -36,18 +36,18 @@ returns-clause-book g c =
     let p = c.args.parts.now in
     let q = c.make_room.new.parts in
     let free = has_free p.register c.free_entries-free.result c.args.room c.len.result c.free_entries-free.ensures c.len.ensures c.if-room-len.false c.requires.book.within in
-    book_acts p.register q.register c.turn.new.self.register (g.S.EpochStore.view p.store) (g.S.EpochStore.view q.store) (g.S.EpochStore.view c.turn.new.self.store) c.args.room c.args.core c.args.stopped
-    c.args.shares.now c.turn.new.shares (option_copied c.args.next) c.turn.result c.requires.book c.in_default-stopped.is c.make_room.ensures.register c.requires.core free
-    (fits_same p.register q.register (g.S.EpochStore.view p.store) (g.S.EpochStore.view q.store) c.requires.book.fits c.make_room.ensures.register c.make_room.ensures.store) c.turn.ensures
+    book_acts p.register q.register c.turn-came.new.self.register (g.S.EpochStore.view p.store) (g.S.EpochStore.view q.store) (g.S.EpochStore.view c.turn-came.new.self.store) c.args.room c.args.core c.args.stopped
+    c.args.shares.now c.turn-came.new.shares (option_copied c.args.next) _ c.requires.book c.in_default-stopped.is c.make_room.ensures.register c.requires.core free
+    (fits_same p.register q.register (g.S.EpochStore.view p.store) (g.S.EpochStore.view q.store) c.requires.book.fits c.make_room.ensures.register c.make_room.ensures.store) c.turn-came.ensures
 
 pub returns-clause-turned : goal.returns-clause-turned
 returns-clause-turned g c =
     let p = c.args.parts.now in
     let q = c.make_room.new.parts in
     let free = has_free p.register c.free_entries-free.result c.args.room c.len.result c.free_entries-free.ensures c.len.ensures c.if-room-len.false c.requires.book.within in
-    turned_acts g.S.EpochStore.view p.register q.register p.store q.store c.args.room c.args.core c.args.stopped c.args.shares.now
+    rw c.answer_of.ensures (turned_acts g.S.EpochStore.view p.register q.register p.store q.store c.args.room c.args.core c.args.stopped c.args.shares.now
     (option_copied c.args.next) c.requires.book.fits c.in_default.is c.in_default-stopped.is free c.make_room.ensures.register c.make_room.ensures.store
-    c.turn.new.self.register c.turn.new.self.store c.turn.new.shares c.turn.result c.turn.ensures
+    c.turn-came.new.self.register c.turn-came.new.self.store c.turn-came.new.shares _ c.turn-came.ensures)
 
 pub returns-in_default-make_room-clause-most : goal.returns-in_default-make_room-clause-most
 returns-in_default-make_room-clause-most g c =
@@ -58,5 +58,5 @@ pub returns-clause-most : goal.returns-clause-most
 returns-clause-most g c =
     let p = c.args.parts.now in
     let q = c.make_room.new.parts in
-    acts_most p.register q.register c.turn.new.self.register (g.S.EpochStore.view p.store) (g.S.EpochStore.view q.store) (g.S.EpochStore.view c.turn.new.self.store) c.args.room c.args.core c.args.stopped
-    c.args.shares.now c.turn.new.shares (option_copied c.args.next) c.turn.result c.requires.book c.make_room.ensures.register c.turn.ensures
+    acts_most p.register q.register c.turn-came.new.self.register (g.S.EpochStore.view p.store) (g.S.EpochStore.view q.store) (g.S.EpochStore.view c.turn-came.new.self.store) c.args.room c.args.core c.args.stopped
+    c.args.shares.now c.turn-came.new.shares (option_copied c.args.next) _ c.requires.book c.make_room.ensures.register c.turn-came.ensures

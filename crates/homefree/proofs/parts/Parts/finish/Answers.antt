@@ -5,4 +5,4 @@ use Rattle.homefree.proofs.parts.Parts.finish.Goals as goal
 pub returns-then-now-self : goal.returns-then-now-self
 returns-then-now-self g c =
     let old = c.args.self.now in
-    too_early old.register (g.S.EpochStore.view old.store) c.args.shares.now c.args.core c.args.now c.args.arrived.now Ended c.requires.arrives c.requires.ended tt c.if-now-self.true
+    too_early old.register (g.S.EpochStore.view old.store) c.args.shares.now c.args.core c.args.now.now c.args.arrived.now Ended c.requires.arrives c.requires.ended tt c.if-now-self.true

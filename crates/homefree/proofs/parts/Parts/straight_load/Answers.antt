@@ -1,4 +1,4 @@
-use Rattle.std.proofs.Common.{◌<◌, ◌^◌, sym, subst}
+use Rattle.std.proofs.Common.{◌<◌, ◌^◌, refl, sym, subst}
 use Rattle.run_ledger.specs.declared.counts.Counts.{Counts}
 use Rattle.run_ledger.specs.Counts.{no_counts}
 use Rattle.violations.specs.CoreSet.{is_in}
@@ -15,29 +15,29 @@ straight_load-value-requires-clause-access g c =
     let mid = c.go_straight-straight.new.self in
     let at = c.requires.load in
     may_load mid.register (view mid.store) c.args.core c.go_straight-straight.result c.args.arrived.now c.args.addr c.args.width at.0 at.1 c.go_straight-straight.ensures.straight.running.fits
-    (at_after old.register mid.register (view old.store) (view mid.store) c.args.core c.args.now c.go_straight-straight.result c.args.arrived.now _ c.go_straight-straight.ensures.straight
-    (at_this old.register c.args.core c.args.now c.args.arrived.now _ c.requires.arrives.is_at at.2))
+    (at_after old.register mid.register (view old.store) (view mid.store) c.args.core c.args.now.now c.go_straight-straight.result c.args.arrived.now _ c.go_straight-straight.ensures.straight
+    (at_this old.register c.args.core c.args.now.now c.args.arrived.now _ c.requires.arrives.is_at at.2))
 
-pub load-hart-requires-clause-may : goal.load-hart-requires-clause-may
-load-hart-requires-clause-may g c =
+pub load-requires-clause-may : goal.load-requires-clause-may
+load-requires-clause-may g c =
     let view = g.S.EpochStore.view in
     let old = c.args.self.now in
     let mid = c.go_straight-straight.new.self in
     may_hurt mid.register (view mid.store) (view c.straight_load-value.new.self) c.args.core c.go_straight-straight.result (is_in c.straight_load-value.result.1) c.go_straight-straight.ensures.straight.running
     c.straight_load-value.ensures.loads.others
-    (room_of_other old.register mid.register (view old.store) (view mid.store) c.args.core c.args.now c.go_straight-straight.result c.go_straight-straight.ensures.straight c.requires.arrives.notes.room)
+    (room_of_other old.register mid.register (view old.store) (view mid.store) c.args.core c.args.now.now c.go_straight-straight.result c.go_straight-straight.ensures.straight c.requires.arrives.notes.room)
 
-pub load-hart-requires-clause-totals : goal.load-hart-requires-clause-totals
-load-hart-requires-clause-totals g c =
+pub load-requires-clause-totals : goal.load-requires-clause-totals
+load-requires-clause-totals g c =
     subst (λ (n : Counts). n.loads < 2 ^ 63) (sym (totals_same c.args.self.now.register c.go_straight-straight.new.self.register _ (c.go_straight-straight.ensures.straight.steps no_counts)))
     c.requires.arrives.notes.few_loads
 
-pub load-hart-requires-clause-at : goal.load-hart-requires-clause-at
-load-hart-requires-clause-at g c =
+pub load-requires-clause-at : goal.load-requires-clause-at
+load-requires-clause-at g c =
     let view = g.S.EpochStore.view in
     let old = c.args.self.now in
     let mid = c.go_straight-straight.new.self in
-    at_after old.register mid.register (view old.store) (view mid.store) c.args.core c.args.now c.go_straight-straight.result c.args.arrived.now _ c.go_straight-straight.ensures.straight c.requires.arrives.is_at
+    at_after old.register mid.register (view old.store) (view mid.store) c.args.core c.args.now.now c.go_straight-straight.result c.args.arrived.now _ c.go_straight-straight.ensures.straight c.requires.arrives.is_at
 
 pub returns : goal.returns
 returns g c =
@@ -45,6 +45,6 @@ returns g c =
     let old = c.args.self.now in
     let mid = c.go_straight-straight.new.self in
     let at = c.requires.load in
-    loaded_straight old.register mid.register (view old.store) (view mid.store) c.args.core c.args.now c.go_straight-straight.result c.requires.arrives.running c.requires.homefree c.go_straight-straight.ensures.straight
-    c.load-hart.new.self (view c.straight_load-value.new.self) c.args.shares.now c.load-hart.new.shares c.args.arrived.now c.args.addr c.args.width c.straight_load-value.result.0 at.0 at.1 (is_in c.straight_load-value.result.1) c.load-hart.result
-    (at_this old.register c.args.core c.args.now c.args.arrived.now _ c.requires.arrives.is_at at.2) c.look.ensures c.straight_load-value.ensures.loads c.load-hart.ensures.hart c.load-hart.ensures.steps
+    rw c.load.ensures.hart (loaded_straight old.register mid.register (view old.store) (view mid.store) c.args.core c.args.now.now c.go_straight-straight.result c.requires.arrives.running c.requires.homefree c.go_straight-straight.ensures.straight
+    c.load.new.self (view c.straight_load-value.new.self) c.args.shares.now c.load.new.shares c.args.arrived.now c.args.addr c.args.width c.straight_load-value.result.0 at.0 at.1 (is_in c.straight_load-value.result.1) _
+    (at_this old.register c.args.core c.args.now.now c.args.arrived.now _ c.requires.arrives.is_at at.2) c.look.ensures c.straight_load-value.ensures.loads refl c.load.ensures.steps)

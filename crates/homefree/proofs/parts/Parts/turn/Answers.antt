@@ -8,7 +8,7 @@ returns-in-None-next g c =
     let old = c.args.self.now in
     let now = c.in-Some.now in
     let runs = running_read old.register.running.items c.args.core c.index.result.now c.requires.core c.index.ensures ∙ c.in-Some.is in
-    told old.register (g.S.EpochStore.view old.store) c.args.shares.now c.args.core (option_copied c.args.next) now c.requires.fits runs c.if-now.false (none_stale c.args.next now.hart c.in-None-next.is)
+    rw runs (told old.register (g.S.EpochStore.view old.store) c.args.shares.now c.args.core (option_copied c.args.next) now c.requires.fits runs c.if-now.false (none_stale c.args.next now.hart c.in-None-next.is))
 
 pub returns-else-eq : goal.returns-else-eq
 returns-else-eq g c =
@@ -16,5 +16,5 @@ returns-else-eq g c =
     let now = c.in-Some.now in
     let runs = running_read old.register.running.items c.args.core c.index.result.now c.requires.core c.index.ensures ∙ c.in-Some.is in
     let other : c.in-Some-next.arrived.now.base ≢ now.hart = λ same. differs c.base.result now.hart (sym c.eq.ensures ∙ c.if-eq.false) (c.base.ensures ∙ same) in
-    told old.register (g.S.EpochStore.view old.store) c.args.shares.now c.args.core (option_copied c.args.next) now c.requires.fits runs c.if-now.false
-    (other_stale c.args.next c.in-Some-next.arrived now.hart c.in-Some-next.is other)
+    rw runs (told old.register (g.S.EpochStore.view old.store) c.args.shares.now c.args.core (option_copied c.args.next) now c.requires.fits runs c.if-now.false
+    (other_stale c.args.next c.in-Some-next.arrived now.hart c.in-Some-next.is other))

@@ -1,4 +1,6 @@
-use Rattle.std.proofs.Common.{refl}
+use Rattle.std.proofs.Common.{refl, ap, ◌∙◌}
+use Rattle.homefree.specs.declared.answer.Answer.TheVariants.{Go}
+use Rattle.homefree.proofs.Coming.{went_on}
 use Rattle.homefree.proofs.Noting.{started}
 use Rattle.homefree.proofs.register.Register.start.Goals as goal
 
@@ -6,3 +8,6 @@ pub returns-clause-steps : goal.returns-clause-steps
 returns-clause-steps c shares =
     started c.args.self.now _ shares c.args.core c.requires.idle refl c.set_running.ensures.len c.note.ensures.items c.note.ensures.room c.note.ensures.used refl refl refl refl
     (rw (← c.start-hart.ensures) c.set_running.ensures.each)
+
+pub returns-clause-hart : goal.returns-clause-hart
+returns-clause-hart c = went_on _ c.args.core _ _ (c.set_running.ensures.each c.args.core) ∙ ap Go c.start-hart.ensures
