@@ -3,6 +3,8 @@ pub mod Backwards
 mod Blaming
 mod Listed
 mod Explaining
+mod Finding
+mod Pairing
 mod Needed
 mod Growing
 mod Nearing
