@@ -6,6 +6,7 @@ mod Explaining
 mod Finding
 mod Pairing
 mod Needed
+mod Between
 mod Growing
 mod Nearing
 pub mod Numbering

@@ -1,5 +1,5 @@
 -- The store of a blamed byte.
-use Rattle.std.proofs.Common.{◌≡◌, ℕ, ◌<◌, ◌&&◌, Bool, true, false, List, Option, Some, refl}
+use Rattle.std.proofs.Common.{◌≡◌, ℕ, ◌<◌, true, false, List, Some}
 use Rattle.rv32_image.specs.Image.{LoadedImage}
 use Rattle.spec_history.proofs.Legal.{and_true}
 use Rattle.spec_history.specs.declared.entry.Entry.{Entry}

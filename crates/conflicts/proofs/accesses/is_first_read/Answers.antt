@@ -1,4 +1,4 @@
-use Rattle.std.proofs.Common.{◌≡◌, ◌<◌, ◌≤◌, ◌||◌, ℕ, Bool, false, sym, ap, ◌∙◌, inl, inr, arith}
+use Rattle.std.proofs.Common.{◌<◌, ◌≤◌, ◌||◌, ℕ, Bool, sym, ap, ◌∙◌, inl, inr, arith}
 use Rattle.std.proofs.lemmas.Bool.{cases_eq}
 use Rattle.conflicts.specs.Attempts.{core_does, is_begin, loads_byte, stores_byte}
 use Rattle.conflicts.proofs.Finding.{accessed_before, beyond, first_access, no_load, not_after}
