@@ -15,12 +15,12 @@ use Rattle.spec_history.specs.Laws.{IsKept}
 use Rattle.spec_history.proofs.Legal.{IsLegalEntry, legal_entry, and_true, not_true, some_below, none_below}
 use Rattle.spec_history.proofs.Keeping.{same_core}
 use Rattle.spec_history.proofs.Searches.{all_fail, one_passes}
-use Rattle.spec_history.proofs.Replays.{replayed, effect-on}
+use Rattle.spec_history.proofs.Replays.{Whole, replayed, effect-on}
 use Rattle.conflicts.specs.Conflict.{written, meeting, is_changed, read_bytes}
 use Rattle.conflicts.specs.Laws.{commits, missed_by}
 
 -- the state in which the core of this epoch is hurt
-abbrev with_hurt : FlatState → ℕ → FlatState
+abbrev pub with_hurt : FlatState → ℕ → FlatState
 with_hurt s epoch = record s { cores = λ k. hurt_at epoch (s.cores k) }
 
 -- a core that runs, is not hurt, and passes a test
@@ -28,7 +28,7 @@ running_by : (c : CoreState) (test : CoreState → Bool) → (not c.hurt && test
     → (d : CoreState) × (Some c ≡ Some d) × (test d ≡ true) × (d.hurt ≡ false)
 running_by c test is = let both = and_true (not c.hurt) (test c) is in (c, refl, both.1, not_true c.hurt both.0)
 
-running : (core : Option CoreState) (test : CoreState → Bool) → runs_and core test ≡ true → (c : CoreState) × (core ≡ Some c) × (test c ≡ true) × (c.hurt ≡ false)
+pub running : (core : Option CoreState) (test : CoreState → Bool) → runs_and core test ≡ true → (c : CoreState) × (core ≡ Some c) × (test c ≡ true) × (c.hurt ≡ false)
 running None test is = absurd cc
 running (Some c) test is = running_by c test is
 
@@ -42,7 +42,7 @@ hurt_other : (epoch : ℕ) (c : CoreState) → c.epoch ≢ epoch → hurt_at epo
 hurt_other epoch c other =
     ap (λ b. Some (record c { hurt = c.hurt || b })) (ne_eqb c.epoch epoch other) ∙ ap (λ b. Some (record c { hurt = b })) (or_no c.hurt)
 
-core_other : (epoch : ℕ) (core : Option CoreState) (c : CoreState) → core ≡ Some c → c.epoch ≢ epoch → hurt_at epoch core ≡ core
+pub core_other : (epoch : ℕ) (core : Option CoreState) (c : CoreState) → core ≡ Some c → c.epoch ≢ epoch → hurt_at epoch core ≡ core
 core_other epoch core c is other = ap (hurt_at epoch) is ∙ (hurt_other epoch c other ∙ sym is)
 
 -- ---- each test of the cause is as it was, but for the missing violation
@@ -150,7 +150,7 @@ committed_is image s by c what at is a =
 -- ---- who has read a byte
 
 -- what is known of the violation, before it
-record Before (count : ℕ) (s : FlatState) (by victim : ℕ) (v : CoreState) : Type 0 where
+pub record Before (count : ℕ) (s : FlatState) (by victim : ℕ) (v : CoreState) : Type 0 where
   pub at : s.cores victim ≡ Some v
   pub unhurt : v.hurt ≡ false
   pub below : victim < count
@@ -222,7 +222,7 @@ only_missing image count s entry going there next homefree value cancelled =
     rw (going, there, next, homefree, value, cancelled) refl
 
 -- what the violation tells
-before_of : (image : LoadedImage) (count : ℕ) (s : FlatState) (by victim : ℕ) (v : CoreState) → IsKept image count s → s.cores victim ≡ Some v
+pub before_of : (image : LoadedImage) (count : ℕ) (s : FlatState) (by victim : ℕ) (v : CoreState) → IsKept image count s → s.cores victim ≡ Some v
     → IsLegalEntry image count s (record { by = by; what = Hurt v.epoch })
     → (c : CoreState) × (s.cores by ≡ Some c) × (c.epoch ≢ v.epoch) × Before count s by victim v
 before_of image count s by victim v kept at legal =
@@ -246,15 +246,15 @@ before_of image count s by victim v kept at legal =
       },
     )
 
-pub missed : (image : LoadedImage) (count : ℕ) (entries : List Entry) (s : FlatState) (by victim : ℕ) (v : CoreState) (cause : What) → IsImage image
-    → replay image count entries ≡ Some s → s.cores victim ≡ Some v
+-- from a state that a history leaves
+pub missed_from : (image : LoadedImage) (count : ℕ) (s : FlatState) (by victim : ℕ) (v : CoreState) (cause : What) → Whole image count s → s.cores victim ≡ Some v
     → refusal_of image count s (record { by = by; what = Hurt v.epoch }) ≡ None
     → refusal_of image count (effect image s (record { by = by; what = Hurt v.epoch })) (record { by = by; what = cause }) ≡ None
     → commits (s.cores by) cause ≡ true
     → refusal_of image count s (record { by = by; what = cause }) ≡ missed_by image s by cause victim
-missed image count entries s by victim v cause is replays at hurts goes commits_it =
+missed_from image count s by victim v cause whole at hurts goes commits_it =
     let hurt = legal_entry image count s (record { by = by; what = Hurt v.epoch }) hurts in
-    let kept = ((replayed image count entries s is replays).going hurt.going).kept in
+    let kept = (whole.going hurt.going).kept in
     let known = before_of image count s by victim v kept at hurt in
     let same = core_other v.epoch (s.cores by) known.0 known.1 known.2 in
     let after = effect-on image s by (Hurt v.epoch) known.0 known.1 in
@@ -267,3 +267,12 @@ missed image count entries s by victim v cause is replays at hurts goes commits_
     (value_is s by cause commits_it)
     (sym (cancel_same image count s v.epoch by cause commits_it same) ∙ then.cancelled)
     ∙ ap (λ b. cond b (Some HurtMissing) None) (misses_is image count s by victim v known.0 cause known.3 known.1 same commits_it then.spares)
+
+pub missed : (image : LoadedImage) (count : ℕ) (entries : List Entry) (s : FlatState) (by victim : ℕ) (v : CoreState) (cause : What) → IsImage image
+    → replay image count entries ≡ Some s → s.cores victim ≡ Some v
+    → refusal_of image count s (record { by = by; what = Hurt v.epoch }) ≡ None
+    → refusal_of image count (effect image s (record { by = by; what = Hurt v.epoch })) (record { by = by; what = cause }) ≡ None
+    → commits (s.cores by) cause ≡ true
+    → refusal_of image count s (record { by = by; what = cause }) ≡ missed_by image s by cause victim
+missed image count entries s by victim v cause is replays at hurts goes commits_it =
+    missed_from image count s by victim v cause (replayed image count entries s is replays) at hurts goes commits_it

@@ -1,12 +1,14 @@
 -- What the law on left out violations says.
-use Rattle.std.specs.Prelude.{ℕ, Bool, true, false, Option, Some, None, if◌then◌else◌}
+use Rattle.std.specs.Prelude.{ℕ, Bool, true, false, List, map, Option, Some, None, option_map, if◌then◌else◌}
 use Rattle.rv32_image.specs.Image.{LoadedImage}
+use Rattle.spec_history.specs.declared.entry.Entry.{Entry}
 use Rattle.spec_history.specs.declared.entry.What.{What}
-use Rattle.spec_history.specs.declared.entry.What.TheVariants.{Store, Publish, Commit, Fault}
+use Rattle.spec_history.specs.declared.entry.What.TheVariants.{Store, Hurt, Publish, Commit, Fault}
 use Rattle.spec_history.specs.declared.illegal.Illegal.{Illegal}
 use Rattle.spec_history.specs.declared.illegal.Illegal.TheVariants.{HurtMissing}
 use Rattle.spec_history.specs.FlatState.{CoreState, FlatState}
-use Rattle.spec_history.specs.Refusal.{any_below, has}
+use Rattle.spec_history.specs.Refusal.{any_below, has, refusal_of}
+use Rattle.spec_history.specs.Replay.{replay_from}
 use Rattle.conflicts.specs.Conflict.{is_changed, meeting}
 
 -- the core commits bytes by this: it publishes, commits or faults, or it has published and stores
@@ -21,3 +23,11 @@ commits core what = false
 abbrev pub missed_by : LoadedImage → FlatState → ℕ → What → ℕ → Option Illegal
 missed_by image s causer cause victim =
     if any_below image.size (is_changed (meeting s causer cause victim)) then Some HurtMissing else None
+
+-- a core's violations of these epochs, in order
+abbrev pub violations_by : ℕ → List ℕ → List Entry
+violations_by core epochs = map (λ epoch. record { by = core; what = Hurt epoch }) epochs
+
+-- the refusal of an entry that comes after these, Some None where it is legal too; None where one of these is refused
+abbrev pub refusal_after : LoadedImage → ℕ → FlatState → List Entry → Entry → Option (Option Illegal)
+refusal_after image count s entries entry = option_map (λ t. refusal_of image count t entry) (replay_from image count s entries)

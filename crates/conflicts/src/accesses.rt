@@ -1,7 +1,8 @@
 //! The attempts of a history, and the accesses in them.
 
-ghost use Rattle.std.specs.Prelude.{◌≡◌, ◌<◌, ℕ, Some, true};
+ghost use Rattle.std.specs.Prelude.{◌≡◌, ◌<◌, ◌||◌, ℕ, Some, true};
 ghost use Rattle.conflicts.specs.Attempts as spec;
+ghost use Rattle.conflicts.specs.Blame.{is_place};
 
 use spec_history::{Entry, What};
 
@@ -143,21 +144,56 @@ pub(crate) fn reads_outside(
         && last_store(entries, core, place, addr).is_none()
 }
 
-/// The first load that read this byte from outside, of the attempt that a core runs before a place, which began at `start`.
-pub(crate) fn first_read(
+/// A core loads a byte or stores to it at a place.
+fn accesses(entries: &[Entry], core: u32, place: usize, addr: u32) -> bool
+    ensures { result ≡ (spec.core_does entries.now core place (spec.loads_byte addr) || spec.core_does entries.now core place (spec.stores_byte addr)) }
+{
+    loads(entries, core, place, addr) || stores(entries, core, place, addr)
+}
+
+/// The load at a place is the first that read this byte from outside, of the attempt that a core runs before another place,
+/// which began at `start`: it is the attempt's first access to the byte.
+pub(crate) fn is_first_read(
     entries: &[Entry],
     core: u32,
     start: usize,
     before: usize,
     addr: u32,
-) -> Option<usize>
+    load: usize,
+) -> bool
     requires { spec.attempt_place entries.now core before ≡ Some start }
-    ensures { result ≡ spec.first_read entries.now core before addr }
+    ensures { result ≡ is_place (spec.first_read entries.now core before addr) load }
 {
-    for place in start..before {
-        if reads_outside(entries, core, start, addr, place) {
-            return Some(place);
+    if load <= start || before <= load || !loads(entries, core, load, addr) {
+        return false;
+    }
+    for place in start + 1..load {
+        if accesses(entries, core, place, addr) {
+            return false;
         }
     }
-    None
+    true
+}
+
+/// The entry at a place, of the attempt that a core runs before another place, is the last of that attempt's stores to this byte.
+pub(crate) fn is_last_store(
+    entries: &[Entry],
+    core: u32,
+    before: usize,
+    addr: u32,
+    place: usize,
+) -> bool
+    requires after { spec.is_after (spec.attempt_place entries.now core before) place ≡ true }
+    requires within { place < before }
+    ensures { result ≡ is_place (spec.last_store entries.now core before addr) place }
+{
+    if !stores(entries, core, place, addr) {
+        return false;
+    }
+    for later in place + 1..before {
+        if stores(entries, core, later, addr) {
+            return false;
+        }
+    }
+    true
 }

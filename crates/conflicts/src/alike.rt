@@ -7,12 +7,12 @@ ghost use Rattle.conflicts.specs.Parties.{meeting_in};
 ghost use Rattle.conflicts.specs.Searches.{first_below, last_below};
 ghost use Rattle.conflicts.specs.Violated as spec;
 
-use crate::accesses::first_read;
+use crate::accesses::{is_first_read, is_last_store};
 use crate::blame::Violated;
 use crate::explanation::{ByteRange, Kind};
 use crate::meeting::line_of;
 use rv32_exec::Image;
-use spec_history::{Entry, Flat};
+use spec_history::{Entry, Flat, What};
 
 /// A blamed byte, with its load and its store.
 #[derive(Clone, Copy)]
@@ -20,16 +20,6 @@ pub(crate) struct Pair {
     pub load: usize,
     pub store: usize,
     pub byte: u32,
-}
-
-/// A place was found, and it is this one.
-fn is_place(found: Option<usize>, place: usize) -> bool
-    ensures { result ≡ blame.is_place found place }
-{
-    match found {
-        Some(other) => other == place,
-        None => false,
-    }
 }
 
 impl Violated {
@@ -48,6 +38,13 @@ impl Violated {
         }
     }
 
+    /// The same store is to blame for all bytes that go together.
+    fn has_one_store(&self) -> bool
+        ensures { result ≡ spec.has_one_store self.now.kind self.now.parties.cause }
+    {
+        matches!(self.kind, Kind::FalseSharing) || matches!(self.parties.cause, What::Store { .. })
+    }
+
     /// The byte met at the same two accesses as the blamed one.
     fn is_alike(
         &self,
@@ -60,14 +57,27 @@ impl Violated {
     ) -> bool
         requires start { attempts.attempt_place entries.now self.now.parties.victim self.now.place ≡ Some start }
         requires blamed { pair.byte < image.now.size }
+        requires stored { blame.blamed_store image.now entries.now (spec.violation_in flat.now self.now) pair.byte ≡ Some pair.store }
         requires within { addr < image.now.size }
         ensures { result ≡ blame.is_alike image.now entries.now (spec.violation_in flat.now self.now) pair.load pair.store pair.byte addr }
     {
         if !self.goes_with(image, flat, pair.byte, addr) {
             return false;
         }
-        let read = first_read(entries, self.parties.victim, start, self.place, addr);
-        is_place(read, pair.load) && is_place(self.store(image, flat, entries, addr), pair.store)
+        if !is_first_read(
+            entries,
+            self.parties.victim,
+            start,
+            self.place,
+            addr,
+            pair.load,
+        ) {
+            return false;
+        }
+        if self.has_one_store() {
+            return true;
+        }
+        is_last_store(entries, self.parties.causer, self.place, addr, pair.store)
     }
 
     /// The first of the neighbours of a blamed byte that met alike.
@@ -81,6 +91,7 @@ impl Violated {
     ) -> u32
         requires start { attempts.attempt_place entries.now self.now.parties.victim self.now.place ≡ Some start }
         requires blamed { pair.byte < image.now.size }
+        requires stored { blame.blamed_store image.now entries.now (spec.violation_in flat.now self.now) pair.byte ≡ Some pair.store }
         ensures first { result ≡ blame.after (last_below pair.byte
             (λ a. not (blame.is_alike image.now entries.now (spec.violation_in flat.now self.now) pair.load pair.store pair.byte a))) }
         ensures most { result ≤ pair.byte }
@@ -105,6 +116,7 @@ impl Violated {
     ) -> u32
         requires start { attempts.attempt_place entries.now self.now.parties.victim self.now.place ≡ Some start }
         requires blamed { pair.byte < image.now.size }
+        requires stored { blame.blamed_store image.now entries.now (spec.violation_in flat.now self.now) pair.byte ≡ Some pair.store }
         ensures end { result ≡ unwrap_or (first_below image.now.size
             (λ a. nat_lt pair.byte a && not (blame.is_alike image.now entries.now (spec.violation_in flat.now self.now) pair.load pair.store pair.byte a)))
             image.now.size }
@@ -130,6 +142,7 @@ impl Violated {
     ) -> ByteRange
         requires start { attempts.attempt_place entries.now self.now.parties.victim self.now.place ≡ Some start }
         requires blamed { pair.byte < image.now.size }
+        requires stored { blame.blamed_store image.now entries.now (spec.violation_in flat.now self.now) pair.byte ≡ Some pair.store }
         ensures { result ≡ blame.blamed_range image.now entries.now (spec.violation_in flat.now self.now) pair.load pair.store pair.byte }
     {
         let first = self.range_first(image, flat, entries, start, pair);

@@ -1,0 +1,240 @@
+-- Whether a search found a given place.
+use Rattle.std.proofs.Common.{◌≡◌, ℕ, zero, suc, ◌<◌, ◌≤◌, ◌&&◌, ◌||◌, Bool, true, false, nat_lt, is_none, Option, Some, None, unwrap_or, if◌then◌else◌, refl, sym, ap, ◌∙◌, inl, inr, arith, lt-ltb, le-ltb, ltb-true, ne_eqb}
+use Rattle.std.specs.Option.{option_or}
+use Rattle.std.proofs.lemmas.Bool.{cases_eq, eq-eqb}
+use Rattle.conflicts.specs.Searches.{first_below, last_below}
+use Rattle.conflicts.specs.Attempts.{is_after}
+use Rattle.conflicts.specs.Blame.{is_place}
+use Rattle.conflicts.proofs.Backwards.{from_start, last_at, none_after}
+use Rattle.conflicts.proofs.Searching.{first_at}
+use Rattle.conflicts.proofs.Blaming.{either_way}
+
+-- ---- what is known of a number that was found
+
+pub record IsLast (n : ℕ) (test : ℕ → Bool) (k : ℕ) : Type 0 where
+  pub within : k < n
+  pub passes : test k ≡ true
+  pub last : (j : ℕ) → k < j → j < n → test j ≡ false
+
+last_step : (b : Bool) (n k : ℕ) (rest : Option ℕ) (P : Type 0) → (if b then Some n else rest) ≡ Some k → (b ≡ true → n ≡ k → P) → (b ≡ false → rest ≡ Some k → P) → P
+last_step true n k rest P is one other = one refl (ap (λ o. unwrap_or o 0) is)
+last_step false n k rest P is one other = other refl is
+
+pub last_found : (n : ℕ) (test : ℕ → Bool) (k : ℕ) → last_below n test ≡ Some k → IsLast n test k
+unfolding last_below
+last_found zero test k is = absurd cc
+last_found (suc n) test k is = last_step (test n) n k (last_below n test) (IsLast (suc n) test k) is
+    (λ passes same. record {
+      within = omega (arith, same);
+      passes = ap test (sym same) ∙ passes;
+      last = λ j after below. absurd (omega (arith, same, after, below));
+    })
+    (λ fails rest. let found = last_found n test k rest in record {
+      within = omega (arith, found.within);
+      passes = found.passes;
+      last = λ j after below. elim (cases_eq j n) [
+        | inl e ↦ ap test e ∙ fails
+        | inr other ↦ found.last j after (omega (arith, below, other))
+      ];
+    })
+
+none_step : (b : Bool) (n : ℕ) (rest : Option ℕ) (P : Type 0) → (if b then Some n else rest) ≡ None → (b ≡ false → rest ≡ None → P) → P
+none_step true n rest P is one = absurd cc
+none_step false n rest P is one = one refl is
+
+none_last : (n : ℕ) (test : ℕ → Bool) → last_below n test ≡ None → (k : ℕ) → k < n → test k ≡ false
+unfolding last_below
+none_last zero test is k below = absurd (omega (arith, below))
+none_last (suc n) test is k below = none_step (test n) n (last_below n test) (test k ≡ false) is (λ fails rest. elim (cases_eq k n) [
+  | inl e ↦ ap test e ∙ fails
+  | inr other ↦ none_last n test rest k (omega (arith, below, other))
+])
+
+record IsFirst (n : ℕ) (test : ℕ → Bool) (k : ℕ) : Type 0 where
+  pub within : k < n
+  pub passes : test k ≡ true
+  pub first : (j : ℕ) → j < k → test j ≡ false
+
+unfound_step : (o : Option ℕ) (b : Bool) (n : ℕ) (P : Type 0) → option_or o (if b then Some n else None) ≡ None → (o ≡ None → b ≡ false → P) → P
+unfound_step (Some i) b n P is one = absurd cc
+unfound_step None true n P is one = absurd cc
+unfound_step None false n P is one = one refl refl
+
+none_first : (n : ℕ) (test : ℕ → Bool) → first_below n test ≡ None → (k : ℕ) → k < n → test k ≡ false
+unfolding first_below
+none_first zero test is k below = absurd (omega (arith, below))
+none_first (suc n) test is k below = unfound_step (first_below n test) (test n) n (test k ≡ false) is (λ rest fails. elim (cases_eq k n) [
+  | inl e ↦ ap test e ∙ fails
+  | inr other ↦ none_first n test rest k (omega (arith, below, other))
+])
+
+first_step : (o : Option ℕ) (b : Bool) (n k : ℕ) (P : Type 0) → option_or o (if b then Some n else None) ≡ Some k → (o ≡ Some k → P) → (o ≡ None → b ≡ true → n ≡ k → P) → P
+first_step (Some i) b n k P is one other = one is
+first_step None true n k P is one other = other refl refl (ap (λ o. unwrap_or o 0) is)
+first_step None false n k P is one other = absurd cc
+
+first_found : (n : ℕ) (test : ℕ → Bool) (k : ℕ) → first_below n test ≡ Some k → IsFirst n test k
+unfolding first_below
+first_found zero test k is = absurd cc
+first_found (suc n) test k is = first_step (first_below n test) (test n) n k (IsFirst (suc n) test k) is
+    (λ rest. let found = first_found n test k rest in record {
+      within = omega (arith, found.within);
+      passes = found.passes;
+      first = found.first;
+    })
+    (λ none passes same. record {
+      within = omega (arith, same);
+      passes = ap test (sym same) ∙ passes;
+      first = λ j before. none_first n test none j (omega (arith, before, same));
+    })
+
+-- ---- whether it is a given place
+
+not_place : (found : Option ℕ) (place : ℕ) → (found ≡ Some place → ⊥) → is_place found place ≡ false
+not_place None place no_way = refl
+not_place (Some k) place no_way = ne_eqb k place (λ e. no_way (ap Some e))
+
+no_clash : (b : Bool) → b ≡ true → b ≡ false → ⊥
+no_clash true is other = absurd cc
+no_clash false is other = absurd cc
+
+pub unread_at : (n : ℕ) (test : ℕ → Bool) (place : ℕ) → test place ≡ false → is_place (first_below n test) place ≡ false
+unread_at n test place fails = not_place (first_below n test) place (λ is. no_clash (test place) (first_found n test place is).passes fails)
+
+pub beyond : (n : ℕ) (test : ℕ → Bool) (place : ℕ) → n ≤ place → is_place (first_below n test) place ≡ false
+beyond n test place above = not_place (first_below n test) place (λ is. let f = first_found n test place is in omega (arith, above, f.within))
+
+pub earlier : (n : ℕ) (test : ℕ → Bool) (j place : ℕ) → j < place → test j ≡ true → is_place (first_below n test) place ≡ false
+earlier n test j place before passes = not_place (first_below n test) place (λ is. no_clash (test j) passes ((first_found n test place is).first j before))
+
+pub last_fails : (n : ℕ) (test : ℕ → Bool) (place : ℕ) → test place ≡ false → is_place (last_below n test) place ≡ false
+last_fails n test place fails = not_place (last_below n test) place (λ is. no_clash (test place) (last_found n test place is).passes fails)
+
+pub another_later : (n : ℕ) (test : ℕ → Bool) (place j : ℕ) → place < j → j < n → test j ≡ true → is_place (last_below n test) place ≡ false
+another_later n test place j after below passes =
+    not_place (last_below n test) place (λ is. no_clash (test j) passes ((last_found n test place is).last j after below))
+
+same_place : (found : Option ℕ) (place : ℕ) → found ≡ Some place → is_place found place ≡ true
+same_place found place is = ap (λ (o : Option ℕ). is_place o place) is ∙ eq-eqb place place refl
+
+pub is_last : (n : ℕ) (test : ℕ → Bool) (place : ℕ) → place < n → test place ≡ true → ((j : ℕ) → place < j → j < n → test j ≡ false) → is_place (last_below n test) place ≡ true
+is_last n test place within passes none = same_place (last_below n test) place (last_at n test place within passes none)
+
+-- ---- the first load that reads a byte from outside: begins, loads and stores say at which places a core begins an attempt, loads the byte and stores to it
+
+abbrev stored_before : (ℕ → Bool) → (ℕ → Bool) → ℕ → Option ℕ
+stored_before begins stores place = last_below place (λ k. is_after (last_below place begins) k && stores k)
+
+abbrev reads : (ℕ → Bool) → (ℕ → Bool) → (ℕ → Bool) → ℕ → ℕ → Bool
+reads begins loads stores before place = (is_after (last_below before begins) place && loads place) && is_none (stored_before begins stores place)
+
+-- the attempt of a place after its start
+same_start : (before start place : ℕ) (begins : ℕ → Bool) → last_below before begins ≡ Some start → start < place → place ≤ before → last_below place begins ≡ Some start
+same_start before start place begins is after most =
+    let found = last_found before begins start is in
+    last_at place begins start after found.passes (λ k later below. found.last k later (omega (arith, below, most)))
+
+unstored : (before start place : ℕ) (begins stores : ℕ → Bool) → last_below before begins ≡ Some start → start < place → place ≤ before
+    → ((k : ℕ) → start < k → k < place → stores k ≡ false) → stored_before begins stores place ≡ None
+unstored before start place begins stores is after most none =
+    sym (from_start place start (last_below place begins) stores (sym (same_start before start place begins is after most))) ∙ none_after place start stores none
+
+-- nothing between was stored, where no store stands before a place
+none_stored : (before start place : ℕ) (begins stores : ℕ → Bool) → last_below before begins ≡ Some start → start < place → place ≤ before
+    → stored_before begins stores place ≡ None → (k : ℕ) → start < k → k < place → stores k ≡ false
+none_stored before start place begins stores is after most none k later below =
+    sym (ap (λ (o : Option ℕ). is_after o k && stores k) (same_start before start place begins is after most) ∙ ap (λ b. b && stores k) (lt-ltb start k later))
+    ∙ none_last place (λ j. is_after (last_below place begins) j && stores j) none k below
+
+all_so : (a b c : Bool) → a ≡ true → b ≡ true → c ≡ true → ((a && b) && c) ≡ true
+all_so a b c x y z = rw (x, y, z) refl
+
+reads_at : (before start place : ℕ) (begins loads stores : ℕ → Bool) → last_below before begins ≡ Some start → start < place → place < before → loads place ≡ true
+    → ((k : ℕ) → start < k → k < place → stores k ≡ false) → reads begins loads stores before place ≡ true
+reads_at before start place begins loads stores is after within does none = all_so
+    (is_after (last_below before begins) place) (loads place) (is_none (stored_before begins stores place))
+    (ap (λ (o : Option ℕ). is_after o place) is ∙ lt-ltb start place after) does
+    (ap is_none (unstored before start place begins stores is after (omega (arith, within)) none))
+
+none_of : (o : Option ℕ) (P : Type 0) → (o ≡ None → P) → (is_none o ≡ false → P) → P
+none_of None P one other = one refl
+none_of (Some k) P one other = other refl
+
+no_third : (a b c : Bool) → c ≡ false → ((a && b) && c) ≡ false
+no_third true true c is = is
+no_third true false c is = refl
+no_third false b c is = refl
+
+no_first : (a b c : Bool) → a ≡ false → ((a && b) && c) ≡ false
+no_first a b c is = rw is refl
+
+no_second : (a b c : Bool) → b ≡ false → ((a && b) && c) ≡ false
+no_second true b c is = ap (λ x. x && c) is
+no_second false b c is = refl
+
+first_of : (a b : Bool) → (a || b) ≡ true → b ≡ false → a ≡ true
+first_of true b is other = refl
+first_of false b is other = absurd (no_clash b is other)
+
+-- an access before it: either that reads the byte first, or the byte was stored
+pub accessed_before : (before start place load : ℕ) (begins loads stores : ℕ → Bool) → last_below before begins ≡ Some start → start < place → place < load → load < before
+    → (loads place || stores place) ≡ true → is_place (first_below before (reads begins loads stores before)) load ≡ false
+accessed_before before start place load begins loads stores is after earlier_than within does = none_of (stored_before begins stores load)
+    (is_place (first_below before (reads begins loads stores before)) load ≡ false)
+    (λ none.
+    let fails : (k : ℕ) → start < k → k < load → stores k ≡ false = none_stored before start load begins stores is (omega (arith, after, earlier_than)) (omega (arith, within)) none in
+    earlier before (reads begins loads stores before) place load earlier_than
+    (reads_at before start place begins loads stores is after (omega (arith, earlier_than, within)) (first_of (loads place) (stores place) does (fails place after earlier_than))
+    (λ k later below. fails k later (omega (arith, below, earlier_than)))))
+    (λ stored. unread_at before (reads begins loads stores before) load (no_third (is_after (last_below before begins) load) (loads load) (is_none (stored_before begins stores load)) stored))
+
+neither : (a b : Bool) → (a || b) ≡ false → (a ≡ false) × (b ≡ false)
+neither true b is = absurd cc
+neither false b is = (refl, is)
+
+-- no access before it
+pub first_access : (before start load : ℕ) (begins loads stores : ℕ → Bool) → last_below before begins ≡ Some start → start < load → load < before → loads load ≡ true
+    → ((k : ℕ) → start < k → k < load → (loads k || stores k) ≡ false) → is_place (first_below before (reads begins loads stores before)) load ≡ true
+first_access before start load begins loads stores is after within does none = same_place (first_below before (reads begins loads stores before)) load
+    (first_at before (reads begins loads stores before) load within
+    (reads_at before start load begins loads stores is after within does (λ k later below. (neither (loads k) (stores k) (none k later below)).1))
+    (λ j below. either_way (nat_lt start j) (reads begins loads stores before j ≡ false)
+    (λ later. no_second (is_after (last_below before begins) j) (loads j) (is_none (stored_before begins stores j)) (neither (loads j) (stores j) (none j (ltb-true start j later) below)).0)
+    (λ early. no_first (is_after (last_below before begins) j) (loads j) (is_none (stored_before begins stores j)) (ap (λ (o : Option ℕ). is_after o j) is ∙ early))))
+
+-- no load after the start
+pub not_after : (before start load : ℕ) (begins loads stores : ℕ → Bool) → last_below before begins ≡ Some start → load ≤ start
+    → is_place (first_below before (reads begins loads stores before)) load ≡ false
+not_after before start load begins loads stores is most = unread_at before (reads begins loads stores before) load
+    (no_first (is_after (last_below before begins) load) (loads load) (is_none (stored_before begins stores load)) (ap (λ (o : Option ℕ). is_after o load) is ∙ le-ltb start load most))
+
+pub no_load : (before load : ℕ) (begins loads stores : ℕ → Bool) → loads load ≡ false → is_place (first_below before (reads begins loads stores before)) load ≡ false
+no_load before load begins loads stores fails = unread_at before (reads begins loads stores before) load
+    (no_second (is_after (last_below before begins) load) (loads load) (is_none (stored_before begins stores load)) fails)
+
+-- ---- the last store to a byte, of an attempt that began there
+
+no_does : (a b : Bool) → b ≡ false → (a && b) ≡ false
+no_does true b is = is
+no_does false b is = refl
+
+both_so : (a b : Bool) → a ≡ true → b ≡ true → (a && b) ≡ true
+both_so a b x y = rw (x, y) refl
+
+after_later : (attempt : Option ℕ) (place later : ℕ) → is_after attempt place ≡ true → place < later → is_after attempt later ≡ true
+after_later None place later after below = absurd cc
+after_later (Some start) place later after below = lt-ltb start later (omega (arith, ltb-true start place after, below))
+
+pub not_stored : (before place : ℕ) (attempt : Option ℕ) (stores : ℕ → Bool) → stores place ≡ false → is_place (last_below before (λ k. is_after attempt k && stores k)) place ≡ false
+not_stored before place attempt stores fails = last_fails before (λ k. is_after attempt k && stores k) place (no_does (is_after attempt place) (stores place) fails)
+
+pub stored_later : (before place later : ℕ) (attempt : Option ℕ) (stores : ℕ → Bool) → is_after attempt place ≡ true → place < later → later < before → stores later ≡ true
+    → is_place (last_below before (λ k. is_after attempt k && stores k)) place ≡ false
+stored_later before place later attempt stores after below within does = another_later before (λ k. is_after attempt k && stores k) place later below within
+    (both_so (is_after attempt later) (stores later) (after_later attempt place later after below) does)
+
+pub stored_last : (before place : ℕ) (attempt : Option ℕ) (stores : ℕ → Bool) → is_after attempt place ≡ true → place < before → stores place ≡ true
+    → ((k : ℕ) → place < k → k < before → stores k ≡ false) → is_place (last_below before (λ k. is_after attempt k && stores k)) place ≡ true
+stored_last before place attempt stores after within does none = is_last before (λ k. is_after attempt k && stores k) place within
+    (both_so (is_after attempt place) (stores place) after does)
+    (λ j later below. no_does (is_after attempt j) (stores j) (none j later below))
