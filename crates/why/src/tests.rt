@@ -182,6 +182,31 @@ kind buffer rollbacks 1 lost 7
 total epochs 6 committed 0 rollbacks 1 lost 7
 ";
 
+/// Epoch 0 stores beside the byte that epoch 1 loads, and then to it.
+const CAME_TRUE: &str = "size 256
+epochs 2
+limit 100
+code 63060500830200046780000093027000231150042300500467800000
+trace 2
+0 start 0
+1 start 1
+1 load 00000040 1 00000000
+0 hurt 1
+0 store 00000042 2 00000007
+0 store 00000040 1 00000007
+1 restart
+0 commit
+1 load 00000040 1 00000007
+1 commit
+";
+
+const CAME_TRUE_TOLD: &str =
+    "hurt 3 false epoch 1 try 1 core 1 lost 3 entered 2 since 2 by 0 core 0 cause 4 store load 2 00000004 store 4 00000010 at 00000040 1
+later 3 store 5 00000014
+kind false rollbacks 1 lost 3
+total epochs 2 committed 2 rollbacks 1 lost 3
+";
+
 const ILLEGAL: &str = "size 256
 epochs 2
 limit 50
@@ -205,7 +230,7 @@ trace 2
 ";
 
 /// An input, what is printed, what is told on the error stream, and the status.
-const ROWS: [(&str, &str, &str, u8); 13] = [
+const ROWS: [(&str, &str, &str, u8); 14] = [
     (WAITS, WAITS_TOLD, "", 0),
     (EXITS, EXITS_TOLD, "", 0),
     (BESIDE, BESIDE_TOLD, "", 0),
@@ -213,6 +238,7 @@ const ROWS: [(&str, &str, &str, u8); 13] = [
     (FOR_NOTHING, FOR_NOTHING_TOLD, "", 0),
     (FAULTS, FAULTS_TOLD, "", 0),
     (FULL, FULL_TOLD, "", 0),
+    (CAME_TRUE, CAME_TRUE_TOLD, "", 0),
     (ILLEGAL, "illegal 1 NotThere\n", "", 4),
     (MISSING, "illegal 4 HurtMissing\n", "", 4),
     ("", "", "image 0 MissingOrRepeated\n", 2),
