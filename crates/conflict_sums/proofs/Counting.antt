@@ -9,7 +9,7 @@ use Rattle.conflict_sums.specs.declared.part.Part.TheVariants.{OfLine}
 use Rattle.conflict_sums.specs.declared.rollback.Rollback.{Rollback}
 use Rattle.conflict_sums.specs.declared.sum.Sum.{Sum}
 use Rattle.conflict_sums.specs.Keys.{some_sum, sum_at, sum_or}
-use Rattle.conflict_sums.specs.Kinds.{AreKinds, AreLines, count_at, counts_at, counts_by, counts_in, of_kind}
+use Rattle.conflict_sums.specs.Kinds.{AreKinds, AreLines, count_at, counts_at, counts_by, counts_in}
 use Rattle.conflict_sums.specs.Sums.{count_in, lost_in}
 use Rattle.std.specs.BTreeMap.{BTreeMap, get}
 use Rattle.std.specs.Ordering.{nat_cmp}

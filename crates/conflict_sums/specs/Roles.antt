@@ -1,5 +1,5 @@
 -- Violations in which an instruction of a pair stands as the load, whichever it was.
-use Rattle.std.specs.Prelude.{List, ◌++◌, map, Option, option_map}
+use Rattle.std.specs.Prelude.{List, ◌++◌, map, option_map}
 use Rattle.conflict_sums.specs.declared.rollback.Pair.{Pair}
 use Rattle.conflict_sums.specs.declared.rollback.Rollback.{Rollback}
 
