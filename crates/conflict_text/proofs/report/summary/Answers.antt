@@ -1,14 +1,14 @@
-use Rattle.std.proofs.Common.{◌≡◌, ℕ, List, ap, ◌∙◌}
+use Rattle.std.proofs.Common.{ℕ, List, ap, ◌∙◌}
 use Rattle.std.specs.BTreeMap.{get}
 use Rattle.std.specs.List.{flat_map}
 use Rattle.std.specs.Ordering.{nat_cmp}
 use Rattle.conflict_sums.proofs.Counting.{kind_counts, line_counts}
-use Rattle.conflict_sums.specs.declared.keys.Key.TheVariants.{Load, Store}
-use Rattle.conflict_sums.specs.declared.part.Part.TheVariants.{OfLine, OfPair, Whole}
+use Rattle.conflict_sums.specs.declared.keys.Key.TheVariants.{Load}
+use Rattle.conflict_sums.specs.declared.part.Part.TheVariants.{OfPair}
 use Rattle.conflict_sums.specs.declared.rollback.Pair.{Pair}
 use Rattle.conflict_sums.specs.declared.sum.Sum.{Sum}
 use Rattle.conflict_sums.specs.Keys.{sum_at, sum_or}
-use Rattle.conflict_sums.specs.Kinds.{counts_at, counts_by, counts_in}
+use Rattle.conflict_sums.specs.Kinds.{counts_at, counts_by}
 use Rattle.conflict_sums.specs.Pairs.{pairs_in}
 use Rattle.conflict_sums.specs.Sums.{sum_in}
 use Rattle.conflict_text.specs.Report.{epoch_line, kind_lines, line_line, line_text, pair_line, pair_text, pc_line, pc_text, total_line, total_text}
