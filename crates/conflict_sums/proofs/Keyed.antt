@@ -1,5 +1,5 @@
 -- Sums by a number that take in one violation more.
-use Rattle.std.proofs.Common.{◌≡◌, ℕ, zero, suc, ◌+◌, ◌<◌, ◌≤◌, ◌^◌, ◌==◌, Bool, true, false, cond, List, [], ◌∷◌, length, get_or, take, Option, Some, None, refl, sym, ap, ◌∙◌, inl, inr, arith, eqb-true, eq-eqb}
+use Rattle.std.proofs.Common.{◌≡◌, ℕ, zero, suc, ◌+◌, ◌<◌, ◌≤◌, ◌==◌, Bool, true, false, cond, List, [], ◌∷◌, length, get_or, take, Option, Some, None, refl, sym, ap, ◌∙◌, inl, inr, arith, eqb-true, eq-eqb}
 use Rattle.std.proofs.lemmas.Bool.{cases_eq}
 use Rattle.std.proofs.lemmas.List.Sums.{count_by-le-length, sum_by-cons, sum_by_more, sum_by_more_le_part}
 use Rattle.std.proofs.lemmas.List.{length-take-le}
@@ -133,8 +133,8 @@ part_le : (b : Bool) (w : ℕ) → cond b w 0 ≤ w
 part_le true w = omega arith
 part_le false w = omega arith
 
-pub lost_fits : (key : Key) (rs : List Rollback) (i : ℕ) (d : Rollback) (at : ℕ) (old : Option Sum) → i < length rs → old ≡ sum_at key (take i rs) at → lost_in Whole rs < 2 ^ 64
-    → (sum_or old).lost + (get_or rs i d).lost < 2 ^ 64
-lost_fits key rs i d at old below is fits =
+pub lost_fits : (key : Key) (rs : List Rollback) (i : ℕ) (d : Rollback) (at : ℕ) (old : Option Sum) → i < length rs → old ≡ sum_at key (take i rs) at
+    → (whole : Sum) → whole ≡ sum (count_in Whole rs) (lost_in Whole rs) → (sum_or old).lost + (get_or rs i d).lost ≤ whole.lost
+lost_fits key rs i d at old below is whole all =
     let part = part_at key at in
-    omega (arith, ap (λ (o : Option Sum). (sum_or o).lost) is, or_lost (count_in part (take i rs)) (lost_in part (take i rs)), sum_by_more_le_part (lost_by part) (lost_by Whole) rs i d below (λ (r : Rollback). part_le (belongs part r) r.lost), fits)
+    omega (arith, ap (λ (o : Option Sum). (sum_or o).lost) is, or_lost (count_in part (take i rs)) (lost_in part (take i rs)), sum_by_more_le_part (lost_by part) (lost_by Whole) rs i d below (λ (r : Rollback). part_le (belongs part r) r.lost), ap (λ (s : Sum). s.lost) all)

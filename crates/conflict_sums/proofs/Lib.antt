@@ -1,3 +1,4 @@
+pub mod Counting
 mod Parting
 mod Listing
 mod Keyed

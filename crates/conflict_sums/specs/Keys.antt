@@ -1,5 +1,7 @@
 -- Violations that are told apart by a number, and what those of each number cost.
-use Rattle.std.specs.Prelude.{ℕ, zero, suc, ◌+◌, List, Option, Some, None, option_map, unwrap_or}
+use Rattle.std.specs.Prelude.{◌≡◌, ℕ, zero, suc, ◌+◌, List, Option, Some, None, option_map, unwrap_or}
+use Rattle.std.specs.BTreeMap.{BTreeMap, IsOrdered, get}
+use Rattle.std.specs.Ordering.{nat_cmp}
 use Rattle.conflict_sums.specs.declared.keys.Key.{Key}
 use Rattle.conflict_sums.specs.declared.keys.Key.TheVariants.{Store, Load, Line, Epoch}
 use Rattle.conflict_sums.specs.declared.part.Part.{Part}
@@ -38,3 +40,8 @@ sum_or sum = unwrap_or sum (record { count = 0; lost = 0 })
 
 abbrev pub more : Sum → ℕ → Sum
 more sum lost = record { count = sum.count + 1; lost = sum.lost + lost }
+
+-- for each number, what the violations that have it cost; the numbers ascend
+pub record AreSums (key : Key) (rollbacks : List Rollback) (sums : BTreeMap ℕ Sum) : Type 0 where
+  pub each : (at : ℕ) → get nat_cmp sums at ≡ sum_at key rollbacks at
+  pub ascending : IsOrdered nat_cmp sums

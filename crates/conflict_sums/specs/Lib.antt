@@ -4,3 +4,5 @@ pub mod Rollbacks
 pub mod Parts
 pub mod Pairs
 pub mod Sums
+pub mod Kinds
+pub mod Roles

@@ -1,6 +1,6 @@
 //! How many violations belong to a part, and what they lost.
 
-ghost use Rattle.std.specs.Prelude.{◌≡◌, ◌<◌, ◌^◌, SomeIff};
+ghost use Rattle.std.specs.Prelude.{◌≡◌};
 ghost use Rattle.conflict_sums.specs.Sums as spec;
 
 use crate::part::Part;
@@ -12,21 +12,20 @@ pub struct Sum {
     /// How many they are.
     pub count: usize,
     /// How many instructions they lost.
-    pub lost: u64,
+    pub lost: u128,
 }
 
-/// What the violations of a part cost; nothing, where they lost 2^64 instructions or more.
-pub fn sum_of(rollbacks: &[Rollback], part: Part) -> Option<Sum>
-    ensures { SomeIff result (spec.lost_in part rollbacks.now < 2 ^ 64)
-        (record { count = spec.count_in part rollbacks.now; lost = spec.lost_in part rollbacks.now }) }
+/// What the violations of a part cost.
+pub fn sum_of(rollbacks: &[Rollback], part: Part) -> Sum
+    ensures { result ≡ record { count = spec.count_in part rollbacks.now; lost = spec.lost_in part rollbacks.now } }
 {
     let mut count = 0;
-    let mut lost: u64 = 0;
+    let mut lost = 0;
     for rollback in rollbacks {
         if part.has(rollback) {
             count += 1;
-            lost = lost.checked_add(rollback.lost)?;
+            lost += rollback.lost as u128;
         }
     }
-    Some(Sum { count, lost })
+    Sum { count, lost }
 }

@@ -132,6 +132,15 @@ hurt_line image entries sites e =
     codes "hurt " ++ decimal e.place ++ codes " " ++ kind_name e.kind
     ++ victim_text entries e ++ cost_text sites e ++ causer_text entries e ++ pair_text image entries sites e e.kind ++ codes "\n"
 
+abbrev pub later_by : List (Option Site) → ℕ → Option ℕ → List ℕ
+later_by sites place None = []
+later_by sites place (Some store) =
+    codes "later " ++ decimal place ++ access_text (codes " store ") sites (Some store) ++ codes "\n"
+
+-- false sharing came true: the causer stored later to a byte that the victim had read
+unfoldable pub later_line : List (Option Site) → Explanation → List ℕ
+later_line sites e = later_by sites e.place e.later
+
 abbrev pub vain_by : ℕ → Option What → List ℕ
 vain_by place None = []
 vain_by place (Some what) = codes "vain " ++ decimal place ++ codes " " ++ undoing_name what ++ codes "\n"
@@ -150,4 +159,5 @@ moot_line entries e = moot_by e.place (moot_at entries e)
 
 -- all that is told of one violation
 unfoldable pub violation_lines : LoadedImage → List Entry → List (Option Site) → Explanation → List ℕ
-violation_lines image entries sites e = hurt_line image entries sites e ++ vain_line entries e ++ moot_line entries e
+violation_lines image entries sites e =
+    hurt_line image entries sites e ++ later_line sites e ++ vain_line entries e ++ moot_line entries e

@@ -1,52 +1,121 @@
--- The report of which conflicts rolled back: the violations in order, then the kinds that occur, and the total.
+-- The report of which conflicts rolled back: the violations in order, then the sums.
 -- Source: this project.
-use Rattle.std.specs.Prelude.{ℕ, List, [], ◌++◌, length, codes, Option, Bool, true, false, ◌==◌, if◌then◌else◌}
+use Rattle.std.specs.Prelude.{◌≡◌, ℕ, ◌*◌, ◌^◌, ◌==◌, List, [], ◌++◌, map, codes, Option, Some, None, nat_lt, if◌then◌else◌}
+use Rattle.std.specs.BTreeMap.{BTreeMap}
 use Rattle.std.specs.Fmt.{decimal}
-use Rattle.std.specs.List.{count_by, flat_map, sum_by}
+use Rattle.std.specs.List.{flat_map}
 use Rattle.rv32_image.specs.Image.{LoadedImage}
+use Rattle.rv32_image.specs.Version.{limits_of}
 use Rattle.spec_history.specs.declared.entry.Entry.{Entry}
 use Rattle.conflicts.specs.declared.explanation.Explanation.{Explanation}
 use Rattle.conflicts.specs.declared.explanation.Kind.{Kind}
 use Rattle.conflicts.specs.declared.explanation.Kind.TheVariants.{TrueSharing, SilentStore, FalseSharing, FullBuffer, Unexplained}
 use Rattle.conflicts.specs.declared.standing.Site.{Site}
-use Rattle.conflict_text.specs.Lines.{kind_name, violation_lines}
+use Rattle.conflict_sums.specs.declared.keys.Key.TheVariants.{Epoch, Line, Load, Store}
+use Rattle.conflict_sums.specs.declared.kinds.Counts.{Counts}
+use Rattle.conflict_sums.specs.declared.part.Part.TheVariants.{OfKind, OfLine, OfPair, Whole}
+use Rattle.conflict_sums.specs.declared.rollback.Pair.{Pair}
+use Rattle.conflict_sums.specs.declared.rollback.Rollback.{Rollback}
+use Rattle.conflict_sums.specs.declared.sum.Sum.{Sum}
+use Rattle.conflict_sums.specs.Keys.{AreSums, sum_at, sum_or}
+use Rattle.conflict_sums.specs.Kinds.{counts_in}
+use Rattle.conflict_sums.specs.Pairs.{pairs_in}
+use Rattle.conflict_sums.specs.Roles.{in_both_roles}
+use Rattle.conflict_sums.specs.Rollbacks.{rollback_of}
+use Rattle.conflict_sums.specs.Sums.{count_in, lost_in, sum_in}
+use Rattle.conflict_text.specs.Lines.{address_or_dash, kind_name, violation_lines}
+use Rattle.trace_text.specs.Printing.{hex_word}
 
--- the two are the same kind
-abbrev pub is_kind : Kind → Kind → Bool
-is_kind TrueSharing TrueSharing = true
-is_kind SilentStore SilentStore = true
-is_kind FalseSharing FalseSharing = true
-is_kind FullBuffer FullBuffer = true
-is_kind Unexplained Unexplained = true
-is_kind kind other = false
+-- ---- parts of lines
 
--- how many violations of a kind there are, and how many instructions they lost
-abbrev pub rollbacks_of : Kind → List Explanation → ℕ
-rollbacks_of kind found = count_by (λ (e : Explanation). is_kind kind e.kind) found
+abbrev pub sum_text : ℕ → ℕ → List ℕ
+sum_text rollbacks lost = codes " rollbacks " ++ decimal rollbacks ++ codes " lost " ++ decimal lost
 
-abbrev pub lost_of : Kind → List Explanation → ℕ
-lost_of kind found = sum_by (λ (e : Explanation). if is_kind kind e.kind then e.lost else 0) found
+-- how many are of each kind
+abbrev pub counts_text : Counts → List ℕ
+counts_text c =
+    codes " true " ++ decimal c.true_sharing ++ codes " silent " ++ decimal c.silent_store
+    ++ codes " false " ++ decimal c.false_sharing ++ codes " buffer " ++ decimal c.full_buffer
 
-abbrev pub sums_text : ℕ → ℕ → List ℕ
-sums_text rollbacks lost = codes " rollbacks " ++ decimal rollbacks ++ codes " lost " ++ decimal lost ++ codes "\n"
+-- ---- lines
+
+-- an epoch, and what its violations cost
+unfoldable pub epoch_line : ℕ × Sum → List ℕ
+epoch_line e = codes "epoch " ++ decimal e.0 ++ sum_text e.1.count e.1.lost ++ codes "\n"
+
+-- the two instructions of a pair: for full buffers the access that asked for the line, and the store that held it
+abbrev pub pair_name : ℕ → Pair → List ℕ
+pair_name full pair =
+    if full == 0 then codes "pair store " ++ hex_word pair.store ++ codes " load " ++ hex_word pair.load
+    else codes "pair asked " ++ hex_word pair.store ++ codes " held " ++ hex_word pair.load
+
+unfoldable pub pair_text : Pair → Sum → Counts → List ℕ
+pair_text pair sum counts = pair_name counts.full_buffer pair ++ sum_text sum.count sum.lost ++ counts_text counts ++ codes "\n"
+
+-- a pair of instructions, and what the violations at which they met cost
+abbrev pub pair_line : List Rollback → Pair → List ℕ
+pair_line rollbacks pair = pair_text pair (sum_in (OfPair pair) rollbacks) (counts_in (OfPair pair) rollbacks)
+
+-- the address of the line that has this number
+abbrev pub line_address : LoadedImage → ℕ → Option ℕ
+line_address image line =
+    let first = line * (limits_of image.version).line_length in
+    if nat_lt first (2 ^ 32) then Some first else None
+
+abbrev pub line_text : LoadedImage → ℕ × Sum → Counts → List ℕ
+line_text image e counts =
+    codes "line " ++ address_or_dash (line_address image e.0) ++ sum_text e.1.count e.1.lost ++ counts_text counts ++ codes "\n"
+
+-- a line of the caches, and what the violations in it cost
+abbrev pub line_line : LoadedImage → List Rollback → ℕ × Sum → List ℕ
+line_line image rollbacks e = line_text image e (counts_in (OfLine e.0) rollbacks)
+
+-- how many violations, and what they lost
+abbrev pub role_text : Sum → List ℕ
+role_text sum = decimal sum.count ++ codes " " ++ decimal sum.lost
+
+abbrev pub pc_text : ℕ → Sum → Sum → List ℕ
+pc_text pc victim causer = codes "pc " ++ hex_word pc ++ codes " victim " ++ role_text victim ++ codes " causer " ++ role_text causer ++ codes "\n"
+
+-- an instruction, and what the violations cost in which it was the blamed load, and the blamed store
+abbrev pub pc_line : List Rollback → ℕ × Sum → List ℕ
+pc_line rollbacks e = pc_text e.0 (sum_or (sum_at Load rollbacks e.0)) (sum_or (sum_at Store rollbacks e.0))
 
 -- the sums of a kind, if it occurs
-unfoldable pub kind_line : List Explanation → Kind → List ℕ
-kind_line found kind =
-    if rollbacks_of kind found == 0 then []
-    else codes "kind " ++ kind_name kind ++ sums_text (rollbacks_of kind found) (lost_of kind found)
+unfoldable pub kind_line : List Rollback → Kind → List ℕ
+kind_line rollbacks kind =
+    if count_in (OfKind kind) rollbacks == 0 then []
+    else codes "kind " ++ kind_name kind ++ sum_text (count_in (OfKind kind) rollbacks) (lost_in (OfKind kind) rollbacks) ++ codes "\n"
 
-unfoldable pub kind_lines : List Explanation → List ℕ
-kind_lines found =
-    kind_line found TrueSharing ++ kind_line found SilentStore ++ kind_line found FalseSharing
-    ++ kind_line found FullBuffer ++ kind_line found Unexplained
+unfoldable pub kind_lines : List Rollback → List ℕ
+kind_lines rollbacks =
+    kind_line rollbacks TrueSharing ++ kind_line rollbacks SilentStore ++ kind_line rollbacks FalseSharing
+    ++ kind_line rollbacks FullBuffer ++ kind_line rollbacks Unexplained
+
+unfoldable pub total_text : ℕ → ℕ → Sum → List ℕ
+total_text epochs committed sum =
+    codes "total epochs " ++ decimal epochs ++ codes " committed " ++ decimal committed ++ sum_text sum.count sum.lost ++ codes "\n"
 
 -- the epochs of the loop, those that committed, and the sums of all violations
-unfoldable pub total_line : LoadedImage → ℕ → List Explanation → List ℕ
-total_line image homefree found =
-    codes "total epochs " ++ decimal image.epochs ++ codes " committed " ++ decimal homefree
-    ++ sums_text (length found) (sum_by (λ (e : Explanation). e.lost) found)
+abbrev pub total_line : LoadedImage → ℕ → List Rollback → List ℕ
+total_line image homefree rollbacks = total_text image.epochs homefree (sum_in Whole rollbacks)
 
-unfoldable pub printed_conflicts : LoadedImage → ℕ → List Entry → List (Option Site) → List Explanation → List ℕ
-printed_conflicts image homefree entries sites found =
-    flat_map (violation_lines image entries sites) found ++ kind_lines found ++ total_line image homefree found
+-- ---- the report
+
+-- the sums: epochs, lines and instructions in ascending order, pairs in the order in which they first came
+pub record IsSummary (image : LoadedImage) (homefree : ℕ) (rollbacks : List Rollback) (text : List ℕ) : Type 0 where
+  pub epochs : BTreeMap ℕ Sum
+  pub epochs_are : AreSums Epoch rollbacks epochs
+  pub lines : BTreeMap ℕ Sum
+  pub lines_are : AreSums Line rollbacks lines
+  -- the instructions that are in a pair, as its load or as its store
+  pub instructions : BTreeMap ℕ Sum
+  pub instructions_are : AreSums Load (in_both_roles rollbacks) instructions
+  pub printed : text ≡ flat_map epoch_line epochs.entries ++ flat_map (pair_line rollbacks) (pairs_in rollbacks) ++ flat_map (line_line image rollbacks) lines.entries
+      ++ flat_map (pc_line rollbacks) instructions.entries ++ kind_lines rollbacks ++ total_line image homefree rollbacks
+
+-- the violations in order, and the sums
+pub record IsPrinted (image : LoadedImage) (homefree : ℕ) (entries : List Entry) (sites : List (Option Site)) (found : List Explanation) (text : List ℕ) : Type 0 where
+  pub sums : List ℕ
+  pub summed : IsSummary image homefree (map (rollback_of image entries sites) found) sums
+  pub printed : text ≡ flat_map (violation_lines image entries sites) found ++ sums

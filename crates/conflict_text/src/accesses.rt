@@ -27,7 +27,7 @@ fn pc_at(sites: &[Option<Site>], place: Option<usize>) -> Option<u32>
 }
 
 /// What the report calls an access, its entry, and its instruction.
-fn push_access(
+pub(crate) fn push_access(
     text: &mut Vec<u8>,
     name: &[u8],
     sites: &[Option<Site>],

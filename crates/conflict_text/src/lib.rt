@@ -4,6 +4,7 @@
 mod accesses;
 mod followed;
 mod lines;
+mod parts;
 mod report;
 mod sums;
 mod words;

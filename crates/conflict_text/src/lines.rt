@@ -6,7 +6,7 @@ ghost use Rattle.conflicts.specs.Fates as fates;
 ghost use Rattle.conflict_text.specs.Followed.{IsFollowed};
 ghost use Rattle.conflict_text.specs.Lines as spec;
 
-use crate::accesses::{push_pair, what_at};
+use crate::accesses::{push_access, push_pair, what_at};
 use crate::followed::Followed;
 use crate::words::{cause_name, kind_name, push_count, push_named, push_place, undoing_name};
 use conflicts::{Explanation, Site};
@@ -74,6 +74,19 @@ fn push_hurt(
     text.extend_from_slice(b"\n")
 }
 
+/// The line that says where false sharing came true, if it did.
+#[tactic(auto, unfolding(crate::specs::Lines::later_line))]
+fn push_later(text: &mut Vec<u8>, sites: &[Option<Site>], e: Explanation) -> Result<(), AllocError>
+    ensures { OnOk result (text.new.items ≡ text.old.items ++ spec.later_line sites.now e) }
+{
+    let Some(store) = e.later else {
+        return Ok(());
+    };
+    push_named(text, b"later ", e.place as u128)?;
+    push_access(text, b" store ", sites, Some(store))?;
+    text.extend_from_slice(b"\n")
+}
+
 /// What undid the causer's attempt, which was over there, if it did not commit.
 fn undoing(entries: &[Entry], e: Explanation, over: Option<usize>) -> Option<What>
     requires { over ≡ fates.over_at entries.now e }
@@ -135,6 +148,7 @@ pub(crate) fn push_violation(
     let attempt = followed.attempt(entries, e);
     let over = followed.over_at(entries, e);
     push_hurt(text, image, entries, sites, e, attempt)?;
+    push_later(text, sites, e)?;
     push_vain(text, entries, e, over)?;
     push_moot(text, entries, e)
 }

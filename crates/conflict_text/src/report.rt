@@ -1,16 +1,22 @@
 ghost use Rattle.std.specs.Prelude.{◌≡◌, ◌++◌, IfOk};
+ghost use Rattle.std.specs.List.{flat_map};
+ghost use Rattle.conflict_text.specs.Lines.{violation_lines};
 ghost use Rattle.conflict_text.specs.Report as spec;
 
 use crate::followed::Followed;
 use crate::lines::push_violation;
-use crate::sums::{push_kinds, push_total};
+use crate::parts::{push_instructions, push_lines, push_pairs};
+use crate::sums::{push_epochs, push_kinds, push_total};
+use conflict_sums::{
+    Key, Part, Rollback, both_roles, kinds_of, lines_of, pairs_of, rollbacks, sum_of, sums_by,
+};
 use conflicts::{Explanation, Site};
 use rv32_exec::{Image, NoMemory};
 use spec_history::Entry;
 use std::alloc::{AllocError, Global};
 
-/// The report of which conflicts rolled back: lines for each explanation, in order, the sums of the kinds that occur, and the
-/// total. It takes the homefree epoch after the history, which is how many epochs have committed, and the sites and the
+/// The report of which conflicts rolled back: lines for each explanation, in order, the sums of epochs, pairs, lines,
+/// instructions and kinds, and the total. It takes the homefree epoch after the history, which is how many epochs have committed, and the sites and the
 /// explanations of the history.
 ///
 /// `NoMemory`: memory ran out, and nothing was made.
@@ -22,12 +28,11 @@ pub fn print_conflicts(
     sites: &[Option<Site>],
     found: &[Explanation],
 ) -> Result<Vec<u8>, NoMemory>
-    ensures { IfOk result (λ text. text.items ≡ spec.printed_conflicts image.now homefree entries.now sites.now found.now) }
+    ensures { IfOk result (λ text. spec.IsPrinted image.now homefree entries.now sites.now found.now text.items) }
 {
     report_lines(alloc, image, homefree, entries, sites, found).map_err(|_| NoMemory)
 }
 
-#[tactic(auto, unfolding(crate::specs::Report::printed_conflicts))]
 fn report_lines(
     alloc: Global,
     image: &Image,
@@ -36,14 +41,62 @@ fn report_lines(
     sites: &[Option<Site>],
     found: &[Explanation],
 ) -> Result<Vec<u8>, AllocError>
-    ensures { IfOk result (λ text. text.items ≡ spec.printed_conflicts image.now homefree entries.now sites.now found.now) }
+    ensures { IfOk result (λ text. spec.IsPrinted image.now homefree entries.now sites.now found.now text.items) }
+{
+    let summed = rollbacks(alloc, image, entries, sites, found)?;
+    let sums = summary(alloc, image, homefree, summed.as_slice())?;
+    let mut text = violations(alloc, image, entries, sites, found)?;
+    text.extend_from_slice(sums.as_slice())?;
+    Ok(text)
+}
+
+/// The lines of all violations.
+fn violations(
+    alloc: Global,
+    image: &Image,
+    entries: &[Entry],
+    sites: &[Option<Site>],
+    found: &[Explanation],
+) -> Result<Vec<u8>, AllocError>
+    ensures { IfOk result (λ text. text.items ≡ flat_map (violation_lines image.now entries.now sites.now) found.now) }
 {
     let mut text = Vec::new(alloc);
     let mut followed = Followed::new();
     for e in found {
         push_violation(&mut text, image, entries, sites, &mut followed, *e)?;
     }
-    push_kinds(&mut text, found)?;
-    push_total(&mut text, image, homefree, found)?;
+    Ok(text)
+}
+
+/// The lines of the sums.
+fn summary(
+    alloc: Global,
+    image: &Image,
+    homefree: u32,
+    rollbacks: &[Rollback],
+) -> Result<Vec<u8>, AllocError>
+    ensures { IfOk result (λ text. spec.IsSummary image.now homefree rollbacks.now text.items) }
+{
+    let pairs = pairs_of(alloc, rollbacks)?;
+    let kinds = kinds_of(alloc, rollbacks)?;
+    let kinds_by_line = lines_of(alloc, &kinds)?;
+    let epochs = sums_by(alloc, rollbacks, Key::Epoch)?;
+    let lines = sums_by(alloc, rollbacks, Key::Line)?;
+    let loads = sums_by(alloc, rollbacks, Key::Load)?;
+    let stores = sums_by(alloc, rollbacks, Key::Store)?;
+    let both = both_roles(alloc, rollbacks)?;
+    let instructions = sums_by(alloc, both.as_slice(), Key::Load)?;
+    let mut text = Vec::new(alloc);
+    push_epochs(&mut text, &epochs)?;
+    push_pairs(&mut text, rollbacks, &kinds, pairs.as_slice())?;
+    push_lines(&mut text, image, &kinds_by_line, &lines)?;
+    push_instructions(&mut text, &loads, &stores, &instructions)?;
+    push_kinds(&mut text, rollbacks)?;
+    push_total(
+        &mut text,
+        image.epochs(),
+        homefree,
+        sum_of(rollbacks, Part::Whole),
+    )?;
     Ok(text)
 }

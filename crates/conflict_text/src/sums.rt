@@ -1,109 +1,94 @@
 //! The sums over violations.
-ghost use Rattle.std.specs.Prelude.{◌≡◌, ◌++◌, ◌<◌, ◌^◌, OnOk, length};
-ghost use Rattle.std.specs.List.{sum_by};
+ghost use Rattle.std.specs.Prelude.{◌≡◌, ◌++◌, OnOk};
+ghost use Rattle.std.specs.BTreeMap.{IsOrdered};
+ghost use Rattle.std.specs.List.{flat_map};
+ghost use Rattle.std.specs.Ordering.{nat_cmp};
 ghost use Rattle.conflict_text.specs.Report as spec;
 
-use crate::words::{kind_name, push_named, push_number};
-use conflicts::{Explanation, Kind};
-use rv32_exec::Image;
+use crate::words::{kind_name, push_named};
+use conflict_sums::{Counts, Part, Rollback, Sum, sum_of};
+use conflicts::Kind;
 use std::alloc::AllocError;
+use std::collections::BTreeMap;
 
-/// The two are the same kind.
-fn is_kind(kind: Kind, other: Kind) -> bool
-    ensures { result ≡ spec.is_kind kind other }
+/// How many violations there are, and what they lost.
+pub(crate) fn push_sum(text: &mut Vec<u8>, sum: Sum) -> Result<(), AllocError>
+    ensures { OnOk result (text.new.items ≡ text.old.items ++ spec.sum_text sum.count sum.lost) }
 {
-    matches!(
-        (kind, other),
-        (Kind::TrueSharing, Kind::TrueSharing)
-            | (Kind::SilentStore, Kind::SilentStore)
-            | (Kind::FalseSharing, Kind::FalseSharing)
-            | (Kind::FullBuffer, Kind::FullBuffer)
-            | (Kind::Unexplained, Kind::Unexplained)
-    )
+    push_named(text, b" rollbacks ", sum.count as u128)?;
+    push_named(text, b" lost ", sum.lost)
 }
 
-/// How many violations of a kind there are.
-fn rollbacks_of(kind: Kind, found: &[Explanation]) -> usize
-    ensures { result ≡ spec.rollbacks_of kind found.now }
+/// How many are of each kind.
+pub(crate) fn push_counts(text: &mut Vec<u8>, counts: Counts) -> Result<(), AllocError>
+    ensures { OnOk result (text.new.items ≡ text.old.items ++ spec.counts_text counts) }
 {
-    let mut rollbacks = 0;
-    for e in found {
-        if is_kind(kind, e.kind) {
-            rollbacks += 1;
-        }
-    }
-    rollbacks
+    push_named(text, b" true ", counts.true_sharing as u128)?;
+    push_named(text, b" silent ", counts.silent_store as u128)?;
+    push_named(text, b" false ", counts.false_sharing as u128)?;
+    push_named(text, b" buffer ", counts.full_buffer as u128)
 }
 
-/// How many instructions the violations of a kind lost.
-fn lost_of(kind: Kind, found: &[Explanation]) -> u128
-    ensures { result ≡ spec.lost_of kind found.now }
+/// What the violations of an epoch cost.
+#[tactic(auto, unfolding(crate::specs::Report::epoch_line))]
+fn push_epoch(text: &mut Vec<u8>, epoch: u32, sum: Sum) -> Result<(), AllocError>
+    ensures { OnOk result (text.new.items ≡ text.old.items ++ spec.epoch_line (epoch, sum)) }
 {
-    let mut lost = 0;
-    for e in found {
-        if is_kind(kind, e.kind) {
-            lost += e.lost as u128;
-        }
-    }
-    lost
-}
-
-/// How many instructions all violations lost.
-fn lost_in(found: &[Explanation]) -> u128
-    ensures { result ≡ sum_by (λ e. e.lost) found.now }
-{
-    let mut lost = 0;
-    for e in found {
-        lost += e.lost as u128;
-    }
-    lost
-}
-
-fn push_sums(text: &mut Vec<u8>, rollbacks: usize, lost: u128) -> Result<(), AllocError>
-    ensures { OnOk result (text.new.items ≡ text.old.items ++ spec.sums_text rollbacks lost) }
-{
-    push_named(text, b" rollbacks ", rollbacks as u128)?;
-    push_named(text, b" lost ", lost)?;
+    push_named(text, b"epoch ", epoch as u128)?;
+    push_sum(text, sum)?;
     text.extend_from_slice(b"\n")
+}
+
+/// What those of each epoch cost.
+pub(crate) fn push_epochs(text: &mut Vec<u8>, sums: &BTreeMap<u32, Sum>) -> Result<(), AllocError>
+    ensures told { OnOk result (text.new.items ≡ text.old.items ++ flat_map spec.epoch_line sums.now.entries) }
+    ensures ascending { IsOrdered nat_cmp sums.now }
+{
+    for (epoch, sum) in sums.iter() {
+        push_epoch(text, *epoch, *sum)?;
+    }
+    Ok(())
 }
 
 /// The sums of a kind, if it occurs.
 #[tactic(auto, unfolding(crate::specs::Report::kind_line))]
-fn push_kind(text: &mut Vec<u8>, found: &[Explanation], kind: Kind) -> Result<(), AllocError>
-    ensures { OnOk result (text.new.items ≡ text.old.items ++ spec.kind_line found.now kind) }
+fn push_kind(text: &mut Vec<u8>, rollbacks: &[Rollback], kind: Kind) -> Result<(), AllocError>
+    ensures { OnOk result (text.new.items ≡ text.old.items ++ spec.kind_line rollbacks.now kind) }
 {
-    let rollbacks = rollbacks_of(kind, found);
-    if rollbacks == 0 {
+    let sum = sum_of(rollbacks, Part::OfKind(kind));
+    if sum.count == 0 {
         return Ok(());
     }
     text.extend_from_slice(b"kind ")?;
     text.extend_from_slice(kind_name(kind).as_bytes())?;
-    push_sums(text, rollbacks, lost_of(kind, found))
+    push_sum(text, sum)?;
+    text.extend_from_slice(b"\n")
 }
 
 /// The sums of the kinds that occur.
 #[tactic(auto, unfolding(crate::specs::Report::kind_lines))]
-pub(crate) fn push_kinds(text: &mut Vec<u8>, found: &[Explanation]) -> Result<(), AllocError>
-    ensures { OnOk result (text.new.items ≡ text.old.items ++ spec.kind_lines found.now) }
+pub(crate) fn push_kinds(text: &mut Vec<u8>, rollbacks: &[Rollback]) -> Result<(), AllocError>
+    ensures { OnOk result (text.new.items ≡ text.old.items ++ spec.kind_lines rollbacks.now) }
 {
-    push_kind(text, found, Kind::TrueSharing)?;
-    push_kind(text, found, Kind::SilentStore)?;
-    push_kind(text, found, Kind::FalseSharing)?;
-    push_kind(text, found, Kind::FullBuffer)?;
-    push_kind(text, found, Kind::Unexplained)
+    push_kind(text, rollbacks, Kind::TrueSharing)?;
+    push_kind(text, rollbacks, Kind::SilentStore)?;
+    push_kind(text, rollbacks, Kind::FalseSharing)?;
+    push_kind(text, rollbacks, Kind::FullBuffer)?;
+    push_kind(text, rollbacks, Kind::Unexplained)
 }
 
-/// The epochs of the loop, those that committed, and the sums of all violations.
-#[tactic(auto, unfolding(crate::specs::Report::total_line))]
+/// The epochs of the loop, those that committed, and what all violations cost.
+#[tactic(auto, unfolding(crate::specs::Report::total_text))]
 pub(crate) fn push_total(
     text: &mut Vec<u8>,
-    image: &Image,
-    homefree: u32,
-    found: &[Explanation],
+    epochs: u32,
+    committed: u32,
+    sum: Sum,
 ) -> Result<(), AllocError>
-    ensures { OnOk result (text.new.items ≡ text.old.items ++ spec.total_line image.now homefree found.now) }
+    ensures { OnOk result (text.new.items ≡ text.old.items ++ spec.total_text epochs committed sum) }
 {
-    push_named(text, b"total epochs ", image.epochs() as u128)?;
-    push_named(text, b" committed ", homefree as u128)?;
-    push_sums(text, found.len(), lost_in(found))
+    push_named(text, b"total epochs ", epochs as u128)?;
+    push_named(text, b" committed ", committed as u128)?;
+    push_sum(text, sum)?;
+    text.extend_from_slice(b"\n")
 }

@@ -5,11 +5,11 @@ use Rattle.spec_history.specs.declared.entry.Entry.{Entry}
 use Rattle.conflicts.specs.declared.explanation.Explanation.{Explanation}
 use Rattle.conflicts.specs.Explained.{IsExplained, places_of, violations_before}
 use Rattle.conflicts.specs.Sites.{sites_before}
-use Rattle.conflict_text.specs.Report.{printed_conflicts}
+use Rattle.conflict_text.specs.Report.{IsPrinted}
 
 -- the text tells of one explanation for each violation of the history, in order, and each is right
 pub record IsReport (image : LoadedImage) (cores : ℕ) (history : List Entry) (homefree : ℕ) (text : List ℕ) : Type 0 where
   pub found : List Explanation
   pub each_once : places_of found ≡ violations_before history (length history)
   pub explained : All (IsExplained image cores history) found
-  pub printed : text ≡ printed_conflicts image homefree history (sites_before image cores history (length history)) found
+  pub printed : IsPrinted image homefree history (sites_before image cores history (length history)) found text

@@ -25,6 +25,11 @@ trace 2
 
 const WAITS_TOLD: &str =
     "hurt 4 true epoch 1 try 1 core 1 lost 3 entered 2 since 2 by 0 core 0 cause 5 commit load 3 00000004 store 2 00000014 at 00000040 4
+epoch 1 rollbacks 1 lost 3
+pair store 00000014 load 00000004 rollbacks 1 lost 3 true 1 silent 0 false 0 buffer 0
+line 00000040 rollbacks 1 lost 3 true 1 silent 0 false 0 buffer 0
+pc 00000004 victim 1 3 causer 0 0
+pc 00000014 victim 0 0 causer 1 3
 kind true rollbacks 1 lost 3
 total epochs 2 committed 2 rollbacks 1 lost 3
 ";
@@ -58,6 +63,12 @@ const EXITS_TOLD: &str =
 vain 5 hurt
 moot 5
 hurt 8 true epoch 1 try 1 core 1 lost 5 entered 3 since 5 by 0 core 0 cause 9 store load 4 00000000 store 9 00000008 at 00000040 4
+epoch 1 rollbacks 1 lost 5
+epoch 2 rollbacks 1 lost 2
+pair store 00000008 load 00000000 rollbacks 2 lost 7 true 2 silent 0 false 0 buffer 0
+line 00000040 rollbacks 2 lost 7 true 2 silent 0 false 0 buffer 0
+pc 00000000 victim 2 7 causer 0 0
+pc 00000008 victim 0 0 causer 2 7
 kind true rollbacks 2 lost 7
 total epochs 3 committed 1 rollbacks 2 lost 7
 ";
@@ -83,6 +94,11 @@ trace 2
 
 const BESIDE_TOLD: &str =
     "hurt 4 false epoch 1 try 1 core 1 lost 1 entered 1 since 1 by 0 core 0 cause 5 store load 2 00000000 store 5 00000004 at 00000040 4
+epoch 1 rollbacks 1 lost 1
+pair store 00000004 load 00000000 rollbacks 1 lost 1 true 0 silent 0 false 1 buffer 0
+line 00000040 rollbacks 1 lost 1 true 0 silent 0 false 1 buffer 0
+pc 00000000 victim 1 1 causer 0 0
+pc 00000004 victim 0 0 causer 1 1
 kind false rollbacks 1 lost 1
 total epochs 2 committed 2 rollbacks 1 lost 1
 ";
@@ -109,6 +125,11 @@ trace 2
 
 const PUBLISHED_TOLD: &str =
     "hurt 5 silent epoch 1 try 1 core 1 lost 1 entered 1 since 1 by 0 core 0 cause 6 publish load 2 00000000 store 4 00000004 at 00000040 4
+epoch 1 rollbacks 1 lost 1
+pair store 00000004 load 00000000 rollbacks 1 lost 1 true 0 silent 1 false 0 buffer 0
+line 00000040 rollbacks 1 lost 1 true 0 silent 1 false 0 buffer 0
+pc 00000000 victim 1 1 causer 0 0
+pc 00000004 victim 0 0 causer 1 1
 kind silent rollbacks 1 lost 1
 total epochs 2 committed 2 rollbacks 1 lost 1
 ";
@@ -130,6 +151,7 @@ trace 2
 
 const FOR_NOTHING_TOLD: &str =
     "hurt 2 other epoch 1 try 1 core 1 lost 0 entered 0 since - by 0 core 0 cause - - load - - store - - at - -
+epoch 1 rollbacks 1 lost 0
 kind other rollbacks 1 lost 0
 total epochs 2 committed 1 rollbacks 1 lost 0
 ";
@@ -151,6 +173,11 @@ trace 2
 
 const FAULTS_TOLD: &str =
     "hurt 5 true epoch 1 try 1 core 1 lost 2 entered 1 since 2 by 0 core 0 cause 6 fault load 2 00000000 store 4 00000008 at 00000040 4
+epoch 1 rollbacks 1 lost 2
+pair store 00000008 load 00000000 rollbacks 1 lost 2 true 1 silent 0 false 0 buffer 0
+line 00000040 rollbacks 1 lost 2 true 1 silent 0 false 0 buffer 0
+pc 00000000 victim 1 2 causer 0 0
+pc 00000008 victim 0 0 causer 1 2
 kind true rollbacks 1 lost 2
 total epochs 2 committed 0 rollbacks 1 lost 2
 ";
@@ -178,8 +205,43 @@ trace 2
 
 const FULL_TOLD: &str =
     "hurt 11 buffer epoch 1 try 1 core 1 lost 7 entered 6 since - by 0 core 0 cause 12 load held 6 00000014 asked 12 0000002c at 00000080 16
+epoch 1 rollbacks 1 lost 7
+pair asked 0000002c held 00000014 rollbacks 1 lost 7 true 0 silent 0 false 0 buffer 1
+line 00000080 rollbacks 1 lost 7 true 0 silent 0 false 0 buffer 1
+pc 00000014 victim 1 7 causer 0 0
+pc 0000002c victim 0 0 causer 1 7
 kind buffer rollbacks 1 lost 7
 total epochs 6 committed 0 rollbacks 1 lost 7
+";
+
+/// Epoch 0 stores beside the byte that epoch 1 loads, and then to it.
+const CAME_TRUE: &str = "size 256
+epochs 2
+limit 100
+code 63060500830200046780000093027000231150042300500467800000
+trace 2
+0 start 0
+1 start 1
+1 load 00000040 1 00000000
+0 hurt 1
+0 store 00000042 2 00000007
+0 store 00000040 1 00000007
+1 restart
+0 commit
+1 load 00000040 1 00000007
+1 commit
+";
+
+const CAME_TRUE_TOLD: &str =
+    "hurt 3 false epoch 1 try 1 core 1 lost 3 entered 2 since 2 by 0 core 0 cause 4 store load 2 00000004 store 4 00000010 at 00000040 1
+later 3 store 5 00000014
+epoch 1 rollbacks 1 lost 3
+pair store 00000010 load 00000004 rollbacks 1 lost 3 true 0 silent 0 false 1 buffer 0
+line 00000040 rollbacks 1 lost 3 true 0 silent 0 false 1 buffer 0
+pc 00000004 victim 1 3 causer 0 0
+pc 00000010 victim 0 0 causer 1 3
+kind false rollbacks 1 lost 3
+total epochs 2 committed 2 rollbacks 1 lost 3
 ";
 
 const ILLEGAL: &str = "size 256
@@ -205,7 +267,7 @@ trace 2
 ";
 
 /// An input, what is printed, what is told on the error stream, and the status.
-const ROWS: [(&str, &str, &str, u8); 13] = [
+const ROWS: [(&str, &str, &str, u8); 14] = [
     (WAITS, WAITS_TOLD, "", 0),
     (EXITS, EXITS_TOLD, "", 0),
     (BESIDE, BESIDE_TOLD, "", 0),
@@ -213,6 +275,7 @@ const ROWS: [(&str, &str, &str, u8); 13] = [
     (FOR_NOTHING, FOR_NOTHING_TOLD, "", 0),
     (FAULTS, FAULTS_TOLD, "", 0),
     (FULL, FULL_TOLD, "", 0),
+    (CAME_TRUE, CAME_TRUE_TOLD, "", 0),
     (ILLEGAL, "illegal 1 NotThere\n", "", 4),
     (MISSING, "illegal 4 HurtMissing\n", "", 4),
     ("", "", "image 0 MissingOrRepeated\n", 2),

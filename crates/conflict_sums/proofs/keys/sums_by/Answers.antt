@@ -8,7 +8,7 @@ use Rattle.conflict_sums.proofs.keys.sums_by.Goals.{in-Some+in_ok-add, in_defaul
 pub add-requires-clause-lost : goal.add-requires-clause-lost
 add-requires-clause-lost c =
     let below : c.loop-rollback.rollback-index < length c.args.rollbacks.now = omega (arith, c.loop-rollback-test.true) in
-    lost_fits c.args.key c.args.rollbacks.now c.loop-rollback.rollback-index _ c.in-Some.at _ below (c.loop-rollback.invariant c.in-Some.at) c.requires
+    lost_fits c.args.key c.args.rollbacks.now c.loop-rollback.rollback-index _ c.in-Some.at _ below (c.loop-rollback.invariant c.in-Some.at) c.sum_of-whole.result c.sum_of-whole.ensures
 
 pub loop-rollback-preserved : goal.loop-rollback-preserved
 loop-rollback-preserved c =

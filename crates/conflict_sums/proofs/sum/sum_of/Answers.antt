@@ -14,5 +14,4 @@ pub returns : goal.returns
 returns c =
     let was = c.loop-rollback.invariant in
     let whole : take c.loop-rollback.rollback-index c.args.rollbacks.now ≡ c.args.rollbacks.now = take_all c.loop-rollback.rollback-index c.args.rollbacks.now (omega (arith, c.loop-rollback-test.false)) in
-    let lost : c.loop-rollback.lost ≡ lost_in c.args.part c.args.rollbacks.now = was.summed ∙ ap (lost_in c.args.part) whole in
-    (omega (arith, was.fits, lost), same_sum _ _ _ _ (was.counted ∙ ap (count_in c.args.part) whole) lost)
+    same_sum _ _ _ _ (was.counted ∙ ap (count_in c.args.part) whole) (was.summed ∙ ap (lost_in c.args.part) whole)

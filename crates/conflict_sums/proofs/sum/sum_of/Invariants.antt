@@ -1,4 +1,4 @@
-use Rattle.std.proofs.Common.{◌≡◌, ◌≤◌, ◌<◌, ◌^◌, take}
+use Rattle.std.proofs.Common.{◌≡◌, ◌≤◌, ◌*◌, take}
 use Rattle.conflict_sums.specs.Sums.{count_in, lost_in}
 use Rattle.conflict_sums.proofs.sum.sum_of.Given as goal
 
@@ -6,7 +6,7 @@ use Rattle.conflict_sums.proofs.sum.sum_of.Given as goal
 abbrev pub invariant-loop-rollback : goal.invariant-loop-rollback
 invariant-loop-rollback l = record {
   few : l.count ≤ l.rollback-index;
-  fits : l.lost < 2 ^ 64;
+  fits : l.lost ≤ 18446744073709551615 * l.rollback-index;
   counted : l.count ≡ count_in l.part (take l.rollback-index l.rollbacks);
   summed : l.lost ≡ lost_in l.part (take l.rollback-index l.rollbacks);
 }

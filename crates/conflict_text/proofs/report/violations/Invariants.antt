@@ -2,7 +2,7 @@ use Rattle.std.proofs.Common.{◌≡◌, take}
 use Rattle.std.specs.List.{flat_map}
 use Rattle.conflict_text.specs.Followed.{IsFollowed}
 use Rattle.conflict_text.specs.Lines.{violation_lines}
-use Rattle.conflict_text.proofs.report.report_lines.Given as goal
+use Rattle.conflict_text.proofs.report.violations.Given as goal
 
 -- the violations so far are told
 abbrev pub invariant-loop-e : goal.invariant-loop-e

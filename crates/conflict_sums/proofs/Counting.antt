@@ -1,0 +1,41 @@
+-- How many violations of a line are of each kind, from the sums of lines.
+use Rattle.std.proofs.Common.{◌≡◌, ℕ, zero, suc, List, refl, ap, ◌∙◌}
+use Rattle.conflict_sums.specs.declared.keys.Key.TheVariants.{Line}
+use Rattle.conflict_sums.specs.declared.kinds.ByKind.{ByKind}
+use Rattle.conflict_sums.specs.declared.kinds.Counts.{Counts}
+use Rattle.conflict_sums.specs.declared.kinds.LinesByKind.{LinesByKind}
+use Rattle.conflict_sums.specs.declared.part.Part.{Part}
+use Rattle.conflict_sums.specs.declared.part.Part.TheVariants.{OfLine}
+use Rattle.conflict_sums.specs.declared.rollback.Rollback.{Rollback}
+use Rattle.conflict_sums.specs.declared.sum.Sum.{Sum}
+use Rattle.conflict_sums.specs.Keys.{some_sum, sum_at, sum_or}
+use Rattle.conflict_sums.specs.Kinds.{AreKinds, AreLines, count_at, counts_at, counts_by, counts_in}
+use Rattle.conflict_sums.specs.Sums.{count_in, lost_in}
+use Rattle.std.specs.BTreeMap.{BTreeMap, get}
+use Rattle.std.specs.Ordering.{nat_cmp}
+
+some_count : (n lost : ℕ) → (sum_or (some_sum n lost)).count ≡ n
+some_count zero lost = refl
+some_count (suc n) lost = refl
+
+one_count : (sums : BTreeMap ℕ Sum) (rs : List Rollback) (at : ℕ) → get nat_cmp sums at ≡ sum_at Line rs at → count_at sums at ≡ count_in (OfLine at) rs
+one_count sums rs at is = ap (λ o. (sum_or o).count) is ∙ some_count (count_in (OfLine at) rs) (lost_in (OfLine at) rs)
+
+abbrev counts : ℕ → ℕ → ℕ → ℕ → Counts
+counts a b c d = record { true_sharing = a; silent_store = b; false_sharing = c; full_buffer = d }
+
+same_counts : (a b c d a' b' c' d' : ℕ) → a ≡ a' → b ≡ b' → c ≡ c' → d ≡ d' → counts a b c d ≡ counts a' b' c' d'
+same_counts a b c d a' b' c' d' one two three four = rw (one, two, three, four) refl
+
+pub line_counts : (rs : List Rollback) (kinds : ByKind) (lines : LinesByKind) (at : ℕ) → AreKinds rs kinds → AreLines kinds lines → counts_at lines at ≡ counts_in (OfLine at) rs
+line_counts rs kinds lines at parted summed =
+    same_counts _ _ _ _ _ _ _ _
+    (one_count lines.true_sharing kinds.true_sharing.items at (summed.true_sharing_are at) ∙ ap (count_in (OfLine at)) parted.true_sharing_is)
+    (one_count lines.silent_store kinds.silent_store.items at (summed.silent_store_are at) ∙ ap (count_in (OfLine at)) parted.silent_store_is)
+    (one_count lines.false_sharing kinds.false_sharing.items at (summed.false_sharing_are at) ∙ ap (count_in (OfLine at)) parted.false_sharing_is)
+    (one_count lines.full_buffer kinds.full_buffer.items at (summed.full_buffer_are at) ∙ ap (count_in (OfLine at)) parted.full_buffer_is)
+
+pub kind_counts : (part : Part) (rs : List Rollback) (kinds : ByKind) → AreKinds rs kinds → counts_by part kinds ≡ counts_in part rs
+kind_counts part rs kinds parted =
+    same_counts _ _ _ _ _ _ _ _
+    (ap (count_in part) parted.true_sharing_is) (ap (count_in part) parted.silent_store_is) (ap (count_in part) parted.false_sharing_is) (ap (count_in part) parted.full_buffer_is)

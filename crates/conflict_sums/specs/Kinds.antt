@@ -1,0 +1,65 @@
+-- How many violations of a part are of each kind.
+use Rattle.std.specs.Prelude.{◌≡◌, ℕ, List, filter}
+use Rattle.std.specs.BTreeMap.{BTreeMap, get}
+use Rattle.std.specs.Ordering.{nat_cmp}
+use Rattle.conflicts.specs.declared.explanation.Kind.{Kind}
+use Rattle.conflicts.specs.declared.explanation.Kind.TheVariants.{TrueSharing, SilentStore, FalseSharing, FullBuffer}
+use Rattle.conflict_sums.specs.declared.kinds.ByKind.{ByKind}
+use Rattle.conflict_sums.specs.declared.kinds.Counts.{Counts}
+use Rattle.conflict_sums.specs.declared.kinds.LinesByKind.{LinesByKind}
+use Rattle.conflict_sums.specs.declared.keys.Key.TheVariants.{Line}
+use Rattle.conflict_sums.specs.declared.part.Part.{Part}
+use Rattle.conflict_sums.specs.declared.part.Part.TheVariants.{OfKind}
+use Rattle.conflict_sums.specs.declared.rollback.Rollback.{Rollback}
+use Rattle.conflict_sums.specs.declared.sum.Sum.{Sum}
+use Rattle.conflict_sums.specs.Keys.{sum_at, sum_or}
+use Rattle.conflict_sums.specs.Parts.{belongs}
+use Rattle.conflict_sums.specs.Sums.{count_in}
+
+-- the violations of a kind
+abbrev pub of_kind : Kind → List Rollback → List Rollback
+of_kind kind rollbacks = filter (belongs (OfKind kind)) rollbacks
+
+-- how many violations of a part are of each kind
+abbrev pub counts_in : Part → List Rollback → Counts
+counts_in part rollbacks = record {
+  true_sharing = count_in part (of_kind TrueSharing rollbacks);
+  silent_store = count_in part (of_kind SilentStore rollbacks);
+  false_sharing = count_in part (of_kind FalseSharing rollbacks);
+  full_buffer = count_in part (of_kind FullBuffer rollbacks);
+}
+
+-- they are these violations, parted by kind
+pub record AreKinds (rollbacks : List Rollback) (kinds : ByKind) : Type 0 where
+  pub true_sharing_is : kinds.true_sharing.items ≡ of_kind TrueSharing rollbacks
+  pub silent_store_is : kinds.silent_store.items ≡ of_kind SilentStore rollbacks
+  pub false_sharing_is : kinds.false_sharing.items ≡ of_kind FalseSharing rollbacks
+  pub full_buffer_is : kinds.full_buffer.items ≡ of_kind FullBuffer rollbacks
+
+-- how many of a part are in each of the four lists
+abbrev pub counts_by : Part → ByKind → Counts
+counts_by part kinds = record {
+  true_sharing = count_in part kinds.true_sharing.items;
+  silent_store = count_in part kinds.silent_store.items;
+  false_sharing = count_in part kinds.false_sharing.items;
+  full_buffer = count_in part kinds.full_buffer.items;
+}
+
+-- for each line, what those of each kind cost
+pub record AreLines (kinds : ByKind) (lines : LinesByKind) : Type 0 where
+  pub true_sharing_are : (at : ℕ) → get nat_cmp lines.true_sharing at ≡ sum_at Line kinds.true_sharing.items at
+  pub silent_store_are : (at : ℕ) → get nat_cmp lines.silent_store at ≡ sum_at Line kinds.silent_store.items at
+  pub false_sharing_are : (at : ℕ) → get nat_cmp lines.false_sharing at ≡ sum_at Line kinds.false_sharing.items at
+  pub full_buffer_are : (at : ℕ) → get nat_cmp lines.full_buffer at ≡ sum_at Line kinds.full_buffer.items at
+
+-- how many there are at a number
+abbrev pub count_at : BTreeMap ℕ Sum → ℕ → ℕ
+count_at sums at = (sum_or (get nat_cmp sums at)).count
+
+abbrev pub counts_at : LinesByKind → ℕ → Counts
+counts_at lines at = record {
+  true_sharing = count_at lines.true_sharing at;
+  silent_store = count_at lines.silent_store at;
+  false_sharing = count_at lines.false_sharing at;
+  full_buffer = count_at lines.full_buffer at;
+}

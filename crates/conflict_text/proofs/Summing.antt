@@ -1,0 +1,28 @@
+-- The text of the sums.
+use Rattle.std.proofs.Common.{◌≡◌, ◌++◌, ◌∙◌, ℕ, List, [], ◌∷◌, append_assoc, ap, refl, Result, Ok, Err, OnOk, is_ok, cond}
+use Rattle.std.specs.List.{flat_map}
+
+pub follows : {A B : Type 0} (r : Result A B) (P Q : Type 0) → (P → Q) → OnOk r P → OnOk r Q
+follows (Ok x) P Q f is = f is
+follows (Err e) P Q f is = tt
+
+-- the line of the total, part by part
+pub total_parts : (text first second third new a b c d s e : List ℕ) → first ≡ text ++ (a ++ b) → second ≡ first ++ (c ++ d) → third ≡ second ++ s
+    → new ≡ third ++ e → new ≡ text ++ (a ++ b ++ c ++ d ++ s ++ e)
+total_parts text first second third new a b c d s e one two three is = is ∙ rw (three, two, one) (simp append_assoc)
+
+-- the lines of the same list, told in two ways
+pub same_lines : {X : Type 0} (f g : X → List ℕ) → ((x : X) → f x ≡ g x) → (xs : List X) → flat_map f xs ≡ flat_map g xs
+same_lines f g each [] = refl
+same_lines f g each (x ∷ xs) = ap (λ t. t ++ flat_map f xs) (each x) ∙ ap (λ t. g x ++ t) (same_lines f g each xs)
+
+-- the six groups of lines
+pub six_parts : (t0 t1 t2 t3 t4 t5 new a b c d e f b' c' d' f' : List ℕ) → t0 ≡ [] → t1 ≡ t0 ++ a → t2 ≡ t1 ++ b → t3 ≡ t2 ++ c → t4 ≡ t3 ++ d → t5 ≡ t4 ++ e → new ≡ t5 ++ f
+    → b ≡ b' → c ≡ c' → d ≡ d' → f ≡ f' → new ≡ a ++ b' ++ c' ++ d' ++ e ++ f'
+six_parts t0 t1 t2 t3 t4 t5 new a b c d e f b' c' d' f' zero one two three four five six same2 same3 same4 same6 =
+    six ∙ rw (five, four, three, two, one, zero, same2, same3, same4, same6) (simp append_assoc)
+
+-- the end of a line, if there was memory for it
+pub ended : {A B : Type 0} (r : Result A B) (new old e : List ℕ) → new ≡ cond (is_ok r) (old ++ e) old → OnOk r (new ≡ old ++ e)
+ended (Ok x) new old e is = is
+ended (Err x) new old e is = tt

@@ -1,0 +1,162 @@
+//! The sums of pairs, lines and instructions.
+ghost use Rattle.std.specs.Prelude.{◌≡◌, ◌++◌, OnOk};
+ghost use Rattle.std.specs.BTreeMap.{IsOrdered, get};
+ghost use Rattle.std.specs.List.{flat_map};
+ghost use Rattle.std.specs.Ordering.{nat_cmp};
+ghost use Rattle.conflict_sums.specs.Keys.{sum_or};
+ghost use Rattle.conflict_sums.specs.Kinds.{counts_at, counts_by};
+ghost use Rattle.conflict_sums.specs.Sums.{sum_in};
+ghost use Rattle.conflict_sums.specs.declared.part.Part.TheVariants.{OfPair};
+ghost use Rattle.conflict_text.specs.Report as spec;
+
+use crate::sums::{push_counts, push_sum};
+use crate::words::{push_address, push_named};
+use conflict_sums::{ByKind, Counts, LinesByKind, Pair, Part, Rollback, Sum, sum_of};
+use rv32_exec::Image;
+use std::alloc::AllocError;
+use std::collections::BTreeMap;
+use trace_text::push_hex;
+
+/// The two instructions of a pair, of which so many violations are full buffers.
+fn push_pair_name(text: &mut Vec<u8>, full: usize, pair: Pair) -> Result<(), AllocError>
+    ensures { OnOk result (text.new.items ≡ text.old.items ++ spec.pair_name full pair) }
+{
+    if full == 0 {
+        text.extend_from_slice(b"pair store ")?;
+        push_hex(text, &pair.store.to_be_bytes())?;
+        text.extend_from_slice(b" load ")?;
+        push_hex(text, &pair.load.to_be_bytes())
+    } else {
+        text.extend_from_slice(b"pair asked ")?;
+        push_hex(text, &pair.store.to_be_bytes())?;
+        text.extend_from_slice(b" held ")?;
+        push_hex(text, &pair.load.to_be_bytes())
+    }
+}
+
+/// What the violations of a pair cost, with so many of each kind.
+#[tactic(auto, unfolding(crate::specs::Report::pair_text))]
+fn push_pair_sum(text: &mut Vec<u8>, pair: Pair, sum: Sum, counts: Counts) -> Result<(), AllocError>
+    ensures { OnOk result (text.new.items ≡ text.old.items ++ spec.pair_text pair sum counts) }
+{
+    push_pair_name(text, counts.full_buffer, pair)?;
+    push_sum(text, sum)?;
+    push_counts(text, counts)?;
+    text.extend_from_slice(b"\n")
+}
+
+/// What those of a pair cost.
+fn push_pair(
+    text: &mut Vec<u8>,
+    rollbacks: &[Rollback],
+    kinds: &ByKind,
+    pair: Pair,
+) -> Result<(), AllocError>
+    ensures { OnOk result (text.new.items ≡ text.old.items ++ spec.pair_text pair (sum_in (OfPair pair) rollbacks.now) (counts_by (OfPair pair) kinds.now)) }
+{
+    let sum = sum_of(rollbacks, Part::OfPair(pair));
+    let counts = kinds.counts(Part::OfPair(pair));
+    push_pair_sum(text, pair, sum, counts)
+}
+
+/// What those of each pair cost.
+pub(crate) fn push_pairs(
+    text: &mut Vec<u8>,
+    rollbacks: &[Rollback],
+    kinds: &ByKind,
+    pairs: &[Pair],
+) -> Result<(), AllocError>
+    ensures { OnOk result (text.new.items ≡ text.old.items
+        ++ flat_map (λ p. spec.pair_text p (sum_in (OfPair p) rollbacks.now) (counts_by (OfPair p) kinds.now)) pairs.now) }
+{
+    for pair in pairs {
+        push_pair(text, rollbacks, kinds, *pair)?;
+    }
+    Ok(())
+}
+
+/// The address of the line that has this number.
+fn line_address(image: &Image, line: u32) -> Option<u32>
+    ensures { result ≡ spec.line_address image.now line }
+{
+    line.checked_mul(image.version().limits().line_length)
+}
+
+/// What the violations in a line cost, with so many of each kind.
+fn push_line(
+    text: &mut Vec<u8>,
+    image: &Image,
+    line: u32,
+    sum: Sum,
+    counts: Counts,
+) -> Result<(), AllocError>
+    ensures { OnOk result (text.new.items ≡ text.old.items ++ spec.line_text image.now (line, sum) counts) }
+{
+    text.extend_from_slice(b"line ")?;
+    push_address(text, line_address(image, line))?;
+    push_sum(text, sum)?;
+    push_counts(text, counts)?;
+    text.extend_from_slice(b"\n")
+}
+
+/// What those in each line cost.
+pub(crate) fn push_lines(
+    text: &mut Vec<u8>,
+    image: &Image,
+    lines: &LinesByKind,
+    sums: &BTreeMap<u32, Sum>,
+) -> Result<(), AllocError>
+    ensures told { OnOk result (text.new.items ≡ text.old.items ++ flat_map (λ e. spec.line_text image.now e (counts_at lines.now e.0)) sums.now.entries) }
+    ensures ascending { IsOrdered nat_cmp sums.now }
+{
+    for (line, sum) in sums.iter() {
+        push_line(text, image, *line, *sum, lines.counts(*line))?;
+    }
+    Ok(())
+}
+
+/// What violations cost.
+fn push_role(text: &mut Vec<u8>, name: &[u8], sum: Sum) -> Result<(), AllocError>
+    ensures { OnOk result (text.new.items ≡ text.old.items ++ (name.now ++ spec.role_text sum)) }
+{
+    push_named(text, name, sum.count as u128)?;
+    push_named(text, b" ", sum.lost)
+}
+
+/// What violations of a number cost.
+fn sum_at(sums: &BTreeMap<u32, Sum>, at: u32) -> Sum
+    ensures { result ≡ sum_or (get nat_cmp sums.now at) }
+{
+    match sums.get(&at) {
+        Some(sum) => *sum,
+        None => Sum { count: 0, lost: 0 },
+    }
+}
+
+/// What the violations cost in which an instruction was the blamed load, and the blamed store.
+fn push_pc(text: &mut Vec<u8>, pc: u32, victim: Sum, causer: Sum) -> Result<(), AllocError>
+    ensures { OnOk result (text.new.items ≡ text.old.items ++ spec.pc_text pc victim causer) }
+{
+    text.extend_from_slice(b"pc ")?;
+    push_hex(text, &pc.to_be_bytes())?;
+    push_role(text, b" victim ", victim)?;
+    push_role(text, b" causer ", causer)?;
+    text.extend_from_slice(b"\n")
+}
+
+/// What those of each instruction cost, which are the keys of `sums`.
+pub(crate) fn push_instructions(
+    text: &mut Vec<u8>,
+    loads: &BTreeMap<u32, Sum>,
+    stores: &BTreeMap<u32, Sum>,
+    sums: &BTreeMap<u32, Sum>,
+) -> Result<(), AllocError>
+    ensures told { OnOk result (text.new.items ≡ text.old.items
+        ++ flat_map (λ e. spec.pc_text e.0 (sum_or (get nat_cmp loads.now e.0)) (sum_or (get nat_cmp stores.now e.0))) sums.now.entries) }
+    ensures ascending { IsOrdered nat_cmp sums.now }
+{
+    for (pc, _) in sums.iter() {
+        push_pc(text, *pc, sum_at(loads, *pc), sum_at(stores, *pc))?;
+    }
+    Ok(())
+}
