@@ -10,7 +10,8 @@ use ticket_lock::Kept;
 /// A list of entries, each with the number of the pass that made it and the turn in which it did.
 #[derive(Drop)]
 pub(crate) struct List {
-    pub(crate) entries: Vec<(u64, u64)>,
+    /// In a block of its own, so that a lock hands over one word.
+    pub(crate) entries: Box<Vec<(u64, u64)>>,
 }
 
 impl Model for List {
@@ -18,7 +19,7 @@ impl Model for List {
 
     ghost Value = { List (ℕ × ℕ) };
 
-    ghost view = { λ l. l.entries.items };
+    ghost view = { λ l. l.entries.value.items };
 }
 
 impl Kept for List {
@@ -37,6 +38,7 @@ impl List {
         ensures { IfSome result (λ l. l ≡ []) }
     {
         let entries = Vec::with_capacity(alloc, entries).ok()?;
+        let entries = Box::new(alloc, entries).ok()?;
         Some(List { entries })
     }
 
