@@ -1,6 +1,6 @@
 //! What makes true sharing mean something, over the definitions alone: the function does nothing, and its contract is the law.
 
-ghost use Rattle.std.specs.Prelude.{◌≡◌, ℕ, List, ◌∷◌, Some, None, true};
+ghost use Rattle.std.specs.Prelude.{◌≡◌, ℕ, List, ◌∷◌, All, Some, None, true, if◌then◌else◌};
 ghost use Rattle.rv32_image.specs.Image.{LoadedImage, IsImage};
 ghost use Rattle.spec_history.specs.declared.entry.Entry.{Entry};
 ghost use Rattle.spec_history.specs.declared.entry.What.{What};
@@ -9,7 +9,8 @@ ghost use Rattle.spec_history.specs.FlatState.{CoreState, FlatState};
 ghost use Rattle.spec_history.specs.Effect.{effect};
 ghost use Rattle.spec_history.specs.Refusal.{refusal_of};
 ghost use Rattle.spec_history.specs.Replay.{replay};
-ghost use Rattle.conflicts.specs.Laws.{commits, missed_by, refusal_after, violations_by};
+ghost use Rattle.conflicts.specs.Conflict.{is_notice};
+ghost use Rattle.conflicts.specs.Laws.{cancels_one, commits, missed_by, notices_by, refusal_after};
 
 /// Where a violation is followed by its cause, and the cause commits bytes: without the violation, the cause is refused with
 /// `HurtMissing` where the violation is true sharing, and else it is as legal as before.
@@ -22,13 +23,14 @@ pub fn only_true_sharing_is_missed()
         → refusal_of image cores s (record { by = by; what = cause }) ≡ missed_by image s by cause victim }
 {}
 
-/// The same, where the core makes other violations between this one and their cause, any number of them: the first is left out,
-/// and the others are kept. They are as legal as before, and the cause is refused with `HurtMissing` where the violation that is
-/// left out is true sharing, and else it is as legal as before.
+/// The same, where the core violates and cancels epochs between this violation and its cause, any number of them: this one is
+/// left out, and those are kept. They are as legal as before, and the cause is refused with `HurtMissing` where the violation that
+/// is left out is true sharing and not moot, and else it is as legal as before.
 pub fn only_true_sharing_is_missed_among_others()
-    ensures { (image : LoadedImage) (cores : ℕ) (entries : List Entry) (others : List ℕ) (s : FlatState) (by victim : ℕ) (violated : CoreState) (cause : What) → IsImage image
-        → replay image cores entries ≡ Some s → s.cores victim ≡ Some violated
-        → refusal_after image cores s (violations_by by (violated.epoch ∷ others)) (record { by = by; what = cause }) ≡ Some None
+    ensures { (image : LoadedImage) (cores : ℕ) (entries : List Entry) (others : List What) (s : FlatState) (by victim : ℕ) (violated : CoreState) (cause : What) → IsImage image
+        → replay image cores entries ≡ Some s → s.cores victim ≡ Some violated → All (λ what. is_notice what ≡ true) others
+        → refusal_after image cores s (notices_by by (Hurt violated.epoch ∷ others)) (record { by = by; what = cause }) ≡ Some None
         → commits (s.cores by) cause ≡ true
-        → refusal_after image cores s (violations_by by others) (record { by = by; what = cause }) ≡ Some (missed_by image s by cause victim) }
+        → refusal_after image cores s (notices_by by others) (record { by = by; what = cause })
+        ≡ Some (if cancels_one violated.epoch others then None else missed_by image s by cause victim) }
 {}
