@@ -10,3 +10,4 @@ mod Between
 mod Growing
 mod Nearing
 pub mod Numbering
+pub mod Staying

@@ -1,6 +1,6 @@
-//! What makes true sharing mean something, over the definitions alone: the function does nothing, and its contract is the law.
+//! What makes true sharing mean something, and what a cause is worth, over the definitions alone: the functions do nothing, and their contracts are the laws.
 
-ghost use Rattle.std.specs.Prelude.{◌≡◌, ℕ, List, ◌∷◌, All, Some, None, true, if◌then◌else◌};
+ghost use Rattle.std.specs.Prelude.{◌≡◌, ◌++◌, ℕ, List, ◌∷◌, All, Some, None, true, if◌then◌else◌};
 ghost use Rattle.rv32_image.specs.Image.{LoadedImage, IsImage};
 ghost use Rattle.spec_history.specs.declared.entry.Entry.{Entry};
 ghost use Rattle.spec_history.specs.declared.entry.What.{What};
@@ -9,7 +9,7 @@ ghost use Rattle.spec_history.specs.FlatState.{CoreState, FlatState};
 ghost use Rattle.spec_history.specs.Effect.{effect};
 ghost use Rattle.spec_history.specs.Refusal.{refusal_of};
 ghost use Rattle.spec_history.specs.Replay.{replay};
-ghost use Rattle.conflicts.specs.Conflict.{is_notice};
+ghost use Rattle.conflicts.specs.Conflict.{cause_of, is_notice};
 ghost use Rattle.conflicts.specs.Laws.{cancels_one, commits, missed_by, notices_by, refusal_after};
 
 /// Where a violation is followed by its cause, and the cause commits bytes: without the violation, the cause is refused with
@@ -33,4 +33,9 @@ pub fn only_true_sharing_is_missed_among_others()
         → commits (s.cores by) cause ≡ true
         → refusal_after image cores s (notices_by by others) (record { by = by; what = cause })
         ≡ Some (if cancels_one violated.epoch others then None else missed_by image s by cause victim) }
+{}
+
+/// What causes a violation stays its cause, whatever comes after it.
+pub fn a_cause_stays()
+    ensures { (entries more : List Entry) (place core cause : ℕ) → cause_of entries place core ≡ Some cause → cause_of (entries ++ more) place core ≡ Some cause }
 {}

@@ -57,6 +57,7 @@ module _ {S : Type 0} (view : S → StoreView) (b : BookView S) (i : InStep view
         published = p.published;
         committed = record { long = p.holds.long; bytes = λ a. i.agrees.committed a ∙ p.holds.bytes a };
         totals = i.counted;
+        caused = i.caused;
       }
 
   pub finishes : (end : End) (ended : Option End) (totals counted : Counts) → ended ≡ i.state.end → ended ≡ Some end → totals ≡ b.totals → counted ≡ b.totals → Finishes view (loop_of b) b end totals counted

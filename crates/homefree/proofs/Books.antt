@@ -30,6 +30,7 @@ use Rattle.homefree.specs.InStep.{InStep}
 use Rattle.homefree.specs.Kept.{Fits, running_at}
 use Rattle.homefree.specs.Turned as turn
 use Rattle.homefree.specs.Turned.{Turned, does}
+use Rattle.homefree.proofs.Caused.{acts, grown, none_yet}
 use Rattle.homefree.proofs.Others.{idle_on, same_at}
 use Rattle.homefree.proofs.Tallies.{few_counts}
 use Rattle.homefree.proofs.Entries.{acts_by, of_cores}
@@ -57,6 +58,7 @@ pub first_book : (r : Register) (w : StoreView) (cores room : ℕ) → IsImage r
 first_book r w cores room is count fresh len idle history totals homefree next_epoch end most = record {
   fits = fits_first r w cores is count fresh len idle history totals homefree next_epoch end;
   by_cores = rw history (All-nil (λ (e : Entry). e.by < length r.running.items));
+  caused = rw history none_yet;
   within = rw history (omega arith);
   most = most;
   full = λ is. absurd cc;
@@ -71,6 +73,7 @@ in_step view r store room cause b = record {
   agrees = b.fits.agrees;
   shape = b.fits.shape;
   by_cores = b.by_cores;
+  caused = b.caused;
   counted = b.fits.counted;
   is_image = b.fits.is_image;
   core_count = b.fits.core_count;
@@ -130,6 +133,7 @@ pub book_same : (r q : Register) (v w : StoreView) (room : ℕ) (cause : Option 
 book_same r q v w room cause b same view = record {
   fits = fits_same r q v w b.fits same view;
   by_cores = rw (same.running, same.history) b.by_cores;
+  caused = rw same.history b.caused;
   within = rw same.history b.within;
   most = b.most;
   full = rw (same.history, same.image) b.full;
@@ -222,11 +226,13 @@ book_acts r q new v x w room core cause shares shares' next answer b unstopped s
     let cores : length q.running.items ≡ length r.running.items = ap (λ v. length v.items) same.running in
     let enough = most_entries r.image.version (length r.running.items) b.fits.core_count.most in
     let short : length a.entries ≤ 2 * length r.running.items = subst (λ n. length a.entries ≤ 2 * n) cores a.short in
-    let mine = acts_by _ x w _ (a.acts f.state f.replays) in
+    let acted = a.acts f.state f.replays in
+    let mine = acts_by _ x w _ acted in
     let all_cores : All (λ (e : Entry). e.by < length r.running.items) (r.history.items ++ a.entries) =
     All-append (λ (e : Entry). e.by < length r.running.items) r.history.items a.entries b.by_cores (of_cores core (length r.running.items) a.entries there mine) in record {
       fits = a.fits;
       by_cores = rw (a.steps.cores, cores, a.steps.history, same.history) all_cores;
+      caused = rw (a.steps.history, same.history) (grown r.history.items a.entries b.caused (acts _ x w _ acted));
       within = rw (a.steps.history, same.history, length-append r.history.items a.entries) (omega (arith, free, enough, short));
       most = b.most;
       full = λ is. absurd (still_none cause unstopped is);

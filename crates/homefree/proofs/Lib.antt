@@ -20,6 +20,8 @@ pub mod Cancelling
 pub mod Exiting
 pub mod Tallies
 pub mod Entries
+pub mod Causing
+pub mod Caused
 pub mod Books
 pub mod Following
 pub mod Drives

@@ -6,12 +6,14 @@ use Rattle.violations.specs.View.{StoreView}
 use Rattle.homefree.specs.declared.answer.StopCause.{StopCause}
 use Rattle.homefree.specs.declared.answer.StopCause.TheVariants.{HistoryFull}
 use Rattle.homefree.specs.declared.register.Register.{Register}
+use Rattle.homefree.specs.Caused.{HasCauses}
 use Rattle.homefree.specs.BookView.{BookView}
 use Rattle.homefree.specs.Kept.{Fits}
 
 pub record IsBook (r : Register) (v : StoreView) (room : ℕ) (stopped : Option StopCause) : Type 0 where
   pub fits : Fits r v
   pub by_cores : All (λ e. e.by < length r.running.items) r.history.items
+  pub caused : HasCauses r.history.items
   pub within : length r.history.items ≤ room
   pub most : room ≤ 1048576
   pub full : stopped ≡ Some HistoryFull → room < length r.history.items + (limits_of r.image.version).free_entries
