@@ -1,19 +1,17 @@
 -- The entries of a turn, and of a history with them: each violation has its cause.
-use Rattle.std.proofs.Common.{◌≡◌, ℕ, ◌≤◌, Bool, true, false, List, [], ◌∷◌, ◌++◌, length, slice_get, Option, Some, None, is_some, Result, if◌then◌else◌, refl, sym, ap, ◌∙◌, inl, inr, arith}
+use Rattle.std.proofs.Common.{◌≡◌, ℕ, Bool, true, false, List, [], ◌∷◌, ◌++◌, length, if◌then◌else◌, refl, sym, ap, ◌∙◌, inl, inr, arith}
 use Rattle.std.proofs.lemmas.Bool.{cases_lt, eq-eqb}
 use Rattle.std.proofs.lemmas.List.{append_assoc}
 use Rattle.std.proofs.lemmas.Option.{slice_get_within}
 use Rattle.spec_history.specs.declared.entry.Entry.{Entry}
 use Rattle.spec_history.specs.declared.entry.What.{What}
-use Rattle.spec_history.specs.declared.entry.What.TheVariants.{Start, Load, Store, Hurt, Cancel, Restart, Publish, Commit, Fault}
-use Rattle.spec_history.specs.FlatState.{CoreState, FlatState}
+use Rattle.spec_history.specs.declared.entry.What.TheVariants.{Load, Store, Hurt, Cancel, Publish, Commit, Fault}
 use Rattle.violations.specs.View.{StoreView}
 use Rattle.homefree.specs.declared.answer.Answer.{Answer}
-use Rattle.homefree.specs.Hurts.{cancels, entry, epoch_on, is_other}
+use Rattle.homefree.specs.Hurts.{cancels, epoch_on, is_other}
 use Rattle.homefree.specs.Turned as turn
 use Rattle.homefree.specs.Turned.{Acts, Follows, Outcome, Turn, entry_of, hurts_of}
-use Rattle.conflicts.specs.Conflict.{can_cause, cause_of, is_notice}
-use Rattle.conflicts.specs.Explained.{is_hurt}
+use Rattle.conflicts.specs.Conflict.{can_cause, is_notice}
 use Rattle.conflicts.proofs.Staying.{stays_some, there}
 use Rattle.homefree.specs.Caused.{HasCauses}
 use Rattle.homefree.proofs.Causing.{IsAct, all_answered, found_past, has_cause, notices_then, told_both, told_each}

@@ -1,5 +1,5 @@
 -- The violations of a turn stand before what causes them.
-use Rattle.std.proofs.Common.{◌≡◌, ℕ, zero, suc, ◌+◌, ◌<◌, ◌≤◌, ◌==◌, ◌&&◌, ◌||◌, not, Bool, true, false, nat_lt, is_some, List, [], ◌∷◌, ◌++◌, length, slice_get, Option, Some, None, option_and_then, unwrap_or, if◌then◌else◌, refl, sym, ap, ◌∙◌, inl, inr, arith, lt-ltb, eqb-true}
+use Rattle.std.proofs.Common.{◌≡◌, ℕ, zero, suc, ◌<◌, ◌≤◌, ◌==◌, ◌&&◌, ◌||◌, not, Bool, true, false, nat_lt, is_some, List, [], ◌∷◌, ◌++◌, length, slice_get, Some, None, option_and_then, unwrap_or, if◌then◌else◌, refl, sym, ap, ◌∙◌, inl, inr, arith, lt-ltb, eqb-true}
 use Rattle.std.proofs.lemmas.Bool.{cases_lt, eq-eqb, le-ltb}
 use Rattle.spec_history.specs.declared.entry.Entry.{Entry}
 use Rattle.spec_history.specs.declared.entry.What.{What}
@@ -7,7 +7,6 @@ use Rattle.spec_history.specs.declared.entry.What.TheVariants.{Start, Load, Stor
 use Rattle.conflicts.specs.Attempts.{entry_is}
 use Rattle.conflicts.specs.Conflict.{is_notice, can_cause, cause_of, next_act}
 use Rattle.conflicts.specs.Explained.{is_hurt}
-use Rattle.conflicts.specs.Searches.{first_below}
 use Rattle.conflicts.proofs.Searching.{first_at, and_no}
 use Rattle.homefree.specs.Hurts.{entry, entry_for_each}
 
