@@ -1,0 +1,4 @@
+pub mod Marking
+pub mod Growing
+mod Seeking
+mod Adding
