@@ -12,7 +12,7 @@ pub none_ended : (image : LoadedImage) (count : ℕ) (entries : List Entry) → 
 unfolding ended_before
 none_ended image count entries = refl
 
-one_ended : (image : LoadedImage) (count : ℕ) (entries : List Entry) (place : ℕ)
+pub one_ended : (image : LoadedImage) (count : ℕ) (entries : List Entry) (place : ℕ)
     → ended_before image count entries (suc place) ≡ ended_before image count entries place ++ option_to_list (ended_at image count entries place)
 unfolding ended_before
 one_ended image count entries place = refl
@@ -37,7 +37,7 @@ pub none_running : (image : LoadedImage) (s : FlatState) → [] ≡ running_belo
 unfolding running_below
 none_running image s = refl
 
-one_running : (image : LoadedImage) (s : FlatState) (core : ℕ) → running_below image s (suc core) ≡ running_below image s core ++ option_to_list (running_in image s core)
+pub one_running : (image : LoadedImage) (s : FlatState) (core : ℕ) → running_below image s (suc core) ≡ running_below image s core ++ option_to_list (running_in image s core)
 unfolding running_below
 one_running image s core = refl
 

@@ -2,3 +2,4 @@ pub mod Marking
 pub mod Growing
 mod Seeking
 mod Adding
+mod Losing
