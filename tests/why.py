@@ -5,8 +5,8 @@ Usage: tests/why.py [COMMAND ..]
 
 COMMAND is a command of `trace_cli` that ends with the word `seq`, such as crates/trace_cli/out/trace_cli seq; `why` is the program that was built beside it.
 Without it ./trace_cli and ./why of this repository are tested. Where no such program is beside it the test is skipped, and a line says so.
-Of each run: one line for each violation of its trace, in their places; no violation is unexplained; the sums of the kinds, and the total, are those of the lines. Exits
-with 1 where a check failed.
+Of each run: one line for each violation of its trace, in their places; no violation is unexplained; one line for each cancellation of an attempt that was not violated, and for each attempt that goes on; the sums of the kinds, and
+the total, are those of the lines. Exits with 1 where a check failed.
 """
 
 import re
@@ -25,7 +25,7 @@ REFUSED = [
     ("a trace without its head", WAITS, "", "trace 0 Head\n", 2),
     ("a line that is none", WAITS + "trace 2\n0 begin 0\n", "", "trace 6 Line\n", 2),
     ("an entry that is refused", WAITS + "trace 2\n0 start 1\n", "illegal 0 NotNext\n", "", 4),
-    ("no entry", WAITS + "trace 2\n", "total epochs 2 committed 0 rollbacks 0 lost 0\n", "", 0),
+    ("no entry", WAITS + "trace 2\n", "total epochs 2 committed 0 useful 0 rollbacks 0 lost 0 cancelled 0 dropped 0 open 0 unsettled 0\n", "", 0),
 ]
 
 
@@ -45,12 +45,32 @@ def value_of(words, name):
     return int(words[words.index(name) + 1])
 
 
+def unended(entries):
+    """The cancellations of a trace, by their places, and the attempts that go on after it: each as `epoch E try T core C`. A violated attempt is none of them."""
+    attempts, cancelled = {}, []
+    for place, (core, what, *rest) in enumerate(entry.split() for entry in entries):
+        if what == "start":
+            attempts[core] = [rest[0], 1, True]
+        elif what == "restart":
+            attempts[core] = [attempts[core][0], attempts[core][1] + 1, True]
+        elif what == "hurt":
+            next(attempt for attempt in attempts.values() if attempt[0] == rest[0])[2] = False
+        elif what == "cancel":
+            victim = next(one for one, attempt in attempts.items() if attempt[0] == rest[0])
+            epoch, number, goes_on = attempts.pop(victim)
+            if goes_on:
+                cancelled.append(f"{place} epoch {epoch} try {number} core {victim}")
+        elif what in ("commit", "fault"):
+            del attempts[core]
+    return cancelled, [f"epoch {epoch} try {number} core {core}" for core, (epoch, number, goes_on) in sorted(attempts.items(), key=lambda one: int(one[0])) if goes_on]
+
+
 def differences(report, trace):
     """What is wrong with the report on a trace, or None."""
     entries = trace.splitlines()[1:]
     places = [place for place, entry in enumerate(entries) if entry.split()[1] == "hurt"]
     lines = [line.split() for line in report.splitlines()]
-    hurts, kinds = [[words for words in lines if words[0] == first] for first in ("hurt", "kind")]
+    hurts, kinds, cancels, opens = [[words for words in lines if words[0] == first] for first in ("hurt", "kind", "cancel", "open")]
     total = lines[-1]
     if [int(words[1]) for words in hurts] != places:
         return f"violations stand at {places}"
@@ -62,8 +82,14 @@ def differences(report, trace):
             return f"{' '.join(words)}, but the lines have {len(of_kind)} and {sum(of_kind)}"
     if {words[1] for words in kinds} != {words[2] for words in hurts}:
         return "the kinds are not those that occur"
-    sums = (len(hurts), sum(value_of(words, "lost") for words in hurts))
-    return None if (value_of(total, "rollbacks"), value_of(total, "lost")) == sums else f"{' '.join(total)}, but the lines have {sums}"
+    cancelled, going_on = unended(entries)
+    if ([" ".join(words[1:8]) for words in cancels], [" ".join(words[1:7]) for words in opens]) != (cancelled, going_on):
+        return f"{cancelled} were cancelled, and {going_on} go on"
+    for those, count, name, done in [(hurts, "rollbacks", "lost", "lost"), (cancels, "cancelled", "dropped", "lost"), (opens, "open", "unsettled", "done")]:
+        sums = (len(those), sum(value_of(words, done) for words in those))
+        if (value_of(total, count), value_of(total, name)) != sums:
+            return f"{' '.join(total)}, but the lines have {sums}"
+    return None
 
 
 def real(command, why):

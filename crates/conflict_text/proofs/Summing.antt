@@ -7,9 +7,9 @@ follows (Ok x) P Q f is = f is
 follows (Err e) P Q f is = tt
 
 -- the line of the total, part by part
-pub total_parts : (text first second third new a b c d s e : List ℕ) → first ≡ text ++ (a ++ b) → second ≡ first ++ (c ++ d) → third ≡ second ++ s
-    → new ≡ third ++ e → new ≡ text ++ (a ++ b ++ c ++ d ++ s ++ e)
-total_parts text first second third new a b c d s e one two three is = is ∙ rw (three, two, one) (simp append_assoc)
+pub total_parts : (text first second third fourth fifth new a b c d u s r e : List ℕ) → first ≡ text ++ (a ++ b) → second ≡ first ++ (c ++ d) → third ≡ second ++ u
+    → fourth ≡ third ++ s → fifth ≡ fourth ++ r → new ≡ fifth ++ e → new ≡ text ++ (a ++ b ++ c ++ d ++ u ++ s ++ r ++ e)
+total_parts text first second third fourth fifth new a b c d u s r e one two three four five is = is ∙ rw (five, four, three, two, one) (simp append_assoc)
 
 -- the lines of the same list, told in two ways
 pub same_lines : {X : Type 0} (f g : X → List ℕ) → ((x : X) → f x ≡ g x) → (xs : List X) → flat_map f xs ≡ flat_map g xs
@@ -26,3 +26,7 @@ six_parts t0 t1 t2 t3 t4 t5 new a b c d e f b' c' d' f' zero one two three four 
 pub ended : {A B : Type 0} (r : Result A B) (new old e : List ℕ) → new ≡ cond (is_ok r) (old ++ e) old → OnOk r (new ≡ old ++ e)
 ended (Ok x) new old e is = is
 ended (Err x) new old e is = tt
+
+-- the line of an attempt that goes on, part by part
+pub open_parts : (text first second third new a b c d e : List ℕ) → first ≡ text ++ a → second ≡ first ++ b → third ≡ second ++ (c ++ d) → new ≡ third ++ e → new ≡ text ++ (a ++ b ++ c ++ d ++ e)
+open_parts text first second third new a b c d e one two three is = is ∙ rw (three, two, one) (simp append_assoc)

@@ -1,4 +1,4 @@
--- The report of which conflicts rolled back: the violations in order, then the sums.
+-- The report of which conflicts rolled back: the violations in order, then the attempts that were cancelled or go on, then the sums.
 -- Source: this project.
 use Rattle.std.specs.Prelude.{◌≡◌, ℕ, ◌*◌, ◌^◌, ◌==◌, List, [], ◌++◌, map, codes, Option, Some, None, nat_lt, if◌then◌else◌}
 use Rattle.std.specs.BTreeMap.{BTreeMap}
@@ -7,6 +7,8 @@ use Rattle.std.specs.List.{flat_map}
 use Rattle.rv32_image.specs.Image.{LoadedImage}
 use Rattle.rv32_image.specs.Version.{limits_of}
 use Rattle.spec_history.specs.declared.entry.Entry.{Entry}
+use Rattle.attempt_ends.specs.declared.ended.Ended.{Ended}
+use Rattle.attempt_ends.specs.declared.ended.Running.{Running}
 use Rattle.conflicts.specs.declared.explanation.Explanation.{Explanation}
 use Rattle.conflicts.specs.declared.explanation.Kind.{Kind}
 use Rattle.conflicts.specs.declared.explanation.Kind.TheVariants.{TrueSharing, SilentStore, FalseSharing, FullBuffer, Unexplained}
@@ -23,6 +25,7 @@ use Rattle.conflict_sums.specs.Pairs.{pairs_in}
 use Rattle.conflict_sums.specs.Roles.{in_both_roles}
 use Rattle.conflict_sums.specs.Rollbacks.{rollback_of}
 use Rattle.conflict_sums.specs.Sums.{count_in, lost_in, sum_in}
+use Rattle.conflict_text.specs.Ends.{attempt_lines, rest_text, useful_text}
 use Rattle.conflict_text.specs.Lines.{address_or_dash, kind_name, violation_lines}
 use Rattle.trace_text.specs.Printing.{hex_word}
 
@@ -92,18 +95,19 @@ kind_lines rollbacks =
     kind_line rollbacks TrueSharing ++ kind_line rollbacks SilentStore ++ kind_line rollbacks FalseSharing
     ++ kind_line rollbacks FullBuffer ++ kind_line rollbacks Unexplained
 
-unfoldable pub total_text : ℕ → ℕ → Sum → List ℕ
-total_text epochs committed sum =
-    codes "total epochs " ++ decimal epochs ++ codes " committed " ++ decimal committed ++ sum_text sum.count sum.lost ++ codes "\n"
+unfoldable pub total_text : ℕ → ℕ → Sum → List Ended → List Running → List ℕ
+total_text epochs committed sum ended running =
+    codes "total epochs " ++ decimal epochs ++ codes " committed " ++ decimal committed ++ useful_text ended ++ sum_text sum.count sum.lost
+    ++ rest_text ended running ++ codes "\n"
 
--- the epochs of the loop, those that committed, and the sums of all violations
-abbrev pub total_line : LoadedImage → ℕ → List Rollback → List ℕ
-total_line image homefree rollbacks = total_text image.epochs homefree (sum_in Whole rollbacks)
+-- the epochs of the loop, those that committed, the sums of all violations, and how the attempts ended
+abbrev pub total_line : LoadedImage → ℕ → List Rollback → List Ended → List Running → List ℕ
+total_line image homefree rollbacks ended running = total_text image.epochs homefree (sum_in Whole rollbacks) ended running
 
 -- ---- the report
 
 -- the sums: epochs, lines and instructions in ascending order, pairs in the order in which they first came
-pub record IsSummary (image : LoadedImage) (homefree : ℕ) (rollbacks : List Rollback) (text : List ℕ) : Type 0 where
+pub record IsSummary (image : LoadedImage) (homefree : ℕ) (rollbacks : List Rollback) (ended : List Ended) (running : List Running) (text : List ℕ) : Type 0 where
   pub epochs : BTreeMap ℕ Sum
   pub epochs_are : AreSums Epoch rollbacks epochs
   pub lines : BTreeMap ℕ Sum
@@ -112,10 +116,10 @@ pub record IsSummary (image : LoadedImage) (homefree : ℕ) (rollbacks : List Ro
   pub instructions : BTreeMap ℕ Sum
   pub instructions_are : AreSums Load (in_both_roles rollbacks) instructions
   pub printed : text ≡ flat_map epoch_line epochs.entries ++ flat_map (pair_line rollbacks) (pairs_in rollbacks) ++ flat_map (line_line image rollbacks) lines.entries
-      ++ flat_map (pc_line rollbacks) instructions.entries ++ kind_lines rollbacks ++ total_line image homefree rollbacks
+      ++ flat_map (pc_line rollbacks) instructions.entries ++ kind_lines rollbacks ++ total_line image homefree rollbacks ended running
 
--- the violations in order, and the sums
-pub record IsPrinted (image : LoadedImage) (homefree : ℕ) (entries : List Entry) (sites : List (Option Site)) (found : List Explanation) (text : List ℕ) : Type 0 where
+-- the violations in order, the attempts that were cancelled and those that go on, and the sums
+pub record IsPrinted (image : LoadedImage) (homefree : ℕ) (entries : List Entry) (sites : List (Option Site)) (found : List Explanation) (ended : List Ended) (running : List Running) (text : List ℕ) : Type 0 where
   pub sums : List ℕ
-  pub summed : IsSummary image homefree (map (rollback_of image entries sites) found) sums
-  pub printed : text ≡ flat_map (violation_lines image entries sites) found ++ sums
+  pub summed : IsSummary image homefree (map (rollback_of image entries sites) found) ended running sums
+  pub printed : text ≡ flat_map (violation_lines image entries sites) found ++ attempt_lines entries ended running ++ sums

@@ -2,6 +2,7 @@
 #![tactic(auto)]
 
 mod accesses;
+mod ends;
 mod followed;
 mod lines;
 mod parts;

@@ -3,10 +3,12 @@ ghost use Rattle.std.specs.List.{flat_map};
 ghost use Rattle.conflict_text.specs.Lines.{violation_lines};
 ghost use Rattle.conflict_text.specs.Report as spec;
 
+use crate::ends::attempt_lines;
 use crate::followed::Followed;
 use crate::lines::push_violation;
 use crate::parts::{push_instructions, push_lines, push_pairs};
 use crate::sums::{push_epochs, push_kinds, push_total};
+use attempt_ends::Ends;
 use conflict_sums::{
     Key, Part, Rollback, both_roles, kinds_of, lines_of, pairs_of, rollbacks, sum_of, sums_by,
 };
@@ -15,9 +17,9 @@ use rv32_exec::{Image, NoMemory};
 use spec_history::Entry;
 use std::alloc::{AllocError, Global};
 
-/// The report of which conflicts rolled back: lines for each explanation, in order, the sums of epochs, pairs, lines,
-/// instructions and kinds, and the total. It takes the homefree epoch after the history, which is how many epochs have committed, and the sites and the
-/// explanations of the history.
+/// The report of which conflicts rolled back: lines for each explanation, in order, for each attempt that was cancelled, and for
+/// each that goes on, the sums of epochs, pairs, lines, instructions and kinds, and the total. It takes the homefree epoch after
+/// the history, which is how many epochs have committed, and the sites, the explanations and the ends of the history.
 ///
 /// `NoMemory`: memory ran out, and nothing was made.
 pub fn print_conflicts(
@@ -27,10 +29,11 @@ pub fn print_conflicts(
     entries: &[Entry],
     sites: &[Option<Site>],
     found: &[Explanation],
+    ends: &Ends,
 ) -> Result<Vec<u8>, NoMemory>
-    ensures { IfOk result (λ text. spec.IsPrinted image.now homefree entries.now sites.now found.now text.items) }
+    ensures { IfOk result (λ text. spec.IsPrinted image.now homefree entries.now sites.now found.now ends.now.ended.items ends.now.running.items text.items) }
 {
-    report_lines(alloc, image, homefree, entries, sites, found).map_err(|_| NoMemory)
+    report_lines(alloc, image, homefree, entries, sites, found, ends).map_err(|_| NoMemory)
 }
 
 fn report_lines(
@@ -40,12 +43,15 @@ fn report_lines(
     entries: &[Entry],
     sites: &[Option<Site>],
     found: &[Explanation],
+    ends: &Ends,
 ) -> Result<Vec<u8>, AllocError>
-    ensures { IfOk result (λ text. spec.IsPrinted image.now homefree entries.now sites.now found.now text.items) }
+    ensures { IfOk result (λ text. spec.IsPrinted image.now homefree entries.now sites.now found.now ends.now.ended.items ends.now.running.items text.items) }
 {
     let summed = rollbacks(alloc, image, entries, sites, found)?;
-    let sums = summary(alloc, image, homefree, summed.as_slice())?;
+    let sums = summary(alloc, image, homefree, summed.as_slice(), ends)?;
+    let attempts = attempt_lines(alloc, entries, ends)?;
     let mut text = violations(alloc, image, entries, sites, found)?;
+    text.extend_from_slice(attempts.as_slice())?;
     text.extend_from_slice(sums.as_slice())?;
     Ok(text)
 }
@@ -74,8 +80,9 @@ fn summary(
     image: &Image,
     homefree: u32,
     rollbacks: &[Rollback],
+    ends: &Ends,
 ) -> Result<Vec<u8>, AllocError>
-    ensures { IfOk result (λ text. spec.IsSummary image.now homefree rollbacks.now text.items) }
+    ensures { IfOk result (λ text. spec.IsSummary image.now homefree rollbacks.now ends.now.ended.items ends.now.running.items text.items) }
 {
     let pairs = pairs_of(alloc, rollbacks)?;
     let kinds = kinds_of(alloc, rollbacks)?;
@@ -97,6 +104,7 @@ fn summary(
         image.epochs(),
         homefree,
         sum_of(rollbacks, Part::Whole),
+        ends,
     )?;
     Ok(text)
 }

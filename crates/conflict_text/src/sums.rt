@@ -5,7 +5,9 @@ ghost use Rattle.std.specs.List.{flat_map};
 ghost use Rattle.std.specs.Ordering.{nat_cmp};
 ghost use Rattle.conflict_text.specs.Report as spec;
 
+use crate::ends::{push_rest, push_useful};
 use crate::words::{kind_name, push_named};
+use attempt_ends::Ends;
 use conflict_sums::{Counts, Part, Rollback, Sum, sum_of};
 use conflicts::Kind;
 use std::alloc::AllocError;
@@ -77,18 +79,21 @@ pub(crate) fn push_kinds(text: &mut Vec<u8>, rollbacks: &[Rollback]) -> Result<(
     push_kind(text, rollbacks, Kind::Unexplained)
 }
 
-/// The epochs of the loop, those that committed, and what all violations cost.
+/// The epochs of the loop, those that committed, what all violations cost, and how the attempts ended.
 #[tactic(auto, unfolding(crate::specs::Report::total_text))]
 pub(crate) fn push_total(
     text: &mut Vec<u8>,
     epochs: u32,
     committed: u32,
     sum: Sum,
+    ends: &Ends,
 ) -> Result<(), AllocError>
-    ensures { OnOk result (text.new.items ≡ text.old.items ++ spec.total_text epochs committed sum) }
+    ensures { OnOk result (text.new.items ≡ text.old.items ++ spec.total_text epochs committed sum ends.now.ended.items ends.now.running.items) }
 {
     push_named(text, b"total epochs ", epochs as u128)?;
     push_named(text, b" committed ", committed as u128)?;
+    push_useful(text, ends)?;
     push_sum(text, sum)?;
+    push_rest(text, ends)?;
     text.extend_from_slice(b"\n")
 }

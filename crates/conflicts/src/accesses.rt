@@ -94,8 +94,9 @@ pub(crate) fn attempt_place(entries: &[Entry], core: u32, before: usize) -> Opti
     None
 }
 
-/// Which run of its epoch the attempt is that a core runs before a place, counted from 1.
-pub(crate) fn attempt_number(entries: &[Entry], core: u32, before: usize) -> usize
+/// Which run of its epoch the attempt is that a core runs before a place, counted from 1. It looks back to the start of the
+/// epoch.
+pub fn attempt_number(entries: &[Entry], core: u32, before: usize) -> usize
     ensures { result ≡ spec.attempt_number entries.now core before }
 {
     let mut again = 0;

@@ -14,6 +14,7 @@ pub mod laws;
 mod meeting;
 mod standing;
 
+pub use accesses::attempt_number;
 pub use explanation::{Blame, ByteRange, Explanation, Kind, Runner};
 pub use history::explain;
 pub use standing::{Site, sites};

@@ -31,7 +31,7 @@ line 00000040 rollbacks 1 lost 3 true 1 silent 0 false 0 buffer 0
 pc 00000004 victim 1 3 causer 0 0
 pc 00000014 victim 0 0 causer 1 3
 kind true rollbacks 1 lost 3
-total epochs 2 committed 2 rollbacks 1 lost 3
+total epochs 2 committed 2 useful 8 rollbacks 1 lost 3 cancelled 0 dropped 0 open 0 unsettled 0
 ";
 
 /// Each epoch adds 1 to a word and ends the loop: epoch 1 violates epoch 2, and is itself violated.
@@ -63,6 +63,7 @@ const EXITS_TOLD: &str =
 vain 5 hurt
 moot 5
 hurt 8 true epoch 1 try 1 core 1 lost 5 entered 3 since 5 by 0 core 0 cause 9 store load 4 00000000 store 9 00000008 at 00000040 4
+cancel 12 epoch 1 try 2 core 1 lost 2 by 0 core 0
 epoch 1 rollbacks 1 lost 5
 epoch 2 rollbacks 1 lost 2
 pair store 00000008 load 00000000 rollbacks 2 lost 7 true 2 silent 0 false 0 buffer 0
@@ -70,7 +71,7 @@ line 00000040 rollbacks 2 lost 7 true 2 silent 0 false 0 buffer 0
 pc 00000000 victim 2 7 causer 0 0
 pc 00000008 victim 0 0 causer 2 7
 kind true rollbacks 2 lost 7
-total epochs 3 committed 1 rollbacks 2 lost 7
+total epochs 3 committed 1 useful 5 rollbacks 2 lost 7 cancelled 1 dropped 2 open 0 unsettled 0
 ";
 
 /// Each epoch loads a word, and stores what it loaded to the next one.
@@ -100,7 +101,7 @@ line 00000040 rollbacks 1 lost 1 true 0 silent 0 false 1 buffer 0
 pc 00000000 victim 1 1 causer 0 0
 pc 00000004 victim 0 0 causer 1 1
 kind false rollbacks 1 lost 1
-total epochs 2 committed 2 rollbacks 1 lost 1
+total epochs 2 committed 2 useful 6 rollbacks 1 lost 1 cancelled 0 dropped 0 open 0 unsettled 0
 ";
 
 /// Each epoch loads a word, and stores what it loaded there; epoch 0 publishes it.
@@ -131,7 +132,7 @@ line 00000040 rollbacks 1 lost 1 true 0 silent 1 false 0 buffer 0
 pc 00000000 victim 1 1 causer 0 0
 pc 00000004 victim 0 0 causer 1 1
 kind silent rollbacks 1 lost 1
-total epochs 2 committed 2 rollbacks 1 lost 1
+total epochs 2 committed 2 useful 6 rollbacks 1 lost 1 cancelled 0 dropped 0 open 0 unsettled 0
 ";
 
 /// The first act after the violation is another core's.
@@ -151,9 +152,10 @@ trace 2
 
 const FOR_NOTHING_TOLD: &str =
     "hurt 2 other epoch 1 try 1 core 1 lost 0 entered 0 since - by 0 core 0 cause - - load - - store - - at - -
+open epoch 1 try 2 core 1 done 0
 epoch 1 rollbacks 1 lost 0
 kind other rollbacks 1 lost 0
-total epochs 2 committed 1 rollbacks 1 lost 0
+total epochs 2 committed 1 useful 3 rollbacks 1 lost 0 cancelled 0 dropped 0 open 1 unsettled 0
 ";
 
 /// Each epoch adds 1 to a word, and faults.
@@ -179,7 +181,7 @@ line 00000040 rollbacks 1 lost 2 true 1 silent 0 false 0 buffer 0
 pc 00000000 victim 1 2 causer 0 0
 pc 00000008 victim 0 0 causer 1 2
 kind true rollbacks 1 lost 2
-total epochs 2 committed 0 rollbacks 1 lost 2
+total epochs 2 committed 0 useful 3 rollbacks 1 lost 2 cancelled 0 dropped 0 open 0 unsettled 0
 ";
 
 /// Epoch 0 loads from five lines, and epoch 1 stores to them, which its buffer of four lines can't hold.
@@ -205,13 +207,14 @@ trace 2
 
 const FULL_TOLD: &str =
     "hurt 11 buffer epoch 1 try 1 core 1 lost 7 entered 6 since - by 0 core 0 cause 12 load held 6 00000014 asked 12 0000002c at 00000080 16
+open epoch 0 try 1 core 0 done 7
 epoch 1 rollbacks 1 lost 7
 pair asked 0000002c held 00000014 rollbacks 1 lost 7 true 0 silent 0 false 0 buffer 1
 line 00000080 rollbacks 1 lost 7 true 0 silent 0 false 0 buffer 1
 pc 00000014 victim 1 7 causer 0 0
 pc 0000002c victim 0 0 causer 1 7
 kind buffer rollbacks 1 lost 7
-total epochs 6 committed 0 rollbacks 1 lost 7
+total epochs 6 committed 0 useful 0 rollbacks 1 lost 7 cancelled 0 dropped 0 open 1 unsettled 7
 ";
 
 /// Epoch 0 stores beside the byte that epoch 1 loads, and then to it.
@@ -241,7 +244,7 @@ line 00000040 rollbacks 1 lost 3 true 0 silent 0 false 1 buffer 0
 pc 00000004 victim 1 3 causer 0 0
 pc 00000010 victim 0 0 causer 1 3
 kind false rollbacks 1 lost 3
-total epochs 2 committed 2 rollbacks 1 lost 3
+total epochs 2 committed 2 useful 8 rollbacks 1 lost 3 cancelled 0 dropped 0 open 0 unsettled 0
 ";
 
 const ILLEGAL: &str = "size 256

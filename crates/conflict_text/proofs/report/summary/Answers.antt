@@ -19,6 +19,8 @@ pub returns : goal.returns
 returns c =
     let image = c.args.image.now in
     let rs = c.args.rollbacks.now in
+    let ended = c.args.ends.now.ended.items in
+    let running = c.args.ends.now.running.items in
     let kinds = c.in_ok-kinds.kinds in
     let by_line = c.in_ok-kinds_by_line.kinds_by_line in
     let loads = c.in_ok-loads.loads in
@@ -39,8 +41,8 @@ returns c =
       printed =
           six_parts c.new-text.result.items c.push_epochs.new.text.items c.push_pairs.new.text.items c.push_lines.new.text.items c.push_instructions.new.text.items c.push_kinds.new.text.items c.push_total.new.text.items
           (flat_map epoch_line c.in_ok-epochs.epochs.entries) (flat_map pair_told c.as_slice-2.result.now) (flat_map line_told c.in_ok-lines.lines.entries) (flat_map pc_told c.in_ok-instructions.instructions.entries)
-          (kind_lines rs) (total_text c.epochs.result c.args.homefree c.sum_of.result)
-          (flat_map (pair_line rs) (pairs_in rs)) (flat_map (line_line image rs) c.in_ok-lines.lines.entries) (flat_map (pc_line rs) c.in_ok-instructions.instructions.entries) (total_line image c.args.homefree rs)
+          (kind_lines rs) (total_text c.epochs.result c.args.homefree c.sum_of.result ended running)
+          (flat_map (pair_line rs) (pairs_in rs)) (flat_map (line_line image rs) c.in_ok-lines.lines.entries) (flat_map (pc_line rs) c.in_ok-instructions.instructions.entries) (total_line image c.args.homefree rs ended running)
           c.new-text.ensures.items c.in_ok-push_epochs.ensures.told c.in_ok-push_pairs.ensures c.in_ok-push_lines.ensures.told c.in_ok-push_instructions.ensures.told c.in_ok-push_kinds.ensures c.in_ok-push_total.ensures
           (ap (flat_map pair_told) (c.as_slice-2.ensures.value ∙ c.in_ok-pairs.ensures)
           ∙ same_lines pair_told (pair_line rs) (λ p. ap (pair_text p (sum_in (OfPair p) rs)) (kind_counts (OfPair p) rs kinds c.in_ok-kinds.ensures)) (pairs_in rs))
@@ -48,5 +50,5 @@ returns c =
           (same_lines pc_told (pc_line rs)
           (λ e. ap (λ o. pc_text e.0 (sum_or o) (sum_or (get nat_cmp stores e.0))) (c.in_ok-loads.ensures e.0) ∙ ap (λ o. pc_text e.0 (sum_or (sum_at Load rs e.0)) (sum_or o)) (c.in_ok-stores.ensures e.0))
           c.in_ok-instructions.instructions.entries)
-          (ap (λ n. total_text n c.args.homefree c.sum_of.result) c.epochs.ensures.epochs ∙ ap (total_text image.epochs c.args.homefree) c.sum_of.ensures);
+          (ap (λ n. total_text n c.args.homefree c.sum_of.result ended running) c.epochs.ensures.epochs ∙ ap (λ s. total_text image.epochs c.args.homefree s ended running) c.sum_of.ensures);
     }

@@ -1,0 +1,5 @@
+pub mod Marking
+pub mod Growing
+mod Seeking
+mod Adding
+mod Losing

@@ -1,0 +1,14 @@
+//! How each attempt of a history ended, and how many instructions it had executed then.
+#![tactic(auto)]
+
+mod ended;
+mod ending;
+mod history;
+pub mod laws;
+mod running;
+mod tally;
+mod violated;
+
+pub use ended::{Ended, Ending, Ends, Running};
+pub use history::ends;
+pub use tally::{Tally, tally_as, tally_running};

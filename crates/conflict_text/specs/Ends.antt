@@ -1,0 +1,56 @@
+-- The lines of attempts that were cancelled and of those that go on, and what the total says of attempts.
+-- Source: this project.
+use Rattle.std.specs.Prelude.{ℕ, List, [], ◌++◌, codes, length}
+use Rattle.std.specs.Fmt.{decimal}
+use Rattle.std.specs.List.{flat_map}
+use Rattle.spec_history.specs.declared.entry.Entry.{Entry}
+use Rattle.conflicts.specs.declared.explanation.Runner.{Runner}
+use Rattle.conflicts.specs.Attempts.{attempt_number}
+use Rattle.attempt_ends.specs.declared.ended.Ended.{Ended}
+use Rattle.attempt_ends.specs.declared.ended.Ending.{Ending}
+use Rattle.attempt_ends.specs.declared.ended.Ending.TheVariants.{Cancelled, Committed}
+use Rattle.attempt_ends.specs.declared.ended.Running.{Running}
+use Rattle.attempt_ends.specs.declared.tally.Tally.{Tally}
+use Rattle.attempt_ends.specs.Tallies.{done_in, tally_in, tally_of_running}
+
+-- whose attempt it is before a place, and which run of its epoch
+abbrev pub runner_text : List Entry → ℕ → Runner → List ℕ
+runner_text entries place r =
+    codes " epoch " ++ decimal r.epoch ++ codes " try " ++ decimal (attempt_number entries r.core place) ++ codes " core " ++ decimal r.core
+
+-- an attempt that was cancelled: whose it was, what it had executed, and by whom
+unfoldable pub cancel_line : List Entry → Ended → List ℕ
+cancel_line entries e =
+    codes "cancel " ++ decimal e.place ++ runner_text entries e.place e.runner ++ codes " lost " ++ decimal e.done
+    ++ codes " by " ++ decimal e.by.epoch ++ codes " core " ++ decimal e.by.core ++ codes "\n"
+
+abbrev pub ended_as : List Entry → Ended → Ending → List ℕ
+ended_as entries e Cancelled = cancel_line entries e
+ended_as entries e ending = []
+
+-- of the attempts that ended, those that were cancelled have a line
+abbrev pub ended_line : List Entry → Ended → List ℕ
+ended_line entries e = ended_as entries e e.ending
+
+-- an attempt that goes on after the history: whose it is, and what it has executed
+unfoldable pub open_line : List Entry → Running → List ℕ
+open_line entries o = codes "open" ++ runner_text entries (length entries) o.runner ++ codes " done " ++ decimal o.done ++ codes "\n"
+
+-- the lines of both, in order
+abbrev pub attempt_lines : List Entry → List Ended → List Running → List ℕ
+attempt_lines entries ended running = flat_map (ended_line entries) ended ++ flat_map (open_line entries) running
+
+-- ---- in the total
+
+-- what the attempts executed that committed
+abbrev pub useful_text : List Ended → List ℕ
+useful_text ended = codes " useful " ++ decimal (done_in Committed ended)
+
+-- how many attempts, and what they executed, by these names
+abbrev pub tally_text : List ℕ → List ℕ → Tally → List ℕ
+tally_text count done t = count ++ decimal t.count ++ done ++ decimal t.done
+
+-- those that were cancelled, and those that go on
+abbrev pub rest_text : List Ended → List Running → List ℕ
+rest_text ended running =
+    tally_text (codes " cancelled ") (codes " dropped ") (tally_in Cancelled ended) ++ tally_text (codes " open ") (codes " unsettled ") (tally_of_running running)

@@ -1,0 +1,123 @@
+//! The lines of attempts that were cancelled and of those that go on, and what the total says of attempts.
+ghost use Rattle.std.specs.Prelude.{◌≡◌, ◌++◌, IfOk, OnOk};
+ghost use Rattle.std.specs.List.{flat_map};
+ghost use Rattle.conflict_text.specs.Ends as spec;
+
+use crate::words::push_named;
+use attempt_ends::{Ended, Ending, Ends, Running, Tally, tally_as, tally_running};
+use conflicts::{Runner, attempt_number};
+use spec_history::Entry;
+use std::alloc::{AllocError, Global};
+
+/// Whose attempt it is before a place, and which run of its epoch.
+fn push_runner(
+    text: &mut Vec<u8>,
+    entries: &[Entry],
+    place: usize,
+    runner: Runner,
+) -> Result<(), AllocError>
+    ensures { OnOk result (text.new.items ≡ text.old.items ++ spec.runner_text entries.now place runner) }
+{
+    let attempt = attempt_number(entries, runner.core, place);
+    push_named(text, b" epoch ", runner.epoch as u128)?;
+    push_named(text, b" try ", attempt as u128)?;
+    push_named(text, b" core ", runner.core as u128)
+}
+
+/// The line of an attempt that was cancelled.
+#[tactic(auto, unfolding(crate::specs::Ends::cancel_line))]
+fn push_cancelled(text: &mut Vec<u8>, entries: &[Entry], e: Ended) -> Result<(), AllocError>
+    ensures { OnOk result (text.new.items ≡ text.old.items ++ spec.cancel_line entries.now e) }
+{
+    push_named(text, b"cancel ", e.place as u128)?;
+    push_runner(text, entries, e.place, e.runner)?;
+    push_named(text, b" lost ", e.done as u128)?;
+    push_named(text, b" by ", e.by.epoch as u128)?;
+    push_named(text, b" core ", e.by.core as u128)?;
+    text.extend_from_slice(b"\n")
+}
+
+/// The line of an attempt that ended, if it was cancelled.
+fn push_ended(text: &mut Vec<u8>, entries: &[Entry], e: Ended) -> Result<(), AllocError>
+    ensures { OnOk result (text.new.items ≡ text.old.items ++ spec.ended_line entries.now e) }
+{
+    match e.ending {
+        Ending::Cancelled => push_cancelled(text, entries, e),
+        Ending::Committed | Ending::Violated => Ok(()),
+    }
+}
+
+/// The lines of those that were cancelled.
+fn push_all_ended(text: &mut Vec<u8>, entries: &[Entry], ended: &[Ended]) -> Result<(), AllocError>
+    ensures { OnOk result (text.new.items ≡ text.old.items ++ flat_map (spec.ended_line entries.now) ended.now) }
+{
+    for e in ended {
+        push_ended(text, entries, *e)?;
+    }
+    Ok(())
+}
+
+/// The line of an attempt that goes on.
+#[tactic(auto, unfolding(crate::specs::Ends::open_line))]
+fn push_open(text: &mut Vec<u8>, entries: &[Entry], running: Running) -> Result<(), AllocError>
+    ensures { OnOk result (text.new.items ≡ text.old.items ++ spec.open_line entries.now running) }
+{
+    text.extend_from_slice(b"open")?;
+    push_runner(text, entries, entries.len(), running.runner)?;
+    push_named(text, b" done ", running.done as u128)?;
+    text.extend_from_slice(b"\n")
+}
+
+/// The lines of those that go on.
+fn push_all_open(
+    text: &mut Vec<u8>,
+    entries: &[Entry],
+    running: &[Running],
+) -> Result<(), AllocError>
+    ensures { OnOk result (text.new.items ≡ text.old.items ++ flat_map (spec.open_line entries.now) running.now) }
+{
+    for attempt in running {
+        push_open(text, entries, *attempt)?;
+    }
+    Ok(())
+}
+
+/// The lines of attempts that were cancelled, in order, and of those that go on.
+pub(crate) fn attempt_lines(
+    alloc: Global,
+    entries: &[Entry],
+    ends: &Ends,
+) -> Result<Vec<u8>, AllocError>
+    ensures { IfOk result (λ text. text.items ≡ spec.attempt_lines entries.now ends.now.ended.items ends.now.running.items) }
+{
+    let mut text = Vec::new(alloc);
+    push_all_ended(&mut text, entries, ends.ended.as_slice())?;
+    push_all_open(&mut text, entries, ends.running.as_slice())?;
+    Ok(text)
+}
+
+/// What the attempts executed that committed.
+pub(crate) fn push_useful(text: &mut Vec<u8>, ends: &Ends) -> Result<(), AllocError>
+    ensures { OnOk result (text.new.items ≡ text.old.items ++ spec.useful_text ends.now.ended.items) }
+{
+    let useful = tally_as(ends.ended.as_slice(), Ending::Committed);
+    push_named(text, b" useful ", useful.done)
+}
+
+/// How many attempts, and what they executed.
+fn push_tally(text: &mut Vec<u8>, count: &[u8], done: &[u8], tally: Tally) -> Result<(), AllocError>
+    ensures { OnOk result (text.new.items ≡ text.old.items ++ spec.tally_text count.now done.now tally) }
+{
+    push_named(text, count, tally.count as u128)?;
+    push_named(text, done, tally.done)
+}
+
+/// The attempts that were cancelled, and those that go on.
+pub(crate) fn push_rest(text: &mut Vec<u8>, ends: &Ends) -> Result<(), AllocError>
+    ensures { OnOk result (text.new.items ≡ text.old.items ++ spec.rest_text ends.now.ended.items ends.now.running.items) }
+{
+    let cancelled = tally_as(ends.ended.as_slice(), Ending::Cancelled);
+    let running = tally_running(ends.running.as_slice());
+    push_tally(text, b" cancelled ", b" dropped ", cancelled)?;
+    push_tally(text, b" open ", b" unsettled ", running)
+}
