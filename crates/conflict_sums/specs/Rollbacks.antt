@@ -64,10 +64,11 @@ line_at image entries e = line_by image e.blame (asked_line image entries e)
 abbrev pub bytes_of_line : LoadedImage → ℕ → ByteRange
 bytes_of_line image line = record { first = line * (limits_of image.version).line_length; length = (limits_of image.version).line_length }
 
--- the bytes around the blamed one that met alike, or the line that was asked for
+-- those of the line that was asked for
 abbrev pub asked_bytes : LoadedImage → List Entry → Explanation → Option ByteRange
 asked_bytes image entries e = option_map (bytes_of_line image) (asked_line image entries e)
 
+-- the bytes around the blamed one that met alike, or the line that was asked for
 abbrev pub bytes_by : Option Blame → Option ByteRange → Option ByteRange
 bytes_by (Some blame) asked = Some blame.bytes
 bytes_by None asked = asked
