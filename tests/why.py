@@ -5,8 +5,8 @@ Usage: tests/why.py [COMMAND ..]
 
 COMMAND is a command of `trace_cli` that ends with the word `seq`, such as crates/trace_cli/out/trace_cli seq; `why` is the program that was built beside it.
 Without it ./trace_cli and ./why of this repository are tested. Where no such program is beside it the test is skipped, and a line says so.
-Of each run: one line for each violation of its trace, in their places; no violation is unexplained; one line for each cancellation of an attempt that was not violated, and for each attempt that goes on; the sums of the kinds, and
-the total, are those of the lines. Exits with 1 where a check failed.
+Of each run: one line for each violation of its trace, in their places; no violation is unexplained; one line for each cancellation of an attempt that was not violated, and for each attempt that goes on; the sums of the kinds, of
+the pairs of instructions, and the total, are those of the lines, and pairs and lines of the caches stand heaviest first. Exits with 1 where a check failed.
 """
 
 import re
@@ -65,6 +65,32 @@ def unended(entries):
     return cancelled, [f"epoch {epoch} try {number} core {core}" for core, (epoch, number, goes_on) in sorted(attempts.items(), key=lambda one: int(one[0])) if goes_on]
 
 
+def pair_lines(lines):
+    """The lines of pairs that the lines of violations give, heaviest first."""
+    marked = {word: {int(words[1]) for words in lines if words[0] == word} for word in ("vain", "later")}
+    pairs = {}
+    for words in (words for words in lines if words[0] == "hurt"):
+        names = ("asked", "held") if words[2] == "buffer" else ("store", "load")
+        (store, stored), (load, loaded) = [words[len(words) - words[::-1].index(name):][:2] for name in names]
+        if "-" not in (stored, loaded):
+            pairs.setdefault((stored, loaded), []).append({
+                "kind": words[2], "lost": value_of(words, "lost"), "stale": names[0] == "store" and int(store) < int(load),
+                "vain": int(words[1]) in marked["vain"], "later": int(words[1]) in marked["later"],
+                "distance": value_of(words, "epoch") - value_of(words, "by"),
+                "first": int(words[words.index("at") + 1], 16), "length": int(words[words.index("at") + 2])})
+    told = []
+    for (store, load), those in pairs.items():
+        lost, first = sum(one["lost"] for one in those), min(one["first"] for one in those)
+        kinds = [f"{kind} {sum(one['kind'] == kind for one in those)}" for kind in ("true", "silent", "false", "buffer")]
+        fates = [f"{fate} {sum(one[fate] for one in those)}" for fate in ("stale", "vain", "later")]
+        distances = [one["distance"] for one in those]
+        head = f"pair asked {store} held {load}" if any(one["kind"] == "buffer" for one in those) else f"pair store {store} load {load}"
+        text = " ".join([head, f"rollbacks {len(those)} lost {lost}", *kinds, *fates, f"distance {min(distances)} {max(distances)}",
+                         f"at {first:08x} {max(one['first'] + one['length'] for one in those) - first}"])
+        told.append((-lost, -len(those), store, load, text))
+    return [text for *_, text in sorted(told)]
+
+
 def differences(report, trace):
     """What is wrong with the report on a trace, or None."""
     entries = trace.splitlines()[1:]
@@ -82,6 +108,12 @@ def differences(report, trace):
             return f"{' '.join(words)}, but the lines have {len(of_kind)} and {sum(of_kind)}"
     if {words[1] for words in kinds} != {words[2] for words in hurts}:
         return "the kinds are not those that occur"
+    pairs, wanted = [line for line in report.splitlines() if line.startswith("pair ")], pair_lines(lines)
+    if pairs != wanted:
+        return f"the pairs are {pairs}, but the lines have {wanted}"
+    weights = [(-value_of(words, "lost"), -value_of(words, "rollbacks"), words[1]) for words in lines if words[0] == "line"]
+    if weights != sorted(weights):
+        return "the lines do not stand heaviest first"
     cancelled, going_on = unended(entries)
     if ([" ".join(words[1:8]) for words in cancels], [" ".join(words[1:7]) for words in opens]) != (cancelled, going_on):
         return f"{cancelled} were cancelled, and {going_on} go on"

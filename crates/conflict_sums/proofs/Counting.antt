@@ -4,12 +4,11 @@ use Rattle.conflict_sums.specs.declared.keys.Key.TheVariants.{Line}
 use Rattle.conflict_sums.specs.declared.kinds.ByKind.{ByKind}
 use Rattle.conflict_sums.specs.declared.kinds.Counts.{Counts}
 use Rattle.conflict_sums.specs.declared.kinds.LinesByKind.{LinesByKind}
-use Rattle.conflict_sums.specs.declared.part.Part.{Part}
 use Rattle.conflict_sums.specs.declared.part.Part.TheVariants.{OfLine}
 use Rattle.conflict_sums.specs.declared.rollback.Rollback.{Rollback}
 use Rattle.conflict_sums.specs.declared.sum.Sum.{Sum}
 use Rattle.conflict_sums.specs.Keys.{some_sum, sum_at, sum_or}
-use Rattle.conflict_sums.specs.Kinds.{AreKinds, AreLines, count_at, counts_at, counts_by, counts_in}
+use Rattle.conflict_sums.specs.Kinds.{AreKinds, AreLines, count_at, counts_at, counts_in}
 use Rattle.conflict_sums.specs.Sums.{count_in, lost_in}
 use Rattle.std.specs.BTreeMap.{BTreeMap, get}
 use Rattle.std.specs.Ordering.{nat_cmp}
@@ -34,8 +33,3 @@ line_counts rs kinds lines at parted summed =
     (one_count lines.silent_store kinds.silent_store.items at (summed.silent_store_are at) ∙ ap (count_in (OfLine at)) parted.silent_store_is)
     (one_count lines.false_sharing kinds.false_sharing.items at (summed.false_sharing_are at) ∙ ap (count_in (OfLine at)) parted.false_sharing_is)
     (one_count lines.full_buffer kinds.full_buffer.items at (summed.full_buffer_are at) ∙ ap (count_in (OfLine at)) parted.full_buffer_is)
-
-pub kind_counts : (part : Part) (rs : List Rollback) (kinds : ByKind) → AreKinds rs kinds → counts_by part kinds ≡ counts_in part rs
-kind_counts part rs kinds parted =
-    same_counts _ _ _ _ _ _ _ _
-    (ap (count_in part) parted.true_sharing_is) (ap (count_in part) parted.silent_store_is) (ap (count_in part) parted.false_sharing_is) (ap (count_in part) parted.full_buffer_is)

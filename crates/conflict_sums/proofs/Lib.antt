@@ -1,4 +1,6 @@
+pub mod Ahead
 pub mod Counting
+mod Adding
 mod Parting
 mod Listing
 mod Keyed

@@ -36,15 +36,6 @@ pub record AreKinds (rollbacks : List Rollback) (kinds : ByKind) : Type 0 where
   pub false_sharing_is : kinds.false_sharing.items ≡ of_kind FalseSharing rollbacks
   pub full_buffer_is : kinds.full_buffer.items ≡ of_kind FullBuffer rollbacks
 
--- how many of a part are in each of the four lists
-abbrev pub counts_by : Part → ByKind → Counts
-counts_by part kinds = record {
-  true_sharing = count_in part kinds.true_sharing.items;
-  silent_store = count_in part kinds.silent_store.items;
-  false_sharing = count_in part kinds.false_sharing.items;
-  full_buffer = count_in part kinds.full_buffer.items;
-}
-
 -- for each line, what those of each kind cost
 pub record AreLines (kinds : ByKind) (lines : LinesByKind) : Type 0 where
   pub true_sharing_are : (at : ℕ) → get nat_cmp lines.true_sharing at ≡ sum_at Line kinds.true_sharing.items at

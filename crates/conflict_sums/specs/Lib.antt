@@ -5,4 +5,8 @@ pub mod Parts
 pub mod Pairs
 pub mod Sums
 pub mod Kinds
+pub mod PairSums
+pub mod Order
 pub mod Roles
+-- What is kept of the ends of attempts.
+pub mod Endings

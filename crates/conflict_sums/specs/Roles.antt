@@ -11,6 +11,11 @@ swapped r = record {
   pair = option_map (λ (p : Pair). record { store = p.load; load = p.store }) r.pair;
   line = r.line;
   lost = r.lost;
+  stale = r.stale;
+  vain = r.vain;
+  later = r.later;
+  distance = r.distance;
+  bytes = r.bytes;
 }
 
 -- the violations, and the same with their instructions in each other's role: the loads are now all instructions of pairs

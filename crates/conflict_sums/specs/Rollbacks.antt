@@ -1,8 +1,10 @@
--- What of an explanation is summed: the kind, the violated epoch, the two instructions that met, the line in which they met, and what was lost.
-use Rattle.std.specs.Prelude.{ℕ, List, Option, Some, None, slice_get, option_and_then, option_map}
+-- What of an explanation is summed: the kind, the violated epoch, the two instructions that met, the line and the bytes in which they met, what was lost, what became of it, and how far apart the epochs stood.
+use Rattle.std.specs.Prelude.{ℕ, ◌-◌, ◌*◌, Bool, List, Option, Some, None, is_some, slice_get, option_and_then, option_map}
 use Rattle.rv32_image.specs.Image.{LoadedImage}
+use Rattle.rv32_image.specs.Version.{limits_of}
 use Rattle.spec_history.specs.declared.entry.Entry.{Entry}
 use Rattle.conflicts.specs.declared.explanation.Blame.{Blame}
+use Rattle.conflicts.specs.declared.explanation.ByteRange.{ByteRange}
 use Rattle.conflicts.specs.declared.explanation.Explanation.{Explanation}
 use Rattle.conflicts.specs.declared.explanation.Kind.{Kind}
 use Rattle.conflicts.specs.declared.explanation.Kind.TheVariants.{FullBuffer}
@@ -10,7 +12,7 @@ use Rattle.conflicts.specs.declared.standing.Site.{Site}
 use Rattle.conflicts.specs.Blame.{accessed_line}
 use Rattle.conflicts.specs.Conflict.{line_of}
 use Rattle.conflicts.specs.Explained.{what_at}
-use Rattle.conflicts.specs.Fates.{held_at}
+use Rattle.conflicts.specs.Fates.{held_at, is_stale_pair, undone_at}
 use Rattle.conflict_sums.specs.declared.rollback.Pair.{Pair}
 use Rattle.conflict_sums.specs.declared.rollback.Rollback.{Rollback}
 
@@ -58,6 +60,30 @@ line_by image None asked = asked
 abbrev pub line_at : LoadedImage → List Entry → Explanation → Option ℕ
 line_at image entries e = line_by image e.blame (asked_line image entries e)
 
+-- the bytes of the line of the caches that has this number
+abbrev pub bytes_of_line : LoadedImage → ℕ → ByteRange
+bytes_of_line image line = record { first = line * (limits_of image.version).line_length; length = (limits_of image.version).line_length }
+
+-- those of the line that was asked for
+abbrev pub asked_bytes : LoadedImage → List Entry → Explanation → Option ByteRange
+asked_bytes image entries e = option_map (bytes_of_line image) (asked_line image entries e)
+
+-- the bytes around the blamed one that met alike, or the line that was asked for
+abbrev pub bytes_by : Option Blame → Option ByteRange → Option ByteRange
+bytes_by (Some blame) asked = Some blame.bytes
+bytes_by None asked = asked
+
+abbrev pub bytes_at : LoadedImage → List Entry → Explanation → Option ByteRange
+bytes_at image entries e = bytes_by e.blame (asked_bytes image entries e)
+
+-- the causer's attempt does not commit
+abbrev pub is_vain : List Entry → Explanation → Bool
+is_vain entries e = is_some (undone_at entries e)
+
+-- by how many epochs the victim stands after the causer; none where it does not, which no history that replays has
+abbrev pub distance_of : Explanation → ℕ
+distance_of e = e.victim.epoch - e.causer.epoch
+
 abbrev pub rollback_of : LoadedImage → List Entry → List (Option Site) → Explanation → Rollback
 rollback_of image entries sites e = record {
   kind = e.kind;
@@ -65,4 +91,9 @@ rollback_of image entries sites e = record {
   pair = pair_of image entries sites e;
   line = line_at image entries e;
   lost = e.lost;
+  stale = is_stale_pair e.blame;
+  vain = is_vain entries e;
+  later = is_some e.later;
+  distance = distance_of e;
+  bytes = bytes_at image entries e;
 }

@@ -10,7 +10,7 @@ ghost use Rattle.conflict_sums.specs.Parts.{belongs};
 use crate::keys::{Key, sums_by};
 use crate::part::Part;
 use crate::rollback::Rollback;
-use crate::sum::{Sum, sum_of};
+use crate::sum::Sum;
 use conflicts::Kind;
 use std::alloc::{AllocError, Global};
 use std::collections::BTreeMap;
@@ -81,20 +81,6 @@ pub fn kinds_of(alloc: Global, rollbacks: &[Rollback]) -> Result<ByKind, AllocEr
         false_sharing: part_of(alloc, rollbacks, Part::OfKind(Kind::FalseSharing))?,
         full_buffer: part_of(alloc, rollbacks, Part::OfKind(Kind::FullBuffer))?,
     })
-}
-
-impl ByKind {
-    /// How many of a part there are of each kind.
-    pub fn counts(&self, part: Part) -> Counts
-        ensures { result ≡ spec.counts_by part self.now }
-    {
-        Counts {
-            true_sharing: sum_of(self.true_sharing.as_slice(), part).count,
-            silent_store: sum_of(self.silent_store.as_slice(), part).count,
-            false_sharing: sum_of(self.false_sharing.as_slice(), part).count,
-            full_buffer: sum_of(self.full_buffer.as_slice(), part).count,
-        }
-    }
 }
 
 /// What the violations of each kind cost, for each line.

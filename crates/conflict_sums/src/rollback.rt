@@ -1,10 +1,11 @@
 //! What of each explanation is summed.
 
-ghost use Rattle.std.specs.Prelude.{◌≡◌, IfOk, map};
+ghost use Rattle.std.specs.Prelude.{◌≡◌, ◌*◌, ◌/◌, ◌≤◌, IfOk, map};
 ghost use Rattle.conflicts.specs.Conflict as conflict;
 ghost use Rattle.conflict_sums.specs.Rollbacks as spec;
 
-use conflicts::{Explanation, Kind, Site};
+use crate::endings::Endings;
+use conflicts::{ByteRange, Explanation, Kind, Site};
 use rv32_exec::Image;
 use spec_history::{Entry, What};
 use std::alloc::{AllocError, Global};
@@ -31,6 +32,16 @@ pub struct Rollback {
     pub line: Option<u32>,
     /// How many instructions were lost.
     pub lost: u64,
+    /// The blamed store stands before the blamed load.
+    pub stale: bool,
+    /// The causer's attempt was itself violated or cancelled.
+    pub vain: bool,
+    /// False sharing by an attempt that afterwards stores to a byte that the victim had read.
+    pub later: bool,
+    /// By how many epochs the victim stands after the causer. In a history that replays it does: none is violated by a later one.
+    pub distance: u32,
+    /// The bytes at which they met, if these are known; for a full buffer the line that was asked for.
+    pub bytes: Option<ByteRange>,
 }
 
 /// What of each explanation is summed, in order. It takes the sites of the history.
@@ -44,19 +55,23 @@ pub fn rollbacks(
     ensures { IfOk result (λ found. found.items ≡ map (spec.rollback_of image.now entries.now sites.now) explanations.now) }
 {
     let mut found = Vec::new(alloc);
+    let mut endings = Endings::new();
     for explanation in explanations {
-        found.push(rollback_of(image, entries, sites, explanation))?;
+        let vain = endings.undone_at(entries, *explanation).is_some();
+        found.push(rollback_of(image, entries, sites, explanation, vain))?;
     }
     Ok(found)
 }
 
-/// What of an explanation is summed.
+/// What of an explanation is summed, which is in vain or not.
 fn rollback_of(
     image: &Image,
     entries: &[Entry],
     sites: &[Option<Site>],
     explanation: &Explanation,
+    vain: bool,
 ) -> Rollback
+    requires { vain ≡ spec.is_vain entries.now explanation.now }
     ensures { result ≡ spec.rollback_of image.now entries.now sites.now explanation.now }
 {
     Rollback {
@@ -65,6 +80,11 @@ fn rollback_of(
         pair: pair_of(image, entries, sites, explanation),
         line: line_at(image, entries, explanation),
         lost: explanation.lost,
+        stale: explanation.is_stale(),
+        vain,
+        later: explanation.later.is_some(),
+        distance: distance_of(explanation),
+        bytes: bytes_at(image, entries, explanation),
     }
 }
 
@@ -145,5 +165,47 @@ fn line_at(image: &Image, entries: &[Entry], explanation: &Explanation) -> Optio
     match explanation.blame {
         Some(blame) => Some(line_of(image, blame.byte)),
         None => asked_line(image, entries, explanation),
+    }
+}
+
+/// By how many epochs the victim stands after the causer.
+fn distance_of(explanation: &Explanation) -> u32
+    ensures { result ≡ spec.distance_of explanation.now }
+{
+    explanation
+        .victim
+        .epoch
+        .saturating_sub(explanation.causer.epoch)
+}
+
+/// The bytes of the line of the caches in which an address lies.
+fn line_bytes(image: &Image, addr: u32) -> ByteRange
+    ensures { result ≡ spec.bytes_of_line image.now (conflict.line_of image.now addr) }
+{
+    let length = image.version().limits().line_length;
+    ByteRange {
+        first: addr / length * length,
+        length,
+    }
+}
+
+/// The bytes of the line that was asked for of a full buffer.
+fn asked_bytes(image: &Image, entries: &[Entry], explanation: &Explanation) -> Option<ByteRange>
+    ensures { result ≡ spec.asked_bytes image.now entries.now explanation.now }
+{
+    let entry = entries.get(asked_at(explanation)?)?;
+    match entry.what {
+        What::Load { addr, .. } | What::Store { addr, .. } => Some(line_bytes(image, addr)),
+        _ => None,
+    }
+}
+
+/// The bytes around the blamed one, or those of the line that was asked for of a full buffer.
+fn bytes_at(image: &Image, entries: &[Entry], explanation: &Explanation) -> Option<ByteRange>
+    ensures { result ≡ spec.bytes_at image.now entries.now explanation.now }
+{
+    match explanation.blame {
+        Some(blame) => Some(blame.bytes),
+        None => asked_bytes(image, entries, explanation),
     }
 }

@@ -1,11 +1,15 @@
 //! Worked histories and what explains their violations.
 
 use crate::rows::{
-    BUFFER_FULL, BUFFER_FULL_FATES, BUFFER_FULL_SUMS, BUFFER_FULL_VIOLATIONS, COMMITTED_BYTES,
-    COMMITTED_BYTES_VIOLATIONS, HISTOGRAM, HISTOGRAM_FATES, HISTOGRAM_SUMS, HISTOGRAM_VIOLATIONS,
-    LATER_BYTES, LATER_BYTES_VIOLATIONS, STORED_BYTES, STORED_BYTES_VIOLATIONS,
+    BUFFER_FULL, BUFFER_FULL_FATES, BUFFER_FULL_PAIRS, BUFFER_FULL_SUMS, BUFFER_FULL_VIOLATIONS,
+    COMMITTED_BYTES, COMMITTED_BYTES_VIOLATIONS, HISTOGRAM, HISTOGRAM_FATES, HISTOGRAM_PAIRS,
+    HISTOGRAM_SUMS, HISTOGRAM_VIOLATIONS, LATER_BYTES, LATER_BYTES_VIOLATIONS, STORED_BYTES,
+    STORED_BYTES_VIOLATIONS,
 };
-use conflict_sums::{Key, Pair, Part, Sum, pairs_of, rollbacks, sum_of, sums_by};
+use conflict_sums::{
+    Bounds, Fates, Key, Pair, PairSum, Part, Sum, heaviest_pairs, pairs_of, rollbacks, sum_of,
+    sums_by,
+};
 use conflicts::{Blame, ByteRange, Explanation, Kind, Runner, Site, explain, sites};
 use rv32_exec::image_of;
 use std::test::*;
@@ -213,11 +217,36 @@ fn key_of(row: &str) -> Option<(Key, u32)> {
     None
 }
 
+/// The pair is the one of a row of pairs.
+fn is_pair_of(sum: PairSum, row: &str) -> bool {
+    let pair = Pair {
+        store: number(row, 0),
+        load: number(row, 1),
+    };
+    let fates = Fates {
+        stale: number(row, 2) as usize,
+        vain: number(row, 3) as usize,
+        later: number(row, 4) as usize,
+    };
+    let distance = Bounds {
+        least: number(row, 5),
+        greatest: u64::from(number(row, 6)),
+    };
+    let bytes = Bounds {
+        least: number(row, 7),
+        greatest: u64::from(number(row, 8)),
+    };
+    sum.pair == pair
+        && sum.fates == fates
+        && sum.distance == Some(distance)
+        && sum.bytes == Some(bytes)
+}
+
 #[test]
 fn sums_what_violations_cost(rt: HostRuntime) -> Result<(), Fail> {
     for (text, rows, pairs) in [
-        (HISTOGRAM, HISTOGRAM_SUMS, 1),
-        (BUFFER_FULL, BUFFER_FULL_SUMS, 2),
+        (HISTOGRAM, HISTOGRAM_SUMS, HISTOGRAM_PAIRS),
+        (BUFFER_FULL, BUFFER_FULL_SUMS, BUFFER_FULL_PAIRS),
     ] {
         let text = text.as_bytes();
         let image = image_of(rt.alloc(), image_part(text))?;
@@ -252,7 +281,13 @@ fn sums_what_violations_cost(rt: HostRuntime) -> Result<(), Fail> {
                 assert!(rt; told.is_none() || told == Some(wanted), "{row}");
             }
         }
-        assert_eq!(rt; pairs_of(rt.alloc(), summed.as_slice())?.len(), pairs);
+        let told = heaviest_pairs(rt.alloc(), summed.as_slice())?;
+        let count = pairs.split('\n').filter(|row| !row.is_empty()).count();
+        assert_eq!(rt; told.len(), count);
+        assert_eq!(rt; pairs_of(rt.alloc(), summed.as_slice())?.len(), count);
+        for (sum, row) in told.iter().zip(pairs.split('\n')) {
+            assert!(rt; is_pair_of(*sum, row), "{row}");
+        }
     }
     Ok(())
 }

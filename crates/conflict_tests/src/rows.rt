@@ -361,3 +361,15 @@ pub const BUFFER_FULL_SUMS: &str = "\
 1 7 epoch 4\n\
 2 14 epoch 5\n\
 ";
+
+/// The pairs of the histogram, heaviest first: the addresses of the store and of the load, how many violations were stale, in vain, and came
+/// true later, the least and the greatest distance, and the lowest byte, and the one after the highest. The values are those of the same other program.
+pub const HISTOGRAM_PAIRS: &str = "\
+32 24 2 0 0 1 2 68 104\n\
+";
+
+/// The same of the full buffers.
+pub const BUFFER_FULL_PAIRS: &str = "\
+20 20 0 2 0 1 2 128 144\n\
+44 20 0 0 0 1 1 128 144\n\
+";

@@ -4,10 +4,9 @@ use Rattle.spec_history.specs.declared.entry.Entry.{Entry}
 use Rattle.spec_history.specs.declared.entry.What.{What}
 use Rattle.spec_history.specs.declared.entry.What.TheVariants.{Start, Restart}
 use Rattle.conflicts.specs.Attempts.{attempt_number, core_does, is_start}
-use Rattle.conflicts.specs.Fates.{first_after, is_over}
 use Rattle.conflicts.specs.Searches.{last_below}
+use Rattle.conflict_sums.specs.Endings.{AreEndings}
 use Rattle.conflict_text.specs.declared.followed.Attempt.{Attempt}
-use Rattle.conflict_text.specs.declared.followed.Ending.{Ending}
 use Rattle.conflict_text.specs.declared.followed.Followed.{Followed}
 
 -- what a core does at a place, if the entry there is the core's
@@ -26,11 +25,7 @@ pub record IsAttempt (entries : List Entry) (a : Attempt) : Type 0 where
   pub started_is : a.started ≡ is_some (last_below a.place (λ j. core_does entries a.core j is_start))
   pub few : a.number ≤ a.place + 1
 
--- the attempt of this runner that goes on after the place ends there
-abbrev pub IsEnding : List Entry → Ending → Type 0
-IsEnding entries e = e.at ≡ first_after entries e.place (is_over e.runner)
-
 -- all that is kept is right
 pub record IsFollowed (entries : List Entry) (followed : Followed) : Type 0 where
   pub attempts_are : All (λ (slot : Option Attempt). IfSome slot (IsAttempt entries)) followed.attempts
-  pub endings_are : All (λ (slot : Option Ending). IfSome slot (IsEnding entries)) followed.endings
+  pub endings_are : AreEndings entries followed.endings

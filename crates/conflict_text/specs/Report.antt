@@ -1,6 +1,6 @@
 -- The report of which conflicts rolled back: the violations in order, then the attempts that were cancelled or go on, then the sums.
 -- Source: this project.
-use Rattle.std.specs.Prelude.{◌≡◌, ℕ, ◌*◌, ◌^◌, ◌==◌, List, [], ◌++◌, map, codes, Option, Some, None, nat_lt, if◌then◌else◌}
+use Rattle.std.specs.Prelude.{◌≡◌, ℕ, ◌-◌, ◌*◌, ◌^◌, ◌==◌, List, [], ◌++◌, map, codes, Option, Some, None, nat_lt, if◌then◌else◌}
 use Rattle.std.specs.BTreeMap.{BTreeMap}
 use Rattle.std.specs.Fmt.{decimal}
 use Rattle.std.specs.List.{flat_map}
@@ -15,13 +15,16 @@ use Rattle.conflicts.specs.declared.explanation.Kind.TheVariants.{TrueSharing, S
 use Rattle.conflicts.specs.declared.standing.Site.{Site}
 use Rattle.conflict_sums.specs.declared.keys.Key.TheVariants.{Epoch, Line, Load, Store}
 use Rattle.conflict_sums.specs.declared.kinds.Counts.{Counts}
-use Rattle.conflict_sums.specs.declared.part.Part.TheVariants.{OfKind, OfLine, OfPair, Whole}
+use Rattle.conflict_sums.specs.declared.pair_sums.Bounds.{Bounds}
+use Rattle.conflict_sums.specs.declared.pair_sums.Fates.{Fates}
+use Rattle.conflict_sums.specs.declared.pair_sums.PairSum.{PairSum}
+use Rattle.conflict_sums.specs.declared.part.Part.TheVariants.{OfKind, OfLine, Whole}
 use Rattle.conflict_sums.specs.declared.rollback.Pair.{Pair}
 use Rattle.conflict_sums.specs.declared.rollback.Rollback.{Rollback}
 use Rattle.conflict_sums.specs.declared.sum.Sum.{Sum}
 use Rattle.conflict_sums.specs.Keys.{AreSums, sum_at, sum_or}
 use Rattle.conflict_sums.specs.Kinds.{counts_in}
-use Rattle.conflict_sums.specs.Pairs.{pairs_in}
+use Rattle.conflict_sums.specs.Order.{AreHeaviest, ArePairSums}
 use Rattle.conflict_sums.specs.Roles.{in_both_roles}
 use Rattle.conflict_sums.specs.Rollbacks.{rollback_of}
 use Rattle.conflict_sums.specs.Sums.{count_in, lost_in, sum_in}
@@ -46,18 +49,31 @@ counts_text c =
 unfoldable pub epoch_line : ℕ × Sum → List ℕ
 epoch_line e = codes "epoch " ++ decimal e.0 ++ sum_text e.1.count e.1.lost ++ codes "\n"
 
+-- how many were stale, in vain, and came true later
+abbrev pub fates_text : Fates → List ℕ
+fates_text f = codes " stale " ++ decimal f.stale ++ codes " vain " ++ decimal f.vain ++ codes " later " ++ decimal f.later
+
+-- by how many epochs the victims stood after the causers: the least, and the greatest
+abbrev pub distance_text : Option Bounds → List ℕ
+distance_text None = codes " distance - -"
+distance_text (Some b) = codes " distance " ++ decimal b.least ++ codes " " ++ decimal b.greatest
+
+-- the bytes from the lowest at which they met to the highest: the address of the first, and how many they are
+abbrev pub range_text : Option Bounds → List ℕ
+range_text None = codes " at - -"
+range_text (Some b) = codes " at " ++ hex_word b.least ++ codes " " ++ decimal (b.greatest - b.least)
+
 -- the two instructions of a pair: for full buffers the access that asked for the line, and the store that held it
 abbrev pub pair_name : ℕ → Pair → List ℕ
 pair_name full pair =
     if full == 0 then codes "pair store " ++ hex_word pair.store ++ codes " load " ++ hex_word pair.load
     else codes "pair asked " ++ hex_word pair.store ++ codes " held " ++ hex_word pair.load
 
-unfoldable pub pair_text : Pair → Sum → Counts → List ℕ
-pair_text pair sum counts = pair_name counts.full_buffer pair ++ sum_text sum.count sum.lost ++ counts_text counts ++ codes "\n"
-
 -- a pair of instructions, and what the violations at which they met cost
-abbrev pub pair_line : List Rollback → Pair → List ℕ
-pair_line rollbacks pair = pair_text pair (sum_in (OfPair pair) rollbacks) (counts_in (OfPair pair) rollbacks)
+unfoldable pub pair_line : PairSum → List ℕ
+pair_line p =
+    pair_name p.counts.full_buffer p.pair ++ sum_text p.sum.count p.sum.lost ++ counts_text p.counts
+    ++ fates_text p.fates ++ distance_text p.distance ++ range_text p.bytes ++ codes "\n"
 
 -- the address of the line that has this number
 abbrev pub line_address : LoadedImage → ℕ → Option ℕ
@@ -106,16 +122,20 @@ total_line image homefree rollbacks ended running = total_text image.epochs home
 
 -- ---- the report
 
--- the sums: epochs, lines and instructions in ascending order, pairs in the order in which they first came
+-- the sums: epochs and instructions in ascending order, pairs and lines heaviest first
 pub record IsSummary (image : LoadedImage) (homefree : ℕ) (rollbacks : List Rollback) (ended : List Ended) (running : List Running) (text : List ℕ) : Type 0 where
   pub epochs : BTreeMap ℕ Sum
   pub epochs_are : AreSums Epoch rollbacks epochs
+  pub pairs : List PairSum
+  pub pairs_are : ArePairSums rollbacks pairs
   pub lines : BTreeMap ℕ Sum
   pub lines_are : AreSums Line rollbacks lines
+  pub ordered_lines : List (ℕ × Sum)
+  pub lines_ordered : AreHeaviest lines ordered_lines
   -- the instructions that are in a pair, as its load or as its store
   pub instructions : BTreeMap ℕ Sum
   pub instructions_are : AreSums Load (in_both_roles rollbacks) instructions
-  pub printed : text ≡ flat_map epoch_line epochs.entries ++ flat_map (pair_line rollbacks) (pairs_in rollbacks) ++ flat_map (line_line image rollbacks) lines.entries
+  pub printed : text ≡ flat_map epoch_line epochs.entries ++ flat_map pair_line pairs ++ flat_map (line_line image rollbacks) ordered_lines
       ++ flat_map (pc_line rollbacks) instructions.entries ++ kind_lines rollbacks ++ total_line image homefree rollbacks ended running
 
 -- the violations in order, the attempts that were cancelled and those that go on, and the sums

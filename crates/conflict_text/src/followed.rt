@@ -1,12 +1,12 @@
 //! The numbers and the ends of the attempts that are told of, for each core, so that no entry is walked over twice for one.
-ghost use Rattle.std.specs.Prelude.{◌≡◌, ◌+◌, ◌<◌, ◌≤◌, IfSome, List, length};
-ghost use Rattle.std.specs.Bool.{OnTrue};
+ghost use Rattle.std.specs.Prelude.{◌≡◌, ◌+◌, ◌<◌, ◌≤◌, List, length};
 ghost use Rattle.spec_history.specs.declared.entry.Entry.{Entry};
 ghost use Rattle.conflicts.specs.Attempts as attempts;
 ghost use Rattle.conflicts.specs.Fates as fates;
 ghost use Rattle.conflict_text.specs.Followed as spec;
 
-use conflicts::{Explanation, Runner};
+use conflict_sums::Endings;
+use conflicts::Explanation;
 use spec_history::{Entry, What};
 
 /// Which run of its epoch a core is in before a place of the history.
@@ -18,14 +18,6 @@ pub(crate) struct Attempt {
     number: usize,
     /// Whether the core has started an epoch.
     started: bool,
-}
-
-/// Where the attempt of a runner that goes on after a place ends.
-#[derive(Clone, Copy)]
-pub(crate) struct Ending {
-    runner: Runner,
-    place: usize,
-    at: Option<usize>,
 }
 
 /// What a core does at a place, if the entry there is the core's.
@@ -105,30 +97,11 @@ impl Attempt {
     }
 }
 
-impl Ending {
-    /// The same attempt goes on after the violation.
-    fn is_of(self, e: Explanation) -> bool
-        ensures core { OnTrue result (self.runner.core ≡ e.causer.core) }
-        ensures epoch { OnTrue result (self.runner.epoch ≡ e.causer.epoch) }
-        ensures later { OnTrue result (self.place ≤ e.place) }
-        ensures before { OnTrue result (IfSome self.at (λ at. e.place < at)) }
-    {
-        let is_before = match self.at {
-            Some(at) => e.place < at,
-            None => true,
-        };
-        is_before
-            && self.runner.core == e.causer.core
-            && self.runner.epoch == e.causer.epoch
-            && self.place <= e.place
-    }
-}
-
 /// What was found last for each core.
 #[derive(Drop)]
 pub(crate) struct Followed {
     attempts: [Option<Attempt>; 16],
-    endings: [Option<Ending>; 16],
+    endings: Endings,
 }
 
 impl Followed {
@@ -138,7 +111,7 @@ impl Followed {
     {
         Followed {
             attempts: [None; 16],
-            endings: [None; 16],
+            endings: Endings::new(),
         }
     }
 
@@ -169,18 +142,6 @@ impl Followed {
         ensures over { result ≡ fates.over_at entries.now e }
         ensures known { spec.IsFollowed entries.now self.new }
     {
-        let slot = (e.causer.core % 16) as usize;
-        if let Some(ending) = self.endings[slot] {
-            if ending.is_of(e) {
-                return ending.at;
-            }
-        }
-        let at = e.over_at(entries);
-        self.endings[slot] = Some(Ending {
-            runner: e.causer,
-            place: e.place,
-            at,
-        });
-        at
+        self.endings.over_at(entries, e)
     }
 }

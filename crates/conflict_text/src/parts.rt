@@ -4,14 +4,12 @@ ghost use Rattle.std.specs.BTreeMap.{IsOrdered, get};
 ghost use Rattle.std.specs.List.{flat_map};
 ghost use Rattle.std.specs.Ordering.{nat_cmp};
 ghost use Rattle.conflict_sums.specs.Keys.{sum_or};
-ghost use Rattle.conflict_sums.specs.Kinds.{counts_at, counts_by};
-ghost use Rattle.conflict_sums.specs.Sums.{sum_in};
-ghost use Rattle.conflict_sums.specs.declared.part.Part.TheVariants.{OfPair};
+ghost use Rattle.conflict_sums.specs.Kinds.{counts_at};
 ghost use Rattle.conflict_text.specs.Report as spec;
 
 use crate::sums::{push_counts, push_sum};
 use crate::words::{push_address, push_named};
-use conflict_sums::{ByKind, Counts, LinesByKind, Pair, Part, Rollback, Sum, sum_of};
+use conflict_sums::{Bounds, Counts, Fates, LinesByKind, Pair, PairSum, Sum};
 use rv32_exec::Image;
 use std::alloc::AllocError;
 use std::collections::BTreeMap;
@@ -34,43 +32,59 @@ fn push_pair_name(text: &mut Vec<u8>, full: usize, pair: Pair) -> Result<(), All
     }
 }
 
-/// What the violations of a pair cost, with so many of each kind.
-#[tactic(auto, unfolding(crate::specs::Report::pair_text))]
-fn push_pair_sum(text: &mut Vec<u8>, pair: Pair, sum: Sum, counts: Counts) -> Result<(), AllocError>
-    ensures { OnOk result (text.new.items ≡ text.old.items ++ spec.pair_text pair sum counts) }
+/// How many were stale, in vain, and came true later.
+fn push_fates(text: &mut Vec<u8>, fates: Fates) -> Result<(), AllocError>
+    ensures { OnOk result (text.new.items ≡ text.old.items ++ spec.fates_text fates) }
 {
-    push_pair_name(text, counts.full_buffer, pair)?;
-    push_sum(text, sum)?;
-    push_counts(text, counts)?;
+    push_named(text, b" stale ", fates.stale as u128)?;
+    push_named(text, b" vain ", fates.vain as u128)?;
+    push_named(text, b" later ", fates.later as u128)
+}
+
+/// By how many epochs the victims stood after the causers.
+fn push_distance(text: &mut Vec<u8>, distance: Option<Bounds>) -> Result<(), AllocError>
+    ensures { OnOk result (text.new.items ≡ text.old.items ++ spec.distance_text distance) }
+{
+    let Some(bounds) = distance else {
+        return text.extend_from_slice(b" distance - -");
+    };
+    push_named(text, b" distance ", bounds.least as u128)?;
+    push_named(text, b" ", bounds.greatest as u128)
+}
+
+/// The bytes from the lowest at which they met to the highest.
+fn push_range(text: &mut Vec<u8>, bytes: Option<Bounds>) -> Result<(), AllocError>
+    ensures { OnOk result (text.new.items ≡ text.old.items ++ spec.range_text bytes) }
+{
+    let Some(bounds) = bytes else {
+        return text.extend_from_slice(b" at - -");
+    };
+    text.extend_from_slice(b" at ")?;
+    push_hex(text, &bounds.least.to_be_bytes())?;
+    let length = bounds.greatest.saturating_sub(bounds.least as u64);
+    push_named(text, b" ", length as u128)
+}
+
+/// What the violations of a pair cost, and what became of them.
+#[tactic(auto, unfolding(crate::specs::Report::pair_line))]
+fn push_pair(text: &mut Vec<u8>, sum: PairSum) -> Result<(), AllocError>
+    ensures { OnOk result (text.new.items ≡ text.old.items ++ spec.pair_line sum) }
+{
+    push_pair_name(text, sum.counts.full_buffer, sum.pair)?;
+    push_sum(text, sum.sum)?;
+    push_counts(text, sum.counts)?;
+    push_fates(text, sum.fates)?;
+    push_distance(text, sum.distance)?;
+    push_range(text, sum.bytes)?;
     text.extend_from_slice(b"\n")
 }
 
-/// What those of a pair cost.
-fn push_pair(
-    text: &mut Vec<u8>,
-    rollbacks: &[Rollback],
-    kinds: &ByKind,
-    pair: Pair,
-) -> Result<(), AllocError>
-    ensures { OnOk result (text.new.items ≡ text.old.items ++ spec.pair_text pair (sum_in (OfPair pair) rollbacks.now) (counts_by (OfPair pair) kinds.now)) }
-{
-    let sum = sum_of(rollbacks, Part::OfPair(pair));
-    let counts = kinds.counts(Part::OfPair(pair));
-    push_pair_sum(text, pair, sum, counts)
-}
-
 /// What those of each pair cost.
-pub(crate) fn push_pairs(
-    text: &mut Vec<u8>,
-    rollbacks: &[Rollback],
-    kinds: &ByKind,
-    pairs: &[Pair],
-) -> Result<(), AllocError>
-    ensures { OnOk result (text.new.items ≡ text.old.items
-        ++ flat_map (λ p. spec.pair_text p (sum_in (OfPair p) rollbacks.now) (counts_by (OfPair p) kinds.now)) pairs.now) }
+pub(crate) fn push_pairs(text: &mut Vec<u8>, sums: &[PairSum]) -> Result<(), AllocError>
+    ensures { OnOk result (text.new.items ≡ text.old.items ++ flat_map spec.pair_line sums.now) }
 {
-    for pair in pairs {
-        push_pair(text, rollbacks, kinds, *pair)?;
+    for sum in sums {
+        push_pair(text, *sum)?;
     }
     Ok(())
 }
@@ -104,12 +118,11 @@ pub(crate) fn push_lines(
     text: &mut Vec<u8>,
     image: &Image,
     lines: &LinesByKind,
-    sums: &BTreeMap<u32, Sum>,
+    sums: &[(u32, Sum)],
 ) -> Result<(), AllocError>
-    ensures told { OnOk result (text.new.items ≡ text.old.items ++ flat_map (λ e. spec.line_text image.now e (counts_at lines.now e.0)) sums.now.entries) }
-    ensures ascending { IsOrdered nat_cmp sums.now }
+    ensures { OnOk result (text.new.items ≡ text.old.items ++ flat_map (λ e. spec.line_text image.now e (counts_at lines.now e.0)) sums.now) }
 {
-    for (line, sum) in sums.iter() {
+    for (line, sum) in sums {
         push_line(text, image, *line, *sum, lines.counts(*line))?;
     }
     Ok(())

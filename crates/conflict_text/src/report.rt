@@ -10,7 +10,8 @@ use crate::parts::{push_instructions, push_lines, push_pairs};
 use crate::sums::{push_epochs, push_kinds, push_total};
 use attempt_ends::Ends;
 use conflict_sums::{
-    Key, Part, Rollback, both_roles, kinds_of, lines_of, pairs_of, rollbacks, sum_of, sums_by,
+    Key, Part, Rollback, both_roles, heaviest, heaviest_pairs, kinds_of, lines_of, rollbacks,
+    sum_of, sums_by,
 };
 use conflicts::{Explanation, Site};
 use rv32_exec::{Image, NoMemory};
@@ -84,19 +85,20 @@ fn summary(
 ) -> Result<Vec<u8>, AllocError>
     ensures { IfOk result (λ text. spec.IsSummary image.now homefree rollbacks.now ends.now.ended.items ends.now.running.items text.items) }
 {
-    let pairs = pairs_of(alloc, rollbacks)?;
+    let pairs = heaviest_pairs(alloc, rollbacks)?;
     let kinds = kinds_of(alloc, rollbacks)?;
     let kinds_by_line = lines_of(alloc, &kinds)?;
     let epochs = sums_by(alloc, rollbacks, Key::Epoch)?;
     let lines = sums_by(alloc, rollbacks, Key::Line)?;
+    let ordered_lines = heaviest(alloc, &lines)?;
     let loads = sums_by(alloc, rollbacks, Key::Load)?;
     let stores = sums_by(alloc, rollbacks, Key::Store)?;
     let both = both_roles(alloc, rollbacks)?;
     let instructions = sums_by(alloc, both.as_slice(), Key::Load)?;
     let mut text = Vec::new(alloc);
     push_epochs(&mut text, &epochs)?;
-    push_pairs(&mut text, rollbacks, &kinds, pairs.as_slice())?;
-    push_lines(&mut text, image, &kinds_by_line, &lines)?;
+    push_pairs(&mut text, pairs.as_slice())?;
+    push_lines(&mut text, image, &kinds_by_line, ordered_lines.as_slice())?;
     push_instructions(&mut text, &loads, &stores, &instructions)?;
     push_kinds(&mut text, rollbacks)?;
     push_total(

@@ -26,7 +26,7 @@ trace 2
 const WAITS_TOLD: &str =
     "hurt 4 true epoch 1 try 1 core 1 lost 3 entered 2 since 2 by 0 core 0 cause 5 commit load 3 00000004 store 2 00000014 at 00000040 4
 epoch 1 rollbacks 1 lost 3
-pair store 00000014 load 00000004 rollbacks 1 lost 3 true 1 silent 0 false 0 buffer 0
+pair store 00000014 load 00000004 rollbacks 1 lost 3 true 1 silent 0 false 0 buffer 0 stale 1 vain 0 later 0 distance 1 1 at 00000040 4
 line 00000040 rollbacks 1 lost 3 true 1 silent 0 false 0 buffer 0
 pc 00000004 victim 1 3 causer 0 0
 pc 00000014 victim 0 0 causer 1 3
@@ -66,7 +66,7 @@ hurt 8 true epoch 1 try 1 core 1 lost 5 entered 3 since 5 by 0 core 0 cause 9 st
 cancel 12 epoch 1 try 2 core 1 lost 2 by 0 core 0
 epoch 1 rollbacks 1 lost 5
 epoch 2 rollbacks 1 lost 2
-pair store 00000008 load 00000000 rollbacks 2 lost 7 true 2 silent 0 false 0 buffer 0
+pair store 00000008 load 00000000 rollbacks 2 lost 7 true 2 silent 0 false 0 buffer 0 stale 0 vain 1 later 0 distance 1 1 at 00000040 4
 line 00000040 rollbacks 2 lost 7 true 2 silent 0 false 0 buffer 0
 pc 00000000 victim 2 7 causer 0 0
 pc 00000008 victim 0 0 causer 2 7
@@ -96,7 +96,7 @@ trace 2
 const BESIDE_TOLD: &str =
     "hurt 4 false epoch 1 try 1 core 1 lost 1 entered 1 since 1 by 0 core 0 cause 5 store load 2 00000000 store 5 00000004 at 00000040 4
 epoch 1 rollbacks 1 lost 1
-pair store 00000004 load 00000000 rollbacks 1 lost 1 true 0 silent 0 false 1 buffer 0
+pair store 00000004 load 00000000 rollbacks 1 lost 1 true 0 silent 0 false 1 buffer 0 stale 0 vain 0 later 0 distance 1 1 at 00000040 4
 line 00000040 rollbacks 1 lost 1 true 0 silent 0 false 1 buffer 0
 pc 00000000 victim 1 1 causer 0 0
 pc 00000004 victim 0 0 causer 1 1
@@ -127,7 +127,7 @@ trace 2
 const PUBLISHED_TOLD: &str =
     "hurt 5 silent epoch 1 try 1 core 1 lost 1 entered 1 since 1 by 0 core 0 cause 6 publish load 2 00000000 store 4 00000004 at 00000040 4
 epoch 1 rollbacks 1 lost 1
-pair store 00000004 load 00000000 rollbacks 1 lost 1 true 0 silent 1 false 0 buffer 0
+pair store 00000004 load 00000000 rollbacks 1 lost 1 true 0 silent 1 false 0 buffer 0 stale 0 vain 0 later 0 distance 1 1 at 00000040 4
 line 00000040 rollbacks 1 lost 1 true 0 silent 1 false 0 buffer 0
 pc 00000000 victim 1 1 causer 0 0
 pc 00000004 victim 0 0 causer 1 1
@@ -176,7 +176,7 @@ trace 2
 const FAULTS_TOLD: &str =
     "hurt 5 true epoch 1 try 1 core 1 lost 2 entered 1 since 2 by 0 core 0 cause 6 fault load 2 00000000 store 4 00000008 at 00000040 4
 epoch 1 rollbacks 1 lost 2
-pair store 00000008 load 00000000 rollbacks 1 lost 2 true 1 silent 0 false 0 buffer 0
+pair store 00000008 load 00000000 rollbacks 1 lost 2 true 1 silent 0 false 0 buffer 0 stale 0 vain 0 later 0 distance 1 1 at 00000040 4
 line 00000040 rollbacks 1 lost 2 true 1 silent 0 false 0 buffer 0
 pc 00000000 victim 1 2 causer 0 0
 pc 00000008 victim 0 0 causer 1 2
@@ -209,7 +209,7 @@ const FULL_TOLD: &str =
     "hurt 11 buffer epoch 1 try 1 core 1 lost 7 entered 6 since - by 0 core 0 cause 12 load held 6 00000014 asked 12 0000002c at 00000080 16
 open epoch 0 try 1 core 0 done 7
 epoch 1 rollbacks 1 lost 7
-pair asked 0000002c held 00000014 rollbacks 1 lost 7 true 0 silent 0 false 0 buffer 1
+pair asked 0000002c held 00000014 rollbacks 1 lost 7 true 0 silent 0 false 0 buffer 1 stale 0 vain 0 later 0 distance 1 1 at 00000080 16
 line 00000080 rollbacks 1 lost 7 true 0 silent 0 false 0 buffer 1
 pc 00000014 victim 1 7 causer 0 0
 pc 0000002c victim 0 0 causer 1 7
@@ -239,7 +239,7 @@ const CAME_TRUE_TOLD: &str =
     "hurt 3 false epoch 1 try 1 core 1 lost 3 entered 2 since 2 by 0 core 0 cause 4 store load 2 00000004 store 4 00000010 at 00000040 1
 later 3 store 5 00000014
 epoch 1 rollbacks 1 lost 3
-pair store 00000010 load 00000004 rollbacks 1 lost 3 true 0 silent 0 false 1 buffer 0
+pair store 00000010 load 00000004 rollbacks 1 lost 3 true 0 silent 0 false 1 buffer 0 stale 0 vain 0 later 1 distance 1 1 at 00000040 1
 line 00000040 rollbacks 1 lost 3 true 0 silent 0 false 1 buffer 0
 pc 00000004 victim 1 3 causer 0 0
 pc 00000010 victim 0 0 causer 1 3

@@ -1,10 +1,9 @@
-use Rattle.std.proofs.Common.{◌≡◌, ◌++◌, map}
+use Rattle.std.proofs.Common.{◌≡◌, ◌++◌, take}
 use Rattle.std.specs.List.{flat_map}
-use Rattle.std.specs.Map.Iter.{deref_pair}
 use Rattle.conflict_sums.specs.Kinds.{counts_at}
 use Rattle.conflict_text.specs.Report.{line_text}
 use Rattle.conflict_text.proofs.parts.push_lines.Given as goal
 
 -- those so far are told
 abbrev pub invariant-loop-line : goal.invariant-loop-line
-invariant-loop-line l = l.text.items ≡ l.initial.text.items ++ flat_map (λ e. line_text l.image e (counts_at l.lines e.0)) (map deref_pair l.yielded)
+invariant-loop-line l = l.text.items ≡ l.initial.text.items ++ flat_map (λ e. line_text l.image e (counts_at l.lines e.0)) (take l.line-index l.sums)
