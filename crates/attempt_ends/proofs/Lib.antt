@@ -3,3 +3,4 @@ pub mod Growing
 mod Seeking
 mod Adding
 mod Losing
+mod Balance

@@ -43,11 +43,11 @@ no_refusal : (refusal : Option Illegal) (next : Option FlatState) (last : FlatSt
 no_refusal None next last is = refl
 no_refusal (Some r) next last is = absurd cc
 
-first_legal : (image : LoadedImage) (count : ℕ) (s last : FlatState) (entry : Entry) (later : List Entry) → replay_from image count s (entry ∷ later) ≡ Some last → refusal_of image count s entry ≡ None
+pub first_legal : (image : LoadedImage) (count : ℕ) (s last : FlatState) (entry : Entry) (later : List Entry) → replay_from image count s (entry ∷ later) ≡ Some last → refusal_of image count s entry ≡ None
 unfolding replay_from
 first_legal image count s last entry later is = no_refusal (refusal_of image count s entry) _ last is
 
-same_state : (o : Option FlatState) (s t : FlatState) → o ≡ Some s → o ≡ Some t → s ≡ t
+pub same_state : (o : Option FlatState) (s t : FlatState) → o ≡ Some s → o ≡ Some t → s ≡ t
 same_state o s t one two = cc
 
 pub legal_at : (image : LoadedImage) (count : ℕ) (entries : List Entry) (last s : FlatState) (place : ℕ) (entry : Entry) → replay image count entries ≡ Some last
@@ -66,7 +66,7 @@ not_at (Some c) epoch other = elim (cases_eq c.epoch epoch) [
   | inr differ ↦ ne_eqb c.epoch epoch differ
 ]
 
-found_core : (image : LoadedImage) (count : ℕ) (s : FlatState) (core epoch : ℕ) (c : CoreState) → IsKept image count s → s.cores core ≡ Some c → epoch ≡ c.epoch → core_at count s epoch ≡ Some core
+pub found_core : (image : LoadedImage) (count : ℕ) (s : FlatState) (core epoch : ℕ) (c : CoreState) → IsKept image count s → s.cores core ≡ Some c → epoch ≡ c.epoch → core_at count s epoch ≡ Some core
 found_core image count s core epoch c kept runs is =
     first_at count (λ k. is_at epoch (s.cores k)) core (kept.core core c runs).there (ap (is_at epoch) runs ∙ eq-eqb c.epoch epoch (sym is))
     (λ j before. not_at (s.cores j) epoch (λ d at same. let clash : j ≡ core = kept.apart j core d c at runs (same ∙ is) in omega (arith, before, clash)))
