@@ -1,6 +1,6 @@
 pub mod Searching
 pub mod Backwards
-mod Blaming
+pub mod Blaming
 mod Listed
 mod Explaining
 mod Finding
@@ -8,5 +8,5 @@ mod Pairing
 mod Needed
 mod Between
 mod Growing
-mod Nearing
+pub mod Nearing
 pub mod Numbering
