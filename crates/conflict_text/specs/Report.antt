@@ -11,6 +11,7 @@ use Rattle.conflicts.specs.declared.explanation.Explanation.{Explanation}
 use Rattle.conflicts.specs.declared.explanation.Kind.{Kind}
 use Rattle.conflicts.specs.declared.explanation.Kind.TheVariants.{TrueSharing, SilentStore, FalseSharing, FullBuffer, Unexplained}
 use Rattle.conflicts.specs.declared.standing.Site.{Site}
+use Rattle.conflict_runs.specs.declared.run.Run.{Run}
 use Rattle.conflict_sums.specs.declared.keys.Key.TheVariants.{Epoch, Line, Load, Store}
 use Rattle.conflict_sums.specs.declared.kinds.Counts.{Counts}
 use Rattle.conflict_sums.specs.declared.part.Part.TheVariants.{OfKind, OfLine, OfPair, Whole}
@@ -23,7 +24,8 @@ use Rattle.conflict_sums.specs.Pairs.{pairs_in}
 use Rattle.conflict_sums.specs.Roles.{in_both_roles}
 use Rattle.conflict_sums.specs.Rollbacks.{rollback_of}
 use Rattle.conflict_sums.specs.Sums.{count_in, lost_in, sum_in}
-use Rattle.conflict_text.specs.Lines.{address_or_dash, kind_name, violation_lines}
+use Rattle.conflict_text.specs.Further.{told_lines}
+use Rattle.conflict_text.specs.Lines.{address_or_dash, kind_name}
 use Rattle.trace_text.specs.Printing.{hex_word}
 
 -- ---- parts of lines
@@ -114,8 +116,8 @@ pub record IsSummary (image : LoadedImage) (homefree : ℕ) (rollbacks : List Ro
   pub printed : text ≡ flat_map epoch_line epochs.entries ++ flat_map (pair_line rollbacks) (pairs_in rollbacks) ++ flat_map (line_line image rollbacks) lines.entries
       ++ flat_map (pc_line rollbacks) instructions.entries ++ kind_lines rollbacks ++ total_line image homefree rollbacks
 
--- the violations in order, and the sums
-pub record IsPrinted (image : LoadedImage) (homefree : ℕ) (entries : List Entry) (sites : List (Option Site)) (found : List Explanation) (text : List ℕ) : Type 0 where
+-- the violations in order, each with its further runs, and the sums
+pub record IsPrinted (image : LoadedImage) (homefree : ℕ) (entries : List Entry) (sites : List (Option Site)) (found : List Explanation) (further : List (List Run)) (text : List ℕ) : Type 0 where
   pub sums : List ℕ
   pub summed : IsSummary image homefree (map (rollback_of image entries sites) found) sums
-  pub printed : text ≡ flat_map (violation_lines image entries sites) found ++ sums
+  pub printed : text ≡ told_lines image entries sites found further ++ sums

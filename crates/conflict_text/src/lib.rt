@@ -3,6 +3,7 @@
 
 mod accesses;
 mod followed;
+mod further;
 mod lines;
 mod parts;
 mod report;

@@ -1,12 +1,14 @@
 ghost use Rattle.std.specs.Prelude.{◌≡◌, ◌++◌, IfOk};
-ghost use Rattle.std.specs.List.{flat_map};
-ghost use Rattle.conflict_text.specs.Lines.{violation_lines};
+ghost use Rattle.conflict_runs.specs.Runs.{lists_of};
+ghost use Rattle.conflict_text.specs.Further.{told_lines};
 ghost use Rattle.conflict_text.specs.Report as spec;
 
 use crate::followed::Followed;
+use crate::further::list_at;
 use crate::lines::push_violation;
 use crate::parts::{push_instructions, push_lines, push_pairs};
 use crate::sums::{push_epochs, push_kinds, push_total};
+use conflict_runs::Run;
 use conflict_sums::{
     Key, Part, Rollback, both_roles, kinds_of, lines_of, pairs_of, rollbacks, sum_of, sums_by,
 };
@@ -16,8 +18,8 @@ use spec_history::Entry;
 use std::alloc::{AllocError, Global};
 
 /// The report of which conflicts rolled back: lines for each explanation, in order, the sums of epochs, pairs, lines,
-/// instructions and kinds, and the total. It takes the homefree epoch after the history, which is how many epochs have committed, and the sites and the
-/// explanations of the history.
+/// instructions and kinds, and the total. It takes the homefree epoch after the history, which is how many epochs have committed, the sites and the
+/// explanations of the history, and for each explanation the list of its further runs.
 ///
 /// `NoMemory`: memory ran out, and nothing was made.
 pub fn print_conflicts(
@@ -27,10 +29,11 @@ pub fn print_conflicts(
     entries: &[Entry],
     sites: &[Option<Site>],
     found: &[Explanation],
+    further: &[Vec<Run>],
 ) -> Result<Vec<u8>, NoMemory>
-    ensures { IfOk result (λ text. spec.IsPrinted image.now homefree entries.now sites.now found.now text.items) }
+    ensures { IfOk result (λ text. spec.IsPrinted image.now homefree entries.now sites.now found.now (lists_of further.now) text.items) }
 {
-    report_lines(alloc, image, homefree, entries, sites, found).map_err(|_| NoMemory)
+    report_lines(alloc, image, homefree, entries, sites, found, further).map_err(|_| NoMemory)
 }
 
 fn report_lines(
@@ -40,30 +43,33 @@ fn report_lines(
     entries: &[Entry],
     sites: &[Option<Site>],
     found: &[Explanation],
+    further: &[Vec<Run>],
 ) -> Result<Vec<u8>, AllocError>
-    ensures { IfOk result (λ text. spec.IsPrinted image.now homefree entries.now sites.now found.now text.items) }
+    ensures { IfOk result (λ text. spec.IsPrinted image.now homefree entries.now sites.now found.now (lists_of further.now) text.items) }
 {
     let summed = rollbacks(alloc, image, entries, sites, found)?;
     let sums = summary(alloc, image, homefree, summed.as_slice())?;
-    let mut text = violations(alloc, image, entries, sites, found)?;
+    let mut text = violations(alloc, image, entries, sites, found, further)?;
     text.extend_from_slice(sums.as_slice())?;
     Ok(text)
 }
 
-/// The lines of all violations.
+/// The lines of all violations, each with its further runs.
 fn violations(
     alloc: Global,
     image: &Image,
     entries: &[Entry],
     sites: &[Option<Site>],
     found: &[Explanation],
+    further: &[Vec<Run>],
 ) -> Result<Vec<u8>, AllocError>
-    ensures { IfOk result (λ text. text.items ≡ flat_map (violation_lines image.now entries.now sites.now) found.now) }
+    ensures { IfOk result (λ text. text.items ≡ told_lines image.now entries.now sites.now found.now (lists_of further.now)) }
 {
     let mut text = Vec::new(alloc);
     let mut followed = Followed::new();
-    for e in found {
-        push_violation(&mut text, image, entries, sites, &mut followed, *e)?;
+    for (i, e) in found.iter().enumerate() {
+        let runs = list_at(further, i);
+        push_violation(&mut text, image, entries, sites, &mut followed, runs, *e)?;
     }
     Ok(text)
 }

@@ -5,6 +5,7 @@ ghost use Rattle.trace_text.specs.TraceText.{longest_trace_text};
 ghost use Rattle.why.specs.Explaining.{IsReport};
 ghost use Rattle.why.specs.Why as spec;
 
+use conflict_runs::further;
 use conflict_text::print_conflicts;
 use conflicts::{explain, sites};
 use std::alloc::Global;
@@ -86,6 +87,9 @@ fn report_of(alloc: Global, traced: &Traced, homefree: u32) -> Option<Vec<u8>>
     let Ok(stood) = sites(alloc, image, traced.cores, entries) else {
         return None;
     };
+    let Ok(runs) = further(alloc, image, traced.cores, entries, found.as_slice()) else {
+        return None;
+    };
     let printed = print_conflicts(
         alloc,
         image,
@@ -93,6 +97,7 @@ fn report_of(alloc: Global, traced: &Traced, homefree: u32) -> Option<Vec<u8>>
         entries,
         stood.as_slice(),
         found.as_slice(),
+        runs.as_slice(),
     );
     printed.ok()
 }
