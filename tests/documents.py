@@ -69,12 +69,18 @@ def owner(text, place):
     return None
 
 
+def of_trait(text, place):
+    """The function that stands at a place is one of a trait: those of its own that a type keeps to itself are not."""
+    kind, rest = re.findall(r"(?m)^(?:pub(?:\([^)]*\))? )?(impl|trait|fn|struct|enum|mod)\b([^\n]*)", text[:place])[-1]
+    return kind == "trait" or " for " in rest
+
+
 def clauses(text, module, exported):
     """The clauses of each exported function."""
     names, modules, is_program = exported
     for found in re.finditer(r"(?m)^( *)((?:pub )?)fn (\w+)", text):
         owned = owner(text, found.start()) if found[1] else None
-        in_trait = owned is not None and not found[2]
+        in_trait = owned is not None and not found[2] and of_trait(text, found.start())
         if not (found[2] or in_trait) or not (is_program or module in modules or (owned or found[3]) in names):
             continue
         head = text[found.end():]

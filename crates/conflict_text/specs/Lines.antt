@@ -2,6 +2,7 @@
 -- Source: this project.
 use Rattle.std.specs.Prelude.{ℕ, ◌*◌, List, [], ◌++◌, codes, Option, Some, None, option_and_then, option_map, slice_get}
 use Rattle.std.specs.Fmt.{decimal}
+use Rattle.std.specs.List.{flat_map}
 use Rattle.rv32_image.specs.Image.{LoadedImage}
 use Rattle.rv32_image.specs.Version.{limits_of}
 use Rattle.spec_history.specs.declared.entry.Entry.{Entry}
@@ -17,6 +18,7 @@ use Rattle.conflicts.specs.Attempts.{attempt_number}
 use Rattle.conflicts.specs.Conflict.{line_of}
 use Rattle.conflicts.specs.Explained.{what_at}
 use Rattle.conflicts.specs.Fates.{held_at, moot_at, since, undone_at}
+use Rattle.conflict_runs.specs.declared.run.Run.{Run}
 use Rattle.trace_text.specs.Printing.{hex_word}
 
 -- ---- words
@@ -132,6 +134,15 @@ hurt_line image entries sites e =
     codes "hurt " ++ decimal e.place ++ codes " " ++ kind_name e.kind
     ++ victim_text entries e ++ cost_text sites e ++ causer_text entries e ++ pair_text image entries sites e e.kind ++ codes "\n"
 
+-- a further run of bytes at which the epochs of the violation at a place met
+unfoldable pub also_line : List (Option Site) → ℕ → Run → List ℕ
+also_line sites place run =
+    codes "also " ++ decimal place ++ codes " " ++ kind_name run.kind ++ access_text (codes " load ") sites (Some run.load)
+    ++ access_text (codes " store ") sites (Some run.store) ++ bytes_text (Some run.bytes) ++ codes "\n"
+
+abbrev pub also_lines : List (Option Site) → ℕ → List Run → List ℕ
+also_lines sites place runs = flat_map (also_line sites place) runs
+
 abbrev pub later_by : List (Option Site) → ℕ → Option ℕ → List ℕ
 later_by sites place None = []
 later_by sites place (Some store) =
@@ -157,7 +168,7 @@ moot_by place (Some cancelled) = codes "moot " ++ decimal place ++ codes "\n"
 unfoldable pub moot_line : List Entry → Explanation → List ℕ
 moot_line entries e = moot_by e.place (moot_at entries e)
 
--- all that is told of one violation
-unfoldable pub violation_lines : LoadedImage → List Entry → List (Option Site) → Explanation → List ℕ
-violation_lines image entries sites e =
-    hurt_line image entries sites e ++ later_line sites e ++ vain_line entries e ++ moot_line entries e
+-- all that is told of one violation, with its further runs
+unfoldable pub violation_lines : LoadedImage → List Entry → List (Option Site) → List Run → Explanation → List ℕ
+violation_lines image entries sites runs e =
+    hurt_line image entries sites e ++ also_lines sites e.place runs ++ later_line sites e ++ vain_line entries e ++ moot_line entries e

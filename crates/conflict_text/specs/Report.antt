@@ -13,6 +13,7 @@ use Rattle.conflicts.specs.declared.explanation.Explanation.{Explanation}
 use Rattle.conflicts.specs.declared.explanation.Kind.{Kind}
 use Rattle.conflicts.specs.declared.explanation.Kind.TheVariants.{TrueSharing, SilentStore, FalseSharing, FullBuffer, Unexplained}
 use Rattle.conflicts.specs.declared.standing.Site.{Site}
+use Rattle.conflict_runs.specs.declared.run.Run.{Run}
 use Rattle.conflict_sums.specs.declared.keys.Key.TheVariants.{Epoch, Line, Load, Store}
 use Rattle.conflict_sums.specs.declared.kinds.Counts.{Counts}
 use Rattle.conflict_sums.specs.declared.pair_sums.Bounds.{Bounds}
@@ -29,7 +30,8 @@ use Rattle.conflict_sums.specs.Roles.{in_both_roles}
 use Rattle.conflict_sums.specs.Rollbacks.{rollback_of}
 use Rattle.conflict_sums.specs.Sums.{count_in, lost_in, sum_in}
 use Rattle.conflict_text.specs.Ends.{attempt_lines, rest_text, useful_text}
-use Rattle.conflict_text.specs.Lines.{address_or_dash, kind_name, violation_lines}
+use Rattle.conflict_text.specs.Further.{told_lines}
+use Rattle.conflict_text.specs.Lines.{address_or_dash, kind_name}
 use Rattle.trace_text.specs.Printing.{hex_word}
 
 -- ---- parts of lines
@@ -138,8 +140,8 @@ pub record IsSummary (image : LoadedImage) (homefree : ℕ) (rollbacks : List Ro
   pub printed : text ≡ flat_map epoch_line epochs.entries ++ flat_map pair_line pairs ++ flat_map (line_line image rollbacks) ordered_lines
       ++ flat_map (pc_line rollbacks) instructions.entries ++ kind_lines rollbacks ++ total_line image homefree rollbacks ended running
 
--- the violations in order, the attempts that were cancelled and those that go on, and the sums
-pub record IsPrinted (image : LoadedImage) (homefree : ℕ) (entries : List Entry) (sites : List (Option Site)) (found : List Explanation) (ended : List Ended) (running : List Running) (text : List ℕ) : Type 0 where
+-- the violations in order, each with its further runs, the attempts that were cancelled and those that go on, and the sums
+pub record IsPrinted (image : LoadedImage) (homefree : ℕ) (entries : List Entry) (sites : List (Option Site)) (found : List Explanation) (further : List (List Run)) (ended : List Ended) (running : List Running) (text : List ℕ) : Type 0 where
   pub sums : List ℕ
   pub summed : IsSummary image homefree (map (rollback_of image entries sites) found) ended running sums
-  pub printed : text ≡ flat_map (violation_lines image entries sites) found ++ attempt_lines entries ended running ++ sums
+  pub printed : text ≡ told_lines image entries sites found further ++ attempt_lines entries ended running ++ sums

@@ -63,7 +63,7 @@ fn line_bytes(image: &Image, what: Option<What>) -> Option<ByteRange>
 }
 
 /// Where two accesses met: the address of the first byte, and how many they are.
-fn push_bytes(text: &mut Vec<u8>, bytes: Option<ByteRange>) -> Result<(), AllocError>
+pub(crate) fn push_bytes(text: &mut Vec<u8>, bytes: Option<ByteRange>) -> Result<(), AllocError>
     ensures { OnOk result (text.new.items ≡ text.old.items ++ spec.bytes_text bytes) }
 {
     let Some(bytes) = bytes else {

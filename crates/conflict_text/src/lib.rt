@@ -4,6 +4,7 @@
 mod accesses;
 mod ends;
 mod followed;
+mod further;
 mod lines;
 mod parts;
 mod report;

@@ -8,7 +8,9 @@ ghost use Rattle.conflict_text.specs.Lines as spec;
 
 use crate::accesses::{push_access, push_pair, what_at};
 use crate::followed::Followed;
+use crate::further::push_further;
 use crate::words::{cause_name, kind_name, push_count, push_named, push_place, undoing_name};
+use conflict_runs::Run;
 use conflicts::{Explanation, Site};
 use rv32_exec::Image;
 use spec_history::{Entry, What};
@@ -131,7 +133,7 @@ fn push_moot(text: &mut Vec<u8>, entries: &[Entry], e: Explanation) -> Result<()
     text.extend_from_slice(b"\n")
 }
 
-/// All that is told of one violation.
+/// All that is told of one violation, with its further runs.
 #[tactic(auto, unfolding(crate::specs::Lines::violation_lines))]
 pub(crate) fn push_violation(
     text: &mut Vec<u8>,
@@ -139,15 +141,17 @@ pub(crate) fn push_violation(
     entries: &[Entry],
     sites: &[Option<Site>],
     followed: &mut Followed,
+    runs: &[Run],
     e: Explanation,
 ) -> Result<(), AllocError>
     requires { IsFollowed entries.now followed.old }
-    ensures told { OnOk result (text.new.items ≡ text.old.items ++ spec.violation_lines image.now entries.now sites.now e) }
+    ensures told { OnOk result (text.new.items ≡ text.old.items ++ spec.violation_lines image.now entries.now sites.now runs.now e) }
     ensures followed { IsFollowed entries.now followed.new }
 {
     let attempt = followed.attempt(entries, e);
     let over = followed.over_at(entries, e);
     push_hurt(text, image, entries, sites, e, attempt)?;
+    push_further(text, sites, e.place, runs)?;
     push_later(text, sites, e)?;
     push_vain(text, entries, e, over)?;
     push_moot(text, entries, e)

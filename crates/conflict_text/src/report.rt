@@ -1,14 +1,16 @@
 ghost use Rattle.std.specs.Prelude.{◌≡◌, ◌++◌, IfOk};
-ghost use Rattle.std.specs.List.{flat_map};
-ghost use Rattle.conflict_text.specs.Lines.{violation_lines};
+ghost use Rattle.conflict_runs.specs.Runs.{lists_of};
+ghost use Rattle.conflict_text.specs.Further.{told_lines};
 ghost use Rattle.conflict_text.specs.Report as spec;
 
 use crate::ends::attempt_lines;
 use crate::followed::Followed;
+use crate::further::list_at;
 use crate::lines::push_violation;
 use crate::parts::{push_instructions, push_lines, push_pairs};
 use crate::sums::{push_epochs, push_kinds, push_total};
 use attempt_ends::Ends;
+use conflict_runs::Run;
 use conflict_sums::{
     Key, Part, Rollback, both_roles, heaviest, heaviest_pairs, kinds_of, lines_of, rollbacks,
     sum_of, sums_by,
@@ -20,7 +22,8 @@ use std::alloc::{AllocError, Global};
 
 /// The report of which conflicts rolled back: lines for each explanation, in order, for each attempt that was cancelled, and for
 /// each that goes on, the sums of epochs, pairs, lines, instructions and kinds, and the total. It takes the homefree epoch after
-/// the history, which is how many epochs have committed, and the sites, the explanations and the ends of the history.
+/// the history, which is how many epochs have committed, the sites, the explanations and the ends of the history, and for each
+/// explanation the list of its further runs.
 ///
 /// `NoMemory`: memory ran out, and nothing was made.
 pub fn print_conflicts(
@@ -30,11 +33,12 @@ pub fn print_conflicts(
     entries: &[Entry],
     sites: &[Option<Site>],
     found: &[Explanation],
+    further: &[Vec<Run>],
     ends: &Ends,
 ) -> Result<Vec<u8>, NoMemory>
-    ensures { IfOk result (λ text. spec.IsPrinted image.now homefree entries.now sites.now found.now ends.now.ended.items ends.now.running.items text.items) }
+    ensures { IfOk result (λ text. spec.IsPrinted image.now homefree entries.now sites.now found.now (lists_of further.now) ends.now.ended.items ends.now.running.items text.items) }
 {
-    report_lines(alloc, image, homefree, entries, sites, found, ends).map_err(|_| NoMemory)
+    report_lines(alloc, image, homefree, entries, sites, found, further, ends).map_err(|_| NoMemory)
 }
 
 fn report_lines(
@@ -44,33 +48,36 @@ fn report_lines(
     entries: &[Entry],
     sites: &[Option<Site>],
     found: &[Explanation],
+    further: &[Vec<Run>],
     ends: &Ends,
 ) -> Result<Vec<u8>, AllocError>
-    ensures { IfOk result (λ text. spec.IsPrinted image.now homefree entries.now sites.now found.now ends.now.ended.items ends.now.running.items text.items) }
+    ensures { IfOk result (λ text. spec.IsPrinted image.now homefree entries.now sites.now found.now (lists_of further.now) ends.now.ended.items ends.now.running.items text.items) }
 {
     let summed = rollbacks(alloc, image, entries, sites, found)?;
     let sums = summary(alloc, image, homefree, summed.as_slice(), ends)?;
     let attempts = attempt_lines(alloc, entries, ends)?;
-    let mut text = violations(alloc, image, entries, sites, found)?;
+    let mut text = violations(alloc, image, entries, sites, found, further)?;
     text.extend_from_slice(attempts.as_slice())?;
     text.extend_from_slice(sums.as_slice())?;
     Ok(text)
 }
 
-/// The lines of all violations.
+/// The lines of all violations, each with its further runs.
 fn violations(
     alloc: Global,
     image: &Image,
     entries: &[Entry],
     sites: &[Option<Site>],
     found: &[Explanation],
+    further: &[Vec<Run>],
 ) -> Result<Vec<u8>, AllocError>
-    ensures { IfOk result (λ text. text.items ≡ flat_map (violation_lines image.now entries.now sites.now) found.now) }
+    ensures { IfOk result (λ text. text.items ≡ told_lines image.now entries.now sites.now found.now (lists_of further.now)) }
 {
     let mut text = Vec::new(alloc);
     let mut followed = Followed::new();
-    for e in found {
-        push_violation(&mut text, image, entries, sites, &mut followed, *e)?;
+    for (i, e) in found.iter().enumerate() {
+        let runs = list_at(further, i);
+        push_violation(&mut text, image, entries, sites, &mut followed, runs, *e)?;
     }
     Ok(text)
 }

@@ -1,6 +1,6 @@
 pub mod Searching
 pub mod Backwards
-mod Blaming
+pub mod Blaming
 mod Listed
 mod Explaining
 mod Finding
@@ -8,6 +8,6 @@ mod Pairing
 mod Needed
 mod Between
 mod Growing
-mod Nearing
+pub mod Nearing
 pub mod Numbering
 pub mod Staying

@@ -82,13 +82,12 @@ fn loads(entries: &[Entry], core: u32, place: usize, addr: u32) -> bool
 }
 
 /// Where the attempt began that a core runs before a place.
-pub(crate) fn attempt_place(entries: &[Entry], core: u32, before: usize) -> Option<usize>
+pub fn attempt_place(entries: &[Entry], core: u32, before: usize) -> Option<usize>
     ensures { result ≡ spec.attempt_place entries.now core before }
 {
     for i in 0..before {
-        let place = before - 1 - i;
-        if begins(entries, core, place) {
-            return Some(place);
+        if begins(entries, core, before - 1 - i) {
+            return Some(before - 1 - i);
         }
     }
     None
@@ -130,13 +129,7 @@ pub(crate) fn last_store(entries: &[Entry], core: u32, before: usize, addr: u32)
 }
 
 /// The entry at a place is a load of the attempt, which began at `start`, that reads this byte from outside.
-pub(crate) fn reads_outside(
-    entries: &[Entry],
-    core: u32,
-    start: usize,
-    addr: u32,
-    place: usize,
-) -> bool
+pub fn reads_outside(entries: &[Entry], core: u32, start: usize, addr: u32, place: usize) -> bool
     ensures reads { (before : ℕ) → spec.attempt_place entries.now core before ≡ Some start → result ≡ spec.reads_outside entries.now core before addr place }
     ensures after { result ≡ true → start < place }
 {

@@ -16,9 +16,12 @@ use spec_history::{Entry, Flat, What};
 
 /// A blamed byte, with its load and its store.
 #[derive(Clone, Copy)]
-pub(crate) struct Pair {
+pub struct Pair {
+    /// The load that read it first, by its place in the history.
     pub load: usize,
+    /// The store to blame for it.
     pub store: usize,
+    /// Its address.
     pub byte: u32,
 }
 
@@ -131,8 +134,8 @@ impl Violated {
         size
     }
 
-    /// The neighbours of a blamed byte that met at the same two accesses.
-    pub(crate) fn range(
+    /// The neighbours of a blamed byte that met at the same two accesses. `start` is where the victim's attempt began.
+    pub fn range(
         &self,
         image: &Image,
         flat: &Flat,

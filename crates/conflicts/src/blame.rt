@@ -16,10 +16,14 @@ use spec_history::{Entry, Flat, What};
 
 /// A violation with its cause: who meets in it, of what kind it is, and where both stand.
 #[derive(Clone, Copy)]
-pub(crate) struct Violated {
+pub struct Violated {
+    /// Who meets in it.
     pub parties: Parties,
+    /// The kind by which bytes are blamed.
     pub kind: Kind,
+    /// The place of the violation in the history.
     pub place: usize,
+    /// That of its cause.
     pub cause: usize,
 }
 
@@ -91,13 +95,7 @@ impl Violated {
     }
 
     /// The store to blame for a byte.
-    pub(crate) fn store(
-        &self,
-        image: &Image,
-        flat: &Flat,
-        entries: &[Entry],
-        addr: u32,
-    ) -> Option<usize>
+    pub fn store(&self, image: &Image, flat: &Flat, entries: &[Entry], addr: u32) -> Option<usize>
         requires { addr < image.now.size }
         ensures { result ≡ blame.blamed_store image.now entries.now (spec.violation_in flat.now self.now) addr }
     {

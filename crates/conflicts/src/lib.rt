@@ -14,7 +14,10 @@ pub mod laws;
 mod meeting;
 mod standing;
 
-pub use accesses::attempt_number;
+pub use accesses::{attempt_number, attempt_place, reads_outside};
+pub use alike::Pair;
+pub use blame::Violated;
 pub use explanation::{Blame, ByteRange, Explanation, Kind, Runner};
 pub use history::explain;
+pub use meeting::{Parties, line_of};
 pub use standing::{Site, sites};

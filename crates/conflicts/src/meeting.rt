@@ -15,9 +15,12 @@ use spec_history::{Flat, What};
 
 /// Who meets in a violation: the core that makes it, what that core does next, and the core that is violated.
 #[derive(Clone, Copy)]
-pub(crate) struct Parties {
+pub struct Parties {
+    /// The core that makes it.
     pub causer: u32,
+    /// What that core does next.
     pub cause: What,
+    /// The core that is violated.
     pub victim: u32,
 }
 
@@ -75,7 +78,7 @@ impl Parties {
     }
 
     /// The cause changes the byte, and the victim has read it.
-    pub(crate) fn is_changed(&self, flat: &Flat, addr: u32) -> bool
+    pub fn is_changed(&self, flat: &Flat, addr: u32) -> bool
         requires { addr < flat.now.image.size }
         ensures { result ≡ conflict.is_changed (spec.meeting_in flat.now self.now) addr }
     {
@@ -86,7 +89,7 @@ impl Parties {
     }
 
     /// The cause writes the byte, and the victim has read it.
-    pub(crate) fn is_shared(&self, flat: &Flat, addr: u32) -> bool
+    pub fn is_shared(&self, flat: &Flat, addr: u32) -> bool
         ensures { result ≡ conflict.is_shared (spec.meeting_in flat.now self.now) addr }
     {
         self.written(flat, addr).is_some() && flat.outside(self.victim, addr).is_some()
@@ -117,7 +120,7 @@ impl Parties {
     }
 
     /// The lowest byte of the line that the cause writes.
-    pub(crate) fn written_in(&self, image: &Image, flat: &Flat, line: u32) -> Option<u32>
+    pub fn written_in(&self, image: &Image, flat: &Flat, line: u32) -> Option<u32>
         requires { line * (limits_of image.now.version).line_length + (limits_of image.now.version).line_length < 2 ^ 32 }
         ensures { result ≡ blame.written_in image.now (spec.meeting_in flat.now self.now) line }
     {
@@ -274,7 +277,7 @@ fn lines_of(image: &Image) -> u32
 }
 
 /// The line of the caches in which a byte of memory lies.
-pub(crate) fn line_of(image: &Image, addr: u32) -> u32
+pub fn line_of(image: &Image, addr: u32) -> u32
     requires { addr < image.now.size }
     ensures line { result ≡ conflict.line_of image.now addr }
     ensures within { result * (limits_of image.now.version).line_length + (limits_of image.now.version).line_length < 2 ^ 32 }

@@ -6,6 +6,7 @@ ghost use Rattle.why.specs.Explaining.{IsReport};
 ghost use Rattle.why.specs.Why as spec;
 
 use attempt_ends::ends;
+use conflict_runs::further;
 use conflict_text::print_conflicts;
 use conflicts::{explain, sites};
 use std::alloc::Global;
@@ -87,6 +88,9 @@ fn report_of(alloc: Global, traced: &Traced, homefree: u32) -> Option<Vec<u8>>
     let Ok(stood) = sites(alloc, image, traced.cores, entries) else {
         return None;
     };
+    let Ok(runs) = further(alloc, image, traced.cores, entries, found.as_slice()) else {
+        return None;
+    };
     let Ok(ended) = ends(alloc, image, traced.cores, entries) else {
         return None;
     };
@@ -97,6 +101,7 @@ fn report_of(alloc: Global, traced: &Traced, homefree: u32) -> Option<Vec<u8>>
         entries,
         stood.as_slice(),
         found.as_slice(),
+        runs.as_slice(),
         &ended,
     );
     printed.ok()

@@ -1,0 +1,4 @@
+mod Listing
+mod Running
+mod Searching
+mod Telling

@@ -1,0 +1,104 @@
+-- What a run is, and where none is.
+use Rattle.std.proofs.Common.{◌≡◌, ℕ, ◌/◌, ◌*◌, ◌+◌, ◌==◌, not, ◌&&◌, Bool, true, false, is_some, List, [], ◌++◌, Option, Some, None, option_and_then, option_map, if◌then◌else◌, refl, sym, ap, ◌∙◌}
+use Rattle.std.proofs.lemmas.List.{append-nil, append_assoc}
+use Rattle.rv32_image.specs.Image.{LoadedImage}
+use Rattle.rv32_image.specs.Version.{limits_of}
+use Rattle.spec_history.specs.declared.entry.Entry.{Entry}
+use Rattle.spec_history.specs.declared.entry.What.{What}
+use Rattle.spec_history.specs.FlatState.{FlatState}
+use Rattle.spec_history.specs.Refusal.{any_below}
+use Rattle.conflicts.specs.declared.explanation.Blame.{Blame}
+use Rattle.conflicts.specs.declared.explanation.ByteRange.{ByteRange}
+use Rattle.conflicts.specs.declared.explanation.Explanation.{Explanation}
+use Rattle.conflicts.specs.declared.explanation.Kind.TheVariants.{TrueSharing, SilentStore, FalseSharing}
+use Rattle.conflicts.specs.Attempts.{attempt_place, covers, is_after, reads_outside}
+use Rattle.conflicts.specs.Blame.{Violation, blamed_range, blamed_store, read_at}
+use Rattle.conflicts.specs.Conflict.{is_changed, is_shared}
+use Rattle.conflicts.specs.Explained.{what_at}
+use Rattle.conflicts.proofs.Searching.{first_none}
+use Rattle.conflict_runs.specs.declared.run.Run.{Run}
+use Rattle.conflict_runs.specs.Runs.{byte_in, is_blamed, is_falsely_shared, line_run, load_in, only, run_from, run_in, run_kind, run_of, run_with, runs_by, shared_run, violation_of}
+use Rattle.conflict_runs.proofs.Listing.{no_runs}
+use Rattle.conflict_runs.proofs.Searching.{unread}
+
+-- the run that was made
+pub made : (image : LoadedImage) (entries : List Entry) (v : Violation) (load a store : ℕ) (bytes : ByteRange) (changes : Bool)
+    → Some store ≡ blamed_store image entries v a → bytes ≡ blamed_range image entries v load store a
+    → changes ≡ any_below image.size (λ x. covers bytes.first bytes.length x && is_changed v.bytes x)
+    → Some (record { kind = if changes then TrueSharing else v.kind; load = load; store = store; bytes = bytes }) ≡ run_of image entries v load a
+made image entries v load a store bytes changes by_store by_range by_changes =
+    ap (λ (b : Bool). Some (record { kind = if b then TrueSharing else v.kind; load = load; store = store; bytes = bytes })) by_changes
+    ∙ (ap (λ (r : ByteRange). Some (record { kind = run_kind image v.bytes v.kind r; load = load; store = store; bytes = r })) by_range
+    ∙ ap (option_map (run_with image entries v load a)) by_store)
+
+-- ---- none
+
+pub unshared : (image : LoadedImage) (entries : List Entry) (blame : Option Blame) (v : Violation) (a : ℕ) → is_shared v.bytes a ≡ false → shared_run image entries blame v a ≡ None
+unshared image entries blame v a is = rw is refl
+
+pub no_line : (image : LoadedImage) (entries : List Entry) (blame : Option Blame) (v : Violation) (line : ℕ) → is_falsely_shared image v.bytes line ≡ false → line_run image entries blame v line ≡ None
+no_line image entries blame v line is = rw is refl
+
+either_none : (b : Bool) (run : Option Run) → run ≡ None → (if b then run else None) ≡ None
+either_none true run is = is
+either_none false run is = refl
+
+-- where no attempt began
+no_read : (entries : List Entry) (core before a place : ℕ) → attempt_place entries core before ≡ None → reads_outside entries core before a place ≡ false
+no_read entries core before a place is = unread entries core before a place (ap (λ (o : Option ℕ). is_after o place) is)
+
+never_read : (entries : List Entry) (v : Violation) (a : ℕ) → attempt_place entries v.victim v.place ≡ None → read_at entries v a ≡ None
+never_read entries v a is = first_none v.place (reads_outside entries v.victim v.place a) (λ k below. no_read entries v.victim v.place a k is)
+
+no_shared : (image : LoadedImage) (entries : List Entry) (blame : Option Blame) (v : Violation) (a : ℕ) → attempt_place entries v.victim v.place ≡ None → shared_run image entries blame v a ≡ None
+no_shared image entries blame v a is =
+    either_none (is_shared v.bytes a) (only (λ run. not (is_blamed blame run)) (run_from image entries v a))
+    (ap (λ (o : Option ℕ). only (λ run. not (is_blamed blame run)) (only (λ run. run.bytes.first == a) (option_and_then (λ load. run_of image entries v load a) o))) (never_read entries v a is))
+
+never_in : (image : LoadedImage) (entries : List Entry) (v : Violation) (line : ℕ) → attempt_place entries v.victim v.place ≡ None → load_in image entries v.victim v.place line ≡ None
+never_in image entries v line is =
+    let long = (limits_of image.version).line_length in
+    first_none v.place (λ j. is_some (byte_in image entries v.victim v.place line j)) (λ k below.
+    ap (λ (o : Option ℕ). is_some (option_map (λ (x : ℕ). line * long + x) o))
+    (first_none long (λ x. reads_outside entries v.victim v.place (line * long + x) k) (λ x inside. no_read entries v.victim v.place (line * long + x) k is)))
+
+no_in : (image : LoadedImage) (entries : List Entry) (blame : Option Blame) (v : Violation) (line : ℕ) → attempt_place entries v.victim v.place ≡ None → line_run image entries blame v line ≡ None
+no_in image entries blame v line is =
+    either_none (is_falsely_shared image v.bytes line) (only (λ run. not (is_blamed blame run)) (run_in image entries v line))
+    (ap (λ (o : Option ℕ). only (λ run. not (is_blamed blame run)) (option_and_then (λ load. option_and_then (run_of image entries v load) (byte_in image entries v.victim v.place line load)) o)) (never_in image entries v line is))
+
+both_none : (xs ys : List Run) → xs ≡ [] → ys ≡ [] → xs ++ ys ≡ []
+both_none xs ys first second = rw (first, second) refl
+
+by_cause : (image : LoadedImage) (s : FlatState) (entries : List Entry) (e : Explanation) (cause : Option ℕ) (what : Option What) → attempt_place entries e.victim.core e.place ≡ None
+    → runs_by image s entries e cause what ≡ []
+by_cause image s entries e None what is = refl
+by_cause image s entries e (Some cause) None is = refl
+by_cause image s entries e (Some cause) (Some what) is = both_none _ _
+    (no_runs image.size (shared_run image entries e.blame (violation_of s e cause what SilentStore)) (λ a below. no_shared image entries e.blame (violation_of s e cause what SilentStore) a is))
+    (no_runs (image.size / (limits_of image.version).line_length) (line_run image entries e.blame (violation_of s e cause what FalseSharing)) (λ line below. no_in image entries e.blame (violation_of s e cause what FalseSharing) line is))
+
+pub without_attempt : (image : LoadedImage) (s : FlatState) (entries : List Entry) (e : Explanation) → attempt_place entries e.victim.core e.place ≡ None
+    → runs_by image s entries e e.cause (what_at entries e.cause) ≡ []
+without_attempt image s entries e is = by_cause image s entries e e.cause (what_at entries e.cause) is
+
+no_what : (image : LoadedImage) (s : FlatState) (entries : List Entry) (e : Explanation) (cause : Option ℕ) → runs_by image s entries e cause None ≡ []
+no_what image s entries e None = refl
+no_what image s entries e (Some cause) = refl
+
+pub without_entry : (image : LoadedImage) (s : FlatState) (entries : List Entry) (e : Explanation) (what : Option What) → what ≡ None → runs_by image s entries e e.cause what ≡ []
+without_entry image s entries e what none = ap (runs_by image s entries e e.cause) none ∙ no_what image s entries e e.cause
+
+pub with_entry : (image : LoadedImage) (s : FlatState) (entries : List Entry) (e : Explanation) (given : Option What) (cause : ℕ) (what : What) → e.cause ≡ Some cause → given ≡ Some what
+    → runs_by image s entries e e.cause given ≡ runs_by image s entries e (Some cause) (Some what)
+with_entry image s entries e given cause what is there =
+    ap (λ (o : Option ℕ). runs_by image s entries e o given) is ∙ ap (runs_by image s entries e (Some cause)) there
+
+-- two lists behind a third
+pub joined : (items mid new first second other all : List Run) → mid ≡ items ++ first → second ≡ other → all ≡ first ++ other → new ≡ mid ++ second → new ≡ items ++ all
+joined items mid new first second other all by_mid same by_all grown =
+    grown ∙ (ap (λ xs. xs ++ second) by_mid ∙ (append_assoc items first second ∙ ap (λ xs. items ++ xs) (ap (λ xs. first ++ xs) same ∙ sym by_all)))
+
+-- nothing behind a list
+pub nothing_more : {X : Type 0} (items more : List X) → more ≡ [] → items ≡ items ++ more
+nothing_more items more none = sym (ap (λ xs. items ++ xs) none ∙ append-nil items)

@@ -1,0 +1,42 @@
+use Rattle.std.proofs.Common.{◌≡◌, ◌<◌, ◌∙◌, Result, Ok, Err, OnOk, false, length, sym, inl, arith}
+use Rattle.std.specs.Result.{is_err}
+use Rattle.spec_history.specs.View.{state_in}
+use Rattle.spec_history.proofs.Reaching.{no_entries, audited_more, audited_fault}
+use Rattle.conflict_runs.proofs.Telling.{all_told, none_told, told_more}
+use Rattle.conflict_runs.proofs.history.further.Goals as goal
+
+pub loop-place-init : goal.loop-place-init
+loop-place-init c = record {
+  image = c.in-Ok.ensures.image;
+  cores = c.in-Ok.ensures.cores;
+  replays = rw c.in-Ok.ensures.state (no_entries c.args.image.now c.args.cores);
+  told = none_told c.args.image.now c.args.cores c.args.entries.now c.args.found.now c.new-runs.result.items c.new-runs.ensures.items;
+}
+
+pub returns-in-Err-clause-legal : goal.returns-in-Err-clause-legal
+returns-in-Err-clause-legal c =
+    let was = c.loop-place.invariant in
+    let below : c.loop-place.place < length c.args.entries.now = omega (arith, c.loop-place-test.true) in
+    inl (audited_fault c.args.image.now c.args.cores c.args.entries.now c.loop-place.place c.in-Err.illegal _ c.loop-place.flat c.apply.new.self was.image was.cores was.replays below c.in-Err.ensures.answer)
+
+kept : {A B : Type 0} (r : Result A B) (P : Type 0) → is_err r ≡ false → OnOk r P → P
+kept (Ok x) P is on = on
+kept (Err e) P is on = absurd cc
+
+pub loop-place-preserved : goal.loop-place-preserved
+loop-place-preserved c =
+    let was = c.loop-place.invariant in
+    let same = c.in_default-apply.ensures.same in
+    let below : c.loop-place.place < length c.args.entries.now = omega (arith, c.loop-place-test.true) in
+    let grown = kept c.push_at.result _ (sym c.is_err.ensures.value ∙ c.if-is_err.false) c.push_at.ensures in record {
+      image = same.image ∙ was.image;
+      cores = same.cores ∙ was.cores;
+      replays = audited_more c.args.image.now c.args.cores c.args.entries.now c.loop-place.place _ c.loop-place.flat c.apply.new.self was.image was.cores was.replays below c.in_default-apply.ensures.answer;
+      told = told_more c.args.image.now c.args.cores (state_in c.loop-place.flat) c.args.entries.now c.args.found.now c.loop-place.place c.loop-place.runs.items c.push_at.new.runs.items
+          was.replays c.requires below was.told grown;
+    }
+
+pub returns-clause-each : goal.returns-clause-each
+returns-clause-each c =
+    let last : c.loop-place.place ≡ length c.args.entries.now = omega (arith, c.loop-place-test.false, c.loop-place.auto.place-end) in
+    all_told c.args.image.now c.args.cores c.args.entries.now c.args.found.now c.loop-place.place c.loop-place.runs.items c.requires last c.loop-place.invariant.told

@@ -1,0 +1,12 @@
+use Rattle.std.proofs.Common.{◌/◌, slice_index}
+use Rattle.rv32_image.specs.Version.{limits_of}
+use Rattle.conflicts.specs.Conflict.{line_of}
+use Rattle.conflicts.specs.Parties.{meeting_in}
+use Rattle.conflicts.proofs.Nearing.{Nearest}
+use Rattle.conflict_runs.specs.Runs.{is_falsely_shared}
+use Rattle.conflict_runs.proofs.run.Told.next_line.Given as goal
+
+-- the nearest so far
+abbrev pub invariant-loop-addr : goal.invariant-loop-addr
+invariant-loop-addr l =
+    Nearest (λ k. line_of l.image (slice_index l.addr-items k)) (is_falsely_shared l.image (meeting_in l.flat l.self.violated.parties)) l.from (l.image.size / (limits_of l.image.version).line_length) l.addr-index l.next

@@ -1,0 +1,124 @@
+-- The further runs of bytes at which two epochs met in a violation, beside the one that is blamed.
+-- Source: this project.
+use Rattle.std.specs.Prelude.{ℕ, zero, suc, ◌+◌, ◌*◌, ◌/◌, ◌==◌, ◌&&◌, not, Bool, false, List, [], ◌++◌, map, Option, Some, None, is_some, option_and_then, option_map, option_to_list, Vec, if◌then◌else◌}
+use Rattle.std.specs.declared.alloc.Global.{Global}
+use Rattle.rv32_image.specs.Image.{LoadedImage}
+use Rattle.rv32_image.specs.Version.{limits_of}
+use Rattle.spec_history.specs.declared.entry.Entry.{Entry}
+use Rattle.spec_history.specs.declared.entry.What.{What}
+use Rattle.spec_history.specs.FlatState.{FlatState}
+use Rattle.spec_history.specs.Refusal.{any_below}
+use Rattle.conflicts.specs.declared.explanation.Blame.{Blame}
+use Rattle.conflicts.specs.declared.explanation.ByteRange.{ByteRange}
+use Rattle.conflicts.specs.declared.explanation.Explanation.{Explanation}
+use Rattle.conflicts.specs.declared.explanation.Kind.{Kind}
+use Rattle.conflicts.specs.declared.explanation.Kind.TheVariants.{TrueSharing, SilentStore, FalseSharing}
+use Rattle.conflicts.specs.Searches.{first_below}
+use Rattle.conflicts.specs.Attempts.{covers, entry_is, reads_outside, state_before}
+use Rattle.conflicts.specs.Blame.{Violation, blamed_range, blamed_store, read_at, written_in}
+use Rattle.conflicts.specs.Conflict.{Meeting, is_changed, is_shared, line_has, meeting}
+use Rattle.conflicts.specs.Explained.{is_hurt, what_at}
+use Rattle.conflict_runs.specs.declared.run.Run.{Run}
+
+-- ---- runs
+
+-- a run of a violation of this kind is true sharing, if the cause changes one of its bytes
+abbrev pub run_kind : LoadedImage → Meeting → Kind → ByteRange → Kind
+run_kind image m kind bytes = if any_below image.size (λ a. covers bytes.first bytes.length a && is_changed m a) then TrueSharing else kind
+
+-- the run of a byte that this load read first: its neighbours of which the load and the store are the same
+abbrev pub run_with : LoadedImage → List Entry → Violation → ℕ → ℕ → ℕ → Run
+run_with image entries v load a store =
+    let bytes = blamed_range image entries v load store a in
+    record { kind = run_kind image v.bytes v.kind bytes; load = load; store = store; bytes = bytes }
+
+abbrev pub run_of : LoadedImage → List Entry → Violation → ℕ → ℕ → Option Run
+run_of image entries v load a = option_map (run_with image entries v load a) (blamed_store image entries v a)
+
+-- the blamed run is the one that begins where the blamed bytes do
+abbrev pub is_blamed : Option Blame → Run → Bool
+is_blamed None run = false
+is_blamed (Some pair) run = pair.bytes.first == run.bytes.first
+
+abbrev pub only : (Run → Bool) → Option Run → Option Run
+only test run = option_and_then (λ r. if test r then Some r else None) run
+
+-- ---- of bytes that are written and were read
+
+-- the run that begins at a byte, if one does
+abbrev pub run_from : LoadedImage → List Entry → Violation → ℕ → Option Run
+run_from image entries v a = only (λ run. run.bytes.first == a) (option_and_then (λ load. run_of image entries v load a) (read_at entries v a))
+
+abbrev pub shared_run : LoadedImage → List Entry → Option Blame → Violation → ℕ → Option Run
+shared_run image entries blame v a =
+    if is_shared v.bytes a then only (λ run. not (is_blamed blame run)) (run_from image entries v a) else None
+
+-- ---- of lines alone
+
+-- the victim has read a byte of the line and the cause writes one, but no byte is both
+abbrev pub is_falsely_shared : LoadedImage → Meeting → ℕ → Bool
+is_falsely_shared image m line =
+    line_has image line (λ a. is_some (m.reads a)) && (is_some (written_in image m line) && not (line_has image line (is_shared m)))
+
+-- the lowest byte of a line that the load at a place read from outside, of the attempt that a core runs before another place
+abbrev pub byte_in : LoadedImage → List Entry → ℕ → ℕ → ℕ → ℕ → Option ℕ
+byte_in image entries core before line load =
+    let long = (limits_of image.version).line_length in
+    option_map (λ x. line * long + x) (first_below long (λ x. reads_outside entries core before (line * long + x) load))
+
+-- the first load of the attempt that read one
+abbrev pub load_in : LoadedImage → List Entry → ℕ → ℕ → ℕ → Option ℕ
+load_in image entries core before line = first_below before (λ j. is_some (byte_in image entries core before line j))
+
+-- the run that this load read first
+abbrev pub run_in : LoadedImage → List Entry → Violation → ℕ → Option Run
+run_in image entries v line =
+    option_and_then (λ load. option_and_then (run_of image entries v load) (byte_in image entries v.victim v.place line load))
+    (load_in image entries v.victim v.place line)
+
+abbrev pub line_run : LoadedImage → List Entry → Option Blame → Violation → ℕ → Option Run
+line_run image entries blame v line =
+    if is_falsely_shared image v.bytes line then only (λ run. not (is_blamed blame run)) (run_in image entries v line) else None
+
+-- ---- of a violation
+
+-- those of the numbers below another, in ascending order
+unfoldable pub runs_below : ℕ → (ℕ → Option Run) → List Run
+runs_below zero runs = []
+runs_below (suc n) runs = runs_below n runs ++ option_to_list (runs n)
+
+-- the violation of an explanation, taken for one of this kind
+abbrev pub violation_of : FlatState → Explanation → ℕ → What → Kind → Violation
+violation_of s e cause what kind = record {
+  place = e.place;
+  causer = e.causer.core;
+  victim = e.victim.core;
+  cause = cause;
+  what = what;
+  kind = kind;
+  bytes = meeting s e.causer.core what e.victim.core;
+}
+
+-- those of bytes in ascending order, and then those of lines
+abbrev pub runs_by : LoadedImage → FlatState → List Entry → Explanation → Option ℕ → Option What → List Run
+runs_by image s entries e (Some cause) (Some what) =
+    runs_below image.size (shared_run image entries e.blame (violation_of s e cause what SilentStore))
+    ++ runs_below (image.size / (limits_of image.version).line_length) (line_run image entries e.blame (violation_of s e cause what FalseSharing))
+runs_by image s entries e cause what = []
+
+-- the further runs of a violation, in the state before it
+abbrev pub runs_in : LoadedImage → List Entry → Explanation → Option FlatState → List Run
+runs_in image entries e (Some s) = runs_by image s entries e e.cause (what_at entries e.cause)
+runs_in image entries e None = []
+
+abbrev pub further_runs : LoadedImage → ℕ → List Entry → Explanation → List Run
+further_runs image count entries e = runs_in image entries e (state_before image count entries e.place)
+
+-- the list of an explanation, where a violation stands at the place
+abbrev pub runs_at : LoadedImage → FlatState → List Entry → ℕ → Option Explanation → List (List Run)
+runs_at image s entries place next =
+    if entry_is entries place (λ entry. is_hurt entry.what) then option_to_list (option_map (λ e. runs_in image entries e (Some s)) next) else []
+
+-- the lists that vectors hold
+abbrev pub lists_of : List (Vec Run Global) → List (List Run)
+lists_of vectors = map (λ (v : Vec Run Global). v.items) vectors
