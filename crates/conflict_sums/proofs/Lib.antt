@@ -1,6 +1,7 @@
 pub mod Ahead
 pub mod Counting
 mod Adding
+mod Apart
 mod Parting
 mod Listing
 mod Keyed

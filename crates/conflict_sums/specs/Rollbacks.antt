@@ -80,7 +80,7 @@ bytes_at image entries e = bytes_by e.blame (asked_bytes image entries e)
 abbrev pub is_vain : List Entry → Explanation → Bool
 is_vain entries e = is_some (undone_at entries e)
 
--- by how many epochs the victim stands after the causer; none where it does not, which no history that replays has
+-- by how many epochs the victim stands after the causer; 0 where it does not, which is so of no violation that the flat machine accepts (`laws::violated_epochs_come_after`)
 abbrev pub distance_of : Explanation → ℕ
 distance_of e = e.victim.epoch - e.causer.epoch
 

@@ -38,7 +38,7 @@ pub struct Rollback {
     pub vain: bool,
     /// False sharing by an attempt that afterwards stores to a byte that the victim had read.
     pub later: bool,
-    /// By how many epochs the victim stands after the causer. In a history that replays it does: none is violated by a later one.
+    /// By how many epochs the victim stands after the causer: at least 1 of a violation that the flat machine accepts.
     pub distance: u32,
     /// The bytes at which they met, if these are known; for a full buffer the line that was asked for.
     pub bytes: Option<ByteRange>,
