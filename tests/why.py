@@ -5,8 +5,9 @@ Usage: tests/why.py [COMMAND ..]
 
 COMMAND is a command of `trace_cli` that ends with the word `seq`, such as crates/trace_cli/out/trace_cli seq; `why` is the program that was built beside it.
 Without it ./trace_cli and ./why of this repository are tested. Where no such program is beside it the test is skipped, and a line says so.
-Of each run: one line for each violation of its trace, in their places; no violation is unexplained; one line for each cancellation of an attempt that was not violated, and for each attempt that goes on; the sums of the kinds, of
-the pairs of instructions, and the total, are those of the lines, and pairs and lines of the caches stand heaviest first. Exits with 1 where a check failed.
+Of each run: one line for each violation of its trace, in their places; no violation is unexplained; the lines of further runs stand below their violation's and share no byte with another of its runs; one line for each cancellation
+of an attempt that was not violated, and for each attempt that goes on; the sums of the kinds, of the pairs of instructions, and the total, are those of the lines, and pairs and lines of the caches stand heaviest first. Exits
+with 1 where a check failed.
 """
 
 import re
@@ -124,6 +125,22 @@ def differences(report, trace):
     return None
 
 
+def runs_wrong(report):
+    """What is wrong with the lines of further runs, or None: each stands below its violation's, is of a kind that a run can have, and no byte is in two runs."""
+    place, taken = None, set()
+    for words in (line.split() for line in report.splitlines()):
+        if words[0] == "hurt":
+            place, taken = words[1], set()
+        if words[0] == "also" and (words[1] != place or words[2] not in ("true", "silent", "false")):
+            return f"{' '.join(words)} stands below {place}"
+        if words[0] in ("hurt", "also") and words[words.index("at") + 1] != "-":
+            first, length = int(words[words.index("at") + 1], 16), int(words[words.index("at") + 2])
+            if taken & set(range(first, first + length)):
+                return f"{' '.join(words)} has a byte of another run"
+            taken |= set(range(first, first + length))
+    return None
+
+
 def real(command, why):
     """(what it shows, what is wrong or None) of each run."""
     for name in LOOPS:
@@ -132,7 +149,7 @@ def real(command, why):
             printed, _, _ = outcome([*command[:-1], "run", "--cores", cores, "--trace"], image)
             trace = printed[re.search(r"^trace \d+\n", printed, re.MULTILINE).start():]
             report, errors, status = outcome([why], image + trace)
-            yield f"{name} on {cores} cores", f"{errors!r}, status {status}" if (errors, status) != ("", 0) else differences(report, trace)
+            yield f"{name} on {cores} cores", f"{errors!r}, status {status}" if (errors, status) != ("", 0) else differences(report, trace) or runs_wrong(report)
 
 
 def refused(why):

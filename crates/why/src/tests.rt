@@ -247,6 +247,122 @@ kind false rollbacks 1 lost 3
 total epochs 2 committed 2 useful 8 rollbacks 1 lost 3 cancelled 0 dropped 0 open 0 unsettled 0
 ";
 
+/// Epoch 0 commits a word that changes, one that does not, and one beside a third: epoch 1 has read all three.
+const THREE_RUNS: &str = "size 256
+epochs 2
+limit 50
+code 832200040323400483230005930515002320b00423220004232ab00467800000
+trace 2
+0 start 0
+1 start 1
+0 load 00000040 4 00000000
+0 load 00000044 4 00000000
+0 load 00000050 4 00000000
+1 load 00000040 4 00000000
+1 load 00000044 4 00000000
+1 load 00000050 4 00000000
+0 store 00000040 4 00000001
+0 store 00000044 4 00000000
+0 store 00000054 4 00000001
+0 hurt 1
+0 commit
+1 restart
+1 load 00000040 4 00000001
+1 load 00000044 4 00000000
+1 load 00000050 4 00000000
+1 store 00000040 4 00000002
+1 store 00000044 4 00000000
+1 store 00000054 4 00000002
+1 commit
+";
+
+const THREE_RUNS_TOLD: &str =
+    "hurt 11 true epoch 1 try 1 core 1 lost 4 entered 3 since 4 by 0 core 0 cause 12 commit load 5 00000000 store 8 00000010 at 00000040 4
+also 11 silent load 6 00000004 store 9 00000014 at 00000044 4
+also 11 false load 7 00000008 store 10 00000018 at 00000050 4
+epoch 1 rollbacks 1 lost 4
+pair store 00000010 load 00000000 rollbacks 1 lost 4 true 1 silent 0 false 0 buffer 0
+line 00000040 rollbacks 1 lost 4 true 1 silent 0 false 0 buffer 0
+pc 00000000 victim 1 4 causer 0 0
+pc 00000010 victim 0 0 causer 1 4
+kind true rollbacks 1 lost 4
+total epochs 2 committed 2 rollbacks 1 lost 4
+";
+
+/// Epoch 1 has read a byte of a word before the rest of it, and epoch 0 changes another byte of the word.
+const SPLIT_WORD: &str = "size 256
+epochs 2
+limit 50
+code 8302100403230004930515002320b00467800000
+trace 2
+0 start 0
+1 start 1
+1 load 00000041 1 00000000
+1 load 00000040 4 00000000
+0 load 00000041 1 00000000
+0 load 00000040 4 00000000
+0 hurt 1
+0 store 00000040 4 00000001
+1 restart
+0 commit
+1 load 00000041 1 00000000
+1 load 00000040 4 00000001
+1 store 00000040 4 00000002
+1 commit
+";
+
+const SPLIT_WORD_TOLD: &str =
+    "hurt 6 true epoch 1 try 1 core 1 lost 3 entered 2 since 2 by 0 core 0 cause 7 store load 3 00000004 store 7 0000000c at 00000040 1
+also 6 silent load 2 00000000 store 7 0000000c at 00000041 1
+also 6 silent load 3 00000004 store 7 0000000c at 00000042 2
+epoch 1 rollbacks 1 lost 3
+pair store 0000000c load 00000004 rollbacks 1 lost 3 true 1 silent 0 false 0 buffer 0
+line 00000040 rollbacks 1 lost 3 true 1 silent 0 false 0 buffer 0
+pc 00000004 victim 1 3 causer 0 0
+pc 0000000c victim 0 0 causer 1 3
+kind true rollbacks 1 lost 3
+total epochs 2 committed 2 rollbacks 1 lost 3
+";
+
+/// Epoch 0 commits a word beside each of two that epoch 1 has read, in two lines.
+const TWO_LINES: &str = "size 256
+epochs 2
+limit 50
+code 83220006032300058323c005232aa0042322a00667800000
+trace 2
+0 start 0
+1 start 1
+1 load 00000060 4 00000000
+1 load 00000050 4 00000000
+1 load 0000005c 4 00000000
+0 load 00000060 4 00000000
+0 load 00000050 4 00000000
+0 load 0000005c 4 00000000
+0 store 00000054 4 00000000
+0 store 00000064 4 00000000
+0 hurt 1
+0 commit
+1 restart
+1 load 00000060 4 00000000
+1 load 00000050 4 00000000
+1 load 0000005c 4 00000000
+1 store 00000054 4 00000001
+1 store 00000064 4 00000001
+1 commit
+";
+
+const TWO_LINES_TOLD: &str =
+    "hurt 10 false epoch 1 try 1 core 1 lost 3 entered 3 since 3 by 0 core 0 cause 11 commit load 2 00000000 store 9 00000010 at 00000060 4
+also 10 false load 3 00000004 store 8 0000000c at 00000050 4
+epoch 1 rollbacks 1 lost 3
+pair store 00000010 load 00000000 rollbacks 1 lost 3 true 0 silent 0 false 1 buffer 0
+line 00000060 rollbacks 1 lost 3 true 0 silent 0 false 1 buffer 0
+pc 00000000 victim 1 3 causer 0 0
+pc 00000010 victim 0 0 causer 1 3
+kind false rollbacks 1 lost 3
+total epochs 2 committed 2 rollbacks 1 lost 3
+";
+
 const ILLEGAL: &str = "size 256
 epochs 2
 limit 50
@@ -270,7 +386,7 @@ trace 2
 ";
 
 /// An input, what is printed, what is told on the error stream, and the status.
-const ROWS: [(&str, &str, &str, u8); 14] = [
+const ROWS: [(&str, &str, &str, u8); 17] = [
     (WAITS, WAITS_TOLD, "", 0),
     (EXITS, EXITS_TOLD, "", 0),
     (BESIDE, BESIDE_TOLD, "", 0),
@@ -279,6 +395,9 @@ const ROWS: [(&str, &str, &str, u8); 14] = [
     (FAULTS, FAULTS_TOLD, "", 0),
     (FULL, FULL_TOLD, "", 0),
     (CAME_TRUE, CAME_TRUE_TOLD, "", 0),
+    (THREE_RUNS, THREE_RUNS_TOLD, "", 0),
+    (SPLIT_WORD, SPLIT_WORD_TOLD, "", 0),
+    (TWO_LINES, TWO_LINES_TOLD, "", 0),
     (ILLEGAL, "illegal 1 NotThere\n", "", 4),
     (MISSING, "illegal 4 HurtMissing\n", "", 4),
     ("", "", "image 0 MissingOrRepeated\n", 2),

@@ -1,4 +1,4 @@
-use Rattle.std.proofs.Common.{◌≡◌, ◌<◌, ◌∙◌, length, sym, ap, arith}
+use Rattle.std.proofs.Common.{◌<◌, ◌∙◌, length, sym, arith}
 use Rattle.conflict_runs.specs.Runs.{lists_of}
 use Rattle.conflict_text.proofs.Telling.{grown, none_told}
 use Rattle.conflict_text.proofs.report.violations.Goals as goal
