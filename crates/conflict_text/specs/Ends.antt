@@ -24,13 +24,13 @@ cancel_line entries e =
     codes "cancel " ++ decimal e.place ++ runner_text entries e.place e.runner ++ codes " lost " ++ decimal e.done
     ++ codes " by " ++ decimal e.by.epoch ++ codes " core " ++ decimal e.by.core ++ codes "\n"
 
-abbrev pub ended_as : List Entry → Ended → Ending → List ℕ
-ended_as entries e Cancelled = cancel_line entries e
-ended_as entries e ending = []
+abbrev pub line_by : List Entry → Ended → Ending → List ℕ
+line_by entries e Cancelled = cancel_line entries e
+line_by entries e ending = []
 
 -- of the attempts that ended, those that were cancelled have a line
 abbrev pub ended_line : List Entry → Ended → List ℕ
-ended_line entries e = ended_as entries e e.ending
+ended_line entries e = line_by entries e e.ending
 
 -- an attempt that goes on after the history: whose it is, and what it has executed
 unfoldable pub open_line : List Entry → Running → List ℕ
