@@ -48,7 +48,7 @@ pub struct PairSum {
 }
 
 /// What of violations has bounds.
-#[derive(Clone, Copy, Debug, PartialEq, Eq)]
+#[derive(Clone, Copy)]
 pub(crate) enum Measure {
     /// By how many epochs the victim stands after the causer.
     Distance,

@@ -83,7 +83,10 @@ fn rollback_of(
         stale: explanation.is_stale(),
         vain,
         later: explanation.later.is_some(),
-        distance: distance_of(explanation),
+        distance: explanation
+            .victim
+            .epoch
+            .saturating_sub(explanation.causer.epoch),
         bytes: bytes_at(image, entries, explanation),
     }
 }
@@ -166,16 +169,6 @@ fn line_at(image: &Image, entries: &[Entry], explanation: &Explanation) -> Optio
         Some(blame) => Some(line_of(image, blame.byte)),
         None => asked_line(image, entries, explanation),
     }
-}
-
-/// By how many epochs the victim stands after the causer.
-fn distance_of(explanation: &Explanation) -> u32
-    ensures { result ≡ spec.distance_of explanation.now }
-{
-    explanation
-        .victim
-        .epoch
-        .saturating_sub(explanation.causer.epoch)
 }
 
 /// The bytes of the line of the caches in which an address lies.
