@@ -281,12 +281,12 @@ const THREE_RUNS_TOLD: &str =
 also 11 silent load 6 00000004 store 9 00000014 at 00000044 4
 also 11 false load 7 00000008 store 10 00000018 at 00000050 4
 epoch 1 rollbacks 1 lost 4
-pair store 00000010 load 00000000 rollbacks 1 lost 4 true 1 silent 0 false 0 buffer 0
+pair store 00000010 load 00000000 rollbacks 1 lost 4 true 1 silent 0 false 0 buffer 0 stale 0 vain 0 later 0 distance 1 1 at 00000040 4
 line 00000040 rollbacks 1 lost 4 true 1 silent 0 false 0 buffer 0
 pc 00000000 victim 1 4 causer 0 0
 pc 00000010 victim 0 0 causer 1 4
 kind true rollbacks 1 lost 4
-total epochs 2 committed 2 rollbacks 1 lost 4
+total epochs 2 committed 2 useful 16 rollbacks 1 lost 4 cancelled 0 dropped 0 open 0 unsettled 0
 ";
 
 /// Epoch 1 has read a byte of a word before the rest of it, and epoch 0 changes another byte of the word.
@@ -316,12 +316,12 @@ const SPLIT_WORD_TOLD: &str =
 also 6 silent load 2 00000000 store 7 0000000c at 00000041 1
 also 6 silent load 3 00000004 store 7 0000000c at 00000042 2
 epoch 1 rollbacks 1 lost 3
-pair store 0000000c load 00000004 rollbacks 1 lost 3 true 1 silent 0 false 0 buffer 0
+pair store 0000000c load 00000004 rollbacks 1 lost 3 true 1 silent 0 false 0 buffer 0 stale 0 vain 0 later 0 distance 1 1 at 00000040 1
 line 00000040 rollbacks 1 lost 3 true 1 silent 0 false 0 buffer 0
 pc 00000004 victim 1 3 causer 0 0
 pc 0000000c victim 0 0 causer 1 3
 kind true rollbacks 1 lost 3
-total epochs 2 committed 2 rollbacks 1 lost 3
+total epochs 2 committed 2 useful 10 rollbacks 1 lost 3 cancelled 0 dropped 0 open 0 unsettled 0
 ";
 
 /// Epoch 0 commits a word beside each of two that epoch 1 has read, in two lines.
@@ -355,12 +355,12 @@ const TWO_LINES_TOLD: &str =
     "hurt 10 false epoch 1 try 1 core 1 lost 3 entered 3 since 3 by 0 core 0 cause 11 commit load 2 00000000 store 9 00000010 at 00000060 4
 also 10 false load 3 00000004 store 8 0000000c at 00000050 4
 epoch 1 rollbacks 1 lost 3
-pair store 00000010 load 00000000 rollbacks 1 lost 3 true 0 silent 0 false 1 buffer 0
+pair store 00000010 load 00000000 rollbacks 1 lost 3 true 0 silent 0 false 1 buffer 0 stale 0 vain 0 later 0 distance 1 1 at 00000060 4
 line 00000060 rollbacks 1 lost 3 true 0 silent 0 false 1 buffer 0
 pc 00000000 victim 1 3 causer 0 0
 pc 00000010 victim 0 0 causer 1 3
 kind false rollbacks 1 lost 3
-total epochs 2 committed 2 rollbacks 1 lost 3
+total epochs 2 committed 2 useful 12 rollbacks 1 lost 3 cancelled 0 dropped 0 open 0 unsettled 0
 ";
 
 const ILLEGAL: &str = "size 256
