@@ -1,5 +1,5 @@
 #!/usr/bin/env python3
-"""Tests tools/picture and tools/trace, with stubs in the place of `why` and of `trace_cli`: nothing has to be built.
+"""Tests tools/picture, tools/named and tools/trace, with stubs in the place of `why` and of `trace_cli`: nothing has to be built.
 
 Usage: tests/picture.py
 
@@ -25,6 +25,13 @@ REPORT = ("hurt 4 true epoch 1 try 1 core 1 lost 3 entered 2 since 2 by 0 core 0
           "kind true rollbacks 1 lost 3\ntotal epochs 2 committed 2 useful 8 rollbacks 1 lost 3 cancelled 0 dropped 0 open 0 unsettled 0\n")
 SENTENCE = "epoch 1's load at 00000004 at waits.c:7 of flag, 4 bytes was hit by epoch 0's store at 00000014, committed; 3 instructions lost; true sharing"
 FULL = REPORT.replace("true", "buffer").replace("since 2", "since -").replace("load 3 00000004 store 2 00000014", "held 3 00000004 asked 2 00000014")
+SUMS = ("pair store 00000014 load 00000004 rollbacks 1 lost 3 true 1 silent 0 false 0 buffer 0 stale 1 vain 0 later 0 distance 1 1 at 00000040 4\n"
+        "line 00000040 rollbacks 1 lost 3 true 1 silent 0 false 0 buffer 0\npc 00000004 victim 1 3 causer 0 0\npc 00000014 victim 0 0 causer 1 3\n")
+HURT, KIND, TOTAL = REPORT.splitlines(True)
+# The instructions are `lw x5,64(x0)` and `sw x5,64(x0)`; only the first has a line in the source.
+NAMED = (HURT.replace(" 4\n", " 4 flag\n") + "also 4 silent load 3 00000004 store 2 00000014 at 00000080 4 -\nvain 4 hurt\n# " + SENTENCE + "; in vain, since that epoch was undone itself\n"
+         + SUMS.replace("00000040 4\n", "00000040 4 flag\n").replace("buffer 0\npc", "buffer 0\nname flag rollbacks 1 lost 3 true 1 silent 0 false 0 buffer 0\npc", 1)
+         .replace("causer 0 0\n", "causer 0 0 waits.c:7 lw x5,64(x0)\n").replace("causer 1 3\n", "causer 1 3 - sw x5,64(x0)\n") + KIND + TOTAL)
 BARE = REPORT.replace("true", "other").replace("load 3 00000004 store 2 00000014 at 00000040 4", "load - - store - - at - -")
 
 
@@ -72,6 +79,20 @@ def rows(folder):
     yield "a refused trace", (refused.stdout, refused.stderr, refused.returncode) == ("", "trace 3 Line\n", 2)
 
 
+def names(folder):
+    """The same of tools/named."""
+    def named(report, *words, **more):
+        why = stub(folder, "why", report, **more)
+        return subprocess.run([ROOT / "tools" / "named", "--why", why, *words], input=IMAGE + TRACE, capture_output=True, text=True, check=False)
+
+    report = HURT + "also 4 silent load 3 00000004 store 2 00000014 at 00000080 4\nvain 4 hurt\n" + SUMS + KIND + TOTAL
+    yield "names, and what a violation says", named(report, "--say").stdout == NAMED
+    yield "names alone", named(report).stdout == "".join(line for line in NAMED.splitlines(True) if not line.startswith("#"))
+    yield "no name without a pair", named(BARE).stdout == BARE.replace("at - -\n", "at - - -\n")
+    refused = named("", error="trace 3 Line", status=2)
+    yield "a refused trace is not named", (refused.stdout, refused.stderr, refused.returncode) == ("", "trace 3 Line\n", 2)
+
+
 def traces(folder):
     """The same of tools/trace, in a tree of its own."""
     tools = Path(folder, "tools")
@@ -89,7 +110,7 @@ def traces(folder):
 
 def main():
     with tempfile.TemporaryDirectory() as folder:
-        results = [*rows(folder), *traces(folder)]
+        results = [*rows(folder), *names(folder), *traces(folder)]
     for name, holds in results:
         if not holds:
             print(f"FAILED {name}")

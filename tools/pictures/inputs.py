@@ -3,6 +3,8 @@
 import re
 from dataclasses import dataclass, field
 
+from .spelling import spelled
+
 LINE_LENGTH = {1: 16, 2: 32}
 
 
@@ -14,6 +16,7 @@ class Image:
     about: str = ""                                 # the first sentence of its remarks
     variables: list = field(default_factory=list)   # (name, address, bytes)
     sources: dict = field(default_factory=dict)     # address of an instruction -> FILE:LINE
+    code: bytes = b""                               # from address 0 on
 
     def variable_of(self, address):
         """The variable that has this byte, or None."""
@@ -26,6 +29,10 @@ class Image:
             return f"{address:08x}"
         name, at = found
         return name if address == at else f"{name}+{address - at}"
+
+    def instruction_at(self, pc):
+        """The load or store there, in assembly, or None."""
+        return spelled(int.from_bytes(self.code[pc:pc + 4], "little"))
 
     def spelled(self, pc):
         """An instruction's address, and its line in the source where the remarks tell it."""
@@ -91,6 +98,8 @@ def read_image(lines):
             image.version = int(line.split()[1])
         elif line.startswith("epochs "):
             image.epochs = int(line.split()[1])
+        elif line.startswith("code "):
+            image.code += bytes.fromhex(line.split()[1])
     image.about = re.split(r"(?<=\.) ", " ".join(word for word in remarks if word))[0]
     return image
 
