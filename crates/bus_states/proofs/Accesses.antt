@@ -25,7 +25,7 @@ use Rattle.bus_states.specs.Messages.{IsRoom, Message, message_of, is_busy, is_a
 use Rattle.bus_states.specs.Speculative.{own, holds_line, room_for, no_room, kept_line, load_next, after_load, load_wait, store_next, owns, after_claim, with_bytes, after_store, store_wait}
 use Rattle.bus_states.proofs.Coherence.{IsCoherentWith, committed-with, coherent-with, with-same, sees-past, sees-held, sees-unmodified}
 use Rattle.bus_states.proofs.Copies.{clash, itself, made, made-state, made-up_to_date, made-in_place}
-use Rattle.bus_states.proofs.Cores.{changed-coherent, without_line-coherent}
+use Rattle.bus_states.proofs.Cores.{entry-limit, changed-coherent, without_line-coherent}
 use Rattle.bus_states.proofs.QuietCalls.{Keeps, kept-with, Writes, written-with, same-lines}
 use Rattle.bus_states.proofs.Sending.{leaves-held, Sends, sent_lines, sent-with, at_sender}
 
@@ -69,6 +69,7 @@ takes-sends bus message room next h t =
       victim = t.victim;
       copies = λ a. refl;
       same_length = refl;
+      same_limit = entry-limit next.enters message.addr (bus.core message.sender).buffer;
       stays =
           changed-coherent (without_line room (bus.core message.sender)) message.addr next message.line
           (without_line-coherent (bus.core message.sender) room (h.cores message.sender) (λ a e. (leaves-held (bus.core message.sender) room t.victim a e).1))

@@ -18,8 +18,10 @@ use Rattle.bus_states.proofs.Copies.{not_so}
 -- coherent, with c in the place of the committed lines
 pub record IsCoherentWith (bus : Bus) (c : ℕ → ℕ → ℕ) : Type 0 where
   pub length_is : is_line_length bus.line_length ≡ true
+  pub length_of : bus.line_length ≡ bus.shape.limits.line_length
   pub whole_lines : bus.shape.size % bus.line_length ≡ 0
   pub lengths : (k : ℕ) → k < bus.shape.cores → (bus.core k).line_length ≡ bus.line_length
+  pub limits : (k : ℕ) → k < bus.shape.cores → (bus.core k).buffer.limit ≡ bus.shape.limits.buffer_lines
   pub lines : (addr : ℕ) → addr % bus.line_length ≡ 0
       → IsCoherentLine (λ k. (bus.core k).copy addr) (memory_line bus.line_length bus.memory addr) (c addr)
   pub cores : (k : ℕ) → IsCoherentCore (bus.core k)
@@ -37,8 +39,10 @@ pub coherent-with : (bus : Bus) (c : ℕ → ℕ → ℕ) → IsCoherentWith bus
 coherent-with bus c h =
     record {
       length_is = h.length_is;
+      length_of = h.length_of;
       whole_lines = h.whole_lines;
       lengths = h.lengths;
+      limits = h.limits;
       lines =
           λ addr aligned.
           subst (λ (line : ℕ → ℕ). IsCoherentLine (λ k. (bus.core k).copy addr) (memory_line bus.line_length bus.memory addr) line)
@@ -53,8 +57,10 @@ pub with-itself : (bus : Bus) → IsCoherent bus → IsCoherentWith bus (committ
 with-itself bus h =
     record {
       length_is = h.length_is;
+      length_of = h.length_of;
       whole_lines = h.whole_lines;
       lengths = h.lengths;
+      limits = h.limits;
       lines = h.lines;
       cores = h.cores;
       in_place = h.in_place;
@@ -68,8 +74,10 @@ pub with-same : (bus : Bus) (c d : ℕ → ℕ → ℕ) → ((addr : ℕ) → ad
 with-same bus c d same h =
     record {
       length_is = h.length_is;
+      length_of = h.length_of;
       whole_lines = h.whole_lines;
       lengths = h.lengths;
+      limits = h.limits;
       lines =
           λ addr aligned.
           subst (λ (line : ℕ → ℕ). IsCoherentLine (λ k. (bus.core k).copy addr) (memory_line bus.line_length bus.memory addr) line)

@@ -1,5 +1,5 @@
 -- One copy: what a change of its state, its marks and its bytes keeps.
-use Rattle.std.proofs.Common.{◌≡◌, ℕ, ◌%◌, ◌≤◌, ◌==◌, Bool, true, false, cond, refl, ap, ◌∙◌, arith}
+use Rattle.std.proofs.Common.{◌≡◌, ℕ, ◌%◌, ◌≤◌, ◌==◌, ◌||◌, Bool, true, false, cond, refl, ap, ◌∙◌, arith}
 use Rattle.std.proofs.lemmas.Bool.Decides.{nat_tests}
 use Rattle.std.proofs.lemmas.Nat.{pow_pos}
 use Rattle.spec_states.specs.declared.line.LineState.{LineState}
@@ -25,6 +25,10 @@ itself n = grind (arith, nat_tests)
 pub not_so : (a b : Bool) → (a ≡ true → b ≡ true) → b ≡ false → a ≡ false
 not_so true b up e = let x : b ≡ true = up refl in cc
 not_so false b up e = refl
+
+pub or_true : (b d : Bool) → d ≡ true → (b || d) ≡ true
+or_true true d e = refl
+or_true false d e = e
 
 -- the copy of these, which is none where the state is not valid
 abbrev pub made : LineState → Marks → (ℕ → ℕ) → LineCopy

@@ -35,6 +35,11 @@ entry-buffer true addr buffer h out room =
     apart n limit e = grind (arith, nat_tests)
 entry-buffer false addr buffer h out room = h
 
+-- a buffer takes as many lines as before
+pub entry-limit : (enters : Bool) (addr : ℕ) (buffer : Buffer) → (with_entry enters addr buffer).limit ≡ buffer.limit
+entry-limit true addr buffer = refl
+entry-limit false addr buffer = refl
+
 pub emptied-buffer : (buffer : Buffer) → IsBuffer buffer → IsBuffer (emptied buffer)
 emptied-buffer buffer h = record { within = omega arith; limit_is = h.limit_is; each_once = tt }
 

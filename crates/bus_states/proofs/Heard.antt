@@ -18,7 +18,7 @@ use Rattle.bus_states.specs.Bus.{CoreState, Bus, no_core, is_later}
 use Rattle.bus_states.specs.Coherent.{IsCoherent, IsCoherentCore}
 use Rattle.bus_states.specs.Messages.{Message, with_copy, dropped_core, changed_core, reply, reply_to, order, bytes_after, violates, holds_up, heard_core, is_busy}
 use Rattle.bus_states.proofs.Copies.{itself, made, made-state, made-up_to_date, none-in_place, made-in_place, rolled_back-valid, rolled_back-modified, rolled_back-in_place, Fades, Fades-same, Fades-rolled_back}
-use Rattle.bus_states.proofs.Cores.{changed-coherent, violated-coherent}
+use Rattle.bus_states.proofs.Cores.{entry-limit, changed-coherent, violated-coherent}
 use Rattle.bus_states.proofs.Coherence.{apart_test, none_below}
 use Rattle.bus_states.proofs.Replies.{reply-gives_way, reply-within}
 
@@ -31,6 +31,12 @@ pub heard-length : (core : CoreState) (addr : ℕ) (v : Bool) (next : Next) (cel
     → (heard addr v next cell core).line_length ≡ core.line_length
 heard-length core addr true next cell = refl
 heard-length core addr false next cell = refl
+
+-- so many lines as its buffer took
+pub heard-limit : (core : CoreState) (addr : ℕ) (v : Bool) (next : Next) (cell : ℕ → ℕ)
+    → (heard addr v next cell core).buffer.limit ≡ core.buffer.limit
+heard-limit core addr true next cell = refl
+heard-limit core addr false next cell = entry-limit next.enters addr core.buffer
 
 -- ---- its copy of the message's line
 

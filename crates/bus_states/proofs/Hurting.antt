@@ -66,7 +66,7 @@ hurts-same u v core hurt other same h =
 pub none_some : (o : Option Attempt) (x : Attempt) → o ≡ None → o ≡ Some x → ⊥
 none_some o x none some = cc
 
-not_core : (hurt : ℕ → Bool) (core k : ℕ) → hurt core ≡ false → hurt k ≡ true → k ≢ core
+pub not_core : (hurt : ℕ → Bool) (core k : ℕ) → hurt core ≡ false → hurt k ≡ true → k ≢ core
 not_core hurt core k spared hit same = clash (hurt k) hit (ap hurt same ∙ spared)
 
 pub spared-then : (u v w : StoreView) (k : ℕ) → IsSpared u v k → IsSpared v w k → IsSpared u w k
@@ -125,7 +125,7 @@ hurts-then_none u v w core hurt stays f s =
 -- ---- a message
 
 -- a copy that a message violates was speculatively loaded, and its owner is later or hears a publish
-reply-violates : (notice : Notice) (s : LineState) (marks : Marks) (later : Bool)
+pub reply-violates : (notice : Notice) (s : LineState) (marks : Marks) (later : Bool)
     → (reply_to notice s marks (order later)).violated ≡ true → (was_loaded s marks ≡ true) × ((notice ≡ Publish) ⊎ (later ≡ true))
 reply-violates Load s marks later e = absurd (clash _ e (other_load-violates s marks))
 reply-violates Store s marks true e = (sym (other_store-violates s marks (order true)) ∙ e, inr refl)
@@ -133,7 +133,7 @@ reply-violates Store s marks false e = absurd (clash _ e (other_store-violates s
 reply-violates Publish s marks later e = (sym (other_publish-violates s marks) ∙ e, inl refl)
 
 -- why a core is violated
-cause : (same hit over later : Bool) → (not same && (hit || (over && later))) ≡ true
+pub cause : (same hit over later : Bool) → (not same && (hit || (over && later))) ≡ true
     → (same ≡ false) × ((hit ≡ true) ⊎ ((over ≡ true) × (later ≡ true)))
 cause true hit over later e = absurd (let x : ⊥ = cc in x)
 cause false true over later e = (refl, inl refl)
@@ -141,11 +141,11 @@ cause false false true true e = (refl, inr (refl, refl))
 cause false false true false e = absurd (let x : ⊥ = cc in x)
 cause false false false later e = absurd (let x : ⊥ = cc in x)
 
-left : (b d : Bool) → (b && d) ≡ true → b ≡ true
+pub left : (b d : Bool) → (b && d) ≡ true → b ≡ true
 left true d e = refl
 left false d e = e
 
-right : (b d : Bool) → (b && d) ≡ true → d ≡ true
+pub right : (b d : Bool) → (b && d) ≡ true → d ≡ true
 right true d e = e
 right false d e = absurd (let x : ⊥ = cc in x)
 
@@ -218,7 +218,7 @@ changed-shows core addr a next cell c h row spares same =
     ] refl
 
 -- so does a core that a message spares
-heard-shows : (bus : Bus) (message : Message) (room : Option Line) (own : CoreState) (k : ℕ) → IsCoherent bus
+pub heard-shows : (bus : Bus) (message : Message) (room : Option Line) (own : CoreState) (k : ℕ) → IsCoherent bus
     → message.addr % bus.line_length ≡ 0 → k ≢ message.sender → violates bus message k ≡ false
     → ShowsSame bus (sent bus message room own) k
 heard-shows bus message room own k h aligned away spares =

@@ -14,10 +14,12 @@ pub mod StraightAccesses
 pub mod Opening
 pub mod Showing
 pub mod Hurting
+pub mod Guarding
 pub mod Ordered
 pub mod AttemptRules
 pub mod InLine
 pub mod Taking
+pub mod Violating
 pub mod LoadRule
 pub mod StoreRule
 pub mod PublishRule

@@ -1,16 +1,18 @@
 -- A speculative load does what the store's rule says.
-use Rattle.std.proofs.Common.{◌≡◌, ℕ, ◌^◌, ◌%◌, ◌<◌, ◌||◌, Bool, true, false, cond, Option, None, refl, sym, ap, subst, ◌∙◌}
+use Rattle.std.proofs.Common.{◌≡◌, ℕ, zero, suc, ◌+◌, ◌^◌, ◌%◌, ◌<◌, ◌≤◌, ◌&&◌, ◌||◌, not, Bool, true, false, cond, Option, None, refl, sym, ap, subst, ◌∙◌, arith}
+use Rattle.std.proofs.lemmas.Bool.Decides.{nat_tests}
 use Rattle.memory_bytes.specs.Bytes.{IsWidth, number_at}
 use Rattle.spec_states.specs.declared.line.Marks.{Marks}
 use Rattle.spec_states.specs.Copies.{LineCopy, IsUpToDate}
-use Rattle.spec_states.specs.Mask.{has, is_within}
+use Rattle.spec_states.specs.Mask.{has, has_all, is_within}
 use Rattle.spec_states.specs.States.{is_valid}
 use Rattle.spec_states.specs.Tables.{marks_of, marks_after_load}
 use Rattle.spec_states.proofs.CopyLaws.{own_load-marks, own_load-read}
+use Rattle.spec_states.proofs.MaskLaws.{is_within-first}
 use Rattle.spec_states.proofs.RowLaws.{own_load-takes_hold, speculative-valid}
 use Rattle.cache_lines.specs.declared.line.Line.{Line}
 use Rattle.violations.specs.View.{IsLoad, Runs}
-use Rattle.violations.specs.Rule.{HurtsLater, Loads}
+use Rattle.violations.specs.Rule.{HurtsLater, TakesIn, IsCrowded, Loads}
 use Rattle.bus_states.specs.declared.notice.Notice.TheVariants.{Load}
 use Rattle.bus_states.specs.Bus.{Bus, committed, sees, line_of, offset_of}
 use Rattle.bus_states.specs.Coherent.{IsCoherent}
@@ -18,12 +20,16 @@ use Rattle.bus_states.specs.Messages.{IsRoom, message_of, violates, is_busy, is_
 use Rattle.bus_states.specs.Speculative.{own, holds_line, no_room, kept_line, load_next, after_load, load_wait, load_violates}
 use Rattle.bus_states.specs.Views.{view_of}
 use Rattle.bus_states.proofs.Accesses.{MayAccess, load-hit, load-miss, load-goes_on, load-with}
+use Rattle.bus_states.proofs.Addresses.{line-of, offset-of}
 use Rattle.bus_states.proofs.AttemptRules.{with-committed}
 use Rattle.bus_states.proofs.Coherence.{IsCoherentWith}
+use Rattle.bus_states.proofs.Copies.{clash, itself}
+use Rattle.bus_states.proofs.Guarding.{line-viewed, own-line}
 use Rattle.bus_states.proofs.Hurting.{hurts-same}
-use Rattle.bus_states.proofs.InLine.{load-lies, accessed-there, number-line}
+use Rattle.bus_states.proofs.InLine.{LiesInLine, load-lies, accessed-line, accessed-there, number-line}
 use Rattle.bus_states.proofs.Showing.{line_at, place_at, aligned_at, sees_at, own_at, guarded_at}
 use Rattle.bus_states.proofs.Taking.{may-access, HasTaken, kept-taken, told-taken, taken-sees, by_line, carried-bytes, carried-loaded}
+use Rattle.bus_states.proofs.Violating.{load-crowds, in_case}
 
 load-valid : (bus : Bus) (core addr offset width : ℕ) → is_valid (load_next bus core addr offset width).state ≡ true
 load-valid bus core addr offset width =
@@ -49,6 +55,31 @@ load-taken bus core addr offset width room h may widths goes =
         (load-miss bus core addr offset width room h may widths e
         (load-goes_on (holds_line bus core addr) (no_room room) (is_busy bus (message_of bus Load core addr)) goes e)) with
 
+-- a byte of the access that is not in the mask
+pub record IsOutside (mask offset width : ℕ) : Type 0 where
+  pub at : ℕ
+  pub within : is_within offset width at ≡ true
+  pub out : has mask at ≡ false
+
+-- where the mask has not all bytes of the access, there is one
+is-outside : (mask offset width : ℕ) → has_all mask offset width ≡ false → IsOutside mask offset width
+unfolding has_all
+is-outside mask offset zero e = absurd (let x : ⊥ = cc in x)
+is-outside mask offset (suc n) e =
+    elim (has mask offset) as (λ b. has mask offset ≡ b → IsOutside mask offset (suc n)) [
+      | true ↦ λ first.
+          let rest = is-outside mask (offset + 1) n (after (has mask offset) _ first e) in
+          record { at = rest.at; within = later rest.at rest.within; out = rest.out }
+      | false ↦ λ first. record { at = offset; within = is_within-first offset (suc n) (omega arith); out = first }
+    ] refl
+  where
+    after : (b d : Bool) → b ≡ true → (b && d) ≡ false → d ≡ false
+    after true d e f = f
+    after false d e f = cc
+
+    later : (x : ℕ) → is_within (offset + 1) n x ≡ true → is_within offset (suc n) x ≡ true
+    later x e = grind (arith, nat_tests)
+
 -- what a load leaves of the core's lines: the masks stay, it sees what it saw, and lines are loaded still
 record HasLoaded (old new : Bus) (core addr offset width : ℕ) (hurt : ℕ → Bool) : Type 0 where
   pub shape : new.shape ≡ old.shape
@@ -61,6 +92,9 @@ record HasLoaded (old new : Bus) (core addr offset width : ℕ) (hurt : ℕ → 
   pub still : (a : ℕ) → a % old.line_length ≡ 0 → (own old core a).marks.loaded ≡ true → (own new core a).marks.loaded ≡ true
   -- a byte that it took from outside is one of a line that is loaded
   pub read : (x : ℕ) → is_within offset width x ≡ true → has (own old core addr).marks.bytes x ≡ false → (own new core addr).marks.loaded ≡ true
+  -- and a line that is loaded now has such a byte
+  pub only : (a : ℕ) → a % old.line_length ≡ 0 → (own new core a).marks.loaded ≡ true → (own old core a).marks.loaded ≡ false
+      → (addr ≡ a) × IsOutside (own old core addr).marks.bytes offset width
 
 load-loaded : (bus : Bus) (core addr offset width : ℕ) (room : Option Line) → IsCoherent bus → MayAccess bus core addr room → IsWidth width
     → load_wait bus core addr room ≡ None
@@ -87,6 +121,12 @@ load-loaded bus core addr offset width room h may widths goes =
       read =
           λ x within out. ap (λ (marks : Marks). marks.loaded) t.marks_are
           ∙ own_load-read mine.state mine.marks offset width alone x within (same_mask x ∙ out);
+      only =
+          λ a aligned now was.
+          by_line (λ (a : ℕ). a % bus.line_length ≡ 0 → (own new core a).marks.loaded ≡ true → (own bus core a).marks.loaded ≡ false
+          → (addr ≡ a) × IsOutside (own bus core addr).marks.bytes offset width) addr a
+          (λ _ now was. (refl, outside now was))
+          (λ e a_aligned now was. absurd (clash (own new core a).marks.loaded now ((t.elsewhere a a_aligned e).loaded ∙ was))) aligned now was;
     }
   where
     new : Bus
@@ -112,6 +152,50 @@ load-loaded bus core addr offset width room h may widths goes =
 
     either : (b d : Bool) → b ≡ true → (b || d) ≡ true
     either b d e = rw e refl
+
+    not_all : (b d : Bool) → (b || not d) ≡ true → b ≡ false → d ≡ false
+    not_all true d e f = cc
+    not_all false true e f = cc
+    not_all false false e f = refl
+
+    -- the mask that the copy carries has not all bytes of the access
+    outside : (own new core addr).marks.loaded ≡ true → (own bus core addr).marks.loaded ≡ false
+        → IsOutside (own bus core addr).marks.bytes offset width
+    outside now was =
+        is-outside mine.marks.bytes offset width
+        (ap (λ (mask : ℕ). has_all mask offset width) (sym (carried-bytes mine (committed bus addr) up))
+        ∙ not_all (marks_of mine.state mine.marks).loaded (has_all (marks_of mine.state mine.marks).bytes offset width)
+        (sym (ap (λ (marks : Marks). marks.loaded) t.marks_are ∙ ap (λ (marks : Marks). marks.loaded) marks) ∙ now)
+        (carried-loaded mine (committed bus addr) up ∙ was))
+
+-- whom a load violates
+load-crowded : (bus : Bus) (core address k : ℕ) → IsCoherent bus → load_violates bus core (line_of bus.line_length address) k ≡ true
+    → IsCrowded (view_of bus) k address
+load-crowded bus core address k h hit =
+    let addr : ℕ = line_at bus address in
+    load-crowds bus (message_of bus Load core addr) k address h refl refl
+    (in_case (holds_line bus core addr) (violates bus (message_of bus Load core addr) k) hit)
+
+-- a byte of the access, by its place in the line
+takes-in : (bus : Bus) (core address width a : ℕ) → IsCoherent bus → LiesInLine bus.line_length bus.shape.size address width
+    → line_at bus address ≡ line_at bus a → IsOutside (own bus core (line_at bus address)).marks.bytes (place_at bus address) width
+    → TakesIn (view_of bus) core address width a
+takes-in bus core address width a h lies same outside =
+    let addr : ℕ = line_at bus address in
+    let inside : outside.at < bus.line_length = before (place_at bus address) outside.at outside.within lies.ends in
+    let line : line_of bus.line_length (addr + outside.at) ≡ addr = line-of bus.line_length addr outside.at h.length_is (aligned_at bus h address) inside in
+    let place : offset_of bus.line_length (addr + outside.at) ≡ outside.at = offset-of bus.line_length addr outside.at h.length_is (aligned_at bus h address) inside in
+    record {
+      at = addr + outside.at;
+      accessed =
+          accessed-line bus.line_length bus.shape.size address width (addr + outside.at) lies
+          ∙ rw (line, place, itself addr) outside.within;
+      in_line = line-viewed bus h (addr + outside.at) ∙ line ∙ same ∙ sym (line-viewed bus h a);
+      outside = own-line bus core addr outside.at h (aligned_at bus h address) inside ∙ outside.out;
+    }
+  where
+    before : (offset x : ℕ) → is_within offset width x ≡ true → offset + width ≤ bus.line_length → x < bus.line_length
+    before offset x within ends = grind (arith, nat_tests)
 
 -- a load that is answered with what the core sees
 pub load-loads : (bus : Bus) (core address width value : ℕ) (room : Option Line) (hurt : ℕ → Bool) → IsCoherent bus
@@ -143,4 +227,9 @@ load-loads bus core address width value room hurt h runs access victim goes is s
           ∙ subst (λ (line : ℕ). has (own bus core line).marks.bytes (place_at bus a) ≡ false → (own new core line).marks.loaded ≡ true) at.0
           (t.read (place_at bus a) at.1) out;
       guards_still = λ a was. guarded_at bus new t.length core a ∙ t.still (line_at bus a) (aligned_at bus h a) was;
+      guards_only =
+          λ a now was.
+          let why = t.only (line_at bus a) (aligned_at bus h a) (sym (guarded_at bus new t.length core a) ∙ now) was in
+          takes-in bus core address width a h lies why.0 why.1;
+      crowded = λ k hit. load-crowded bus core address k h (sym (are k) ∙ hit);
     }

@@ -10,6 +10,7 @@ use Rattle.bus_states.specs.Coherent.{IsCoherent, speculates}
 use Rattle.bus_states.specs.Views.{view_of, AreOrdered}
 use Rattle.bus_states.proofs.Addresses.{line-aligned}
 use Rattle.bus_states.proofs.Coherence.{sees-unmodified}
+use Rattle.bus_states.proofs.Guarding.{guards-lines}
 use Rattle.bus_states.proofs.Hurting.{none_some, running}
 use Rattle.bus_states.proofs.Showing.{none_in}
 use Rattle.bus_states.proofs.StraightAccesses.{IsFirst}
@@ -68,6 +69,7 @@ settled bus h ordered =
       straight_first = ordered.straight_first;
       idle = λ k none. clear-of bus k h (ap speculates none);
       straight = λ k x runs is. clear-of bus k h (ap speculates runs ∙ rw is refl);
+      whole_lines = λ cached. guards-lines bus h;
     }
 
 -- ---- the order of the attempts

@@ -27,7 +27,7 @@ use Rattle.bus_states.specs.Straight.{publish_next, after_publish_line, after_pu
 use Rattle.bus_states.proofs.Accesses.{none-room}
 use Rattle.bus_states.proofs.Coherence.{IsCoherentWith, committed-with, coherent-with, with-same, by_core, none_at_all, sees-past, sees-held, sees-unmodified}
 use Rattle.bus_states.proofs.Copies.{clash, itself, made, made-state, made-up_to_date, made-in_place, unrequired, required-valid, exclusive-valid}
-use Rattle.bus_states.proofs.Cores.{emptied-buffer, released-coherent}
+use Rattle.bus_states.proofs.Cores.{entry-limit, emptied-buffer, released-coherent}
 use Rattle.bus_states.proofs.Quiet.{ChangesQuietly, quiet-with}
 use Rattle.bus_states.proofs.Replies.{reply-enters}
 use Rattle.bus_states.proofs.Sending.{Sends, sent, sent_lines, sent-with, at_sender}
@@ -39,7 +39,7 @@ pub record IsListed (bus : Bus) (core addr : ℕ) : Type 0 where
   pub in_cores : core < bus.shape.cores
   pub listed : holds (bus.core core).buffer.lines addr ≡ true
 
-required : (bus : Bus) (core addr : ℕ) → IsCoherent bus → IsListed bus core addr
+pub required : (bus : Bus) (core addr : ℕ) → IsCoherent bus → IsListed bus core addr
     → requires_ownership (own bus core addr).state (own bus core addr).marks ≡ true
 required bus core addr h t = sym ((h.cores core).listed addr) ∙ t.listed
 
@@ -115,6 +115,7 @@ publish-sends bus core addr h t =
       victim = none-room (bus.core core);
       copies = λ a. refl;
       same_length = refl;
+      same_limit = entry-limit next.enters addr (bus.core core).buffer;
       stays =
           subst (λ (enters : Bool). IsCoherentCore (record (with_copy addr (made next.state next.marks (sees bus core addr)) (bus.core core)) {
             buffer = record (with_entry enters addr (bus.core core).buffer) { lines = without addr (with_entry enters addr (bus.core core).buffer).lines };
@@ -267,6 +268,7 @@ settle-quietly bus core h inside empty =
     record {
       in_cores = inside;
       same_length = refl;
+      same_limit = refl;
       stays = record {
         listed = λ a. sym (unrequired (published_copy true ((bus.core core).copy a)).state (published_copy true ((bus.core core).copy a)).marks (unmarked-published true ((bus.core core).copy a)));
         buffer = emptied-buffer (bus.core core).buffer (h.cores core).buffer;

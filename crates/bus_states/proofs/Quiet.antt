@@ -14,6 +14,7 @@ use Rattle.bus_states.proofs.Copies.{itself, not_so, up_to_date-invalid}
 pub record ChangesQuietly (bus : Bus) (core : ℕ) (own : CoreState) (memory : ℕ → ℕ) (c : ℕ → ℕ → ℕ) : Type 0 where
   pub in_cores : core < bus.shape.cores
   pub same_length : own.line_length ≡ (bus.core core).line_length
+  pub same_limit : own.buffer.limit ≡ (bus.core core).buffer.limit
   pub stays : IsCoherentCore own
   pub in_place : (a : ℕ) → IsInPlace bus.line_length a (own.copy a)
   pub no_revival : (a : ℕ) → is_valid (own.copy a).state ≡ true → is_valid ((bus.core core).copy a).state ≡ true
@@ -78,11 +79,16 @@ pub quiet-with : (bus : Bus) (core : ℕ) (own : CoreState) (memory : ℕ → �
 quiet-with bus core own memory c h t =
     record {
       length_is = h.length_is;
+      length_of = h.length_of;
       whole_lines = h.whole_lines;
       lengths =
           λ k inside. by_core (λ (k : ℕ). k < bus.shape.cores → ((quietly bus core own memory).core k).line_length ≡ bus.line_length) core k
           (rw (at_own bus core own memory) (λ i. t.same_length ∙ h.lengths core i))
           (λ away. rw (at_other bus core own memory k away) (h.lengths k)) inside;
+      limits =
+          λ k inside. by_core (λ (k : ℕ). k < bus.shape.cores → ((quietly bus core own memory).core k).buffer.limit ≡ bus.shape.limits.buffer_lines) core k
+          (rw (at_own bus core own memory) (λ i. t.same_limit ∙ h.limits core i))
+          (λ away. rw (at_other bus core own memory k away) (h.limits k)) inside;
       lines = line bus core own memory c h t;
       cores =
           λ k. by_core (λ (k : ℕ). IsCoherentCore ((quietly bus core own memory).core k)) core k
@@ -107,6 +113,7 @@ quiet-with bus core own memory c h t =
 pub record Fades (bus : Bus) (core : ℕ) (own : CoreState) : Type 0 where
   pub in_cores : core < bus.shape.cores
   pub same_length : own.line_length ≡ (bus.core core).line_length
+  pub same_limit : own.buffer.limit ≡ (bus.core core).buffer.limit
   pub stays : IsCoherentCore own
   pub in_place : (a : ℕ) → IsInPlace bus.line_length a (own.copy a)
   pub no_revival : (a : ℕ) → is_valid (own.copy a).state ≡ true → is_valid ((bus.core core).copy a).state ≡ true
@@ -120,6 +127,7 @@ fades-quietly bus core own h t =
     record {
       in_cores = t.in_cores;
       same_length = t.same_length;
+      same_limit = t.same_limit;
       stays = t.stays;
       in_place = t.in_place;
       no_revival = t.no_revival;

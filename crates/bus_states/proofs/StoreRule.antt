@@ -1,5 +1,6 @@
 -- A speculative store does what the store's rule says.
-use Rattle.std.proofs.Common.{◌≡◌, ℕ, ◌+◌, ◌-◌, ◌%◌, ◌≤◌, ◌==◌, ◌&&◌, ◌||◌, Bool, true, false, cond, Option, None, refl, sym, ap, subst, ◌∙◌}
+use Rattle.std.proofs.Common.{◌≡◌, ℕ, ◌+◌, ◌-◌, ◌%◌, ◌<◌, ◌≤◌, ◌==◌, ◌≢◌, ◌⊎◌, ◌&&◌, ◌||◌, nat_lt, Bool, true, false, cond, Option, None, refl, sym, ap, subst, ◌∙◌, arith}
+use Rattle.std.proofs.lemmas.Bool.Decides.{nat_tests}
 use Rattle.memory_bytes.specs.Bytes.{IsWidth, byte_of}
 use Rattle.spec_states.specs.declared.line.Marks.{Marks}
 use Rattle.spec_states.specs.Copies.{LineCopy, IsUpToDate}
@@ -7,12 +8,13 @@ use Rattle.spec_states.specs.Mask.{has, is_within}
 use Rattle.spec_states.specs.States.{is_valid}
 use Rattle.spec_states.specs.Tables.{marks_of, marks_after_store}
 use Rattle.spec_states.proofs.CopyLaws.{own_store-marks, own_store-mask}
-use Rattle.spec_states.proofs.RowLaws.{own_store-takes_hold, speculative-valid}
+use Rattle.spec_states.proofs.RowLaws.{own_store-takes_hold, owned-valid, speculative-valid}
 use Rattle.cache_lines.specs.declared.line.Line.{Line}
 use Rattle.cache_lines.specs.Protocol.{copy_with_number}
 use Rattle.orb.specs.Lines.{is_full}
-use Rattle.violations.specs.View.{is_accessed, IsLoad, Runs}
-use Rattle.violations.specs.Rule.{HurtsLater, Stores}
+use Rattle.violations.specs.View
+use Rattle.violations.specs.View.{epoch_of, is_accessed, IsLoad, Runs}
+use Rattle.violations.specs.Rule.{HurtsLater, Guards, OwnsIn, IsCrowded, Stores}
 use Rattle.bus_states.specs.declared.notice.Notice.TheVariants.{Store}
 use Rattle.bus_states.specs.Bus.{CoreState, Bus, committed, sees, line_of, offset_of}
 use Rattle.bus_states.specs.Coherent.{IsCoherent}
@@ -22,12 +24,14 @@ use Rattle.bus_states.specs.Views.{view_of}
 use Rattle.bus_states.proofs.Accesses.{MayAccess, store-owned, store-claims, store-goes_on, IsClaimed, claim-with, claim-writes, store-with}
 use Rattle.bus_states.proofs.AttemptRules.{with-committed}
 use Rattle.bus_states.proofs.Coherence.{IsCoherentWith, committed-with, coherent-with}
-use Rattle.bus_states.proofs.Copies.{clash, itself}
+use Rattle.bus_states.proofs.Copies.{clash, itself, or_true}
+use Rattle.bus_states.proofs.Guarding.{line-viewed, same-line, modified-marked, modified-owns_line, modified-owns, own-modified, owned-modified, loaded-shared}
 use Rattle.bus_states.proofs.Hurting.{quiet-hurts, hurts-same, hurts-then_none}
 use Rattle.bus_states.proofs.InLine.{load-lies, accessed-line, over-line}
 use Rattle.bus_states.proofs.QuietCalls.{Writes, written-quietly}
 use Rattle.bus_states.proofs.Showing.{line_at, place_at, aligned_at, sees_at, own_at, guarded_at}
 use Rattle.bus_states.proofs.Taking.{may-access, HasTaken, kept-taken, told-taken, taken-sees, by_line, carried-bytes, carried-loaded}
+use Rattle.bus_states.proofs.Violating.{access-meets, guards-loaded, store-tells, in_case}
 
 store-valid : (bus : Bus) (core addr offset width : ℕ) → IsWidth width → is_valid (store_next bus core addr offset width).state ≡ true
 store-valid bus core addr offset width widths =
@@ -101,13 +105,6 @@ seen-after false false byte cell c d up e = e
 or_false : (b : Bool) → b ≡ (b || false)
 or_false true = refl
 or_false false = refl
-
-or_true : (b d : Bool) → d ≡ true → (b || d) ≡ true
-or_true true d e = refl
-or_true false d e = e
-
-or_was : (b d : Bool) → b ≡ true → (b || d) ≡ true
-or_was b d e = rw e refl
 
 pub store-stored : (bus : Bus) (core addr offset width value : ℕ) (room : Option Line) → IsCoherent bus → MayAccess bus core addr room → IsWidth width
     → offset + width ≤ bus.line_length → store_wait bus core addr offset width room ≡ None
@@ -201,6 +198,57 @@ store-stored bus core addr offset width value room h may widths inside goes =
         (written-marks mid core addr offset width value a)
         ∙ ap (λ (byte : ℕ). cond ((addr == a) && is_within offset width x) (byte_of value (x - offset)) byte) (sees_mid a aligned x)
 
+-- ---- whom a store violates
+
+-- those that guard one of its bytes, and those whose full buffers have no place for the line
+store-meets : (bus : Bus) (core address width k : ℕ) → IsCoherent bus → IsLoad bus.shape address width
+    → store_violates bus core (line_of bus.line_length address) k ≡ true
+    → Guards (view_of bus) k (is_accessed address width) ⊎ IsCrowded (view_of bus) k address
+store-meets bus core address width k h access hit =
+    let addr : ℕ = line_at bus address in
+    access-meets bus (message_of bus Store core addr) k address width h access refl
+    (in_case (owns bus core addr) (violates bus (message_of bus Store core addr) k) hit)
+
+-- nobody, where the core owns a byte of the line
+store-told : (bus : Bus) (core address k : ℕ) → IsCoherent bus → OwnsIn (view_of bus) core (View.line_of bus.shape address)
+    → store_violates bus core (line_of bus.line_length address) k ≡ false
+store-told bus core address k h in_line =
+    let addr : ℕ = line_at bus address in
+    let mine : LineCopy = own bus core addr in
+    let some = own-modified bus core addr in_line.at (same-line bus h in_line.at address in_line.in_line) in_line.owned in
+    let marked = modified-marked mine (committed bus addr) ((h.lines addr (aligned_at bus h address)).up_to_date core) some in
+    rw (modified-owns_line mine.state mine.marks marked some) refl
+
+-- a core that owns no byte of a line which another one has loaded may not store to it and tell nobody
+store-unowned : (bus : Bus) (core address k : ℕ) → IsCoherent bus
+    → ((a : ℕ) → View.line_of bus.shape a ≡ View.line_of bus.shape address → (view_of bus).own core a ≡ false)
+    → core ≢ k → ((bus.core k).copy (line_of bus.line_length address)).marks.loaded ≡ true
+    → owns bus core (line_of bus.line_length address) ≡ false
+store-unowned bus core address k h none apart loaded =
+    elim (owns bus core (line_at bus address)) as (λ b. owns bus core (line_at bus address) ≡ b → b ≡ false) [
+      | true ↦ λ e.
+          let mine : LineCopy = own bus core (line_at bus address) in
+          let shared = loaded-shared bus core k (line_at bus address) h (aligned_at bus h address) apart loaded in
+          let byte = modified-owns bus core (line_at bus address) h (owned-valid mine.state mine.marks e) (owned-modified mine.state mine.marks e shared) in
+          absurd (clash ((view_of bus).own core byte.at) byte.owned (none byte.at (byte.in_line ∙ sym (line-viewed bus h address))))
+      | false ↦ λ e. refl
+    ] refl
+
+-- a later epoch, as the bus compares them
+is-later : (m n : ℕ) → m < n → nat_lt m n ≡ true
+is-later m n lt = grind (arith, nat_tests)
+
+-- then all later cores that guard one of its bytes
+store-tells_later : (bus : Bus) (core address width k : ℕ) → IsCoherent bus → IsLoad bus.shape address width
+    → ((a : ℕ) → View.line_of bus.shape a ≡ View.line_of bus.shape address → (view_of bus).own core a ≡ false)
+    → k ≢ core → epoch_of (bus.core core).attempt < epoch_of (bus.core k).attempt → Guards (view_of bus) k (is_accessed address width)
+    → store_violates bus core (line_of bus.line_length address) k ≡ true
+store-tells_later bus core address width k h access none away later guards =
+    let addr : ℕ = line_at bus address in
+    let loaded = guards-loaded bus k address width h access guards in
+    rw (store-unowned bus core address k h none (λ same. away (sym same)) loaded)
+    (store-tells bus (message_of bus Store core addr) k h (aligned_at bus h address) refl away (is-later (epoch_of (bus.core core).attempt) (epoch_of (bus.core k).attempt) later) loaded)
+
 -- a store that is answered
 pub store-stores : (bus : Bus) (core address width value : ℕ) (room : Option Line) (hurt : ℕ → Bool) → IsCoherent bus
     → Runs (view_of bus) core false → IsLoad bus.shape address width → IsRoom (bus.core core) room
@@ -225,8 +273,9 @@ store-stores bus core address width value room hurt h runs access victim goes ar
       sees =
           λ a. sees_at bus new t.length core a ∙ t.sees_is (line_at bus a) (aligned_at bus h a) (place_at bus a)
           ∙ sym (over-line bus.line_length bus.shape.size address width value ((view_of bus).sees core) a lies);
-      owns = λ a accessed. owned a ∙ or_true ((view_of bus).own core a) (is_accessed address width a) accessed;
-      owns_still = λ a was. owned a ∙ or_was ((view_of bus).own core a) (is_accessed address width a) was;
-      guards_new = λ a owns out outside. absurd (clash ((view_of new).own core a) owns (owned a ∙ rw (out, outside) refl));
-      guards_still = λ a was. guarded_at bus new t.length core a ∙ t.loaded (line_at bus a) (aligned_at bus h a) ∙ was;
+      own = owned;
+      guarded = λ a. guarded_at bus new t.length core a ∙ t.loaded (line_at bus a) (aligned_at bus h a);
+      meets = λ k hit. store-meets bus core address width k h access (sym (are k) ∙ hit);
+      told = λ owns k. are k ∙ store-told bus core address k h owns;
+      tells = λ cached none k away later guards. are k ∙ store-tells_later bus core address width k h access none away later guards;
     }

@@ -195,13 +195,22 @@ straight_load-with bus core addr room h may = pick (holds_line bus core addr) re
 abbrev pub stored_lines : Bus → ℕ → ℕ → ℕ → ℕ → ℕ → ℕ → ℕ → ℕ
 stored_lines bus core addr offset width value = one_line bus addr (with_number (sees bus core addr) offset width value)
 
+-- it may to an exclusive copy alone
+pub alone-exclusive : (s : LineState) → stores_alone s ≡ true → is_exclusive s ≡ true
+alone-exclusive I e = e
+alone-exclusive S e = e
+alone-exclusive E e = refl
+alone-exclusive M e = refl
+alone-exclusive SpS e = e
+alone-exclusive SpE e = refl
+
 store-alone : (bus : Bus) (core addr offset width value : ℕ) (room : Option Line) → IsCoherent bus
     → MayAccessStraight bus core addr room → offset + width ≤ bus.line_length → stores_alone (own bus core addr).state ≡ true
     → ChangesOne bus core addr (changed_copy (copy_with_number offset width value (own bus core addr)) (unmarked_next M)) bus.memory
     (with_number (own bus core addr).cell offset width value)
 store-alone bus core addr offset width value room h may inside alone =
     let mine : LineCopy = own bus core addr in
-    let exclusive : is_exclusive mine.state ≡ true = by_state mine.state alone in
+    let exclusive : is_exclusive mine.state ≡ true = alone-exclusive mine.state alone in
     record {
       in_cores = may.in_cores;
       held = valid mine.state alone;
@@ -220,14 +229,6 @@ store-alone bus core addr offset width value room h may inside alone =
       elsewhere = λ a aligned e x. refl;
     }
   where
-    by_state : (s : LineState) → stores_alone s ≡ true → is_exclusive s ≡ true
-    by_state I e = e
-    by_state S e = e
-    by_state E e = refl
-    by_state M e = refl
-    by_state SpS e = e
-    by_state SpE e = refl
-
     valid : (s : LineState) → stores_alone s ≡ true → is_valid s ≡ true
     valid I e = e
     valid S e = refl

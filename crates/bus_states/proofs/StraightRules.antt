@@ -1,13 +1,15 @@
 -- Straight loads and stores do what the store's rule says.
-use Rattle.std.proofs.Common.{◌≡◌, ℕ, ◌+◌, ◌-◌, ◌^◌, ◌%◌, ◌<◌, ◌≤◌, ◌==◌, ◌&&◌, Bool, true, false, cond, Option, refl, sym, ap, subst, ◌∙◌}
+use Rattle.std.proofs.Common.{◌≡◌, ◌≢◌, ℕ, ◌+◌, ◌-◌, ◌^◌, ◌%◌, ◌<◌, ◌≤◌, ◌==◌, ◌&&◌, Bool, true, false, cond, Option, refl, sym, ap, subst, ◌∙◌}
 use Rattle.memory_bytes.specs.Bytes.{byte_of, number_at}
 use Rattle.memory_bytes.proofs.Bytes.{number_at_same}
+use Rattle.spec_states.specs.declared.line.LineState.{LineState}
 use Rattle.spec_states.specs.declared.line.LineState.TheVariants.{S, E, M}
 use Rattle.spec_states.specs.declared.next.Next.{Next}
 use Rattle.spec_states.specs.Mask.{is_within}
+use Rattle.spec_states.specs.States.{is_exclusive}
 use Rattle.cache_lines.specs.declared.line.Line.{Line}
-use Rattle.violations.specs.View.{attempt_of, IsLoad, Runs}
-use Rattle.violations.specs.Rule.{HurtsLater, LoadsStraight, StoresStraight}
+use Rattle.violations.specs.View.{attempt_of, is_accessed, IsLoad, Runs}
+use Rattle.violations.specs.Rule.{HurtsLater, Guards, LoadsStraight, StoresStraight}
 use Rattle.bus_states.specs.declared.notice.Notice.TheVariants.{Load}
 use Rattle.bus_states.specs.Bus.{CoreState, Bus, committed, sees, line_of, offset_of}
 use Rattle.bus_states.specs.Coherent.{IsCoherent, speculates}
@@ -19,14 +21,16 @@ use Rattle.bus_states.proofs.Accesses.{Takes, takes-sends}
 use Rattle.bus_states.proofs.Addresses.{line-aligned}
 use Rattle.bus_states.proofs.AttemptRules.{at_core, with-committed}
 use Rattle.bus_states.proofs.Coherence.{committed-with, sees-unmodified}
-use Rattle.bus_states.proofs.Copies.{itself, made}
+use Rattle.bus_states.proofs.Copies.{itself, not_so, made}
+use Rattle.bus_states.proofs.Guarding.{loaded-shared}
 use Rattle.bus_states.proofs.Hurting.{message-hurts, quiet-hurts, hurts-none, hurts-same}
 use Rattle.bus_states.proofs.InLine.{load-lies, number-line, over-line}
 use Rattle.bus_states.proofs.Ordered.{clear-of, first-straight, runs-there}
 use Rattle.bus_states.proofs.Sending.{at_sender}
 use Rattle.bus_states.proofs.Showing.{committed_at, unowned-sees}
-use Rattle.bus_states.proofs.StraightAccesses.{IsFirst, MayAccessStraight, straight_load-takes, straight_load-with, straight_store-takes, straight_store-quietly, straight_store-with, stored_alone, stored_lines}
+use Rattle.bus_states.proofs.StraightAccesses.{IsFirst, MayAccessStraight, straight_load-takes, straight_load-with, alone-exclusive, straight_store-takes, straight_store-quietly, straight_store-with, stored_alone, stored_lines}
 use Rattle.bus_states.proofs.Taking.{by_line}
+use Rattle.bus_states.proofs.Violating.{load-crowds, access-meets, guards-loaded, publish-tells, in_case}
 
 -- a straight core may access the line of its load or store
 pub may-access_straight : (bus : Bus) (core address width : ℕ) (room : Option Line) → IsCoherent bus → AreOrdered bus
@@ -94,6 +98,9 @@ straight_load-loads_straight bus core address width value room hurt h ordered ru
           ∙ number_at_same ((view_of bus).sees core) (view_of bus).committed address width (λ a low high. clear.sees a);
       small = small;
       attempt = done.attempt;
+      crowded =
+          λ k hit. load-crowds bus (message_of bus Load core addr) k address h refl refl
+          (in_case (holds_line bus core addr) (violates bus (message_of bus Load core addr) k) (sym (are k) ∙ hit));
     }
 
 -- ---- stores
@@ -128,6 +135,18 @@ line-stored bus core addr offset width value a x same =
     by_line (λ (a : ℕ). stored_lines bus core addr offset width value a x ≡ cond ((addr == a) && is_within offset width x) (byte_of value (x - offset)) (committed bus a x)) addr a
     (rw (itself addr) (ap (λ (byte : ℕ). cond (is_within offset width x) (byte_of value (x - offset)) byte) (same x))) (λ e. rw e refl)
 
+-- all others that guard one of its bytes are violated
+straight_store-tells : (bus : Bus) (core address width value k : ℕ) → IsCoherent bus → IsLoad bus.shape address width → k ≢ core
+    → Guards (view_of bus) k (is_accessed address width)
+    → straight_store_violates bus core (line_of bus.line_length address) (offset_of bus.line_length address) width value k ≡ true
+straight_store-tells bus core address width value k h access away guards =
+    let addr : ℕ = line_of bus.line_length address in
+    let aligned : addr % bus.line_length ≡ 0 = line-aligned bus.line_length address h.length_is in
+    let loaded = guards-loaded bus k address width h access guards in
+    let state : LineState = (own bus core addr).state in
+    rw (not_so (stores_alone state) (is_exclusive state) (alone-exclusive state) (loaded-shared bus core k addr h aligned (λ same. away (sym same)) loaded))
+    (publish-tells bus (straight_store_message bus core addr (offset_of bus.line_length address) width value) k h aligned refl away loaded)
+
 pub straight_store-stores_straight : (bus : Bus) (core address width value : ℕ) (room : Option Line) (hurt : ℕ → Bool) → IsCoherent bus → AreOrdered bus
     → Runs (view_of bus) core true → IsLoad bus.shape address width → IsRoom (bus.core core) room
     → ((k : ℕ) → hurt k ≡ straight_store_violates bus core (line_of bus.line_length address) (offset_of bus.line_length address) width value k)
@@ -151,4 +170,8 @@ straight_store-stores_straight bus core address width value room hurt h ordered 
           (λ x. sees-unmodified bus core addr (((h.lines addr may.aligned).up_to_date core).not_modified ((h.cores core).unmarked addr may.straight)) x)
           ∙ sym (over-line bus.line_length bus.shape.size address width value (view_of bus).committed a lies);
       attempt = done.attempt;
+      meets =
+          λ k hit. access-meets bus (straight_store_message bus core addr offset width value) k address width h access refl
+          (in_case (stores_alone (own bus core addr).state) (violates bus (straight_store_message bus core addr offset width value) k) (sym (are k) ∙ hit));
+      tells = λ k away guards. are k ∙ straight_store-tells bus core address width value k h access away guards;
     }

@@ -33,8 +33,11 @@ pub record IsCoherentCore (core : CoreState) : Type 0 where
 
 pub record IsCoherent (bus : Bus) : Type 0 where
   pub length_is : is_line_length bus.line_length ≡ true
+  pub length_of : bus.line_length ≡ bus.shape.limits.line_length
   pub whole_lines : bus.shape.size % bus.line_length ≡ 0
   pub lengths : (k : ℕ) → k < bus.shape.cores → (bus.core k).line_length ≡ bus.line_length
+  -- each core's buffer takes as many lines as the limits say
+  pub limits : (k : ℕ) → k < bus.shape.cores → (bus.core k).buffer.limit ≡ bus.shape.limits.buffer_lines
   pub lines : (addr : ℕ) → addr % bus.line_length ≡ 0
       → IsCoherentLine (λ k. (bus.core k).copy addr) (memory_line bus.line_length bus.memory addr) (committed bus addr)
   pub cores : (k : ℕ) → IsCoherentCore (bus.core k)

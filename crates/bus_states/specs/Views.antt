@@ -11,6 +11,7 @@ abbrev pub view_of : Bus → StoreView
 view_of bus =
     record {
       shape = bus.shape;
+      cached = true;
       committed = λ a. committed bus (line_of bus.line_length a) (offset_of bus.line_length a);
       attempt = λ k. (bus.core k).attempt;
       sees = λ k a. sees bus k (line_of bus.line_length a) (offset_of bus.line_length a);

@@ -15,6 +15,7 @@ use Rattle.homefree.specs.BookView.{BookView}
 use Rattle.homefree.specs.InStep.{InStep}
 use Rattle.homefree.specs.LockView.{loop_of, past_of}
 use Rattle.homefree.proofs.Drives.{in_order}
+use Rattle.homefree.proofs.Knowing.{are_known}
 use Rattle.core_threads.specs.declared.fault.RunFault.{RunFault}
 use Rattle.core_threads.specs.Faults.{fault_of}
 use Rattle.core_threads.specs.Passes.{Knows, IsCounted, counts_in}
@@ -58,6 +59,8 @@ module _ {S : Type 0} (view : S → StoreView) (b : BookView S) (i : InStep view
         committed = record { long = p.holds.long; bytes = λ a. i.agrees.committed a ∙ p.holds.bytes a };
         totals = i.counted;
         caused = i.caused;
+        known = are_known b.image b.cores b.history i.kinds;
+        passes = i.passes;
       }
 
   pub finishes : (end : End) (ended : Option End) (totals counted : Counts) → ended ≡ i.state.end → ended ≡ Some end → totals ≡ b.totals → counted ≡ b.totals → Finishes view (loop_of b) b end totals counted

@@ -14,17 +14,19 @@ use Rattle.homefree.specs.declared.answer.StopCause.TheVariants.{HistoryFull}
 use Rattle.homefree.specs.declared.book.Loop.{Loop}
 use Rattle.homefree.specs.Agrees.{Agrees}
 use Rattle.homefree.specs.BookView.{BookView, IsFull}
-use Rattle.homefree.specs.Caused.{HasCauses}
+use Rattle.homefree.specs.Caused.{HasCauses, AreKnown}
 use Rattle.homefree.specs.Counted.{counted_in}
 use Rattle.homefree.specs.Driven.{IsInOrder}
 use Rattle.homefree.specs.LockView.{loop_of}
+use Rattle.homefree.specs.Missed.{PassesOverNone, IsOfCaches}
 use Rattle.core_threads.specs.declared.fault.RunFault.{RunFault}
 use Rattle.core_threads.specs.declared.fault.RunFault.TheVariants.{NoMemory}
 use Rattle.core_threads.specs.Faults.{fault_of}
 
 -- the history replays on the one-thread machine to the state that the book holds, and committed memory is exactly what the epochs
 -- before the homefree one, and the instructions that the homefree one has published, leave when run in order from the loaded image;
--- the book's totals are the counts of its history, and each violation in it has its cause
+-- the book's totals are the counts of its history, each violation in it has its cause and is of a kind, and over caches no
+-- entry passes over a later epoch that has read in a line which it writes
 pub record Stands {S : Type 0} (view : S → StoreView) (b : BookView S) (state : FlatState) : Type 0 where
   pub replays : replay b.image b.cores b.history ≡ Some state
   pub agrees : Agrees state (view b.store)
@@ -33,6 +35,8 @@ pub record Stands {S : Type 0} (view : S → StoreView) (b : BookView S) (state 
   pub committed : Holds b.image (view b.store).committed memory
   pub totals : b.totals ≡ counted_in b.history
   pub caused : HasCauses b.history
+  pub known : AreKnown b.image b.cores b.history
+  pub passes : IsOfCaches view → PassesOverNone b.image b.cores b.history
 
 -- the book of a run whose loop is over: it ended as the sequential loop does, with its memory, and the cores counted all that the
 -- history has

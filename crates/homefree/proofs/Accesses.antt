@@ -1,5 +1,5 @@
 -- The caller of an access: where it agreed with the store and the store did what its rule says, it agrees afterwards.
-use Rattle.std.proofs.Common.{◌≡◌, ℕ, ◌&&◌, Bool, true, false, cond, is_some, is_none, Option, Some, None, unwrap_or, refl, sym, ap, ◌∙◌, true≢false}
+use Rattle.std.proofs.Common.{◌≡◌, ℕ, ◌&&◌, ◌||◌, Bool, true, false, cond, is_some, is_none, Option, Some, None, unwrap_or, refl, sym, ap, ◌∙◌, true≢false}
 use Rattle.rv32_image.specs.Image.{LoadedImage}
 use Rattle.rv32_exec.specs.Hart.{HartState}
 use Rattle.memory_bytes.specs.Maps.{first_of, joined, stored, read_outside}
@@ -7,7 +7,8 @@ use Rattle.memory_bytes.proofs.Bytes.{over-joined}
 use Rattle.spec_history.specs.FlatState.{CoreState, begun}
 use Rattle.violations.specs.View.{StoreView, IsSettled, attempt_of, is_accessed}
 use Rattle.violations.specs.Rule.{Begins, Loads, Stores}
-use Rattle.homefree.specs.Agrees.{AgreesCore}
+use Rattle.homefree.specs.Agrees.{HasReadIn, AgreesCore}
+use Rattle.homefree.proofs.Others.{in_shape}
 
 -- a new attempt keeps nothing of its own yet
 pub begun_agrees : (image : LoadedImage) (m : ℕ → ℕ) (v w : StoreView) (by epoch : ℕ) → IsSettled v → v.attempt by ≡ None → ((a : ℕ) → v.committed a ≡ m a)
@@ -16,9 +17,9 @@ begun_agrees image m v w by epoch settled idle committed begins =
     let nothing_kept = settled.idle by idle in record {
       attempt = begins.attempt;
       sees = λ a. begins.sees a ∙ (nothing_kept.sees a ∙ committed a);
-      owns = λ a byte own. absurd cc;
+      own = λ a. begins.own a ∙ nothing_kept.own a;
       guards_read = λ a byte read. absurd cc;
-      guards_kept = λ a owns none. absurd (true≢false (sym owns ∙ (begins.own a ∙ nothing_kept.own a)));
+      guards_only = λ a is. absurd (true≢false (sym is ∙ (begins.guarded a ∙ nothing_kept.guarded a)));
     }
 
 -- ---- loads
@@ -33,17 +34,53 @@ outside_accessed : (address width a byte : ℕ) (own : ℕ → Option ℕ) (comm
     → (is_accessed address width a ≡ true) × (own a ≡ None)
 outside_accessed address width a byte own committed is = outside_by (is_accessed address width a) (own a) (committed a) byte is
 
-guarded_by : (v w : StoreView) (by address width value a : ℕ) (hurt : ℕ → Bool) (m : ℕ → ℕ) (c : CoreState) → AgreesCore m v by c → Loads v w by address width value hurt
-    → c.own a ≡ None → is_accessed address width a ≡ true → (b : Bool) → v.own by a ≡ b → w.guarded by a ≡ true
-guarded_by v w by address width value a hurt m c g l none accessed true owns = l.guards_still a (g.guards_kept a owns none)
-guarded_by v w by address width value a hurt m c g l none accessed false owns = l.guards a accessed owns
-
 load_guards : (v w : StoreView) (by address width value a byte : ℕ) (hurt : ℕ → Bool) (m : ℕ → ℕ) (c : CoreState) → AgreesCore m v by c → Loads v w by address width value hurt
     → (now : Option ℕ) → read_outside address width c.own m a ≡ now → first_of now (c.outside a) ≡ Some byte → w.guarded by a ≡ true
 load_guards v w by address width value a byte hurt m c g l None at read = l.guards_still a (g.guards_read a byte read)
 load_guards v w by address width value a byte hurt m c g l (Some b) at read =
     let parts = outside_accessed address width a b c.own m at in
-    guarded_by v w by address width value a hurt m c g l parts.1 parts.0 (v.own by a) refl
+    l.guards a parts.0 (g.own a ∙ ap (λ o. is_some o) parts.1)
+
+-- a byte that was read, or is now
+now_read : (first second : Option ℕ) → is_some (first_of first second) ≡ (is_some first || is_some second)
+now_read None second = refl
+now_read (Some byte) second = refl
+
+or_right : (a b : Bool) → b ≡ true → (a || b) ≡ true
+or_right true b is = refl
+or_right false b is = is
+
+or_left : (a b : Bool) → a ≡ true → (a || b) ≡ true
+or_left true b is = refl
+or_left false b is = absurd cc
+
+none_of : (o : Option ℕ) → is_some o ≡ false → o ≡ None
+none_of None is = refl
+none_of (Some byte) is = absurd cc
+
+reads_by : (b : Bool) (o : Option ℕ) (here : ℕ) → b ≡ true → o ≡ None → is_some (cond (b && is_none o) (Some here) None) ≡ true
+reads_by true None here is none = refl
+reads_by true (Some byte) here is none = absurd cc
+reads_by false o here is none = absurd cc
+
+-- the bytes of a load that aren't the core's own are read from outside
+taken_read : (address width at : ℕ) (m : ℕ → ℕ) (c : CoreState) → is_accessed address width at ≡ true → c.own at ≡ None → is_some (read_outside address width c.own m at) ≡ true
+taken_read address width at m c accessed none = reads_by (is_accessed address width at) (c.own at) (m at) accessed none
+
+load_only : (v w : StoreView) (by address width value a : ℕ) (hurt : ℕ → Bool) (m : ℕ → ℕ) (c : CoreState) (hart : HartState) → AgreesCore m v by c → Loads v w by address width value hurt
+    → w.guarded by a ≡ true → (b : Bool) → v.guarded by a ≡ b → HasReadIn v.shape (record c { hart = hart; outside = joined (read_outside address width c.own m) c.outside }) a
+load_only v w by address width value a hurt m c hart g l is true was =
+    let old = g.guards_only a was in
+    record { at = old.at; in_line = old.in_line; read = now_read (read_outside address width c.own m old.at) (c.outside old.at) ∙ or_right _ _ old.read }
+load_only v w by address width value a hurt m c hart g l is false was =
+    let taken = l.guards_only a is was in
+    let none = none_of (c.own taken.at) (sym (g.own taken.at) ∙ taken.outside) in
+    record {
+      at = taken.at;
+      in_line = taken.in_line;
+      read = now_read (read_outside address width c.own m taken.at) (c.outside taken.at)
+          ∙ or_left _ _ (taken_read address width taken.at m c taken.accessed none);
+    }
 
 -- the caller after a load
 pub load_core : (v w : StoreView) (by address width value : ℕ) (hurt : ℕ → Bool) (m : ℕ → ℕ) (c : CoreState) (hart : HartState) → AgreesCore m v by c → Loads v w by address width value hurt
@@ -51,9 +88,10 @@ pub load_core : (v w : StoreView) (by address width value : ℕ) (hurt : ℕ →
 load_core v w by address width value hurt m c hart g l = record {
   attempt = l.attempt ∙ g.attempt;
   sees = λ a. l.sees a ∙ g.sees a;
-  owns = λ a byte own. l.own a ∙ g.owns a byte own;
+  own = λ a. l.own a ∙ g.own a;
   guards_read = λ a byte read. load_guards v w by address width value a byte hurt m c g l (read_outside address width c.own m a) refl read;
-  guards_kept = λ a owns none. l.guards_still a (g.guards_kept a (sym (l.own a) ∙ owns) none);
+  guards_only = λ a is. in_shape v.shape w.shape (record c { hart = hart; outside = joined (read_outside address width c.own m) c.outside }) a l.shape
+      (load_only v w by address width value a hurt m c hart g l is (v.guarded by a) refl);
 }
 
 -- ---- stores
@@ -67,25 +105,13 @@ pub stored_accessed : (address width value a : ℕ) → is_some (stored address 
 unfolding stored
 stored_accessed address width value a = some_by (is_accessed address width a) _
 
-some_accessed : (address width value a byte : ℕ) → stored address width value a ≡ Some byte → is_accessed address width a ≡ true
-some_accessed address width value a byte some = sym (stored_accessed address width value a) ∙ ap is_some some
-
-none_accessed : (address width value a : ℕ) → stored address width value a ≡ None → is_accessed address width a ≡ false
-none_accessed address width value a none = sym (stored_accessed address width value a) ∙ ap is_some none
-
-store_owns : (v w : StoreView) (by address width value a byte : ℕ) (hurt : ℕ → Bool) (m : ℕ → ℕ) (c : CoreState) → AgreesCore m v by c → Stores v w by address width value hurt
-    → (now : Option ℕ) → stored address width value a ≡ now → first_of now (c.own a) ≡ Some byte → w.own by a ≡ true
-store_owns v w by address width value a byte hurt m c g l None at own = l.owns_still a (g.owns a byte own)
-store_owns v w by address width value a byte hurt m c g l (Some b) at own = l.owns a (some_accessed address width value a b at)
-
-first_none : (first second : Option ℕ) → first_of first second ≡ None → (first ≡ None) × (second ≡ None)
-first_none None second is = (refl, is)
-first_none (Some b) second is = absurd cc
-
-store_guards : (v w : StoreView) (by address width value a : ℕ) (hurt : ℕ → Bool) (m : ℕ → ℕ) (c : CoreState) → AgreesCore m v by c → Stores v w by address width value hurt
-    → w.own by a ≡ true → c.own a ≡ None → is_accessed address width a ≡ false → (b : Bool) → v.own by a ≡ b → w.guarded by a ≡ true
-store_guards v w by address width value a hurt m c g l owns none accessed true was = l.guards_still a (g.guards_kept a was none)
-store_guards v w by address width value a hurt m c g l owns none accessed false was = l.guards_new a owns was accessed
+own_or : (was now : Option ℕ) (accessed : Bool) → is_some now ≡ accessed → (is_some was || accessed) ≡ is_some (first_of now was)
+own_or was None true is = absurd cc
+own_or was (Some byte) false is = absurd cc
+own_or None None false is = refl
+own_or (Some old) None false is = refl
+own_or None (Some byte) true is = refl
+own_or (Some old) (Some byte) true is = refl
 
 -- the caller after a store
 pub store_core : (v w : StoreView) (by address width value : ℕ) (hurt : ℕ → Bool) (m : ℕ → ℕ) (c : CoreState) (hart : HartState) → AgreesCore m v by c → Stores v w by address width value hurt
@@ -93,10 +119,11 @@ pub store_core : (v w : StoreView) (by address width value : ℕ) (hurt : ℕ �
 store_core v w by address width value hurt m c hart g l = record {
   attempt = l.attempt ∙ g.attempt;
   sees = λ a. l.sees a ∙ (ap (unwrap_or (stored address width value a)) (g.sees a) ∙ sym (over-joined (stored address width value) c.own m a));
-  owns = λ a byte own. store_owns v w by address width value a byte hurt m c g l (stored address width value a) refl own;
-  guards_read = λ a byte read. l.guards_still a (g.guards_read a byte read);
-  guards_kept = λ a owns none. let parts = first_none (stored address width value a) (c.own a) none in
-      store_guards v w by address width value a hurt m c g l owns parts.1 (none_accessed address width value a parts.0) (v.own by a) refl;
+  own = λ a. l.own a ∙ (ap (λ b. b || is_accessed address width a) (g.own a)
+      ∙ own_or (c.own a) (stored address width value a) (is_accessed address width a) (stored_accessed address width value a));
+  guards_read = λ a byte read. l.guarded a ∙ g.guards_read a byte read;
+  guards_only = λ a is. let old = in_shape v.shape w.shape c a l.shape (g.guards_only a (sym (l.guarded a) ∙ is)) in
+      record { at = old.at; in_line = old.in_line; read = old.read };
 }
 
 -- a straight caller keeps nothing, in the store and in the state
@@ -106,7 +133,7 @@ straight_core w by m c settled attempt is own outside committed =
     let nothing_kept = settled.straight by (attempt_of c.epoch true) attempt refl in record {
       attempt = attempt ∙ ap (λ b. Some (attempt_of c.epoch b)) (sym is);
       sees = λ a. nothing_kept.sees a ∙ (committed a ∙ ap (λ o. unwrap_or o (m a)) (sym (own a)));
-      owns = λ a byte some. let none = own a in absurd cc;
+      own = λ a. nothing_kept.own a ∙ sym (ap (λ o. is_some o) (own a));
       guards_read = λ a byte read. let none = outside a in absurd cc;
-      guards_kept = λ a owns none. absurd (true≢false (sym owns ∙ nothing_kept.own a));
+      guards_only = λ a is. absurd (true≢false (sym is ∙ nothing_kept.guarded a));
     }

@@ -3,7 +3,7 @@ use Rattle.std.proofs.Common.{◌≡◌, ◌≤◌, ◌<◌, ◌*◌, ℕ, ◌+�
 use Rattle.std.proofs.lemmas.List.Elements.{All-nil, All-append}
 use Rattle.rv32_exec.specs.declared.sequential.End.{End}
 use Rattle.rv32_exec.specs.Arrival.{Arrival}
-use Rattle.rv32_image.specs.Image.{IsImage}
+use Rattle.rv32_image.specs.Image.{LoadedImage, IsImage}
 use Rattle.rv32_image.specs.Version.{limits_of}
 use Rattle.rv32_image.specs.declared.version.Version.{Version}
 use Rattle.rv32_image.specs.declared.version.Version.TheVariants.{One, Two}
@@ -12,8 +12,11 @@ use Rattle.run_ledger.specs.Counts.{no_counts, sum_of, IsAtMost}
 use Rattle.spec_history.specs.declared.entry.Entry.{Entry}
 use Rattle.spec_history.specs.FlatState.{FlatState, first_state, end_at}
 use Rattle.spec_history.specs.Replay.{replay, counts_of}
+use Rattle.spec_history.specs.Replay.{replay_from}
+use Rattle.spec_history.proofs.Joining.{splits}
 use Rattle.spec_history.proofs.Reaching.{no_entries}
-use Rattle.violations.specs.View.{StoreView}
+use Rattle.spec_history.proofs.Replays.{replayed}
+use Rattle.violations.specs.View.{StoreView, IsSettled}
 use Rattle.violations.specs.Rule.{IsSameView, IsCoreCount, IsFresh}
 use Rattle.homefree.specs.declared.answer.Answer.{Answer}
 use Rattle.homefree.specs.declared.answer.Answer.TheVariants.{Over, Stopped}
@@ -22,15 +25,19 @@ use Rattle.homefree.specs.declared.answer.StopCause.TheVariants as stop
 use Rattle.homefree.specs.declared.fault.TurnFault.TheVariants.{HistoryFull, NoMemory}
 use Rattle.homefree.specs.declared.register.Register.{Register}
 use Rattle.homefree.specs.Agrees.{Agrees}
-use Rattle.homefree.specs.Acted.{Acted, MayNote}
+use Rattle.homefree.specs.Acted.{Acted, MayNote, turn_of}
+use Rattle.homefree.specs.Caused.{HasKinds}
 use Rattle.homefree.specs.BookInside.{IsBook, IsAsBefore, book_of}
 use Rattle.homefree.specs.BookView.{BookView}
 use Rattle.homefree.specs.Counted.{counted_in, IsNoMore}
 use Rattle.homefree.specs.InStep.{InStep}
 use Rattle.homefree.specs.Kept.{Fits, running_at}
+use Rattle.homefree.specs.Missed.{PassesOverNone, IsOfCaches}
 use Rattle.homefree.specs.Turned as turn
 use Rattle.homefree.specs.Turned.{Turned, does}
 use Rattle.homefree.proofs.Caused.{acts, grown, none_yet}
+use Rattle.homefree.proofs.Explaining.{acts_known}
+use Rattle.homefree.proofs.Knowing.{no_kinds, no_passes, grown_kinds, grown_passes}
 use Rattle.homefree.proofs.Others.{idle_on, same_at}
 use Rattle.homefree.proofs.Tallies.{few_counts}
 use Rattle.homefree.proofs.Entries.{acts_by, of_cores}
@@ -52,13 +59,15 @@ fits_first r w cores is count fresh len idle history totals homefree next_epoch 
   core_count = rw len count;
 }
 
-pub first_book : (r : Register) (w : StoreView) (cores room : ℕ) → IsImage r.image → IsCoreCount r.image cores → IsFresh r.image cores w → length r.running.items ≡ cores
+pub first_book : {S : Type 0} (view : S → StoreView) (r : Register) (store : S) (cores room : ℕ) → IsImage r.image → IsCoreCount r.image cores → IsFresh r.image cores (view store) → length r.running.items ≡ cores
     → ((k : ℕ) → running_at r.running.items k ≡ None) → r.history.items ≡ [] → r.totals ≡ no_counts → r.homefree ≡ 0 → r.next_epoch ≡ 0 → r.end ≡ end_at r.image 0
-    → room ≤ 1048576 → IsBook r w room None
-first_book r w cores room is count fresh len idle history totals homefree next_epoch end most = record {
-  fits = fits_first r w cores is count fresh len idle history totals homefree next_epoch end;
+    → room ≤ 1048576 → IsBook view r store room None
+first_book view r store cores room is count fresh len idle history totals homefree next_epoch end most = record {
+  fits = fits_first r (view store) cores is count fresh len idle history totals homefree next_epoch end;
   by_cores = rw history (All-nil (λ (e : Entry). e.by < length r.running.items));
   caused = rw history none_yet;
+  kinds = rw history (no_kinds r.image (length r.running.items));
+  passes = λ caches. rw history (no_passes r.image (length r.running.items));
   within = rw history (omega arith);
   most = most;
   full = λ is. absurd cc;
@@ -66,7 +75,7 @@ first_book r w cores room is count fresh len idle history totals homefree next_e
 
 -- ---- the book as contracts see it
 
-pub in_step : {S : Type 0} (view : S → StoreView) (r : Register) (store : S) (room : ℕ) (cause : Option StopCause) → IsBook r (view store) room cause → InStep view (book_of r store room cause)
+pub in_step : {S : Type 0} (view : S → StoreView) (r : Register) (store : S) (room : ℕ) (cause : Option StopCause) → IsBook view r store room cause → InStep view (book_of r store room cause)
 in_step view r store room cause b = record {
   state = b.fits.state;
   replays = b.fits.replays;
@@ -74,6 +83,8 @@ in_step view r store room cause b = record {
   shape = b.fits.shape;
   by_cores = b.by_cores;
   caused = b.caused;
+  kinds = b.kinds;
+  passes = b.passes;
   counted = b.fits.counted;
   is_image = b.fits.is_image;
   core_count = b.fits.core_count;
@@ -81,6 +92,23 @@ in_step view r store room cause b = record {
   most = b.most;
   full = b.full;
 }
+
+-- it takes no more turns, for this cause
+pub book_stopped : {S : Type 0} (view : S → StoreView) (r : Register) (store : S) (room : ℕ) (old : Option StopCause) (cause : StopCause) → IsBook view r store room old
+    → (cause ≡ stop.HistoryFull → room < length r.history.items + (limits_of r.image.version).free_entries) → IsBook view r store room (Some cause)
+book_stopped view r store room old cause b full = record {
+  fits = b.fits;
+  by_cores = b.by_cores;
+  caused = b.caused;
+  kinds = b.kinds;
+  passes = b.passes;
+  within = b.within;
+  most = b.most;
+  full = λ is. full (this cause is);
+}
+  where
+    this : (cause : StopCause) → Some cause ≡ Some stop.HistoryFull → cause ≡ stop.HistoryFull
+    this cause is = cc
 
 -- ---- turns that change nothing
 
@@ -109,7 +137,7 @@ module _ {S : Type 0} (view : S → StoreView) (r : Register) (store : S) (room 
 pub agrees_same : (s : FlatState) (v w : StoreView) → Agrees s v → IsSameView v w → Agrees s w
 agrees_same s v w agrees same = record {
   committed = λ a. same.committed a ∙ agrees.committed a;
-  core = λ going k. same_at s.committed s.committed v w k (s.cores k) (λ a. refl) (same.cores k) (agrees.core going k);
+  core = λ going k. same_at s.committed s.committed v w k (s.cores k) same.shape (λ a. refl) (same.cores k) (agrees.core going k);
 }
 
 pub fits_same : (r q : Register) (v w : StoreView) → Fits r v → IsAsBefore r q → IsSameView v w → Fits q w
@@ -129,11 +157,14 @@ fits_same r q v w f same view = record {
   core_count = rw (same.image, same.running) f.core_count;
 }
 
-pub book_same : (r q : Register) (v w : StoreView) (room : ℕ) (cause : Option StopCause) → IsBook r v room cause → IsAsBefore r q → IsSameView v w → IsBook q w room cause
-book_same r q v w room cause b same view = record {
-  fits = fits_same r q v w b.fits same view;
+pub book_same : {S : Type 0} (view : S → StoreView) (r q : Register) (store reserved : S) (room : ℕ) (cause : Option StopCause) → IsBook view r store room cause → IsAsBefore r q
+    → IsSameView (view store) (view reserved) → IsBook view q reserved room cause
+book_same view r q store reserved room cause b same seen = record {
+  fits = fits_same r q (view store) (view reserved) b.fits same seen;
   by_cores = rw (same.running, same.history) b.by_cores;
   caused = rw same.history b.caused;
+  kinds = rw (same.image, same.running, same.history) b.kinds;
+  passes = λ caches. rw (same.image, same.running, same.history) (b.passes caches);
   within = rw same.history b.within;
   most = b.most;
   full = rw (same.history, same.image) b.full;
@@ -192,17 +223,17 @@ most_entries One cores most = omega arith
 most_entries Two cores most = omega arith
 
 -- the counts of a book are small
-small_totals : (r : Register) (v : StoreView) (room : ℕ) (cause : Option StopCause) → IsBook r v room cause → IsAtMost 1048576 r.totals
-small_totals r v room cause b =
+small_totals : {S : Type 0} (view : S → StoreView) (r : Register) (store : S) (room : ℕ) (cause : Option StopCause) → IsBook view r store room cause → IsAtMost 1048576 r.totals
+small_totals view r store room cause b =
     let few = few_counts r.history.items in
     let l = few.loads in let s = few.stores in let e = few.restarts in let c = few.commits in
     let within = b.within in let most = b.most in
     subst (IsAtMost 1048576) (sym b.fits.counted) (record { loads = omega arith; stores = omega arith; restarts = omega arith; commits = omega arith })
 
-pub may_note : (r q : Register) (v : StoreView) (room : ℕ) (shares : Counts) (cause : Option StopCause) → IsBook r v room cause → IsAsBefore r q
+pub may_note : {S : Type 0} (view : S → StoreView) (r q : Register) (store : S) (room : ℕ) (shares : Counts) (cause : Option StopCause) → IsBook view r store room cause → IsAsBefore r q
     → vec_len q.history + (limits_of r.image.version).free_entries ≤ vec_capacity q.history → IsNoMore shares r.totals → MayNote q shares
-may_note r q v room shares cause b same has less =
-    let small = small_totals r v room cause b in
+may_note view r q store room shares cause b same has less =
+    let small = small_totals view r store room cause b in
     let sl = small.loads in let ss = small.stores in let sr = small.restarts in let sc = small.commits in
     let enough = most_entries r.image.version (length r.running.items) b.fits.core_count.most in record {
       room = rw same.running (omega (arith, has, enough));
@@ -216,23 +247,44 @@ may_note r q v room shares cause b same has less =
       few_commits = rw same.totals (omega (arith, sc));
     }
 
+-- from the state of the first entries on, the others lead to the last
+goes_on_from : (image : LoadedImage) (count : ℕ) (first later : List Entry) (s u : FlatState) → replay image count first ≡ Some s → replay image count (first ++ later) ≡ Some u
+    → replay_from image count s later ≡ Some u
+goes_on_from image count first later s u replays all =
+    let parts = splits image count first later u all in
+    subst (λ t. replay_from image count t later ≡ Some u) (one_state (replay image count first) parts.between s parts.first_replays replays) parts.later_replays
+
 still_none : (cause : Option StopCause) → cause ≡ None → cause ≡ Some stop.HistoryFull → ⊥
 still_none cause none some = cc
 
-pub book_acts : (r q new : Register) (v x w : StoreView) (room core : ℕ) (cause : Option StopCause) (shares shares' : Counts) (next : Option Arrival) (answer : Answer) → IsBook r v room cause → cause ≡ None → IsAsBefore r q
-    → core < length r.running.items → length r.history.items + (limits_of r.image.version).free_entries ≤ room → Fits q x → Acted q new x w shares shares' core next answer
-    → IsBook new w room cause
-book_acts r q new v x w room core cause shares shares' next answer b unstopped same there free f a =
+pub book_acts : {S : Type 0} (view : S → StoreView) (r q new : Register) (store reserved after : S) (room core : ℕ) (cause : Option StopCause) (shares shares' : Counts) (next : Option Arrival) (answer : Answer) → IsBook view r store room cause → r.end ≡ None → cause ≡ None → IsAsBefore r q
+    → core < length r.running.items → length r.history.items + (limits_of r.image.version).free_entries ≤ room → IsSettled (view reserved) → Fits q (view reserved)
+    → Acted q new (view reserved) (view after) shares shares' core next answer
+    → IsBook view new after room cause
+book_acts view r q new store reserved after room core cause shares shares' next answer b going unstopped same there free settled f a =
     let cores : length q.running.items ≡ length r.running.items = ap (λ v. length v.items) same.running in
     let enough = most_entries r.image.version (length r.running.items) b.fits.core_count.most in
     let short : length a.entries ≤ 2 * length r.running.items = subst (λ n. length a.entries ≤ 2 * n) cores a.short in
     let acted = a.acts f.state f.replays in
-    let mine = acts_by _ x w _ acted in
+    let mine = acts_by _ (view reserved) (view after) _ acted in
     let all_cores : All (λ (e : Entry). e.by < length r.running.items) (r.history.items ++ a.entries) =
-    All-append (λ (e : Entry). e.by < length r.running.items) r.history.items a.entries b.by_cores (of_cores core (length r.running.items) a.entries there mine) in record {
+    All-append (λ (e : Entry). e.by < length r.running.items) r.history.items a.entries b.by_cores (of_cores core (length r.running.items) a.entries there mine) in
+    let count = length q.running.items in
+    let kinds : HasKinds q.image (length q.running.items) q.history.items = rw (same.image, same.running, same.history) b.kinds in
+    let passes : IsOfCaches view → PassesOverNone q.image (length q.running.items) q.history.items = λ caches. rw (same.image, same.running, same.history) (b.passes caches) in
+    let later : replay q.image (length q.running.items) (q.history.items ++ a.entries) ≡ Some a.fits.state =
+    subst (λ xs. replay q.image (length q.running.items) xs ≡ Some a.fits.state) a.steps.history
+    (subst (λ n. replay q.image n new.history.items ≡ Some a.fits.state) a.steps.cores (subst (λ i. replay i (length new.running.items) new.history.items ≡ Some a.fits.state) a.steps.image a.fits.replays)) in
+    let goes = goes_on_from q.image count q.history.items a.entries f.state a.fits.state f.replays later in
+    let still : f.state.end ≡ None = sym f.shows.end ∙ (same.end ∙ going) in
+    let kept = ((replayed q.image count q.history.items f.state f.is_image f.replays).going still).kept in
+    let known = acts_known (IsOfCaches view) (turn_of q f.state core next) (view reserved) (view after) (does a.entries answer) still kept f.agrees f.is_image.size_allowed.lines f.shape settled (λ caches. caches reserved) acted in record {
       fits = a.fits;
       by_cores = rw (a.steps.cores, cores, a.steps.history, same.history) all_cores;
-      caused = rw (a.steps.history, same.history) (grown r.history.items a.entries b.caused (acts _ x w _ acted));
+      caused = rw (a.steps.history, same.history) (grown r.history.items a.entries b.caused (acts _ (view reserved) (view after) _ acted));
+      kinds = rw (a.steps.image, a.steps.cores, a.steps.history) (grown_kinds (IsOfCaches view) q.image count q.history.items a.entries f.state a.fits.state kinds f.replays goes known);
+      passes = λ caches. rw (a.steps.image, a.steps.cores, a.steps.history)
+          (grown_passes (IsOfCaches view) q.image count q.history.items a.entries f.state a.fits.state caches (passes caches) f.replays goes known);
       within = rw (a.steps.history, same.history, length-append r.history.items a.entries) (omega (arith, free, enough, short));
       most = b.most;
       full = λ is. absurd (still_none cause unstopped is);
@@ -241,9 +293,9 @@ book_acts r q new v x w room core cause shares shares' next answer b unstopped s
 -- ---- what the code's numbers say
 
 -- the history has at most so many entries more as a turn asks for
-pub acts_most : (r q new : Register) (v x w : StoreView) (room core : ℕ) (cause : Option StopCause) (shares shares' : Counts) (next : Option Arrival) (answer : Answer) → IsBook r v room cause → IsAsBefore r q
-    → Acted q new x w shares shares' core next answer → length new.history.items ≤ length r.history.items + (limits_of r.image.version).free_entries
-acts_most r q new v x w room core cause shares shares' next answer b same a =
+pub acts_most : {S : Type 0} (view : S → StoreView) (r q new : Register) (store reserved after : S) (room core : ℕ) (cause : Option StopCause) (shares shares' : Counts) (next : Option Arrival) (answer : Answer) → IsBook view r store room cause → IsAsBefore r q
+    → Acted q new (view reserved) (view after) shares shares' core next answer → length new.history.items ≤ length r.history.items + (limits_of r.image.version).free_entries
+acts_most view r q new store reserved after room core cause shares shares' next answer b same a =
     let cores : length q.running.items ≡ length r.running.items = ap (λ v. length v.items) same.running in
     let enough = most_entries r.image.version (length r.running.items) b.fits.core_count.most in
     let short : length a.entries ≤ 2 * length r.running.items = subst (λ n. length a.entries ≤ 2 * n) cores a.short in

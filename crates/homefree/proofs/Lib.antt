@@ -22,6 +22,9 @@ pub mod Tallies
 pub mod Entries
 pub mod Causing
 pub mod Caused
+pub mod Sharing
+pub mod Knowing
+pub mod Explaining
 pub mod Books
 pub mod Following
 pub mod Drives

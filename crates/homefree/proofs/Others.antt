@@ -1,5 +1,5 @@
 -- What a call of the store leaves of the other cores.
-use Rattle.std.proofs.Common.{◌≡◌, ◌≢◌, ℕ, ◌<◌, Bool, true, false, Option, Some, None, unwrap_or, refl, sym, ap, subst, ◌∙◌, inl, inr, arith, true≢false}
+use Rattle.std.proofs.Common.{◌≡◌, ◌≢◌, ℕ, ◌<◌, Bool, true, false, Option, Some, None, is_some, unwrap_or, refl, sym, ap, subst, ◌∙◌, inl, inr, arith, true≢false}
 use Rattle.std.proofs.lemmas.Bool.{cases_eq, cases_Bool}
 use Rattle.rv32_image.specs.Image.{LoadedImage}
 use Rattle.spec_history.specs.FlatState.{CoreState, FlatState}
@@ -7,55 +7,55 @@ use Rattle.spec_history.specs.Effect.{with_core}
 use Rattle.spec_history.specs.Laws.{IsKept}
 use Rattle.spec_history.proofs.Going.{Spares}
 use Rattle.spec_history.proofs.Keeping.{with_core_other, with_core_same}
-use Rattle.violations.specs.View.{StoreView, attempt_of, epoch_of}
+use Rattle.violations.specs.View.{Shape, StoreView, attempt_of, epoch_of}
 use Rattle.violations.specs.Rule.{IsSameCore, IsSpared, IsHurt, HurtsLater}
 use Rattle.violations.specs.declared.attempt.Attempt.{Attempt}
-use Rattle.homefree.specs.Agrees.{AgreesCore, AgreesAt, Agrees}
+use Rattle.homefree.specs.Agrees.{HasReadIn, AgreesCore, AgreesAt, Agrees}
 use Rattle.homefree.specs.Hurts.{hurt_if, with_hurts}
 use Rattle.homefree.proofs.HurtsReplay.{CanBeHurt}
 
+-- lines are those of the shape
+pub in_shape : (old new : Shape) (c : CoreState) (a : ℕ) → new ≡ old → HasReadIn old c a → HasReadIn new c a
+in_shape old new c a same h = subst (λ shape. HasReadIn shape c a) (sym same) h
+
 -- a core that shows what it did, over the same committed memory
-pub same_at : (m m' : ℕ → ℕ) (v w : StoreView) (k : ℕ) (core : Option CoreState) → ((a : ℕ) → m' a ≡ m a) → IsSameCore v w k → AgreesAt m v k core → AgreesAt m' w k core
-same_at m m' v w k core committed same f = record {
+pub same_at : (m m' : ℕ → ℕ) (v w : StoreView) (k : ℕ) (core : Option CoreState) → w.shape ≡ v.shape → ((a : ℕ) → m' a ≡ m a) → IsSameCore v w k → AgreesAt m v k core → AgreesAt m' w k core
+same_at m m' v w k core shape committed same f = record {
   idle = λ is. same.attempt ∙ f.idle is;
   hurt = λ c is hurt. same.attempt ∙ f.hurt c is hurt;
   runs = λ c is unhurt. let g = f.runs c is unhurt in record {
     attempt = same.attempt ∙ g.attempt;
     sees = λ a. same.sees a ∙ (g.sees a ∙ ap (unwrap_or (c.own a)) (sym (committed a)));
-    owns = λ a byte own. same.own a ∙ g.owns a byte own;
+    own = λ a. same.own a ∙ g.own a;
     guards_read = λ a byte read. same.guarded a ∙ g.guards_read a byte read;
-    guards_kept = λ a owns none. same.guarded a ∙ g.guards_kept a (sym (same.own a) ∙ owns) none;
+    guards_only = λ a is. in_shape v.shape w.shape c a shape (g.guards_only a (sym (same.guarded a) ∙ is));
   };
 }
 
 -- ---- a core that is spared
 
-own_by : (m' : ℕ → ℕ) (v w : StoreView) (k : ℕ) (c : CoreState) (a : ℕ) (m : ℕ → ℕ) (own : Option ℕ) → c.own a ≡ own → IsSpared v w k → AgreesCore m v k c
-    → ((a : ℕ) → w.committed a ≡ m' a) → ((a : ℕ) → v.committed a ≡ m a) → (b : Bool) → v.own k a ≡ b → w.sees k a ≡ unwrap_or own (m' a)
-own_by m' v w k c a m None none spared g new old true owns =
-    spared.sees_own a owns ∙ (g.sees a ∙ (ap (λ o. unwrap_or o (m a)) none
-    ∙ (sym (old a) ∙ (sym (spared.stands a (g.guards_kept a owns none)) ∙ new a))))
-own_by m' v w k c a m (Some byte) some spared g new old true owns =
-    spared.sees_own a owns ∙ (g.sees a ∙ ap (λ o. unwrap_or o (m a)) some)
-own_by m' v w k c a m None none spared g new old false owns = spared.sees_rest a owns ∙ new a
-own_by m' v w k c a m (Some byte) some spared g new old false owns = absurd (true≢false (sym (g.owns a byte some) ∙ owns))
+own_by : (m m' : ℕ → ℕ) (v w : StoreView) (k : ℕ) (c : CoreState) (a : ℕ) (own : Option ℕ) → c.own a ≡ own → IsSpared v w k → AgreesCore m v k c
+    → ((a : ℕ) → w.committed a ≡ m' a) → w.sees k a ≡ unwrap_or own (m' a)
+own_by m m' v w k c a None none spared g new = spared.sees_rest a (g.own a ∙ ap (λ o. is_some o) none) ∙ new a
+own_by m m' v w k c a (Some byte) some spared g new =
+    spared.sees_own a (g.own a ∙ ap (λ o. is_some o) some) ∙ (g.sees a ∙ ap (λ o. unwrap_or o (m a)) some)
 
-pub spared_core : (m m' : ℕ → ℕ) (v w : StoreView) (k : ℕ) (c : CoreState) → ((a : ℕ) → w.committed a ≡ m' a) → ((a : ℕ) → v.committed a ≡ m a)
+pub spared_core : (m m' : ℕ → ℕ) (v w : StoreView) (k : ℕ) (c : CoreState) → w.shape ≡ v.shape → ((a : ℕ) → w.committed a ≡ m' a)
     → IsSpared v w k → AgreesCore m v k c → AgreesCore m' w k c
-spared_core m m' v w k c new old spared g = record {
+spared_core m m' v w k c shape new spared g = record {
   attempt = spared.attempt ∙ g.attempt;
-  sees = λ a. own_by m' v w k c a m (c.own a) refl spared g new old (v.own k a) refl;
-  owns = λ a byte own. spared.own a ∙ g.owns a byte own;
+  sees = λ a. own_by m m' v w k c a (c.own a) refl spared g new;
+  own = λ a. spared.own a ∙ g.own a;
   guards_read = λ a byte read. spared.guarded a ∙ g.guards_read a byte read;
-  guards_kept = λ a owns none. spared.guarded a ∙ g.guards_kept a (sym (spared.own a) ∙ owns) none;
+  guards_only = λ a is. in_shape v.shape w.shape c a shape (g.guards_only a (sym (spared.guarded a) ∙ is));
 }
 
-spared_at : (m m' : ℕ → ℕ) (v w : StoreView) (k : ℕ) (core : Option CoreState) → ((a : ℕ) → w.committed a ≡ m' a) → ((a : ℕ) → v.committed a ≡ m a)
+spared_at : (m m' : ℕ → ℕ) (v w : StoreView) (k : ℕ) (core : Option CoreState) → w.shape ≡ v.shape → ((a : ℕ) → w.committed a ≡ m' a)
     → IsSpared v w k → AgreesAt m v k core → AgreesAt m' w k core
-spared_at m m' v w k core new old spared f = record {
+spared_at m m' v w k core shape new spared f = record {
   idle = λ is. spared.attempt ∙ f.idle is;
   hurt = λ c is hurt. spared.attempt ∙ f.hurt c is hurt;
-  runs = λ c is unhurt. spared_core m m' v w k c new old spared (f.runs c is unhurt);
+  runs = λ c is unhurt. spared_core m m' v w k c shape new spared (f.runs c is unhurt);
 }
 
 hurt_at_all : (m' : ℕ → ℕ) (w : StoreView) (k : ℕ) (core : Option CoreState) → w.attempt k ≡ None → AgreesAt m' w k (hurt_if true core)
@@ -66,16 +66,16 @@ hurt_at_all m' w k (Some x) none = record {
   runs = λ c is unhurt. let same : (let y : CoreState = record x { hurt = true } in y) ≡ c = cc in absurd (true≢false (ap (λ (y : CoreState). y.hurt) same ∙ unhurt));
 }
 
-others_by : (m m' : ℕ → ℕ) (v w : StoreView) (by k : ℕ) (hurt : ℕ → Bool) (core : Option CoreState) → ((a : ℕ) → w.committed a ≡ m' a) → ((a : ℕ) → v.committed a ≡ m a)
+others_by : (m m' : ℕ → ℕ) (v w : StoreView) (by k : ℕ) (hurt : ℕ → Bool) (core : Option CoreState) → w.shape ≡ v.shape → ((a : ℕ) → w.committed a ≡ m' a)
     → HurtsLater v w by hurt → k ≢ by → AgreesAt m v k core → (b : Bool) → hurt k ≡ b → AgreesAt m' w k (hurt_if b core)
-others_by m m' v w by k hurt core new old others other f true is = hurt_at_all m' w k core (others.hurts k is).none
-others_by m m' v w by k hurt core new old others other f false is = spared_at m m' v w k core new old (others.spares k other is) f
+others_by m m' v w by k hurt core shape new others other f true is = hurt_at_all m' w k core (others.hurts k is).none
+others_by m m' v w by k hurt core shape new others other f false is = spared_at m m' v w k core shape new (others.spares k other is) f
 
 -- each core but the caller agrees after the call, in the state with the hurt ones hurt
-pub others_agree : (s : FlatState) (m' : ℕ → ℕ) (v w : StoreView) (by : ℕ) (hurt : ℕ → Bool) → s.end ≡ None → Agrees s v → HurtsLater v w by hurt
+pub others_agree : (s : FlatState) (m' : ℕ → ℕ) (v w : StoreView) (by : ℕ) (hurt : ℕ → Bool) → s.end ≡ None → Agrees s v → w.shape ≡ v.shape → HurtsLater v w by hurt
     → ((a : ℕ) → w.committed a ≡ m' a) → (k : ℕ) → k ≢ by → AgreesAt m' w k (hurt_if (hurt k) (s.cores k))
-others_agree s m' v w by hurt going agrees others new k other =
-    others_by s.committed m' v w by k hurt (s.cores k) new agrees.committed others other (agrees.core going k) (hurt k) refl
+others_agree s m' v w by hurt going agrees shape others new k other =
+    others_by s.committed m' v w by k hurt (s.cores k) shape new others other (agrees.core going k) (hurt k) refl
 
 -- ---- no byte that another has read changes
 

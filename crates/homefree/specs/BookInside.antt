@@ -6,14 +6,17 @@ use Rattle.violations.specs.View.{StoreView}
 use Rattle.homefree.specs.declared.answer.StopCause.{StopCause}
 use Rattle.homefree.specs.declared.answer.StopCause.TheVariants.{HistoryFull}
 use Rattle.homefree.specs.declared.register.Register.{Register}
-use Rattle.homefree.specs.Caused.{HasCauses}
+use Rattle.homefree.specs.Caused.{HasCauses, HasKinds}
 use Rattle.homefree.specs.BookView.{BookView}
 use Rattle.homefree.specs.Kept.{Fits}
+use Rattle.homefree.specs.Missed.{PassesOverNone, IsOfCaches}
 
-pub record IsBook (r : Register) (v : StoreView) (room : ℕ) (stopped : Option StopCause) : Type 0 where
-  pub fits : Fits r v
+pub record IsBook {S : Type 0} (view : S → StoreView) (r : Register) (store : S) (room : ℕ) (stopped : Option StopCause) : Type 0 where
+  pub fits : Fits r (view store)
   pub by_cores : All (λ e. e.by < length r.running.items) r.history.items
   pub caused : HasCauses r.history.items
+  pub kinds : HasKinds r.image (length r.running.items) r.history.items
+  pub passes : IsOfCaches view → PassesOverNone r.image (length r.running.items) r.history.items
   pub within : length r.history.items ≤ room
   pub most : room ≤ 1048576
   pub full : stopped ≡ Some HistoryFull → room < length r.history.items + (limits_of r.image.version).free_entries

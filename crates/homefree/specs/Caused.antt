@@ -1,9 +1,33 @@
--- That each violation of a history has its cause.
-use Rattle.std.specs.Prelude.{◌≡◌, ℕ, true, List, Some, is_some, slice_get}
+-- That each violation of a history has its cause, and that it is known what it was about.
+use Rattle.std.specs.Prelude.{◌≡◌, ◌≢◌, ℕ, true, List, take, Option, Some, is_some, slice_get}
+use Rattle.rv32_image.specs.Image.{LoadedImage}
 use Rattle.spec_history.specs.declared.entry.Entry.{Entry}
+use Rattle.spec_history.specs.declared.entry.What.{What}
+use Rattle.spec_history.specs.declared.entry.What.TheVariants.{Hurt}
+use Rattle.spec_history.specs.FlatState.{CoreState, FlatState}
+use Rattle.spec_history.specs.Replay.{replay}
+use Rattle.conflicts.specs.declared.explanation.Explanation.{Explanation}
+use Rattle.conflicts.specs.declared.explanation.Kind.TheVariants.{Unexplained}
 use Rattle.conflicts.specs.Conflict.{cause_of}
-use Rattle.conflicts.specs.Explained.{is_hurt}
+use Rattle.conflicts.specs.Explained.{IsExplained, is_hurt, kind_of, what_at}
+use Rattle.homefree.specs.Missed.{IsFurtherStore}
 
 -- after each violation stands what caused it: the next act, which is one of the violating core, and can violate
 abbrev pub HasCauses : List Entry → Type 0
 HasCauses history = (place : ℕ) (entry : Entry) → slice_get history place ≡ Some entry → is_hurt entry.what ≡ true → is_some (cause_of history place entry.by) ≡ true
+
+-- what is known of a violation of core k by another, in the state before it, with this cause: it is true or false sharing, a silent
+-- store or a full buffer, and its cause is no further store
+pub record IsKnown (image : LoadedImage) (s : FlatState) (by k : ℕ) (cause : Option What) : Type 0 where
+  pub kind : kind_of image s by k cause ≢ Unexplained
+  pub first : (what : What) → cause ≡ Some what → IsFurtherStore image s (record { by = by; what = what }) → ⊥
+
+-- so of each violation
+abbrev pub HasKinds : LoadedImage → ℕ → List Entry → Type 0
+HasKinds image cores history =
+    (place by k : ℕ) (s : FlatState) (c : CoreState) → slice_get history place ≡ Some (record { by = by; what = Hurt c.epoch })
+    → replay image cores (take place history) ≡ Some s → s.cores k ≡ Some c → IsKnown image s by k (what_at history (cause_of history place by))
+
+-- so no explanation says that a violation is of no kind
+abbrev pub AreKnown : LoadedImage → ℕ → List Entry → Type 0
+AreKnown image cores history = (e : Explanation) → IsExplained image cores history e → e.kind ≢ Unexplained

@@ -7,9 +7,10 @@ use Rattle.violations.specs.View.{StoreView}
 use Rattle.violations.specs.Rule.{IsCoreCount, shape_of}
 use Rattle.homefree.specs.declared.answer.StopCause.TheVariants.{HistoryFull}
 use Rattle.homefree.specs.Agrees.{Agrees}
-use Rattle.homefree.specs.Caused.{HasCauses}
+use Rattle.homefree.specs.Caused.{HasCauses, HasKinds}
 use Rattle.homefree.specs.Counted.{counted_in}
 use Rattle.homefree.specs.BookView.{BookView, IsFull}
+use Rattle.homefree.specs.Missed.{PassesOverNone, IsOfCaches}
 
 pub record InStep {S : Type 0} (view : S → StoreView) (b : BookView S) : Type 0 where
   -- the state that the history leads to
@@ -20,8 +21,11 @@ pub record InStep {S : Type 0} (view : S → StoreView) (b : BookView S) : Type 
   pub shape : (view b.store).shape ≡ shape_of b.image b.cores
   -- each entry was made by a turn of one of the cores
   pub by_cores : All (λ e. e.by < b.cores) b.history
-  -- each violation has its cause, which stands after it
+  -- each violation has its cause, which stands after it, and is of a kind
   pub caused : HasCauses b.history
+  pub kinds : HasKinds b.image b.cores b.history
+  -- over caches, no entry passes over a later epoch that has read in a line which it writes
+  pub passes : IsOfCaches view → PassesOverNone b.image b.cores b.history
   pub counted : b.totals ≡ counted_in b.history
   pub is_image : IsImage b.image
   pub core_count : IsCoreCount b.image b.cores

@@ -55,7 +55,7 @@ impl<S: EpochStore> Model for Book<S> {
 
     ghost view = { λ b. record { image = b.inside.value.parts.register.image; cores = length b.inside.value.parts.register.running.items; room = b.inside.value.room; history = b.inside.value.parts.register.history.items; totals = b.inside.value.parts.register.totals; store = b.inside.value.parts.store; stopped = b.inside.value.stopped } };
 
-    ghost invariant = { λ b. IsBook b.inside.value.parts.register (S.view b.inside.value.parts.store) b.inside.value.room b.inside.value.stopped };
+    ghost invariant = { λ b. IsBook S.view b.inside.value.parts.register b.inside.value.parts.store b.inside.value.room b.inside.value.stopped };
 }
 
 /// What stays as it was while turns are taken. No value of it is made.
@@ -217,11 +217,11 @@ fn turn_within<S: EpochStore>(
     next: Option<&Arrived>,
     shares: &mut Shares,
 ) -> Result<Answer, TurnFault>
-    requires book { IsBook parts.old.register (S.view parts.old.store) room stopped }
+    requires book { IsBook S.view parts.old.register parts.old.store room stopped }
     requires core { core < length parts.old.register.running.items }
     requires next { IfArrived parts.old.register.image (option_copied next) }
     requires shares { IsNoMore shares.old parts.old.register.totals }
-    ensures book { IsBook parts.new.register (S.view parts.new.store) room stopped }
+    ensures book { IsBook S.view parts.new.register parts.new.store room stopped }
     ensures turned { (s : FlatState) → replay parts.old.register.image (length parts.old.register.running.items) parts.old.register.history.items ≡ Some s
         → Turned S.view (book_of parts.old.register parts.old.store room stopped) s shares.old core (option_copied next.entry) result
         (book_of parts.new.register parts.new.store room stopped) shares.new }
@@ -240,6 +240,7 @@ fn turn_within<S: EpochStore>(
     let Ok(()) = make_room(parts, free) else {
         return Err(TurnFault::NoMemory);
     };
+    parts.store.look();
     let came = parts.turn(shares, core, next);
     Ok(answer_of(&parts.register, core, came))
 }

@@ -2,6 +2,7 @@
 use Rattle.std.proofs.Common.{◌≡◌, inl, inr, ℕ, zero, suc, ◌<◌, ◌≤◌, nat_lt, ◌++◌, ◌∷◌, [], List, Bool, true, false, cond, length, slice_index, refl, ap, ◌∙◌, arith}
 use Rattle.std.proofs.lemmas.Bool.Decides.{nat_tests}
 use Rattle.std.proofs.lemmas.Option.{slice_get_past}
+use Rattle.rv32_image.specs.declared.version.Limits.{Limits}
 use Rattle.rv32_image.specs.declared.version.Version.{Version}
 use Rattle.rv32_image.specs.declared.version.Version.TheVariants.{One, Two}
 use Rattle.rv32_image.specs.Image.{LoadedImage, IsImage}
@@ -57,11 +58,11 @@ core-is line_length limit count k cores e idle =
           ap state_or_none (slice_get_past cores k (omega arith))
     ] refl
 
-pub fresh_is : (image : LoadedImage) (count code line_length : ℕ) (cores : List Core) (memory : List ℕ)
-    → length cores ≡ count → length memory ≡ image.size → code ≡ image.code → line_length ≡ (limits_of image.version).line_length
+pub fresh_is : (image : LoadedImage) (count code : ℕ) (limits : Limits) (cores : List Core) (memory : List ℕ)
+    → length cores ≡ count → length memory ≡ image.size → code ≡ image.code → limits ≡ limits_of image.version
     → memory ≡ image.bytes → AreIdle (limits_of image.version).line_length (limits_of image.version).buffer_lines cores
-    → bus_of code line_length cores memory ≡ fresh_bus image count
-fresh_is image count code line_length cores memory e f g h i idle =
+    → bus_of code limits cores memory ≡ fresh_bus image count
+fresh_is image count code limits cores memory e f g h i idle =
     same_bus _ _ _ _ _ _ _ _ _ _ _ _ e f g h
     (λ k. core-is (limits_of image.version).line_length (limits_of image.version).buffer_lines count k cores e idle)
     (λ p. ap (λ (bytes : List ℕ). slice_index bytes p) i)
@@ -90,8 +91,10 @@ fresh_opened image count h =
       shape = refl;
       memory = λ a. refl;
       length_is = length-is image.version;
+      length_of = refl;
       whole_lines = h.size_allowed.lines;
       lengths = λ k lt. let inside : nat_lt k count ≡ true = grind (arith, nat_tests) in rw inside refl;
+      limits = λ k lt. let inside : nat_lt k count ≡ true = grind (arith, nat_tests) in rw inside refl;
       idle = λ k. pick (nat_lt k count);
       absent = λ k le. let outside : nat_lt k count ≡ false = grind (arith, nat_tests) in rw outside refl;
     }

@@ -1,5 +1,6 @@
 -- What contracts see of the caches on a bus.
 use Rattle.std.specs.Prelude.{ℕ, List, Option}
+use Rattle.rv32_image.specs.declared.version.Limits.{Limits}
 use Rattle.cache_lines.specs.declared.line.Line.{Line}
 use Rattle.violations.specs.View.{StoreView}
 use Rattle.bus_states.specs.Bus.{Bus}
@@ -7,16 +8,16 @@ use Rattle.bus_states.specs.Views.{view_of}
 use Rattle.spec_bus.specs.declared.bus_core.Core.{Core}
 use Rattle.spec_bus.specs.Parts.{bus_of, room_at}
 
--- the bytes of code and of a line, the cores, memory
+-- the bytes of code, the limits of the image's version, the cores, memory
 pub record CachedView : Type 0 where
   pub code : ℕ
-  pub line_length : ℕ
+  pub limits : Limits
   pub cores : List Core
   pub memory : List ℕ
 
 -- what they are as a bus
 abbrev pub bus : CachedView → Bus
-bus v = bus_of v.code v.line_length v.cores v.memory
+bus v = bus_of v.code v.limits v.cores v.memory
 
 -- for each core and line the line in the way that it takes: none where every way of its set carries marks
 abbrev pub room : CachedView → ℕ → ℕ → Option Line

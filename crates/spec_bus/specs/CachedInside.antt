@@ -10,7 +10,7 @@ abbrev pub view_of : Inside → CachedView
 view_of i =
     record {
       code = i.parts.code;
-      line_length = i.parts.line_length;
+      limits = i.parts.limits;
       cores = i.parts.cores.items;
       memory = i.parts.memory.items;
     }

@@ -1,5 +1,6 @@
 -- What the parts of the machine hold, as a bus.
 use Rattle.std.specs.Prelude.{◌≡◌, ◌==◌, if◌then◌else◌, ℕ, List, length, Option, Some, None, option_map, slice_get, slice_index}
+use Rattle.rv32_image.specs.declared.version.Limits.{Limits}
 use Rattle.cache_lines.specs.declared.line.Line.{Line}
 use Rattle.cache_lines.specs.Changes.{victim_of}
 use Rattle.cache_lines.specs.Lines.{line_in}
@@ -16,17 +17,17 @@ state_or_none (Some core) = state_of core
 abbrev pub core_at : List Core → ℕ → CoreState
 core_at cores k = state_or_none (slice_get cores k)
 
-abbrev pub bus_of : ℕ → ℕ → List Core → List ℕ → Bus
-bus_of code line_length cores memory =
+abbrev pub bus_of : ℕ → Limits → List Core → List ℕ → Bus
+bus_of code limits cores memory =
     record {
-      shape = record { cores = length cores; size = length memory; code = code };
-      line_length = line_length;
+      shape = record { cores = length cores; size = length memory; code = code; limits = limits };
+      line_length = limits.line_length;
       core = core_at cores;
       memory = slice_index memory;
     }
 
 abbrev pub bus_in : Parts → Bus
-bus_in parts = bus_of parts.code parts.line_length parts.cores.items parts.memory.items
+bus_in parts = bus_of parts.code parts.limits parts.cores.items parts.memory.items
 
 -- the line in this way of the set of that address, in a core's cache
 abbrev pub line_or_none : Option Core → ℕ → Option ℕ → Option Line

@@ -72,7 +72,7 @@ impl CachedBus {
                 cores,
                 memory,
                 code: image.code(),
-                line_length: limits.line_length,
+                limits,
             },
         })
     }
@@ -104,7 +104,7 @@ impl CachedBus {
         ensures value { result ≡ bus_spec.line_of (spec.bus self.now).line_length addr }
         ensures aligned { result % (spec.bus self.now).line_length ≡ 0 }
     {
-        addr - addr % self.parts.line_length
+        addr - addr % self.parts.limits.line_length
     }
 
     /// A core that runs nothing begins an attempt of an epoch.
@@ -131,7 +131,7 @@ impl CachedBus {
     {
         let line = self.line_of(addr);
         self.parts.look_room(core as usize, line);
-        let offset = addr % self.parts.line_length;
+        let offset = addr % self.parts.limits.line_length;
         self.parts.load(core as usize, line, offset, width)
     }
 
@@ -151,7 +151,7 @@ impl CachedBus {
     {
         let line = self.line_of(addr);
         self.parts.look_room(core as usize, line);
-        let offset = addr % self.parts.line_length;
+        let offset = addr % self.parts.limits.line_length;
         self.parts.store(core as usize, line, offset, width, value)
     }
 
@@ -178,7 +178,7 @@ impl CachedBus {
     {
         let line = self.line_of(addr);
         self.parts.look_room(core as usize, line);
-        let offset = addr % self.parts.line_length;
+        let offset = addr % self.parts.limits.line_length;
         self.parts.straight_load(core as usize, line, offset, width)
     }
 
@@ -195,7 +195,7 @@ impl CachedBus {
     {
         let line = self.line_of(addr);
         self.parts.look_room(core as usize, line);
-        let offset = addr % self.parts.line_length;
+        let offset = addr % self.parts.limits.line_length;
         self.parts
             .straight_store(core as usize, line, offset, width, value)
     }
@@ -225,7 +225,7 @@ impl CachedBus {
             (bus_spec.offset_of (spec.bus self.now).line_length addr) }
     {
         let line = self.line_of(addr);
-        let offset = addr % self.parts.line_length;
+        let offset = addr % self.parts.limits.line_length;
         self.parts.committed_line(line)[offset as usize]
     }
 

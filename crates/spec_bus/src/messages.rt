@@ -48,8 +48,8 @@ impl Parts {
     )
         requires core { core < length self.old.cores.items }
         requires few { length self.old.cores.items ≤ 16 }
-        requires line { addr % self.old.line_length ≡ 0 }
-        requires past { (x : ℕ) → self.old.line_length ≤ x → slice_index line.now x ≡ 0 }
+        requires line { addr % self.old.limits.line_length ≡ 0 }
+        requires past { (x : ℕ) → self.old.limits.line_length ≤ x → slice_index line.now x ≡ 0 }
         requires coherent { IsCoherent (bus_in self.old) }
         requires hurt { (k : ℕ) → is_in hurt k ≡ message_spec.violates (bus_in self.old)
             (message_spec.message_of (bus_in self.old) notice core addr) k }
@@ -60,7 +60,7 @@ impl Parts {
             (record { notice = notice; sender = core; addr = addr; line = slice_index line.now }) }
         ensures memory { self.new.memory ≡ self.old.memory }
         ensures code { self.new.code ≡ self.old.code }
-        ensures line_length { self.new.line_length ≡ self.old.line_length }
+        ensures limits { self.new.limits ≡ self.old.limits }
     {
         for k in 0..self.cores.len() {
             if k != core {
@@ -92,11 +92,11 @@ impl Parts {
     )
         requires core { core < length self.old.cores.items }
         requires few { length self.old.cores.items ≤ 16 }
-        requires short { self.old.line_length ≤ LONGEST_LINE }
+        requires short { self.old.limits.line_length ≤ LONGEST_LINE }
         requires way { way < way_count }
-        requires line { addr % self.old.line_length ≡ 0 }
-        requires inside { addr + self.old.line_length ≤ length self.old.memory.items }
-        requires past { (x : ℕ) → self.old.line_length ≤ x → slice_index line.now x ≡ 0 }
+        requires line { addr % self.old.limits.line_length ≡ 0 }
+        requires inside { addr + self.old.limits.line_length ≤ length self.old.memory.items }
+        requires past { (x : ℕ) → self.old.limits.line_length ≤ x → slice_index line.now x ≡ 0 }
         requires coherent { IsCoherent (bus_in self.old) }
         requires hurt { (k : ℕ) → is_in hurt k ≡ message_spec.violates (bus_in self.old)
             (message_spec.message_of (bus_in self.old) notice core addr) k }
@@ -104,7 +104,7 @@ impl Parts {
             (message_spec.message_of (bus_in self.old) notice core addr) ≡ false }
         requires absent { is_valid (((bus_in self.old).core core).copy addr).state ≡ false }
         requires valid { is_valid next.state ≡ true }
-        requires mask { IsWithinLine self.old.line_length next.marks.bytes }
+        requires mask { IsWithinLine self.old.limits.line_length next.marks.bytes }
         requires room { (next.enters && is_full ((bus_in self.old).core core).buffer) ≡ false }
         ensures { bus_in self.new ≡ message_spec.after_message (bus_in self.old)
             (record { notice = notice; sender = core; addr = addr; line = slice_index line.now })
@@ -113,7 +113,7 @@ impl Parts {
         let victim = *self.core(core).cache.line(addr, way);
         self.tell(notice, core, addr, line, hurt);
         fill(&mut self.cores, core, addr, way, next, *line);
-        let length = self.line_length as usize;
+        let length = self.limits.line_length as usize;
         write_victim(&mut self.memory, length, victim);
         write_line(&mut self.memory, addr as usize, length, line);
     }
@@ -121,15 +121,15 @@ impl Parts {
     /// This core's copy of a line that it holds changes so, and nobody is told.
     pub(crate) fn keep(&mut self, core: usize, addr: u32, next: Next)
         requires core { core < length self.old.cores.items }
-        requires short { self.old.line_length ≤ LONGEST_LINE }
+        requires short { self.old.limits.line_length ≤ LONGEST_LINE }
         requires coherent { IsCoherent (bus_in self.old) }
         requires held { is_valid (((bus_in self.old).core core).copy addr).state ≡ true }
-        requires mask { IsWithinLine self.old.line_length next.marks.bytes }
+        requires mask { IsWithinLine self.old.limits.line_length next.marks.bytes }
         requires silent { next.enters ≡ false }
         ensures { bus_in self.new ≡ speculative.kept_line (bus_in self.old) core addr next }
     {
         let copy = self.copy(core, addr);
-        let length = self.line_length as usize;
+        let length = self.limits.line_length as usize;
         write_line_if(
             next.write_back,
             &mut self.memory,
@@ -152,17 +152,17 @@ impl Parts {
     )
         requires core { core < length self.old.cores.items }
         requires few { length self.old.cores.items ≤ 16 }
-        requires short { self.old.line_length ≤ LONGEST_LINE }
-        requires line { addr % self.old.line_length ≡ 0 }
-        requires inside { addr + self.old.line_length ≤ length self.old.memory.items }
-        requires past { (x : ℕ) → self.old.line_length ≤ x → slice_index line.now x ≡ 0 }
+        requires short { self.old.limits.line_length ≤ LONGEST_LINE }
+        requires line { addr % self.old.limits.line_length ≡ 0 }
+        requires inside { addr + self.old.limits.line_length ≤ length self.old.memory.items }
+        requires past { (x : ℕ) → self.old.limits.line_length ≤ x → slice_index line.now x ≡ 0 }
         requires coherent { IsCoherent (bus_in self.old) }
         requires hurt { (k : ℕ) → is_in hurt k ≡ message_spec.violates (bus_in self.old)
             (message_spec.message_of (bus_in self.old) notice core addr) k }
         requires free { message_spec.is_busy (bus_in self.old)
             (message_spec.message_of (bus_in self.old) notice core addr) ≡ false }
         requires held { is_valid (((bus_in self.old).core core).copy addr).state ≡ true }
-        requires mask { IsWithinLine self.old.line_length next.marks.bytes }
+        requires mask { IsWithinLine self.old.limits.line_length next.marks.bytes }
         requires entry { next.enters ≡ true → holds ((bus_in self.old).core core).buffer.lines addr ≡ false }
         requires room { (next.enters && is_full ((bus_in self.old).core core).buffer) ≡ false }
         ensures { bus_in self.new ≡ message_spec.after_message (bus_in self.old)
@@ -170,7 +170,7 @@ impl Parts {
     {
         self.tell(notice, core, addr, line, hurt);
         change(&mut self.cores, core, addr, next, *line);
-        let length = self.line_length as usize;
+        let length = self.limits.line_length as usize;
         write_line(&mut self.memory, addr as usize, length, line);
     }
 }

@@ -36,10 +36,10 @@ impl Parts {
     /// A load of a line that the core holds.
     fn load_hit(&mut self, core: usize, addr: u32, offset: u32, width: u32) -> u32
         requires core { core < length self.old.cores.items }
-        requires short { self.old.line_length ≤ LONGEST_LINE }
-        requires line { addr % self.old.line_length ≡ 0 }
+        requires short { self.old.limits.line_length ≤ LONGEST_LINE }
+        requires line { addr % self.old.limits.line_length ≡ 0 }
         requires coherent { IsCoherent (bus_in self.old) }
-        requires in_line { offset + width ≤ self.old.line_length }
+        requires in_line { offset + width ≤ self.old.limits.line_length }
         requires width { IsWidth width }
         requires aligned { offset % width ≡ 0 }
         requires held { is_valid (((bus_in self.old).core core).copy addr).state ≡ true }
@@ -66,12 +66,12 @@ impl Parts {
     ) -> u32
         requires core { core < length self.old.cores.items }
         requires few { length self.old.cores.items ≤ 16 }
-        requires short { self.old.line_length ≤ LONGEST_LINE }
+        requires short { self.old.limits.line_length ≤ LONGEST_LINE }
         requires way { way < way_count }
-        requires line { addr % self.old.line_length ≡ 0 }
-        requires inside { addr + self.old.line_length ≤ length self.old.memory.items }
+        requires line { addr % self.old.limits.line_length ≡ 0 }
+        requires inside { addr + self.old.limits.line_length ≤ length self.old.memory.items }
         requires coherent { IsCoherent (bus_in self.old) }
-        requires in_line { offset + width ≤ self.old.line_length }
+        requires in_line { offset + width ≤ self.old.limits.line_length }
         requires width { IsWidth width }
         requires aligned { offset % width ≡ 0 }
         requires absent { is_valid (((bus_in self.old).core core).copy addr).state ≡ false }
@@ -105,11 +105,11 @@ impl Parts {
     pub(crate) fn load(&mut self, core: usize, addr: u32, offset: u32, width: u32) -> Step
         requires core { core < length self.old.cores.items }
         requires few { length self.old.cores.items ≤ 16 }
-        requires short { self.old.line_length ≤ LONGEST_LINE }
-        requires line { addr % self.old.line_length ≡ 0 }
-        requires inside { addr + self.old.line_length ≤ length self.old.memory.items }
+        requires short { self.old.limits.line_length ≤ LONGEST_LINE }
+        requires line { addr % self.old.limits.line_length ≡ 0 }
+        requires inside { addr + self.old.limits.line_length ≤ length self.old.memory.items }
         requires coherent { IsCoherent (bus_in self.old) }
-        requires in_line { offset + width ≤ self.old.line_length }
+        requires in_line { offset + width ≤ self.old.limits.line_length }
         requires width { IsWidth width }
         requires aligned { offset % width ≡ 0 }
         ensures { MatchAnswer result
@@ -147,10 +147,10 @@ impl Parts {
     ) -> Result<(Next, CoreSet), WaitCause>
         requires core { core < length self.now.cores.items }
         requires few { length self.now.cores.items ≤ 16 }
-        requires short { self.now.line_length ≤ LONGEST_LINE }
-        requires line { addr % self.now.line_length ≡ 0 }
+        requires short { self.now.limits.line_length ≤ LONGEST_LINE }
+        requires line { addr % self.now.limits.line_length ≡ 0 }
         requires coherent { IsCoherent (bus_in self.now) }
-        requires in_line { offset + width ≤ self.now.line_length }
+        requires in_line { offset + width ≤ self.now.limits.line_length }
         requires width { IsWidth width }
         requires aligned { offset % width ≡ 0 }
         ensures may { IfOk result (λ taken. MayTake (bus_in self.now) core addr offset width taken.0 (is_in taken.1)) }
@@ -179,11 +179,11 @@ impl Parts {
     ) -> Result<CoreSet, WaitCause>
         requires core { core < length self.old.cores.items }
         requires few { length self.old.cores.items ≤ 16 }
-        requires short { self.old.line_length ≤ LONGEST_LINE }
-        requires line { addr % self.old.line_length ≡ 0 }
-        requires inside { addr + self.old.line_length ≤ length self.old.memory.items }
+        requires short { self.old.limits.line_length ≤ LONGEST_LINE }
+        requires line { addr % self.old.limits.line_length ≡ 0 }
+        requires inside { addr + self.old.limits.line_length ≤ length self.old.memory.items }
         requires coherent { IsCoherent (bus_in self.old) }
-        requires in_line { offset + width ≤ self.old.line_length }
+        requires in_line { offset + width ≤ self.old.limits.line_length }
         requires width { IsWidth width }
         requires aligned { offset % width ≡ 0 }
         ensures taken { IfOk result (λ hurt. IsTaken (bus_in self.old) (bus_in self.new) core addr offset width
@@ -223,11 +223,11 @@ impl Parts {
     ) -> Step
         requires core { core < length self.old.cores.items }
         requires few { length self.old.cores.items ≤ 16 }
-        requires short { self.old.line_length ≤ LONGEST_LINE }
-        requires line { addr % self.old.line_length ≡ 0 }
-        requires inside { addr + self.old.line_length ≤ length self.old.memory.items }
+        requires short { self.old.limits.line_length ≤ LONGEST_LINE }
+        requires line { addr % self.old.limits.line_length ≡ 0 }
+        requires inside { addr + self.old.limits.line_length ≤ length self.old.memory.items }
         requires coherent { IsCoherent (bus_in self.old) }
-        requires in_line { offset + width ≤ self.old.line_length }
+        requires in_line { offset + width ≤ self.old.limits.line_length }
         requires width { IsWidth width }
         requires aligned { offset % width ≡ 0 }
         ensures { MatchAnswer result

@@ -75,11 +75,11 @@ impl Parts {
     ) -> (u32, CoreSet)
         requires core { core < length self.old.cores.items }
         requires few { length self.old.cores.items ≤ 16 }
-        requires short { self.old.line_length ≤ LONGEST_LINE }
-        requires line { addr % self.old.line_length ≡ 0 }
-        requires inside { addr + self.old.line_length ≤ length self.old.memory.items }
+        requires short { self.old.limits.line_length ≤ LONGEST_LINE }
+        requires line { addr % self.old.limits.line_length ≡ 0 }
+        requires inside { addr + self.old.limits.line_length ≤ length self.old.memory.items }
         requires coherent { IsCoherent (bus_in self.old) }
-        requires in_line { offset + width ≤ self.old.line_length }
+        requires in_line { offset + width ≤ self.old.limits.line_length }
         requires width { IsWidth width }
         requires straight { speculates ((bus_in self.old).core core).attempt ≡ false }
         requires free { message_spec.is_busy (bus_in self.old)
@@ -114,11 +114,11 @@ impl Parts {
     ) -> CoreSet
         requires core { core < length self.old.cores.items }
         requires few { length self.old.cores.items ≤ 16 }
-        requires short { self.old.line_length ≤ LONGEST_LINE }
-        requires line { addr % self.old.line_length ≡ 0 }
-        requires inside { addr + self.old.line_length ≤ length self.old.memory.items }
+        requires short { self.old.limits.line_length ≤ LONGEST_LINE }
+        requires line { addr % self.old.limits.line_length ≡ 0 }
+        requires inside { addr + self.old.limits.line_length ≤ length self.old.memory.items }
         requires coherent { IsCoherent (bus_in self.old) }
-        requires in_line { offset + width ≤ self.old.line_length }
+        requires in_line { offset + width ≤ self.old.limits.line_length }
         requires width { IsWidth width }
         requires straight { speculates ((bus_in self.old).core core).attempt ≡ false }
         requires free { message_spec.is_busy (bus_in self.old)

@@ -1,12 +1,12 @@
 -- Loads and stores of the plain store, over its view.
-use Rattle.std.proofs.Common.{◌≡◌, ℕ, ◌+◌, ◌^◌, ◌<◌, ◌-◌, ◌&&◌, nat_le, nat_lt, Bool, true, false, cond, slice_get, slice_index, Option, Some, None, is_some, is_none, unwrap_or, refl, sym, ap, ◌∙◌, true≢false}
+use Rattle.std.proofs.Common.{◌≡◌, ℕ, ◌+◌, ◌^◌, ◌<◌, ◌-◌, ◌&&◌, ◌||◌, nat_le, nat_lt, Bool, true, false, cond, slice_get, slice_index, Option, Some, None, is_some, is_none, unwrap_or, refl, sym, ap, ◌∙◌, true≢false}
 use Rattle.memory_bytes.specs.Bytes.{byte_of, number_at}
 use Rattle.memory_bytes.specs.Maps.{first_of, joined, over, stored, read_outside}
 use Rattle.memory_bytes.specs.Shadow.{byte_in}
 use Rattle.memory_bytes.proofs.Bytes.{over-joined, number_at_same}
 use Rattle.violations.specs.declared.core_state.CoreState.{CoreState}
 use Rattle.violations.specs.View.{attempt_of, IsSettled, Runs, is_accessed}
-use Rattle.violations.specs.Rule.{HurtsLater, Loads, Stores, LoadsStraight}
+use Rattle.violations.specs.Rule.{HurtsLater, TakesIn, Loads, Stores, LoadsStraight}
 use Rattle.violations.specs.Plain.{PlainView, attempt_in, own_in, guarded_in, store_view}
 use Rattle.violations.proofs.Changing.{get_set_other}
 use Rattle.violations.proofs.Plains.{none_by, none_hurt, alike_state, shape_same, with_state, here}
@@ -28,6 +28,22 @@ some_first (Some byte) second is = refl
 guarded_now : (address width a committed : ℕ) (own before : Option ℕ) → is_accessed address width a ≡ true → is_some own ≡ false
     → is_some (first_of (cond ((nat_le address a && nat_lt a (address + width)) && is_none own) (Some committed) None) before) ≡ true
 guarded_now address width a committed own before inside outside = rw (inside, none_by own outside) refl
+
+-- a byte that is guarded now and was not is one of those that are read from outside
+taken_now : (accessed : Bool) (own before : Option ℕ) (committed : ℕ) → is_some before ≡ false
+    → is_some (first_of (cond (accessed && is_none own) (Some committed) None) before) ≡ true → (accessed ≡ true) × (is_some own ≡ false)
+taken_now false own before committed not_before now = absurd (true≢false (sym now ∙ not_before))
+taken_now true None before committed not_before now = (refl, refl)
+taken_now true (Some byte) before committed not_before now = absurd (true≢false (sym now ∙ not_before))
+
+takes_in : (p : PlainView) (by address width a : ℕ) (state : CoreState) → slice_get p.states by ≡ Some state
+    → (is_accessed address width a ≡ true) × (is_some (byte_in state.own.cells a) ≡ false) → TakesIn (store_view p) by address width a
+takes_in p by address width a state there taken = record {
+  at = a;
+  accessed = taken.0;
+  in_line = refl;
+  outside = ap (λ x. is_some (own_in x a)) there ∙ taken.1;
+}
 
 pub loads : (p : PlainView) (by address width value budget : ℕ) (state state' : CoreState) (hurt : ℕ → Bool) → ((k : ℕ) → hurt k ≡ false) → IsSettled (store_view p) → Runs (store_view p) by false
     → slice_get p.states by ≡ Some state → state'.attempt ≡ state.attempt → state'.own ≡ state.own
@@ -51,6 +67,11 @@ loads p by address width value budget state state' hurt none settled runs there 
       guards_still = λ a was.
           ap (λ x. is_some (guarded_in x a)) now ∙ (ap is_some (guards a)
           ∙ some_first (read_outside address width (byte_in state.own.cells) (committed_of p) a) (byte_in state.guarded.cells a) (sym (ap (λ x. is_some (guarded_in x a)) there) ∙ was));
+      guards_only = λ a is was_not.
+          takes_in p by address width a state there (taken_now (is_accessed address width a) (byte_in state.own.cells a) (byte_in state.guarded.cells a) (committed_of p a)
+          (sym (ap (λ x. is_some (guarded_in x a)) there) ∙ was_not)
+          (sym (ap is_some (guards a)) ∙ (sym (ap (λ x. is_some (guarded_in x a)) now) ∙ is)));
+      crowded = λ k is. absurd (true≢false (sym is ∙ none k));
     }
 
 -- ---- stores
@@ -64,13 +85,11 @@ pub stored_there : (address width value a : ℕ) → is_some (stored address wid
 unfolding stored
 stored_there address width value a = stored_by (nat_le address a && nat_lt a (address + width)) (byte_of value (a - address))
 
-first_some : (first second : Option ℕ) → is_some first ≡ true → is_some (first_of first second) ≡ true
-first_some None second is = absurd cc
-first_some (Some byte) second is = refl
-
-first_none : (first second : Option ℕ) → is_some first ≡ false → is_some (first_of first second) ≡ is_some second
-first_none None second is = refl
-first_none (Some byte) second is = absurd cc
+either_some : (first second : Option ℕ) → is_some (first_of first second) ≡ (is_some second || is_some first)
+either_some None None = refl
+either_some None (Some byte) = refl
+either_some (Some byte) None = refl
+either_some (Some byte) (Some other) = refl
 
 pub stores : (p : PlainView) (by address width value budget : ℕ) (state state' : CoreState) (hurt : ℕ → Bool) → ((k : ℕ) → hurt k ≡ false) → IsSettled (store_view p) → Runs (store_view p) by false
     → slice_get p.states by ≡ Some state → state'.attempt ≡ state.attempt → state'.guarded ≡ state.guarded
@@ -87,18 +106,15 @@ stores p by address width value budget state state' hurt none settled runs there
           ap (λ x. over (own_in x) (committed_of p) a) now ∙ (ap (λ o. unwrap_or o (committed_of p a)) (keeps a)
           ∙ (over-joined (stored address width value) (byte_in state.own.cells) (committed_of p) a
           ∙ sym (ap (λ x. over (stored address width value) (over (own_in x) (committed_of p)) a) there)));
-      owns = λ a is.
+      own = λ a.
           ap (λ x. is_some (own_in x a)) now ∙ (ap is_some (keeps a)
-          ∙ first_some (stored address width value a) (byte_in state.own.cells a) (stored_there address width value a ∙ is));
-      owns_still = λ a was.
-          ap (λ x. is_some (own_in x a)) now ∙ (ap is_some (keeps a)
-          ∙ some_first (stored address width value a) (byte_in state.own.cells a) (sym (ap (λ x. is_some (own_in x a)) there) ∙ was));
-      guards_new = λ a new old not_stored.
-          let still = ap (λ x. is_some (own_in x a)) now ∙ (ap is_some (keeps a) ∙ (first_none (stored address width value a) (byte_in state.own.cells a) (stored_there address width value a ∙ not_stored)
-          ∙ sym (ap (λ x. is_some (own_in x a)) there))) in
-          absurd (true≢false (sym new ∙ (still ∙ old)));
-      guards_still = λ a was.
-          ap (λ x. is_some (guarded_in x a)) now ∙ (ap (λ o. is_some (byte_in o.cells a)) guarded ∙ (sym (ap (λ x. is_some (guarded_in x a)) there) ∙ was));
+          ∙ (either_some (stored address width value a) (byte_in state.own.cells a)
+          ∙ (ap (λ is. is_some (byte_in state.own.cells a) || is) (stored_there address width value a)
+          ∙ ap (λ x. is_some (own_in x a) || is_accessed address width a) (sym there))));
+      guarded = λ a. ap (λ x. is_some (guarded_in x a)) now ∙ (ap (λ o. is_some (byte_in o.cells a)) guarded ∙ sym (ap (λ x. is_some (guarded_in x a)) there));
+      meets = λ k is. absurd (true≢false (sym is ∙ none k));
+      told = λ owns k. none k;
+      tells = λ cached untold k other later guards. absurd (true≢false (sym cached));
     }
 
 -- ---- straight loads
@@ -114,4 +130,5 @@ loads_straight p by address width value state hurt none settled runs there is sm
       small = small;
       value_is = is ∙ number_at_same (over (byte_in state.own.cells) (committed_of p)) (committed_of p) address width (λ a low high. ap (λ o. unwrap_or o (committed_of p a)) (bare.own a));
       attempt = refl;
+      crowded = λ k is. absurd (true≢false (sym is ∙ none k));
     }

@@ -68,6 +68,7 @@ begun_settled p by epoch budget state settled may =
       straight_first = λ j k x y at_j straight at_k other. begun_first p by epoch settled may j k x y (at j x at_j) (at k y at_k) straight other;
       idle = λ k none. clear_of q k ((quiet k).idle none);
       straight = λ k x is straight. clear_of q k ((quiet k).straight x is straight);
+      whole_lines = λ cached k a b same guarded. absurd (true≢false (sym cached));
     }
 
 pub begins : (p : PlainView) (by epoch budget : ℕ) (state : CoreState) → MayBegin (store_view p) by epoch → slice_get p.states by ≡ Some state

@@ -1,5 +1,5 @@
 -- New plain stores, and room in them.
-use Rattle.std.proofs.Common.{◌≡◌, ◌⊎◌, ℕ, zero, suc, ◌<◌, ◌≤◌, List, [], ◌∷◌, length, slice_get, slice_index, Option, Some, None, is_some, unwrap_or, refl, sym, ap, ◌∙◌, inl, inr, arith}
+use Rattle.std.proofs.Common.{◌≡◌, ◌⊎◌, ℕ, zero, suc, ◌<◌, ◌≤◌, List, [], ◌∷◌, length, slice_get, slice_index, Option, Some, None, is_some, unwrap_or, refl, sym, ap, ◌∙◌, inl, inr, arith, true≢false}
 use Rattle.rv32_image.specs.declared.version.Version.{Version}
 use Rattle.rv32_image.specs.declared.version.Version.TheVariants.{One, Two}
 use Rattle.rv32_image.specs.Version.{limits_of}
@@ -56,12 +56,13 @@ looks_alike old new same k = elim (below_or_past k (length old)) [
 ]
 
 abbrev pub with_states : PlainView → List CoreState → ℕ → PlainView
-with_states p states budget = record { code = p.code; committed = p.committed; states = states; budget = budget }
+with_states p states budget = record { code = p.code; limits = p.limits; committed = p.committed; states = states; budget = budget }
 
 pub same_view : (p : PlainView) (states : List CoreState) (budget : ℕ) → AreSame p.states states → IsSameView (store_view p) (store_view (with_states p states budget))
 same_view p states budget same =
     let alike = looks_alike p.states states same in record {
-      shape = shape_same p (with_states p states budget) (record { code = refl; committed = refl; states = same.long });
+      shape = shape_same p (with_states p states budget) (record { code = refl; limits = refl; committed = refl; states = same.long });
+      cached = refl;
       committed = λ a. refl;
       cores = λ k. record {
         attempt = (alike k).attempt;
@@ -119,6 +120,7 @@ fresh_settled p size idle =
       straight_first = λ j k x y at_j straight at_k other. absurd (none_some _ x (out j).attempt at_j);
       idle = λ k none. clear_of p k (out k).bare;
       straight = λ k x at straight. clear_of p k (out k).bare;
+      whole_lines = λ cached k a b same guarded. absurd (true≢false (sym cached));
     }
 
 pub fresh_fit : (p : PlainView) → p.budget ≡ 0 → 16 ≤ length p.committed → length p.committed ≤ 1048576 → length p.states ≤ 16 → AreIdle (length p.committed) p.states → IsFit p

@@ -85,14 +85,15 @@ none_hurt p q by hurt none same committed = record {
 -- it is made for the same
 pub record IsAlike (p q : PlainView) : Type 0 where
   pub code : q.code ≡ p.code
+  pub limits : q.limits ≡ p.limits
   pub committed : length q.committed ≡ length p.committed
   pub states : length q.states ≡ length p.states
 
 abbrev shape_in : PlainView → Shape
-shape_in p = record { cores = length p.states; size = length p.committed; code = p.code }
+shape_in p = record { cores = length p.states; size = length p.committed; code = p.code; limits = p.limits }
 
 pub shape_same : (p q : PlainView) → IsAlike p q → shape_in q ≡ shape_in p
-shape_same p q alike = let code = alike.code in let committed = alike.committed in let states = alike.states in cc
+shape_same p q alike = let code = alike.code in let limits = alike.limits in let committed = alike.committed in let states = alike.states in cc
 
 -- ---- what every store keeps
 
@@ -121,6 +122,7 @@ settled_from p q settled long came quiet = record {
       first_by p j k one.was two.was x y settled one.is two.is other one.epoch two.epoch (one.straight straight);
   idle = λ k none. clear_of q k ((quiet k).idle none);
   straight = λ k x at is. clear_of q k ((quiet k).straight x at is);
+  whole_lines = λ cached k a b same guarded. absurd (true≢false (sym cached));
 }
 
 pub came_same : (p : PlainView) (k : ℕ) (x : Option CoreState) (now : Attempt) → x ≡ slice_get p.states k → attempt_in x ≡ Some now → CameFrom p k now
@@ -129,10 +131,10 @@ came_same p k x now same at = record { was = now; is = sym (ap attempt_in same) 
 -- ---- one state changes
 
 abbrev pub with_state : PlainView → List ℕ → ℕ → CoreState → ℕ → PlainView
-with_state p committed by state budget = record { code = p.code; committed = committed; states = set p.states by state; budget = budget }
+with_state p committed by state budget = record { code = p.code; limits = p.limits; committed = committed; states = set p.states by state; budget = budget }
 
 pub alike_state : (p : PlainView) (committed : List ℕ) (by : ℕ) (state : CoreState) (budget : ℕ) → length committed ≡ length p.committed → IsAlike p (with_state p committed by state budget)
-alike_state p committed by state budget same = record { code = refl; committed = same; states = length-set p.states by state }
+alike_state p committed by state budget same = record { code = refl; limits = refl; committed = same; states = length-set p.states by state }
 
 pub fit_state : (p : PlainView) (by : ℕ) (state : CoreState) (budget : ℕ) → by < length p.states → budget ≤ p.budget → IsWithin (length p.committed) state
     → (1 ≤ budget → HasRoom (length p.committed) budget state) → IsFit p → IsFit (with_state p p.committed by state budget)

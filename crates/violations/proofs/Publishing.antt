@@ -7,7 +7,7 @@ use Rattle.memory_bytes.specs.Shadow.{byte_in}
 use Rattle.violations.specs.declared.attempt.Attempt.{Attempt}
 use Rattle.violations.specs.declared.core_state.CoreState.{CoreState}
 use Rattle.violations.specs.View.{attempt_of, epoch_of, IsSettled, Runs, MayPublish, is_accessed}
-use Rattle.violations.specs.Rule.{HurtsLater, Publishes, StoresStraight}
+use Rattle.violations.specs.Rule.{HurtsLater, Guards, Publishes, StoresStraight}
 use Rattle.violations.specs.CoreState.{IsWithin, HasRoom, AreWithin, HaveRoom, KeepsNothing, IsIdle, AreReaders, AreDropped, bytes_in, straightened}
 use Rattle.violations.specs.Plain.{PlainView, attempt_in, own_in, guarded_in, store_view, IsFit, ViolatesReaders}
 use Rattle.violations.proofs.Changing.{get_set_same, get_set_other, all_set}
@@ -76,6 +76,34 @@ hurts_of p q by epoch straight bytes hurt settled readers caller first gone same
       (λ a guarded. written_by p by k a (slice_index q.committed a) bytes hurt settled readers (bytes a) refl (unwritten a) other unhurt guarded);
 }
 
+-- ---- exactly the readers
+
+reads_by : (p : PlainView) (by k a : ℕ) (bytes hurt : ℕ → Bool) → IsSettled (store_view p) → AreReaders by bytes p.states hurt → k ≢ by → bytes a ≡ true → is_some (guarded_in (slice_get p.states k) a) ≡ true
+    → (b : Bool) → hurt k ≡ b → hurt k ≡ true
+reads_by p by k a bytes hurt settled readers other byte guarded true is = is
+reads_by p by k a bytes hurt settled readers other byte guarded false is =
+    absurd (spared_by p by k a bytes hurt (slice_get p.states k) refl (attempt_in (slice_get p.states k)) refl settled readers other is byte guarded)
+
+pub violates_readers : (p : PlainView) (by : ℕ) (bytes hurt : ℕ → Bool) → IsSettled (store_view p) → AreReaders by bytes p.states hurt → ViolatesReaders by bytes hurt (store_view p)
+violates_readers p by bytes hurt settled readers = record {
+  guard = λ k is. let found = readers.run k is in (found.2.at, found.2.byte, ap (λ x. is_some (guarded_in x found.2.at)) found.1 ∙ found.2.guarded);
+  others = readers.others;
+  all = λ k a other byte guarded. reads_by p by k a bytes hurt settled readers other byte guarded (hurt k) refl;
+}
+
+-- those whom it violates guard one of these bytes
+pub guards_of : (p : PlainView) (by : ℕ) (bytes hurt : ℕ → Bool) → ViolatesReaders by bytes hurt (store_view p) → (k : ℕ) → hurt k ≡ true → Guards (store_view p) k bytes
+guards_of p by bytes hurt violates k is = let found = violates.guard k is in record { at = found.0; is_one = found.1; guarded = found.2 }
+
+pub tells_of : (p : PlainView) (by : ℕ) (bytes hurt : ℕ → Bool) → ViolatesReaders by bytes hurt (store_view p) → (k : ℕ) → k ≢ by → Guards (store_view p) k bytes → hurt k ≡ true
+tells_of p by bytes hurt violates k other guards = violates.all k guards.at other guards.is_one guards.guarded
+
+-- the readers of what the caller keeps, of what its view owns
+pub owned_readers : (p : PlainView) (by : ℕ) (hurt : ℕ → Bool) (state : CoreState) → IsSettled (store_view p) → AreReaders by (bytes_in state.own.cells) p.states hurt → slice_get p.states by ≡ Some state
+    → ViolatesReaders by (λ a. is_some (own_in (slice_get p.states by) a)) hurt (store_view p)
+owned_readers p by hurt state settled readers there =
+    subst (λ x. ViolatesReaders by (λ a. is_some (own_in x a)) hurt (store_view p)) (sym there) (violates_readers p by (bytes_in state.own.cells) hurt settled readers)
+
 -- ---- a publish
 
 pub publisher : (p : PlainView) (by : ℕ) (state state' : CoreState) (epoch : ℕ) → slice_get p.states by ≡ Some state → attempt_in (slice_get p.states by) ≡ Some (attempt_of epoch false)
@@ -122,7 +150,7 @@ published_quiet p by hurt states state' settled dropped below keeps k = elim (ca
 ]
 
 abbrev pub published_view : PlainView → List ℕ → List CoreState → ℕ → CoreState → PlainView
-published_view p committed states by state' = record { code = p.code; committed = committed; states = set states by state'; budget = p.budget }
+published_view p committed states by state' = record { code = p.code; limits = p.limits; committed = committed; states = set states by state'; budget = p.budget }
 
 pub published_settled : (p : PlainView) (by : ℕ) (hurt : ℕ → Bool) (committed : List ℕ) (states : List CoreState) (state state' : CoreState) → IsSettled (store_view p) → (may : MayPublish (store_view p) by)
     → AreDropped hurt p.states states → slice_get p.states by ≡ Some state → state'.attempt ≡ option_map straightened state.attempt → KeepsNothing state'
@@ -136,7 +164,7 @@ published_settled p by hurt committed states state state' settled may dropped th
 -- cores that were within memory and had room, and are within it and have room still
 changed_fit : (p : PlainView) (committed : List ℕ) (states : List CoreState) → IsFit p → length committed ≡ length p.committed → length states ≡ length p.states
     → AreWithin (length p.committed) states → (1 ≤ p.budget → HaveRoom (length p.committed) p.budget states)
-    → IsFit (record { code = p.code; committed = committed; states = states; budget = p.budget })
+    → IsFit (record { code = p.code; limits = p.limits; committed = committed; states = states; budget = p.budget })
 changed_fit p committed states fit long count within room = record {
   least = omega (arith, fit.least, long);
   small = omega (arith, fit.small, long);
@@ -166,20 +194,24 @@ pub publishes : (p : PlainView) (by : ℕ) (hurt : ℕ → Bool) (committed : Li
 publishes p by hurt committed states state state' settled may readers dropped there is long writes =
     let q = published_view p committed states by state' in
     let below : by < length states = omega (arith, settled.there by (attempt_of may.epoch false) may.is, dropped.long) in
+    let violates = owned_readers p by hurt state settled readers there in
     let gone : (k : ℕ) → hurt k ≡ true → attempt_in (slice_get q.states k) ≡ None = λ k hurt_k.
     ap attempt_in (get_set_other states by k state' (apart_from hurt by k readers.others hurt_k)) ∙ (out_at hurt p.states states dropped k hurt_k).attempt in record {
-      shape = shape_same p q (record { code = refl; committed = long; states = length-set states by state' ∙ dropped.long });
+      shape = shape_same p q (record { code = refl; limits = refl; committed = long; states = length-set states by state' ∙ dropped.long });
+      cached = refl;
       others = hurts_of p q by may.epoch false (bytes_in state.own.cells) hurt settled readers may.is (first_after p by settled may) gone
           (λ k other unhurt. get_set_other states by k state' other ∙ dropped.kept k unhurt)
           (λ a none. writes a ∙ not_own (byte_in state.own.cells a) (slice_index p.committed a) none);
       committed = λ a. writes a ∙ ap (λ x. over (own_in x) (λ b. slice_index p.committed b) a) (sym there);
       attempt = ap attempt_in (get_set_same states by state' below) ∙ (publisher p by state state' may.epoch there may.is is ∙ ap (λ o. Some (attempt_of (epoch_of o) true)) (sym may.is));
+      meets = guards_of p by (λ a. is_some (own_in (slice_get p.states by) a)) hurt violates;
+      tells = tells_of p by (λ a. is_some (own_in (slice_get p.states by) a)) hurt violates;
     }
 
 -- ---- a straight store
 
 abbrev pub stored_view : PlainView → List ℕ → List CoreState → PlainView
-stored_view p committed states = record { code = p.code; committed = committed; states = states; budget = p.budget }
+stored_view p committed states = record { code = p.code; limits = p.limits; committed = committed; states = states; budget = p.budget }
 
 pub stored_settled : (p : PlainView) (hurt : ℕ → Bool) (committed : List ℕ) (states : List CoreState) → IsSettled (store_view p) → AreDropped hurt p.states states
     → IsSettled (store_view (stored_view p committed states))
@@ -192,40 +224,28 @@ pub stored_fit : (p : PlainView) (hurt : ℕ → Bool) (committed : List ℕ) (s
 stored_fit p hurt committed states fit dropped long =
     changed_fit p committed states fit long dropped.long (dropped.within (length p.committed) fit.within) (λ some. dropped.room (length p.committed) p.budget (fit.room some))
 
-pub stores_straight : (p : PlainView) (by address width value : ℕ) (hurt bytes : ℕ → Bool) (committed : List ℕ) (states : List CoreState) → IsSettled (store_view p) → (runs : Runs (store_view p) by true)
-    → AreReaders by bytes p.states hurt → AreDropped hurt p.states states → length committed ≡ length p.committed
-    → ((a : ℕ) → slice_index committed a ≡ over (stored address width value) (λ b. slice_index p.committed b) a) → ((a : ℕ) → bytes a ≡ false → stored address width value a ≡ None)
+-- a store has no byte outside its addresses
+stored_outside : (address width value a : ℕ) → is_accessed address width a ≡ false → stored address width value a ≡ None
+stored_outside address width value a outside = none_by (stored address width value a) (stored_there address width value a ∙ outside)
+
+pub stores_straight : (p : PlainView) (by address width value : ℕ) (hurt : ℕ → Bool) (committed : List ℕ) (states : List CoreState) → IsSettled (store_view p) → (runs : Runs (store_view p) by true)
+    → AreReaders by (is_accessed address width) p.states hurt → AreDropped hurt p.states states → length committed ≡ length p.committed
+    → ((a : ℕ) → slice_index committed a ≡ over (stored address width value) (λ b. slice_index p.committed b) a)
     → StoresStraight (store_view p) (store_view (stored_view p committed states)) by address width value hurt
-stores_straight p by address width value hurt bytes committed states settled runs readers dropped long writes outside =
-    let q = stored_view p committed states in record {
-      shape = shape_same p q (record { code = refl; committed = long; states = dropped.long });
-      others = hurts_of p q by runs.epoch true bytes hurt settled readers runs.is (λ k x other at. settled.straight_first by k (attempt_of runs.epoch true) x runs.is refl at other)
+stores_straight p by address width value hurt committed states settled runs readers dropped long writes =
+    let q = stored_view p committed states in
+    let violates = violates_readers p by (is_accessed address width) hurt settled readers in record {
+      shape = shape_same p q (record { code = refl; limits = refl; committed = long; states = dropped.long });
+      others = hurts_of p q by runs.epoch true (is_accessed address width) hurt settled readers runs.is (λ k x other at. settled.straight_first by k (attempt_of runs.epoch true) x runs.is refl at other)
           (λ k hurt_k. (out_at hurt p.states states dropped k hurt_k).attempt)
           (λ k other unhurt. dropped.kept k unhurt)
-          (λ a none. writes a ∙ ap (λ o. unwrap_or o (slice_index p.committed a)) (outside a none));
+          (λ a none. writes a ∙ ap (λ o. unwrap_or o (slice_index p.committed a)) (stored_outside address width value a none));
       committed = writes;
       attempt = ap attempt_in (dropped.kept by readers.others);
+      meets = λ k is. inl (guards_of p by (is_accessed address width) hurt violates k is);
+      tells = tells_of p by (is_accessed address width) hurt violates;
     }
-
--- a store has no byte outside its addresses
-pub stored_outside : (address width value a : ℕ) → is_accessed address width a ≡ false → stored address width value a ≡ None
-stored_outside address width value a outside = none_by (stored address width value a) (stored_there address width value a ∙ outside)
 
 -- bytes written through a vector as a slice
 pub whole_items : (old new : List ℕ) (len : ℕ) → len ≡ length old → length new ≡ length old → take len (new ++ drop (length new) old) ≡ new
 whole_items old new len is same = grind (arith, common_steps)
-
--- ---- exactly the readers
-
-reads_by : (p : PlainView) (by k a : ℕ) (bytes hurt : ℕ → Bool) → IsSettled (store_view p) → AreReaders by bytes p.states hurt → k ≢ by → bytes a ≡ true → is_some (guarded_in (slice_get p.states k) a) ≡ true
-    → (b : Bool) → hurt k ≡ b → hurt k ≡ true
-reads_by p by k a bytes hurt settled readers other byte guarded true is = is
-reads_by p by k a bytes hurt settled readers other byte guarded false is =
-    absurd (spared_by p by k a bytes hurt (slice_get p.states k) refl (attempt_in (slice_get p.states k)) refl settled readers other is byte guarded)
-
-pub violates_readers : (p : PlainView) (by : ℕ) (bytes hurt : ℕ → Bool) → IsSettled (store_view p) → AreReaders by bytes p.states hurt → ViolatesReaders by bytes hurt (store_view p)
-violates_readers p by bytes hurt settled readers = record {
-  guard = λ k is. let found = readers.run k is in (found.2.at, found.2.byte, ap (λ x. is_some (guarded_in x found.2.at)) found.1 ∙ found.2.guarded);
-  others = readers.others;
-  all = λ k a other byte guarded. reads_by p by k a bytes hurt settled readers other byte guarded (hurt k) refl;
-}

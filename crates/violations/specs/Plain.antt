@@ -2,6 +2,7 @@
 use Rattle.std.specs.Prelude.{◌≡◌, ◌≢◌, ℕ, true, false, ◌≤◌, Bool, List, length, Option, Some, None, is_some, slice_get, slice_index}
 use Rattle.memory_bytes.specs.Maps.{over}
 use Rattle.memory_bytes.specs.Shadow.{byte_in}
+use Rattle.rv32_image.specs.declared.version.Limits.{Limits}
 use Rattle.violations.specs.declared.attempt.Attempt.{Attempt}
 use Rattle.violations.specs.declared.core_state.CoreState.{CoreState}
 use Rattle.violations.specs.View.{StoreView}
@@ -10,6 +11,7 @@ use Rattle.violations.specs.CoreState.{AreWithin, HaveRoom}
 -- what contracts see of it
 pub record PlainView : Type 0 where
   pub code : ℕ
+  pub limits : Limits
   pub committed : List ℕ
   pub states : List CoreState
   pub budget : ℕ
@@ -28,7 +30,8 @@ guarded_in (Some state) a = byte_in state.guarded.cells a
 
 abbrev pub store_view : PlainView → StoreView
 store_view p = record {
-  shape = record { cores = length p.states; size = length p.committed; code = p.code };
+  shape = record { cores = length p.states; size = length p.committed; code = p.code; limits = p.limits };
+  cached = false;
   committed = λ a. slice_index p.committed a;
   attempt = λ k. attempt_in (slice_get p.states k);
   sees = λ k a. over (own_in (slice_get p.states k)) (λ b. slice_index p.committed b) a;

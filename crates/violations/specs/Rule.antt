@@ -1,14 +1,15 @@
--- The store rule: what each call of a store does to its view, from `old` to `new`. It leaves open which bytes beyond its own
--- a core keeps or guards, and whom a call violates without need.
+-- The store rule: what each call of a store does to its view, from `old` to `new`. It leaves open which bytes of the lines that
+-- it has read a core guards, and whether a full buffer violates.
 -- Source: this project; that a store of an earlier epoch violates the later ones which have loaded the byte is of Steffan,
 -- Colohan, Zhai and Mowry, "A Scalable Approach to Thread-Level Speculation", ISCA 2000.
-use Rattle.std.specs.Prelude.{◌≡◌, ◌≢◌, ℕ, ◌<◌, ◌≤◌, ◌^◌, Bool, true, false, Some, None, slice_index}
+use Rattle.std.specs.Prelude.{◌≡◌, ◌≢◌, ◌⊎◌, ℕ, ◌<◌, ◌≤◌, ◌^◌, ◌==◌, ◌||◌, Bool, true, false, List, [], ◌∷◌, length, All, Some, None, slice_index}
+use Rattle.std.specs.List.{list_any}
 use Rattle.memory_bytes.specs.Bytes.{number_at}
 use Rattle.memory_bytes.specs.Maps.{over, stored}
 use Rattle.rv32_image.specs.Image.{LoadedImage}
 use Rattle.rv32_image.specs.Version.{limits_of}
 use Rattle.violations.specs.declared.attempt.Attempt.{Attempt}
-use Rattle.violations.specs.View.{Shape, StoreView, attempt_of, epoch_of, IsClear, is_accessed}
+use Rattle.violations.specs.View.{Shape, StoreView, attempt_of, epoch_of, line_of, IsClear, is_accessed}
 
 -- ---- new stores
 
@@ -18,7 +19,7 @@ pub record IsCoreCount (image : LoadedImage) (cores : ℕ) : Type 0 where
   pub most : cores ≤ (limits_of image.version).most_cores
 
 abbrev pub shape_of : LoadedImage → ℕ → Shape
-shape_of image cores = record { cores = cores; size = image.size; code = image.code }
+shape_of image cores = record { cores = cores; size = image.size; code = image.code; limits = limits_of image.version }
 
 -- the image's memory, and no attempts
 pub record IsFresh (image : LoadedImage) (cores : ℕ) (v : StoreView) : Type 0 where
@@ -58,11 +59,41 @@ pub record HurtsLater (old new : StoreView) (core : ℕ) (hurt : ℕ → Bool) :
   pub hurts : (k : ℕ) → hurt k ≡ true → IsHurt old new core k
   pub spares : (k : ℕ) → k ≢ core → hurt k ≡ false → IsSpared old new k
 
+-- ---- whom a call violates
+
+-- the core guards one of these bytes
+pub record Guards (v : StoreView) (core : ℕ) (bytes : ℕ → Bool) : Type 0 where
+  pub at : ℕ
+  pub is_one : bytes at ≡ true
+  pub guarded : v.guarded core at ≡ true
+
+-- it owns a byte of this line
+pub record OwnsIn (v : StoreView) (core line : ℕ) : Type 0 where
+  pub at : ℕ
+  pub within : at < v.shape.size
+  pub in_line : line_of v.shape at ≡ line
+  pub owned : v.own core at ≡ true
+
+-- each line stands once
+abbrev pub AreApart : List ℕ → Type 0
+AreApart [] = Unit {0}
+AreApart (line ∷ lines) = (list_any (λ other. other == line) lines ≡ false) × AreApart lines
+
+-- its full buffer has no place for the line of this address: it owns a byte there, and one in each of as many other lines as a
+-- buffer takes
+pub record IsCrowded (v : StoreView) (core address : ℕ) : Type 0 where
+  pub here : OwnsIn v core (line_of v.shape address)
+  pub others : List ℕ
+  pub full : v.shape.limits.buffer_lines ≤ length others
+  pub apart : AreApart others
+  pub each : All (λ line. (line ≢ line_of v.shape address) × OwnsIn v core line) others
+
 -- ---- calls
 
 -- the view is as it was
 pub record IsSameView (old new : StoreView) : Type 0 where
   pub shape : new.shape ≡ old.shape
+  pub cached : new.cached ≡ old.cached
   pub committed : (a : ℕ) → new.committed a ≡ old.committed a
   pub cores : (k : ℕ) → IsSameCore old new k
 
@@ -84,7 +115,15 @@ pub record Ends (old new : StoreView) (core : ℕ) : Type 0 where
   pub clear : IsClear new core
   pub others : (k : ℕ) → k ≢ core → IsSameCore old new k
 
--- a speculative load gives what the core sees, and guards what it took from outside
+-- a byte of this load, in the line of `a`, is not the core's own
+pub record TakesIn (v : StoreView) (core address width a : ℕ) : Type 0 where
+  pub at : ℕ
+  pub accessed : is_accessed address width at ≡ true
+  pub in_line : line_of v.shape at ≡ line_of v.shape a
+  pub outside : v.own core at ≡ false
+
+-- a speculative load gives what the core sees, and guards what it took from outside. It violates those alone whose full
+-- buffers have no place for the line
 pub record Loads (old new : StoreView) (core address width value : ℕ) (hurt : ℕ → Bool) : Type 0 where
   pub shape : new.shape ≡ old.shape
   pub others : HurtsLater old new core hurt
@@ -96,27 +135,35 @@ pub record Loads (old new : StoreView) (core address width value : ℕ) (hurt : 
   pub sees : (a : ℕ) → new.sees core a ≡ old.sees core a
   pub guards : (a : ℕ) → is_accessed address width a ≡ true → old.own core a ≡ false → new.guarded core a ≡ true
   pub guards_still : (a : ℕ) → old.guarded core a ≡ true → new.guarded core a ≡ true
+  pub guards_only : (a : ℕ) → new.guarded core a ≡ true → old.guarded core a ≡ false → TakesIn old core address width a
+  pub crowded : (k : ℕ) → hurt k ≡ true → IsCrowded old k address
 
--- a speculative store is seen by its core alone. A byte that becomes its own without being stored is guarded
+-- a speculative store is seen by its core alone, and owns its bytes. It violates those alone that guard one of them or whose full
+-- buffers have no place for the line. Caches tell all later cores of the first store to a line, and nobody of a further one
 pub record Stores (old new : StoreView) (core address width value : ℕ) (hurt : ℕ → Bool) : Type 0 where
   pub shape : new.shape ≡ old.shape
   pub others : HurtsLater old new core hurt
   pub committed : (a : ℕ) → new.committed a ≡ old.committed a
   pub attempt : new.attempt core ≡ old.attempt core
   pub sees : (a : ℕ) → new.sees core a ≡ over (stored address width value) (old.sees core) a
-  pub owns : (a : ℕ) → is_accessed address width a ≡ true → new.own core a ≡ true
-  pub owns_still : (a : ℕ) → old.own core a ≡ true → new.own core a ≡ true
-  pub guards_new : (a : ℕ) → new.own core a ≡ true → old.own core a ≡ false → is_accessed address width a ≡ false → new.guarded core a ≡ true
-  pub guards_still : (a : ℕ) → old.guarded core a ≡ true → new.guarded core a ≡ true
+  pub own : (a : ℕ) → new.own core a ≡ (old.own core a || is_accessed address width a)
+  pub guarded : (a : ℕ) → new.guarded core a ≡ old.guarded core a
+  pub meets : (k : ℕ) → hurt k ≡ true → Guards old k (is_accessed address width) ⊎ IsCrowded old k address
+  pub told : OwnsIn old core (line_of old.shape address) → (k : ℕ) → hurt k ≡ false
+  pub tells : old.cached ≡ true → ((a : ℕ) → line_of old.shape a ≡ line_of old.shape address → old.own core a ≡ false)
+      → (k : ℕ) → k ≢ core → epoch_of (old.attempt core) < epoch_of (old.attempt k) → Guards old k (is_accessed address width) → hurt k ≡ true
 
--- what the core saw is committed, and its attempt is straight
+-- what the core saw is committed, and its attempt is straight. It violates exactly the others that guard a byte of its own
 pub record Publishes (old new : StoreView) (core : ℕ) (hurt : ℕ → Bool) : Type 0 where
   pub shape : new.shape ≡ old.shape
+  pub cached : new.cached ≡ old.cached
   pub others : HurtsLater old new core hurt
   pub committed : (a : ℕ) → new.committed a ≡ old.sees core a
   pub attempt : new.attempt core ≡ Some (attempt_of (epoch_of (old.attempt core)) true)
+  pub meets : (k : ℕ) → hurt k ≡ true → Guards old k (old.own core)
+  pub tells : (k : ℕ) → k ≢ core → Guards old k (old.own core) → hurt k ≡ true
 
--- a load of a straight attempt gives committed bytes
+-- a load of a straight attempt gives committed bytes. It violates those alone whose full buffers have no place for the line
 pub record LoadsStraight (old new : StoreView) (core address width value : ℕ) (hurt : ℕ → Bool) : Type 0 where
   pub shape : new.shape ≡ old.shape
   pub others : HurtsLater old new core hurt
@@ -124,10 +171,14 @@ pub record LoadsStraight (old new : StoreView) (core address width value : ℕ) 
   pub value_is : value ≡ number_at old.committed address width
   pub small : value < 256 ^ width
   pub attempt : new.attempt core ≡ old.attempt core
+  pub crowded : (k : ℕ) → hurt k ≡ true → IsCrowded old k address
 
--- the bytes of a store of a straight attempt are committed
+-- the bytes of a store of a straight attempt are committed. It violates all others that guard one of them, and beside them those
+-- alone whose full buffers have no place for the line
 pub record StoresStraight (old new : StoreView) (core address width value : ℕ) (hurt : ℕ → Bool) : Type 0 where
   pub shape : new.shape ≡ old.shape
   pub others : HurtsLater old new core hurt
   pub committed : (a : ℕ) → new.committed a ≡ over (stored address width value) old.committed a
   pub attempt : new.attempt core ≡ old.attempt core
+  pub meets : (k : ℕ) → hurt k ≡ true → Guards old k (is_accessed address width) ⊎ IsCrowded old k address
+  pub tells : (k : ℕ) → k ≢ core → Guards old k (is_accessed address width) → hurt k ≡ true

@@ -2,27 +2,38 @@
 -- messages.
 -- Source: epochs, the homefree one, and violation are those of Steffan, Colohan, Zhai and Mowry, "A Scalable Approach to
 -- Thread-Level Speculation", ISCA 2000; what a core sees, owns and guards is this project's.
-use Rattle.std.specs.Prelude.{◌≡◌, ◌≢◌, ℕ, ◌+◌, ◌%◌, ◌^◌, ◌<◌, ◌≤◌, ◌&&◌, Bool, true, false, Option, Some, None, nat_le, nat_lt}
+use Rattle.std.specs.Prelude.{◌≡◌, ◌≢◌, ℕ, ◌+◌, ◌*◌, ◌/◌, ◌%◌, ◌^◌, ◌<◌, ◌≤◌, ◌&&◌, Bool, true, false, Option, Some, None, nat_le, nat_lt}
 use Rattle.memory_bytes.specs.Bytes.{IsWidth}
+use Rattle.rv32_image.specs.declared.version.Limits.{Limits}
 use Rattle.violations.specs.declared.attempt.Attempt.{Attempt}
 
--- what a store is made for, and never changes: so many cores, bytes of memory, and bytes of code, which lies from address 0 on
+-- what a store is made for, and never changes: so many cores, bytes of memory, bytes of code, which lies from address 0 on, and
+-- the limits of the image's version
 pub record Shape : Type 0 where
   pub cores : ℕ
   pub size : ℕ
   pub code : ℕ
+  pub limits : Limits
+
+-- the line of memory in which a byte lies, by the address of its first byte
+abbrev pub line_of : Shape → ℕ → ℕ
+line_of shape a = shape.limits.line_length * (a / shape.limits.line_length)
 
 pub record StoreView : Type 0 where
   pub shape : Shape
+  -- caches on a bus guard whole lines and tell of a store at once: eager detection of conflicts, in the words of Moore et al.,
+  -- "LogTM: Log-based Transactional Memory", HPCA 2006. Other stores guard bytes and tell of them at the publish
+  pub cached : Bool
   -- the committed byte at each address
   pub committed : ℕ → ℕ
   -- what each core runs
   pub attempt : ℕ → Option Attempt
   -- the byte that each core sees at each address
   pub sees : ℕ → ℕ → ℕ
-  -- the bytes that a core keeps for itself: at least those that its attempt has stored
+  -- the bytes that a core keeps for itself: those that its attempt has stored
   pub own : ℕ → ℕ → Bool
-  -- the bytes whose change violates it: at least those that its attempt has loaded from outside its own
+  -- the bytes whose change violates it: those that its attempt has loaded from outside its own, and beside them none but bytes
+  -- of their lines
   pub guarded : ℕ → ℕ → Bool
 
 abbrev pub attempt_of : ℕ → Bool → Attempt
@@ -47,6 +58,8 @@ pub record IsSettled (v : StoreView) : Type 0 where
   pub straight_first : (j k : ℕ) (x y : Attempt) → v.attempt j ≡ Some x → x.straight ≡ true → v.attempt k ≡ Some y → k ≢ j → x.epoch < y.epoch
   pub idle : (k : ℕ) → v.attempt k ≡ None → IsClear v k
   pub straight : (k : ℕ) (x : Attempt) → v.attempt k ≡ Some x → x.straight ≡ true → IsClear v k
+  -- caches guard whole lines
+  pub whole_lines : v.cached ≡ true → (k a b : ℕ) → line_of v.shape a ≡ line_of v.shape b → v.guarded k a ≡ true → v.guarded k b ≡ true
 
 -- ---- conditions of calls
 

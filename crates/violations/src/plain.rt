@@ -14,7 +14,7 @@ use crate::core_states::{
 };
 use crate::step::Step;
 use crate::store::EpochStore;
-use rv32_image::{Image, NoMemory};
+use rv32_image::{Image, Limits, NoMemory};
 use std::alloc::Global;
 use std::marker::Model;
 
@@ -32,6 +32,7 @@ const MOST_ACCESSES: u32 = 64;
 pub struct PlainStore {
     size: u32,
     code: u32,
+    limits: Limits,
     committed: Vec<u8>,
     states: Vec<CoreState>,
     budget: u32,
@@ -161,6 +162,7 @@ impl EpochStore for PlainStore {
         Ok(PlainStore {
             size: image.size(),
             code: image.code(),
+            limits: image.version().limits(),
             committed,
             states,
             budget: 0,

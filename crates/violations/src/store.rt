@@ -48,7 +48,7 @@ pub trait EpochStore: Drop + Send {
         ensures begins { rule.Begins (view self.old) (view self.new) core epoch }
         ensures budget { budget self.old ≤ budget self.new + 1 };
 
-    /// A speculative load of `width` bytes.
+    /// A speculative load of `width` bytes. It violates those cores alone whose full buffers have no place for the line.
     fn load(&mut self, core: u32, addr: u32, width: u32) -> Step
         requires budget { 1 ≤ budget self.old }
         requires runs { view_spec.Runs (view self.old) core false }
@@ -56,7 +56,8 @@ pub trait EpochStore: Drop + Send {
         ensures loads { MatchStep result (λ value hurt. rule.Loads (view self.old) (view self.new) core addr width value hurt) (self.new ≡ self.old) }
         ensures budget { budget self.old ≤ budget self.new + 1 };
 
-    /// A speculative store of the low `width` bytes of a value. It gives 0.
+    /// A speculative store of the low `width` bytes of a value, which are the core's own from then on. It gives 0. It violates those
+    /// cores alone that guard one of its bytes or whose full buffers have no place for the line.
     fn store(&mut self, core: u32, addr: u32, width: u32, value: u32) -> Step
         requires budget { 1 ≤ budget self.old }
         requires runs { view_spec.Runs (view self.old) core false }
@@ -65,14 +66,14 @@ pub trait EpochStore: Drop + Send {
         ensures budget { budget self.old ≤ budget self.new + 1 };
 
     /// The attempt, whose epoch is the first of all attempts, commits what it sees and is straight. Answers the cores that
-    /// it violates.
+    /// it violates: exactly the others that guard a byte of its own.
     fn publish(&mut self, core: u32) -> CoreSet
         requires budget { 1 ≤ budget self.old }
         requires may { view_spec.MayPublish (view self.old) core }
         ensures publishes { rule.Publishes (view self.old) (view self.new) core (is_in result) }
         ensures budget { budget self.old ≤ budget self.new + 1 };
 
-    /// A load of a straight attempt, with the cores that it violates.
+    /// A load of a straight attempt, with the cores that it violates: those alone whose full buffers have no place for the line.
     fn straight_load(&mut self, core: u32, addr: u32, width: u32) -> (u32, CoreSet)
         requires budget { 1 ≤ budget self.old }
         requires runs { view_spec.Runs (view self.old) core true }
@@ -80,7 +81,8 @@ pub trait EpochStore: Drop + Send {
         ensures loads { rule.LoadsStraight (view self.old) (view self.new) core addr width result.0 (is_in result.1) }
         ensures budget { budget self.old ≤ budget self.new + 1 };
 
-    /// A store of a straight attempt: its bytes are committed. Answers the cores that it violates.
+    /// A store of a straight attempt: its bytes are committed. Answers the cores that it violates: all others that guard one of the
+    /// bytes, and beside them those alone whose full buffers have no place for the line.
     fn straight_store(&mut self, core: u32, addr: u32, width: u32, value: u32) -> CoreSet
         requires budget { 1 ≤ budget self.old }
         requires runs { view_spec.Runs (view self.old) core true }

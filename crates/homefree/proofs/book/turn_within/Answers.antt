@@ -6,7 +6,7 @@ pub returns-in_default-make_room-clause-book : goal.returns-in_default-make_room
 returns-in_default-make_room-clause-book g c =
     let p = c.args.parts.now in
     let q = c.make_room.new.parts in
-    book_same p.register q.register (g.S.EpochStore.view p.store) (g.S.EpochStore.view q.store) c.args.room c.args.stopped
+    book_same g.S.EpochStore.view p.register q.register p.store q.store c.args.room c.args.stopped
     c.requires.book c.make_room.ensures.register c.make_room.ensures.store
 
 pub returns-in_default-make_room-clause-turned : goal.returns-in_default-make_room-clause-turned
@@ -21,7 +21,7 @@ pub turn-came-requires-clause-notes : goal.turn-came-requires-clause-notes
 turn-came-requires-clause-notes g c κs lives =
     let p = c.args.parts.now in
     let q = c.make_room.new.parts in
-    may_note p.register q.register (g.S.EpochStore.view p.store) c.args.room c.args.shares.now c.args.stopped c.requires.book c.make_room.ensures.register
+    may_note g.S.EpochStore.view p.register q.register p.store c.args.room c.args.shares.now c.args.stopped c.requires.book c.make_room.ensures.register
     (has_room p.register q.register c.free_entries-free.result c.free_entries-free.ensures c.in-Ok.ensures.room) c.requires.shares
 
 pub turn-came-requires-clause-fits : goal.turn-came-requires-clause-fits
@@ -36,8 +36,8 @@ returns-clause-book g c =
     let p = c.args.parts.now in
     let q = c.make_room.new.parts in
     let free = has_free p.register c.free_entries-free.result c.args.room c.len.result c.free_entries-free.ensures c.len.ensures c.if-room-len.false c.requires.book.within in
-    book_acts p.register q.register c.turn-came.new.self.register (g.S.EpochStore.view p.store) (g.S.EpochStore.view q.store) (g.S.EpochStore.view c.turn-came.new.self.store) c.args.room c.args.core c.args.stopped
-    c.args.shares.now c.turn-came.new.shares (option_copied c.args.next) _ c.requires.book c.in_default-stopped.is c.make_room.ensures.register c.requires.core free
+    book_acts g.S.EpochStore.view p.register q.register c.turn-came.new.self.register p.store q.store c.turn-came.new.self.store c.args.room c.args.core c.args.stopped
+    c.args.shares.now c.turn-came.new.shares (option_copied c.args.next) _ c.requires.book c.in_default.is c.in_default-stopped.is c.make_room.ensures.register c.requires.core free c.look.ensures
     (fits_same p.register q.register (g.S.EpochStore.view p.store) (g.S.EpochStore.view q.store) c.requires.book.fits c.make_room.ensures.register c.make_room.ensures.store) c.turn-came.ensures
 
 pub returns-clause-turned : goal.returns-clause-turned
@@ -58,5 +58,5 @@ pub returns-clause-most : goal.returns-clause-most
 returns-clause-most g c =
     let p = c.args.parts.now in
     let q = c.make_room.new.parts in
-    acts_most p.register q.register c.turn-came.new.self.register (g.S.EpochStore.view p.store) (g.S.EpochStore.view q.store) (g.S.EpochStore.view c.turn-came.new.self.store) c.args.room c.args.core c.args.stopped
+    acts_most g.S.EpochStore.view p.register q.register c.turn-came.new.self.register p.store q.store c.turn-came.new.self.store c.args.room c.args.core c.args.stopped
     c.args.shares.now c.turn-came.new.shares (option_copied c.args.next) _ c.requires.book c.make_room.ensures.register c.turn-came.ensures

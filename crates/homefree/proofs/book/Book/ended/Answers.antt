@@ -1,5 +1,12 @@
-use Rattle.std.proofs.Common.{rules}
+use Rattle.std.proofs.Common.{subst, rules}
+use Rattle.homefree.specs.InStep.{InStep}
+use Rattle.homefree.proofs.Books.{in_step}
 use Rattle.homefree.proofs.book.Book.ended.Goals as goal
 
 pub returns-clause-end : goal.returns-clause-end
 returns-clause-end g c = search rules
+
+pub returns-clause-step : goal.returns-clause-step
+returns-clause-step g c =
+    let i = c.self.inside.inside.value in
+    subst (InStep g.S.EpochStore.view) c.self.view_is (in_step g.S.EpochStore.view i.parts.register i.parts.store i.room i.stopped c.self.invariant)

@@ -11,13 +11,13 @@ use Rattle.spec_bus.specs.Parts.{bus_of}
 use Rattle.spec_bus.proofs.Idle.{fresh_is, fresh_opened, most_few}
 use Rattle.spec_bus.proofs.cached.CachedBus.fresh.Goals as goal
 
-bus-is : (c : goal.After-code) → bus_of c.code.result c.limits-limits.result.line_length c.in_ok-cores.cores.items c.in_ok-memory.memory.items ≡ fresh_bus c.args.image.now c.args.cores
+bus-is : (c : goal.After-code) → bus_of c.code.result c.limits-limits.result c.in_ok-cores.cores.items c.in_ok-memory.memory.items ≡ fresh_bus c.args.image.now c.args.cores
 bus-is c =
     let image = c.args.image.now in
     let items : c.in_ok-memory.memory.items ≡ image.bytes = search rules in
     let limits : c.limits-limits.result ≡ limits_of image.version = c.limits-limits.ensures ∙ ap limits_of c.version.ensures.version in
-    fresh_is image c.args.cores c.code.result c.limits-limits.result.line_length c.in_ok-cores.cores.items c.in_ok-memory.memory.items
-    c.in_ok-cores.ensures.count (ap length items ∙ c.code.ensures.limits.byte_count) c.code.ensures.code (ap (λ (l : Limits). l.line_length) limits) items
+    fresh_is image c.args.cores c.code.result c.limits-limits.result c.in_ok-cores.cores.items c.in_ok-memory.memory.items
+    c.in_ok-cores.ensures.count (ap length items ∙ c.code.ensures.limits.byte_count) c.code.ensures.code limits items
     (subst (λ (l : Limits). AreIdle l.line_length l.buffer_lines c.in_ok-cores.cores.items) limits c.in_ok-cores.ensures.idle)
 
 pub invariant_of-result : goal.invariant_of-result

@@ -1,13 +1,13 @@
-use Rattle.std.proofs.Common.{◌≡◌, ◌<◌, length, false, slice_get, is_some, refl, sym, subst, ◌∙◌, arith}
+use Rattle.std.proofs.Common.{◌≡◌, ◌<◌, length, false, slice_get, refl, sym, subst, ◌∙◌, arith}
 use Rattle.violations.specs.declared.core_state.CoreState.{CoreState}
 use Rattle.violations.specs.CoreState.{AreReaders, bytes_in}
 use Rattle.violations.specs.View.{MayPublish, attempt_of}
 use Rattle.violations.specs.CoreSet.{is_in}
-use Rattle.violations.specs.Plain.{store_view, own_in, ViolatesReaders}
+use Rattle.violations.specs.Plain.{store_view}
 use Rattle.violations.specs.PlainInside.{view_of}
 use Rattle.violations.proofs.Changing.{state_there}
 use Rattle.violations.proofs.Calls.{some_same}
-use Rattle.violations.proofs.Publishing.{published_settled, published_fit, publishes, violates_readers}
+use Rattle.violations.proofs.Publishing.{published_settled, published_fit, publishes, owned_readers}
 use Rattle.violations.proofs.plain.PlainStore.publish.Goals as goal
 
 pub commit-requires : goal.commit-requires
@@ -73,5 +73,4 @@ returns-clause-violates c =
     let first = state_there p.states p.states c.args.core c.index.result.now refl was c.index.ensures in
     let same : c.index.result.now ≡ state = some_same (slice_get p.states c.args.core) c.index.result.now state first there in
     let readers = subst (λ (l : CoreState). AreReaders c.args.core (bytes_in l.own.cells) p.states hurt) same (rw c.as_slice.ensures.value at c.readers_of-hurt.ensures) in
-    rw (← c.self.view_is) (subst (λ x. ViolatesReaders c.args.core (λ a. is_some (own_in x a)) hurt (store_view p)) (sym there)
-    (violates_readers p c.args.core (bytes_in state.own.cells) hurt c.self.invariant.settled readers))
+    rw (← c.self.view_is) (owned_readers p c.args.core hurt state c.self.invariant.settled readers there)
