@@ -58,9 +58,10 @@ impl<'a, T: Kept> Held<'a, T> {
         words.exchange(&mut seat, HOME, Some(value));
         let served = words.fetch_add::<HandBack>(&mut seat, SERVING, 1);
         // Somebody waits who may sleep. One wake alone could reach another than the next, and then all would sleep.
-        if words.peek(NEXT) != served.wrapping_add(1) {
+        let expected = words.peek(NEXT);
+        if expected != served.wrapping_add(1) {
             words.wake_all(SERVING);
         }
-        Pass { lo, seat }
+        Pass { lo, seat, expected }
     }
 }

@@ -70,7 +70,14 @@ impl<T: Kept, A: Allocator> TicketLock<T, A> {
         let mut slots = Vec::new(alloc.clone().map_err(|_| NoMemory)?);
         slots.push(Some(value)).map_err(|_| NoMemory)?;
         match Table::new(alloc, &[first, first], slots, &start) {
-            Ok((table, seat)) => Ok((TicketLock { table }, Pass { lo: 0, seat })),
+            Ok((table, seat)) => Ok((
+                TicketLock { table },
+                Pass {
+                    lo: 0,
+                    seat,
+                    expected: first,
+                },
+            )),
             Err(_) => Err(NoMemory),
         }
     }
@@ -92,13 +99,18 @@ impl<T: Kept, A: Allocator> TicketLock<T, A> {
         ensures first { result.0 ≡ record pass { hi = at } }
         ensures second { result.1 ≡ record pass { lo = at } }
     {
-        let Pass { lo, mut seat } = pass;
+        let Pass {
+            lo,
+            mut seat,
+            expected,
+        } = pass;
         let right = self.table.shared.split_seat::<Halves<C>>(&mut seat);
         (
-            Pass { lo, seat },
+            Pass { lo, seat, expected },
             Pass {
                 lo: at,
                 seat: right,
+                expected,
             },
         )
     }
@@ -113,12 +125,16 @@ impl<T: Kept, A: Allocator> TicketLock<T, A> {
         ensures first_mine { entries_of first.lo first.hi (mine result) ≡ mine first }
         ensures second_mine { entries_of second.lo second.hi (mine result) ≡ mine second }
     {
-        let Pass { lo, mut seat } = first;
-        let Pass { lo: _, seat: other } = second;
+        let Pass {
+            lo,
+            mut seat,
+            expected,
+        } = first;
+        let Pass { seat: other, .. } = second;
         let words = &self.table.shared;
         words.join_seat::<Both>(&mut seat, other);
         words.load::<Recall>(&mut seat, SERVING);
-        Pass { lo, seat }
+        Pass { lo, seat, expected }
     }
 
     /// Draws a ticket, waits until it is served, and takes the value, whose past begins with all that the pass has seen and
@@ -133,10 +149,14 @@ impl<T: Kept, A: Allocator> TicketLock<T, A> {
         ensures numbers { IfOk result (λ h. pass.lo < pass.hi) }
         ensures spent { IfErr result (λ e. e.1 ≡ record pass { out = true }) }
     {
-        let Pass { lo, mut seat } = pass;
+        let Pass {
+            lo,
+            mut seat,
+            expected,
+        } = pass;
         let words = &self.table.shared;
-        let Some(ticket) = draw(rt, words, &mut seat) else {
-            return Err((Spent, Pass { lo, seat }));
+        let Some(ticket) = draw(rt, words, &mut seat, expected) else {
+            return Err((Spent, Pass { lo, seat, expected }));
         };
         wait(rt, words, &mut seat, ticket);
         let value = words.exchange(&mut seat, HOME, None).unwrap();
@@ -159,11 +179,22 @@ impl<T: Kept, A: Allocator> TicketLock<T, A> {
         ensures past { All (λ e. e.0 < self.numbers) (T.past result.0) → T.past result.0 ≡ pass.seen }
     {
         let TicketLock { table } = self;
-        let Pass { lo, mut seat } = pass;
+        let Pass {
+            lo,
+            mut seat,
+            expected,
+        } = pass;
         let ended = table.shared.split_seat::<Last>(&mut seat);
         let mut closed = table.close_with(seat);
         let value = closed.take(HOME).unwrap();
         closed.free();
-        (value, Pass { lo, seat: ended })
+        (
+            value,
+            Pass {
+                lo,
+                seat: ended,
+                expected,
+            },
+        )
     }
 }

@@ -11,6 +11,8 @@ use std::marker::Model;
 pub struct Pass<T: Kept> {
     pub(crate) lo: u64,
     pub(crate) seat: Place<T>,
+    /// The ticket that it tries to draw first: what the word `next` was when the pass last looked.
+    pub(crate) expected: u64,
 }
 
 impl<T: Kept> Model for Pass<T> {

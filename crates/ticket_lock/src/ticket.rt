@@ -1,5 +1,5 @@
 //! The two loops of a thread that takes the lock.
-ghost use Rattle.std.specs.Prelude.{◌≡◌, true, [], MatchOption};
+ghost use Rattle.std.specs.Prelude.{◌≡◌, ◌<◌, ◌^◌, true, [], IfSome, MatchOption, None};
 ghost use Rattle.ticket_lock.specs.declared.rule.Turn.TheVariants.{Waiting};
 ghost use Rattle.ticket_lock.specs.Steps.{IsHanded, Becomes, IsIdle, IsWaiting};
 
@@ -15,8 +15,31 @@ const LOOKS: u32 = 100;
 /// A thread with more tickets than these before its own sleeps at once.
 const NEAR: u64 = 3;
 
+/// The ticket to try: the expected one, or, where there is none of that number, the one that a look at the word finds. None: the look finds
+/// that they are all drawn, which only a look at the word tells the pass.
+fn to_try<T: Kept>(words: &Words<T>, seat: &mut Place<T>, expected: u64) -> Option<u64>
+    requires table { (seat.old.table_id ≡ words.now.table_id) × (words.now.table_id.words ≡ 2) }
+    requires idle { IsIdle seat.old }
+    ensures tried { IfSome result (λ t. (t < 2 ^ 63) × Becomes seat.old seat.new seat.old.me) }
+    ensures spent { result ≡ None → Becomes seat.old seat.new (record seat.old.me.0 { out = true }, []) }
+{
+    if expected < END {
+        return Some(expected);
+    }
+    let next = words.load::<LookNext>(seat, NEXT);
+    if next == END { None } else { Some(next) }
+}
+
 /// Draws the next ticket. None: they are all drawn.
-pub(crate) fn draw<T: Kept, R: Wait>(rt: &R, words: &Words<T>, seat: &mut Place<T>) -> Option<u64>
+///
+/// It tries the expected ticket at once: an exchange that is lost tells which ticket is next, as a look before it would, and a look before an exchange
+/// would bring the word's cache line to this core twice, first to read and then to write.
+pub(crate) fn draw<T: Kept, R: Wait>(
+    rt: &R,
+    words: &Words<T>,
+    seat: &mut Place<T>,
+    expected: u64,
+) -> Option<u64>
     requires table { (seat.old.table_id ≡ words.now.table_id) × (words.now.table_id.words ≡ 2) }
     requires idle { IsIdle seat.old }
     ensures { MatchOption result
@@ -24,13 +47,12 @@ pub(crate) fn draw<T: Kept, R: Wait>(rt: &R, words: &Words<T>, seat: &mut Place<
         (λ t. Becomes seat.old seat.new (record seat.old.me.0 { turn = Waiting t }, [])) }
 {
     let backoff = Backoff::new();
+    let mut next = expected;
     for _ in rt.forever() {
-        let next = words.load::<LookNext>(seat, NEXT);
-        if next == END {
-            return None;
-        }
-        if words.compare_exchange::<Draw>(seat, NEXT, next, next + 1) == next {
-            return Some(next);
+        let ticket = to_try(words, seat, next)?;
+        next = words.compare_exchange::<Draw>(seat, NEXT, ticket, ticket + 1);
+        if next == ticket {
+            return Some(ticket);
         }
         backoff.spin();
     }
