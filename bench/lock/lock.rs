@@ -1,4 +1,6 @@
 //! A ticket lock in plain Rust: threads that are near spin, others sleep on the word that is served, and who hands over wakes them.
+//! A ticket is drawn in one of two ways: `lock` wraps past the last ticket, and `lock_checked` refuses there.
+#![allow(dead_code)] // each program that has this file draws in one way alone
 use std::cell::UnsafeCell;
 use std::hint::spin_loop;
 use std::ops::{Deref, DerefMut};
@@ -42,6 +44,10 @@ pub struct TicketLock<T> {
 
 unsafe impl<T: Send> Sync for TicketLock<T> {}
 
+/// All tickets have been drawn.
+#[derive(Debug)]
+pub struct Spent;
+
 pub struct Guard<'a, T> {
     lock: &'a TicketLock<T>,
     ticket: u64,
@@ -52,8 +58,18 @@ impl<T> TicketLock<T> {
         TicketLock { next: AtomicU64::new(0), serving: AtomicU64::new(0), value: UnsafeCell::new(value) }
     }
 
+    /// Draws by one addition, which doesn't look for the last ticket.
     pub fn lock(&self) -> Guard<'_, T> {
-        let ticket = self.next.fetch_add(1, SeqCst);
+        self.wait(self.next.fetch_add(1, SeqCst))
+    }
+
+    /// Draws by a compare-exchange, and refuses where no ticket is left.
+    pub fn lock_checked(&self) -> Result<Guard<'_, T>, Spent> {
+        let drawn = self.next.fetch_update(SeqCst, SeqCst, |next| next.checked_add(1));
+        drawn.map(|ticket| self.wait(ticket)).map_err(|_| Spent)
+    }
+
+    fn wait(&self, ticket: u64) -> Guard<'_, T> {
         let mut looks = 0;
         loop {
             let served = self.serving.load(SeqCst);
