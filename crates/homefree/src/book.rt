@@ -31,7 +31,7 @@ use violations::EpochStore;
 /// A history of speculative epochs, with the store and the cores that it has led to.
 #[derive(Drop)]
 pub struct Book<S: EpochStore> {
-    /// In a block of its own, so that a lock hands over one word.
+    /// In a block of its own, so that a book is moved as one word.
     pub(crate) inside: Box<Inside<S>>,
 }
 

@@ -10,8 +10,7 @@ use ticket_lock::Kept;
 /// A list of entries, each with the number of the pass that made it and the turn in which it did.
 #[derive(Drop)]
 pub(crate) struct List {
-    /// In a block of its own, so that a lock hands over one word.
-    pub(crate) entries: Box<Vec<(u64, u64)>>,
+    pub(crate) entries: Vec<(u64, u64)>,
 }
 
 impl Model for List {
@@ -19,7 +18,7 @@ impl Model for List {
 
     ghost Value = { List (ℕ × ℕ) };
 
-    ghost view = { λ l. l.entries.value.items };
+    ghost view = { λ l. l.entries.items };
 }
 
 impl Kept for List {
@@ -38,7 +37,6 @@ impl List {
         ensures { IfSome result (λ l. l ≡ []) }
     {
         let entries = Vec::with_capacity(alloc, entries).ok()?;
-        let entries = Box::new(alloc, entries).ok()?;
         Some(List { entries })
     }
 

@@ -8,6 +8,8 @@ use lib.ListN.{get_elem?}
 use Rattle.atomic_table.specs.Table.{Final, Seen}
 use Rattle.atomic_table.specs.Seated.{TableId}
 use Rattle.atomic_table.specs.declared.shared.Seat.{Seat}
+use Rattle.ticket_lock.specs.declared.rule.Slot.{Slot}
+use Rattle.ticket_lock.specs.Rule.{in_slot}
 use Rattle.ticket_lock.specs.declared.rule.Opening.{Opening}
 use Rattle.ticket_lock.specs.declared.rule.View.{View}
 use Rattle.ticket_lock.specs.declared.rule.Turn.TheVariants.{Idle}
@@ -24,14 +26,14 @@ module _ {F : Type 0} where
   some_opening z l (Some o) e = let same : lock_of z o ≡ l = cc in ap (λ (k : LockOf F). let p : Opening F = record { numbers = k.numbers; fixed = k.fixed } in let q : Option (Opening F) = Some p in q) same
 
 module _ {F W T : Type 0} where
-  pub opened : (s : Seat (Option T) (View F W)) (p : Known F W) (l : LockOf F) → known_of s ≡ p → p.lock ≡ Some l → s.me.0.opening ≡ Some (record { numbers = l.numbers; fixed = l.fixed })
+  pub opened : (s : Seat (Slot T) (View F W)) (p : Known F W) (l : LockOf F) → known_of s ≡ p → p.lock ≡ Some l → s.me.0.opening ≡ Some (record { numbers = l.numbers; fixed = l.fixed })
   opened s p l is own = some_opening s.table_id l s.me.0.opening (ap (λ (k : Known F W). k.lock) is ∙ own)
 
-  pub live : (s : Seat (Option T) (View F W)) (p : Known F W) (l : LockOf F) → known_of s ≡ p → p.lock ≡ Some l → IsLive s.me.0
+  pub live : (s : Seat (Slot T) (View F W)) (p : Known F W) (l : LockOf F) → known_of s ≡ p → p.lock ≡ Some l → IsLive s.me.0
   live s p l is own = ap (λ (x : Option (Opening F)). is_some x) (opened s p l is own)
 
   -- the fixed part of the lock is that of the opening which the seat knows
-  pub fixed_is : (s : Seat (Option T) (View F W)) (p : Known F W) (f : F) → known_of s ≡ p → IsFixedOf p f → (o : Opening F) → s.me.0.opening ≡ Some o → f ≡ o.fixed
+  pub fixed_is : (s : Seat (Slot T) (View F W)) (p : Known F W) (f : F) → known_of s ≡ p → IsFixedOf p f → (o : Opening F) → s.me.0.opening ≡ Some o → f ≡ o.fixed
   fixed_is s p f is own o opening =
       let there : option_map (λ (l : LockOf F). l.fixed) (option_map (lock_of s.table_id) s.me.0.opening) ≡ Some f = ap (λ (k : Known F W). option_map (λ (l : LockOf F). l.fixed) k.lock) is ∙ own in
       let here : Some o.fixed ≡ Some f = ap (λ (x : Option (Opening F)). option_map (λ (l : LockOf F). l.fixed) (option_map (lock_of s.table_id) x)) (sym opening) ∙ there in
@@ -57,7 +59,7 @@ module _ {T F W : Type 0} (fixed_of : T → F) (past_of : T → List (ℕ × W))
     pub own : entries_of p.lo p.hi (past_of x) ≡ mine p
     pub past : All (λ e. e.0 < l.numbers) (past_of x) → past_of x ≡ p.seen
 
-  found_here : (s : Seat (Option T) (View F W)) (o : Opening F) → s.me.0.lo ≡ 0 → s.me.0.hi ≡ o.numbers → (x : T) → IsClosed fixed_of past_of o s.me.0 x
+  found_here : (s : Seat (Slot T) (View F W)) (o : Opening F) → s.me.0.lo ≡ 0 → s.me.0.hi ≡ o.numbers → (x : T) → IsClosed fixed_of past_of o s.me.0 x
       → IsFound (known_of s) (lock_of s.table_id o) x
   found_here s o low high x c =
       let v = s.me.0 in record {
@@ -67,9 +69,9 @@ module _ {T F W : Type 0} (fixed_of : T → F) (past_of : T → List (ℕ × W))
         past = whole_past o.numbers c.begins (subst (λ (r : ℕ × ℕ). entries_of r.0 r.1 (past_of x) ≡ entries_of r.0 r.1 v.seen) (λ i. (low i, high i)) c.own);
       }
 
-  pub found : (s : Seat (Option T) (View F W)) (o : Opening F) (p : Known F W) (l : LockOf F) → known_of s ≡ p → lock_of s.table_id o ≡ l → p.lock ≡ Some l
-      → p.lo ≡ 0 → p.hi ≡ l.numbers → s.me.0.turn ≡ Idle → (v : View F W) → v ≡ s.me.0 → (id : ℕ) (ws : List ℕ) (xs : List (Option T)) → Final (Seen (LockRule fixed_of past_of o) id v) ws xs
-      → (x : T) × (get_elem? xs 0 ≡ some (Some x)) × IsFound p l x
+  pub found : (s : Seat (Slot T) (View F W)) (o : Opening F) (p : Known F W) (l : LockOf F) → known_of s ≡ p → lock_of s.table_id o ≡ l → p.lock ≡ Some l
+      → p.lo ≡ 0 → p.hi ≡ l.numbers → s.me.0.turn ≡ Idle → (v : View F W) → v ≡ s.me.0 → (id : ℕ) (ws : List ℕ) (xs : List (Slot T)) → Final (Seen (LockRule fixed_of past_of o) id v) ws xs
+      → (x : T) × (get_elem? xs 0 ≡ some (in_slot x)) × IsFound p l x
   found s o p l is lock own low high idle v same id ws xs final =
       let low' : s.me.0.lo ≡ 0 = ap (λ (k : Known F W). k.lo) is ∙ low in
       let high' : s.me.0.hi ≡ o.numbers = ap (λ (k : Known F W). k.hi) is ∙ (high ∙ ap (λ (k : LockOf F). k.numbers) (sym lock)) in

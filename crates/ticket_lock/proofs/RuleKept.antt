@@ -1,6 +1,6 @@
 -- Each kind of step keeps the lock rule.
 use Rattle.std.proofs.Common.{◌≡◌, ℕ, ◌+◌, ◌%◌, ◌^◌, ◌<◌, ◌≤◌, ◌≢◌, Bool, true, false, cond, eqb, ◌||◌, zero, suc, List, [], ◌∷◌, ◌++◌, set, get_or, Option, Some, None, refl, sym, ap, ◌∙◌, subst, inl, inr, ⊎_elim, arith, eq-eqb, ne_eqb}
-use Rattle.std.specs.Prelude.{MatchBool, IsSome, unwrap_or}
+use Rattle.std.specs.Prelude.{MatchBool, IsSome}
 use Rattle.std.proofs.lemmas.List.{append-nil, set_comm, set-get_or}
 use Rattle.std.proofs.lemmas.List.Elements.{filter-append, All-nil, All-cons}
 use mathlib.Core.Option.{some, none, some-injective, some-ne-none}
@@ -10,10 +10,13 @@ use prog.Atomic.{either}
 use lib.ListN.{get_elem?}
 use Rattle.atomic_table.specs.Table.{State, Me, step, keeps, takes, gives, stepped, opening, Allows, Splits, Joins, Final, Seen}
 use Rattle.atomic_table.proofs.Lists.{at_set, set_else, set_again, at_longer}
+use Rattle.ticket_lock.specs.declared.rule.Slot.{Slot}
+use Rattle.ticket_lock.specs.Rule.{in_slot}
 use Rattle.ticket_lock.specs.declared.rule.Opening.{Opening}
 use Rattle.ticket_lock.specs.declared.rule.View.{View}
 use Rattle.ticket_lock.specs.declared.rule.Turn.{Turn}
 use Rattle.ticket_lock.specs.declared.rule.Turn.TheVariants.{Idle, Waiting, Holding}
+use Rattle.ticket_lock.specs.Known.{value_in}
 use Rattle.ticket_lock.specs.Past.{StartsWith, GrowsBy, is_of, entries_of}
 use Rattle.ticket_lock.specs.Rule.{IsLive, Covers, IsNoted, IsSound, AreApart, IsSeated, IsHome, IsOut, LockRule, ticket_of, first_view}
 use Rattle.ticket_lock.specs.Steps.{noticed, numbers_below, numbers_from, noted_of, both_of, spent, closed, looked_next, recalled, drawn, IsHanded, served, handed_back}
@@ -35,11 +38,11 @@ idle_is_not r u p q = let e : Idle ≡ Holding u = sym p ∙ q in cc
 
 module _ {T F W : Type 0} where
   -- the seat that has the value has the view v, if it is the seat of v
-  holder_view : (serving : ℕ) (past : List (ℕ × W)) (s : State (Option T) (View F W)) (h : IsOut serving past s) (id : ℕ) (v : View F W) → get_elem? s.views id ≡ some v → h.holder ≡ id → h.view ≡ v
+  holder_view : (serving : ℕ) (past : List (ℕ × W)) (s : State (Slot T) (View F W)) (h : IsOut serving past s) (id : ℕ) (v : View F W) → get_elem? s.views id ≡ some v → h.holder ≡ id → h.view ≡ v
   holder_view serving past s h id v at e = some-injective h.view v (sym h.seated.0 ∙ (ap (λ j. get_elem? s.views j) e ∙ at))
 
   -- a seat that has no value is not the holder
-  not_holder : (serving : ℕ) (past : List (ℕ × W)) (s : State (Option T) (View F W)) (h : IsOut serving past s) (id : ℕ) (v : View F W) → get_elem? s.views id ≡ some v → ((t : ℕ) → v.turn ≢ Holding t) → h.holder ≢ id
+  not_holder : (serving : ℕ) (past : List (ℕ × W)) (s : State (Slot T) (View F W)) (h : IsOut serving past s) (id : ℕ) (v : View F W) → get_elem? s.views id ≡ some v → ((t : ℕ) → v.turn ≢ Holding t) → h.holder ≢ id
   not_holder serving past s h id v at not e = not serving (ap (λ (z : View F W). z.turn) (sym (holder_view serving past s h id v at e)) ∙ h.holds)
 
 -- what a look or a split leaves of a view: its opening, its turn and what it has seen, and no more numbers
@@ -62,14 +65,9 @@ only : {X : Type 0} (a : X) (j : ℕ) (b : X) → get_elem? (a ∷ []) j ≡ som
 only a zero b e = (refl, some-injective a b e)
 only a (suc j) b e = absurd (some-ne-none b (sym e))
 
--- the value in the first slot that is carried, or else d
-abbrev value_in : {T : Type 0} → T → List (ℕ × Option T) → T
-value_in d [] = d
-value_in d (c ∷ cs) = unwrap_or c.1 d
-
 module _ {T F W : Type 0} where
   -- where the value is at home, a seat changes to one that has it not
-  home_set : (fixed_of : T → F) (past_of : T → List (ℕ × W)) (o : Opening F) (past : List (ℕ × W)) (ws : List ℕ) (s : State (Option T) (View F W)) (id : ℕ) (w : View F W)
+  home_set : (fixed_of : T → F) (past_of : T → List (ℕ × W)) (o : Opening F) (past : List (ℕ × W)) (ws : List ℕ) (s : State (Slot T) (View F W)) (id : ℕ) (w : View F W)
       → IsHome fixed_of past_of o past s → ((t : ℕ) → IsLive w → w.turn ≢ Holding t)
       → IsHome fixed_of past_of o past record { words = ws; homes = s.homes; views = set s.views id w }
   home_set fixed_of past_of o past ws s id w h not = record {
@@ -81,7 +79,7 @@ module _ {T F W : Type 0} where
   }
 
   -- where the value is out with another seat, a seat changes
-  out_set : (serving : ℕ) (past : List (ℕ × W)) (ws : List ℕ) (s : State (Option T) (View F W)) (id : ℕ) (w : View F W)
+  out_set : (serving : ℕ) (past : List (ℕ × W)) (ws : List ℕ) (s : State (Slot T) (View F W)) (id : ℕ) (w : View F W)
       → (h : IsOut serving past s) → h.holder ≢ id
       → IsOut serving past record { words = ws; homes = s.homes; views = set s.views id w }
   out_set serving past ws s id w h ne = record {
@@ -95,16 +93,16 @@ module _ {T F W : Type 0} where
 
 module _ {T F W : Type 0} (fixed_of : T → F) (past_of : T → List (ℕ × W)) where
   -- what a look tells the pass m that waits: with its ticket u found it has the value, and else it is as it was
-  abbrev pub Told : (m : Me (Option T) (View F W)) (n : ℕ) (m' : Me (Option T) (View F W)) → Type 0
+  abbrev pub Told : (m : Me (Slot T) (View F W)) (n : ℕ) (m' : Me (Slot T) (View F W)) → Type 0
   Told m n m' = (u : ℕ) → m.0.turn ≡ Waiting u → MatchBool (eqb n u) ((x : T) × IsHanded fixed_of past_of m.0 u x m') (m' ≡ m)
 
-  pub taken : (m was : Me (Option T) (View F W)) (n t : ℕ) (m' : Me (Option T) (View F W)) → m ≡ was → was.0.turn ≡ Waiting t → Told m n m' → n ≡ t
+  pub taken : (m was : Me (Slot T) (View F W)) (n t : ℕ) (m' : Me (Slot T) (View F W)) → m ≡ was → was.0.turn ≡ Waiting t → Told m n m' → n ≡ t
       → (x : T) × IsHanded fixed_of past_of was.0 t x m'
   taken m was n t m' same waits tells is =
       let given : (x : T) × IsHanded fixed_of past_of m.0 t x m' = subst (λ (b : Bool). MatchBool b ((x : T) × IsHanded fixed_of past_of m.0 t x m') (m' ≡ m)) (eq-eqb n t is) (tells t (ap (λ p. p.0.turn) same ∙ waits)) in
-      subst (λ (p : Me (Option T) (View F W)). (x : T) × IsHanded fixed_of past_of p.0 t x m') same given
+      subst (λ (p : Me (Slot T) (View F W)). (x : T) × IsHanded fixed_of past_of p.0 t x m') same given
 
-  pub not_taken : (m was : Me (Option T) (View F W)) (n t : ℕ) (m' : Me (Option T) (View F W)) → m ≡ was → was.0.turn ≡ Waiting t → Told m n m' → (n ≡ t → ⊥)
+  pub not_taken : (m was : Me (Slot T) (View F W)) (n t : ℕ) (m' : Me (Slot T) (View F W)) → m ≡ was → was.0.turn ≡ Waiting t → Told m n m' → (n ≡ t → ⊥)
       → m' ≡ was
   not_taken m was n t m' same waits tells is =
       let given : m' ≡ m = subst (λ (b : Bool). MatchBool b ((x : T) × IsHanded fixed_of past_of m.0 t x m') (m' ≡ m)) (ne_eqb n t is) (tells t (ap (λ p. p.0.turn) same ∙ waits)) in
@@ -115,7 +113,7 @@ module _ {T F W : Type 0} (fixed_of : T → F) (past_of : T → List (ℕ × W))
   live_of v w e live = subst (λ (z : Option (Opening F)). IsSome z) e live
 
   -- a seat's view narrows, and the table stays as it was
-  pub narrows : (s : State (Option T) (View F W)) (r : LockRule fixed_of past_of o s) (id : ℕ) (v w : View F W) → get_elem? s.views id ≡ some v → Narrows v w
+  pub narrows : (s : State (Slot T) (View F W)) (r : LockRule fixed_of past_of o s) (id : ℕ) (v w : View F W) → get_elem? s.views id ≡ some v → Narrows v w
       → (IsSound o r.next r.serving r.past v → IsSound o r.next r.serving r.past w)
       → LockRule fixed_of past_of o record { words = s.words; homes = s.homes; views = set s.views id w }
   narrows s r id v w at n sound = record {
@@ -145,20 +143,20 @@ module _ {T F W : Type 0} (fixed_of : T → F) (past_of : T → List (ℕ × W))
   }
 
   -- a step that changes neither the words nor the slot
-  unmoved : (s : State (Option T) (View F W)) (i id : ℕ) (c : List (ℕ × Option T)) (w : View F W)
+  unmoved : (s : State (Slot T) (View F W)) (i id : ℕ) (c : List (ℕ × Slot T)) (w : View F W)
       → LockRule fixed_of past_of o record { words = s.words; homes = s.homes; views = set s.views id w }
       → LockRule fixed_of past_of o (stepped s i (get_or s.words i 0) id c w keeps)
   unmoved s i id c w = subst (λ (ws : List ℕ). LockRule fixed_of past_of o record { words = ws; homes = s.homes; views = set s.views id w }) (sym (set-get_or s.words i 0))
 
   -- a seat that stays as it is
-  stays : (s : State (Option T) (View F W)) (id : ℕ) (v : View F W) → LockRule fixed_of past_of o s → get_elem? s.views id ≡ some v
+  stays : (s : State (Slot T) (View F W)) (id : ℕ) (v : View F W) → LockRule fixed_of past_of o s → get_elem? s.views id ≡ some v
       → LockRule fixed_of past_of o record { words = s.words; homes = s.homes; views = set s.views id v }
   stays s id v r at = subst (λ (vs : List (View F W)). LockRule fixed_of past_of o record { words = s.words; homes = s.homes; views = vs }) (sym (set_again s.views id v at)) r
 
-  word_next : (s : State (Option T) (View F W)) (r : LockRule fixed_of past_of o s) → get_or s.words 0 0 ≡ r.next
+  word_next : (s : State (Slot T) (View F W)) (r : LockRule fixed_of past_of o s) → get_or s.words 0 0 ≡ r.next
   word_next s r = ap (λ ws. get_or ws 0 0) r.words
 
-  word_serving : (s : State (Option T) (View F W)) (r : LockRule fixed_of past_of o s) → get_or s.words 1 0 ≡ r.serving
+  word_serving : (s : State (Slot T) (View F W)) (r : LockRule fixed_of past_of o s) → get_or s.words 1 0 ≡ r.serving
   word_serving s r = ap (λ ws. get_or ws 1 0) r.words
 
   -- a pass that has found all tickets drawn
@@ -176,7 +174,7 @@ module _ {T F W : Type 0} (fixed_of : T → F) (past_of : T → List (ℕ × W))
   }
 
   -- a look at `next`
-  pub looks_next : (slots id : ℕ) (m : Me (Option T) (View F W)) → Allows (LockRule fixed_of past_of o) slots id m 0 (λ n. n) (looked_next (step slots 0 0 0 none) m)
+  pub looks_next : (slots id : ℕ) (m : Me (Slot T) (View F W)) → Allows (LockRule fixed_of past_of o) slots id m 0 (λ n. n) (looked_next (step slots 0 0 0 none) m)
   looks_next slots id m s r deep at fits =
       let n : ℕ = get_or s.words 0 0 in
       let found = word_next s r in
@@ -188,14 +186,14 @@ module _ {T F W : Type 0} (fixed_of : T → F) (past_of : T → List (ℕ × W))
         keeps,
         tt,
         unmoved s 0 id m.1 (record m.0 { out = true }) (narrows s r id m.0 (record m.0 { out = true }) at record { opening = refl; turn = refl; seen = refl; covers = λ k p. p } (outs r.next r.serving r.past m.0 (sym (word_next s r) ∙ e))),
-        (top, ap (λ (b : Bool). let w : View F W = cond b (record m.0 { out = true }) m.0 in let p : Me (Option T) (View F W) = (w, m.1) in p) (sym (eq-eqb n (2 ^ 63) e))),
+        (top, ap (λ (b : Bool). let w : View F W = cond b (record m.0 { out = true }) m.0 in let p : Me (Slot T) (View F W) = (w, m.1) in p) (sym (eq-eqb n (2 ^ 63) e))),
       ))
       (λ ne. (
         m.0,
         keeps,
         tt,
         unmoved s 0 id m.1 m.0 (stays s id m.0 r at),
-        (top, ap (λ (b : Bool). let w : View F W = cond b (record m.0 { out = true }) m.0 in let p : Me (Option T) (View F W) = (w, m.1) in p) (sym (ne_eqb n (2 ^ 63) ne))),
+        (top, ap (λ (b : Bool). let w : View F W = cond b (record m.0 { out = true }) m.0 in let p : Me (Slot T) (View F W) = (w, m.1) in p) (sym (ne_eqb n (2 ^ 63) ne))),
       ))
 
   -- the look after a join
@@ -212,7 +210,7 @@ module _ {T F W : Type 0} (fixed_of : T → F) (past_of : T → List (ℕ × W))
     noted = All-nil (IsNoted (record v { noted = [] }));
   }
 
-  pub recalls : (slots id : ℕ) (m : Me (Option T) (View F W)) (i : ℕ) → Allows (LockRule fixed_of past_of o) slots id m i (λ n. n) (recalled (step slots i 0 0 none) m)
+  pub recalls : (slots id : ℕ) (m : Me (Slot T) (View F W)) (i : ℕ) → Allows (LockRule fixed_of past_of o) slots id m i (λ n. n) (recalled (step slots i 0 0 none) m)
   recalls slots id m i s r deep at fits =
       let w : View F W = record m.0 { noted = [] } in (
         w,
@@ -223,7 +221,7 @@ module _ {T F W : Type 0} (fixed_of : T → F) (past_of : T → List (ℕ × W))
       )
 
   -- a ticket is drawn
-  drew : (s : State (Option T) (View F W)) (r : LockRule fixed_of past_of o s) (id : ℕ) (v : View F W) → get_elem? s.views id ≡ some v → IsLive v → v.turn ≡ Idle → r.next < 2 ^ 63
+  drew : (s : State (Slot T) (View F W)) (r : LockRule fixed_of past_of o s) (id : ℕ) (v : View F W) → get_elem? s.views id ≡ some v → IsLive v → v.turn ≡ Idle → r.next < 2 ^ 63
       → (ws : List ℕ) → ws ≡ (r.next + 1) ∷ r.serving ∷ []
       → LockRule fixed_of past_of o record { words = ws; homes = s.homes; views = set s.views id (record v { turn = Waiting r.next }) }
   drew s r id v at live idle free ws words =
@@ -270,7 +268,7 @@ module _ {T F W : Type 0} (fixed_of : T → F) (past_of : T → List (ℕ × W))
             r.value;
       }
 
-  pub draws : (slots id : ℕ) (m : Me (Option T) (View F W)) (t : ℕ) → IsLive m.0 → m.0.turn ≡ Idle → t < 2 ^ 63
+  pub draws : (slots id : ℕ) (m : Me (Slot T) (View F W)) (t : ℕ) → IsLive m.0 → m.0.turn ≡ Idle → t < 2 ^ 63
       → Allows (LockRule fixed_of past_of o) slots id m 0 (λ n. either (eqb n t) (t + 1) n) (drawn (step slots 0 t (t + 1) none) m)
   draws slots id m t live idle free s r deep at fits =
       let n : ℕ = get_or s.words 0 0 in
@@ -285,7 +283,7 @@ module _ {T F W : Type 0} (fixed_of : T → F) (past_of : T → List (ℕ × W))
         keeps,
         tt,
         subst (λ k. LockRule fixed_of past_of o record { words = set s.words 0 (either (eqb n t) (t + 1) n); homes = s.homes; views = set s.views id (record m.0 { turn = Waiting k }) }) same kept,
-        subst (λ (b : Bool). let p : Me (Option T) (View F W) = (w, m.1) in MatchBool b (p ≡ (record m.0 { turn = Waiting t }, m.1)) (p ≡ m)) (sym (eq-eqb n t e)) refl,
+        subst (λ (b : Bool). let p : Me (Slot T) (View F W) = (w, m.1) in MatchBool b (p ≡ (record m.0 { turn = Waiting t }, m.1)) (p ≡ m)) (sym (eq-eqb n t e)) refl,
       ))
       (λ ne.
       let here : either (eqb n t) (t + 1) n ≡ n = ap (λ (b : Bool). either b (t + 1) n) (ne_eqb n t ne) in (
@@ -297,7 +295,7 @@ module _ {T F W : Type 0} (fixed_of : T → F) (past_of : T → List (ℕ × W))
       ))
 
   -- the pass whose ticket is served takes the value out of the slot
-  took : (s : State (Option T) (View F W)) (r : LockRule fixed_of past_of o s) (id : ℕ) (v : View F W) → get_elem? s.views id ≡ some v → IsLive v → (t : ℕ) → v.turn ≡ Waiting t → r.serving ≡ t
+  took : (s : State (Slot T) (View F W)) (r : LockRule fixed_of past_of o s) (id : ℕ) (v : View F W) → get_elem? s.views id ≡ some v → IsLive v → (t : ℕ) → v.turn ≡ Waiting t → r.serving ≡ t
       → (h : IsHome fixed_of past_of o r.past s) (ws : List ℕ) → ws ≡ r.next ∷ r.serving ∷ []
       → LockRule fixed_of past_of o record { words = ws; homes = set s.homes 0 none; views = set s.views id (record v { turn = Holding t; seen = past_of h.value; noted = [] }) }
   took s r id v at live t waits now h ws words =
@@ -339,7 +337,7 @@ module _ {T F W : Type 0} (fixed_of : T → F) (past_of : T → List (ℕ × W))
       }
 
   -- who has the ticket that is served and waits finds the value at home
-  is_home : (s : State (Option T) (View F W)) (r : LockRule fixed_of past_of o s) (id : ℕ) (v : View F W) → get_elem? s.views id ≡ some v → IsLive v → v.turn ≡ Waiting r.serving → IsHome fixed_of past_of o r.past s
+  is_home : (s : State (Slot T) (View F W)) (r : LockRule fixed_of past_of o s) (id : ℕ) (v : View F W) → get_elem? s.views id ≡ some v → IsLive v → v.turn ≡ Waiting r.serving → IsHome fixed_of past_of o r.past s
   is_home s r id v at live waits =
       ⊎_elim
       (λ h. h)
@@ -347,7 +345,7 @@ module _ {T F W : Type 0} (fixed_of : T → F) (past_of : T → List (ℕ × W))
       r.value
 
   -- what the look of a pass that waits with the ticket t tells, told of any ticket with which it waits
-  told : (slots n : ℕ) (v : View F W) (t : ℕ) → v.turn ≡ Waiting t → (m : Me (Option T) (View F W))
+  told : (slots n : ℕ) (v : View F W) (t : ℕ) → v.turn ≡ Waiting t → (m : Me (Slot T) (View F W))
       → MatchBool (eqb n t) ((x : T) × IsHanded fixed_of past_of v t x m) (m ≡ (v, [])) → served fixed_of past_of (step slots 1 0 0 none) (v, []) n m
   told slots n v t waits m given u is =
       let same : t ≡ u = cc in
@@ -366,10 +364,10 @@ module _ {T F W : Type 0} (fixed_of : T → F) (past_of : T → List (ℕ × W))
       let words : set s.words 1 n ≡ r.next ∷ r.serving ∷ [] = ap (λ ws. set ws 1 n) r.words ∙ ap (λ k. r.next ∷ k ∷ []) (word_serving s r) in
       let was = r.each id v (at, live) in (
         w,
-        takes 0 (Some x),
+        takes 0 (in_slot x),
         ap (λ hs. get_elem? hs 0) h.slot,
         took s r id v at live t waits now h (set s.words 1 n) words,
-        told slots n v t waits (w, (0, Some x) ∷ []) (subst (λ (b : Bool). let m : Me (Option T) (View F W) = (w, (0, Some x) ∷ []) in MatchBool b ((x : T) × IsHanded fixed_of past_of v t x m) (m ≡ (v, []))) (sym (eq-eqb n t e)) (
+        told slots n v t waits (w, (0, in_slot x) ∷ []) (subst (λ (b : Bool). let m : Me (Slot T) (View F W) = (w, (0, in_slot x) ∷ []) in MatchBool b ((x : T) × IsHanded fixed_of past_of v t x m) (m ≡ (v, []))) (sym (eq-eqb n t e)) (
           x,
           record {
             seat = refl;
@@ -385,19 +383,19 @@ module _ {T F W : Type 0} (fixed_of : T → F) (past_of : T → List (ℕ × W))
         keeps,
         tt,
         unmoved s 1 id [] v (stays s id v r at),
-        told slots n v t waits (v, []) (subst (λ (b : Bool). let m : Me (Option T) (View F W) = (v, []) in MatchBool b ((x : T) × IsHanded fixed_of past_of v t x m) (m ≡ m)) (sym (ne_eqb n t ne)) refl),
+        told slots n v t waits (v, []) (subst (λ (b : Bool). let m : Me (Slot T) (View F W) = (v, []) in MatchBool b ((x : T) × IsHanded fixed_of past_of v t x m) (m ≡ m)) (sym (ne_eqb n t ne)) refl),
       ))
 
-  pub serves_at : (slots id : ℕ) (m : Me (Option T) (View F W)) (t : ℕ) → IsLive m.0 → m.0.turn ≡ Waiting t → m.1 ≡ []
+  pub serves_at : (slots id : ℕ) (m : Me (Slot T) (View F W)) (t : ℕ) → IsLive m.0 → m.0.turn ≡ Waiting t → m.1 ≡ []
       → Allows (LockRule fixed_of past_of o) slots id m 1 (λ n. n) (served fixed_of past_of (step slots 1 0 0 none) m)
   serves_at slots id m t live waits bare =
       let same : (m.0, []) ≡ m = λ i. (m.0, sym bare i) in
-      subst (λ (m : Me (Option T) (View F W)). Allows (LockRule fixed_of past_of o) slots id m 1 (λ n. n) (served fixed_of past_of (step slots 1 0 0 none) m)) same (serves slots id m.0 t live waits)
+      subst (λ (m : Me (Slot T) (View F W)). Allows (LockRule fixed_of past_of o) slots id m 1 (λ n. n) (served fixed_of past_of (step slots 1 0 0 none) m)) same (serves slots id m.0 t live waits)
 
   -- the pass that has the value gives it back, grown by entries of its own first number
-  gave : (s : State (Option T) (View F W)) (r : LockRule fixed_of past_of o s) (id : ℕ) (v : View F W) → get_elem? s.views id ≡ some v → IsLive v → (t : ℕ) → v.turn ≡ Holding t
+  gave : (s : State (Slot T) (View F W)) (r : LockRule fixed_of past_of o s) (id : ℕ) (v : View F W) → get_elem? s.views id ≡ some v → IsLive v → (t : ℕ) → v.turn ≡ Holding t
       → (x : T) → fixed_of x ≡ o.fixed → GrowsBy v.lo v.seen (past_of x) → (ws : List ℕ) → ws ≡ r.next ∷ (r.serving + 1) ∷ []
-      → LockRule fixed_of past_of o record { words = ws; homes = set s.homes 0 (some (Some x)); views = set s.views id (record v { turn = Idle; seen = past_of x; noted = [] }) }
+      → LockRule fixed_of past_of o record { words = ws; homes = set s.homes 0 (some (in_slot x)); views = set s.views id (record v { turn = Idle; seen = past_of x; noted = [] }) }
   gave s r id v at live t has x fixed g ws words =
       let w : View F W = record v { turn = Idle; seen = past_of x; noted = [] } in
       let was = r.each id v (at, live) in
@@ -446,7 +444,7 @@ module _ {T F W : Type 0} (fixed_of : T → F) (past_of : T → List (ℕ × W))
         apart = apart_set s.views id w r.apart (λ j u ne su _. record { numbers = (apart j u ne su).numbers; tickets = λ k p q. not_some k p });
         value = inl record {
           value = x;
-          slot = ap (λ hs. set hs 0 (some (Some x))) h.slot;
+          slot = ap (λ hs. set hs 0 (some (in_slot x))) h.slot;
           fixed = fixed;
           past_is = refl;
           nobody = λ j u k su e. each_set (λ (u : View F W). (k : ℕ) → u.turn ≢ Holding k) s.views id w (λ _ k e. idle_is_not Idle k refl e)
@@ -455,7 +453,7 @@ module _ {T F W : Type 0} (fixed_of : T → F) (past_of : T → List (ℕ × W))
       }
 
   hands_back : (slots id : ℕ) (v : View F W) (t : ℕ) (x : T) → IsLive v → v.turn ≡ Holding t → ((p : Opening F) → v.opening ≡ Some p → fixed_of x ≡ p.fixed) → GrowsBy v.lo v.seen (past_of x)
-      → Allows (LockRule fixed_of past_of o) slots id (v, (0, Some x) ∷ []) 1 (λ n. (n + 1) % 2 ^ 64) (handed_back past_of (step slots 1 1 0 none) (v, (0, Some x) ∷ []))
+      → Allows (LockRule fixed_of past_of o) slots id (v, (0, in_slot x) ∷ []) 1 (λ n. (n + 1) % 2 ^ 64) (handed_back past_of (step slots 1 1 0 none) (v, (0, in_slot x) ∷ []))
   hands_back slots id v t x live has fixed g s r deep at fits =
       let n : ℕ = get_or s.words 1 0 in
       let n' : ℕ = (n + 1) % 18446744073709551616 in
@@ -471,17 +469,17 @@ module _ {T F W : Type 0} (fixed_of : T → F) (past_of : T → List (ℕ × W))
         gives,
         tt,
         gave s r id v at live t has x (fixed o was.opening) g (set s.words 1 n') words,
-        λ y e. let same : x ≡ y = ap (value_in x) e in ap (λ (z : T). let p : Me (Option T) (View F W) = (record v { turn = Idle; seen = past_of z; noted = [] }, []) in p) same,
+        λ y e. let same : x ≡ y = ap (value_in x) e in ap (λ (z : T). let p : Me (Slot T) (View F W) = (record v { turn = Idle; seen = past_of z; noted = [] }, []) in p) same,
       )
 
-  pub hands_back_at : (slots id : ℕ) (m : Me (Option T) (View F W)) (v : View F W) (t : ℕ) (x : T) → m ≡ (v, (0, Some x) ∷ []) → IsLive v → v.turn ≡ Holding t
+  pub hands_back_at : (slots id : ℕ) (m : Me (Slot T) (View F W)) (v : View F W) (t : ℕ) (x : T) → m ≡ (v, (0, in_slot x) ∷ []) → IsLive v → v.turn ≡ Holding t
       → ((p : Opening F) → v.opening ≡ Some p → fixed_of x ≡ p.fixed) → GrowsBy v.lo v.seen (past_of x)
       → Allows (LockRule fixed_of past_of o) slots id m 1 (λ n. (n + 1) % 2 ^ 64) (handed_back past_of (step slots 1 1 0 none) m)
   hands_back_at slots id m v t x is live has fixed g =
-      subst (λ (m : Me (Option T) (View F W)). Allows (LockRule fixed_of past_of o) slots id m 1 (λ n. (n + 1) % 2 ^ 64) (handed_back past_of (step slots 1 1 0 none) m)) (sym is) (hands_back slots id v t x live has fixed g)
+      subst (λ (m : Me (Slot T) (View F W)). Allows (LockRule fixed_of past_of o) slots id m 1 (λ n. (n + 1) % 2 ^ 64) (handed_back past_of (step slots 1 1 0 none) m)) (sym is) (hands_back slots id v t x live has fixed g)
 
   -- a seat is added, whose pass has no number that a live pass has, or is spent
-  added : (s : State (Option T) (View F W)) (r : LockRule fixed_of past_of o s) (w : View F W)
+  added : (s : State (Slot T) (View F W)) (r : LockRule fixed_of past_of o s) (w : View F W)
       → (IsLive w → IsSound o r.next r.serving r.past w) → ((j : ℕ) (u : View F W) → IsSeated s.views j u → IsLive w → AreApart w u) → ((t : ℕ) → IsLive w → w.turn ≢ Holding t)
       → LockRule fixed_of past_of o record { words = s.words; homes = s.homes; views = s.views ++ w ∷ [] }
   added s r w sound apart not = record {
@@ -622,8 +620,8 @@ module _ {T F W : Type 0} (fixed_of : T → F) (past_of : T → List (ℕ × W))
     pub begins : StartsWith (past_of x) v.seen
     pub own : entries_of v.lo v.hi (past_of x) ≡ entries_of v.lo v.hi v.seen
 
-  pub closes : (id : ℕ) (v : View F W) (ws : List ℕ) (xs : List (Option T)) → IsLive v → v.turn ≡ Idle → v.lo ≡ 0 → v.hi ≡ o.numbers
-      → Final (Seen (LockRule fixed_of past_of o) id v) ws xs → (x : T) × (get_elem? xs 0 ≡ some (Some x)) × IsClosed v x
+  pub closes : (id : ℕ) (v : View F W) (ws : List ℕ) (xs : List (Slot T)) → IsLive v → v.turn ≡ Idle → v.lo ≡ 0 → v.hi ≡ o.numbers
+      → Final (Seen (LockRule fixed_of past_of o) id v) ws xs → (x : T) × (get_elem? xs 0 ≡ some (in_slot x)) × IsClosed v x
   closes id v ws xs live idle low high f =
       let s = f.0 in
       let r = f.1.0 in
@@ -640,7 +638,7 @@ module _ {T F W : Type 0} (fixed_of : T → F) (past_of : T → List (ℕ × W))
       absurd ((r.apart id h.holder v u (λ e. ne (sym e)) (at, live) h.seated).numbers u.lo (omega arith, omega arith) (omega arith, a)))
       r.value in (
         home.value,
-        f.4 0 (Some home.value) (ap (λ hs. get_elem? hs 0) home.slot),
+        f.4 0 (in_slot home.value) (ap (λ hs. get_elem? hs 0) home.slot),
         record {
           fixed = home.fixed;
           begins = subst (λ l. StartsWith l v.seen) (sym home.past_is) was.seen;
@@ -649,7 +647,7 @@ module _ {T F W : Type 0} (fixed_of : T → F) (past_of : T → List (ℕ × W))
       )
 
   -- the table at the opening
-  pub opens : (first : ℕ) (x : T) → first ≤ 2 ^ 63 → 0 < o.numbers → fixed_of x ≡ o.fixed → LockRule fixed_of past_of o (opening (first ∷ first ∷ []) (Some x ∷ []) (first_view past_of o x))
+  pub opens : (first : ℕ) (x : T) → first ≤ 2 ^ 63 → 0 < o.numbers → fixed_of x ≡ o.fixed → LockRule fixed_of past_of o (opening (first ∷ first ∷ []) (in_slot x ∷ []) (first_view past_of o x))
   opens first x low some_number fixed =
       let v : View F W = first_view past_of o x in record {
         next = first;

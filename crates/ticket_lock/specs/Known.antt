@@ -1,8 +1,10 @@
 -- What a clause sees of a lock, a pass and a held value.
-use Rattle.std.specs.Prelude.{◌≡◌, ℕ, ◌<◌, Bool, false, ◌||◌, List, [], ◌∷◌, Option, Some, None, IsSome}
+use Rattle.std.specs.Prelude.{◌≡◌, ℕ, ◌<◌, Bool, false, ◌||◌, List, [], ◌∷◌, Option, Some, IsSome}
 use Rattle.std.specs.Option.{option_map}
 use Rattle.atomic_table.specs.Seated.{TableId}
 use Rattle.atomic_table.specs.declared.shared.Seat.{Seat}
+use Rattle.ticket_lock.specs.declared.rule.Slot.{Slot}
+use Rattle.ticket_lock.specs.Rule.{in_slot}
 use Rattle.ticket_lock.specs.declared.rule.Opening.{Opening}
 use Rattle.ticket_lock.specs.declared.rule.View.{View}
 use Rattle.ticket_lock.specs.declared.rule.Turn.TheVariants.{Idle, Holding}
@@ -43,19 +45,24 @@ pub record Hold (F W T : Type 0) : Type 0 where
 abbrev pub lock_of : {F : Type 0} → TableId → Opening F → LockOf F
 lock_of z o = record { table = z; numbers = o.numbers; fixed = o.fixed }
 
+-- the value in the slot that is carried, or else d
+abbrev pub value_in : {T : Type 0} → T → List (ℕ × Slot T) → T
+value_in d [] = d
+value_in d (c ∷ cs) = c.1.value
+
 module _ {F W T : Type 0} where
-  abbrev pub known_of : Seat (Option T) (View F W) → Known F W
+  abbrev pub known_of : Seat (Slot T) (View F W) → Known F W
   known_of s = let v = s.me.0 in record { lock = option_map (lock_of s.table_id) v.opening; lo = v.lo; hi = v.hi; seen = v.seen; out = v.out }
 
   -- the seat of a pass, which has no ticket and no slot
-  pub record IsResting (s : Seat (Option T) (View F W)) (lo : ℕ) : Type 0 where
+  pub record IsResting (s : Seat (Slot T) (View F W)) (lo : ℕ) : Type 0 where
     pub lo_is : s.me.0.lo ≡ lo
     pub some : s.me.0.lo < s.me.0.hi
     pub idle : s.me.0.turn ≡ Idle
     pub bare : s.me.1 ≡ []
 
-  -- the seat of a pass that has the value, which was moved out of the slot
-  pub record IsServed (z : TableId) (s : Seat (Option T) (View F W)) (lo : ℕ) : Type 0 where
+  -- the seat of a pass that has the value: it has the slot
+  pub record IsServed (z : TableId) (s : Seat (Slot T) (View F W)) (lo : ℕ) : Type 0 where
     pub table : s.table_id ≡ z
     pub words : z.words ≡ 2
     pub lo_is : s.me.0.lo ≡ lo
@@ -63,7 +70,8 @@ module _ {F W T : Type 0} where
     pub live : IsSome s.me.0.opening
     pub ticket : ℕ
     pub holds : s.me.0.turn ≡ Holding ticket
-    pub empty : s.me.1 ≡ (0, None) ∷ []
+    pub value : T
+    pub slot : s.me.1 ≡ (0, in_slot value) ∷ []
 
 -- the lock of the pass was opened with this fixed part
 abbrev pub IsFixedOf : {F W : Type 0} → Known F W → F → Type 0

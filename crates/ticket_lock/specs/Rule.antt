@@ -4,6 +4,7 @@ use Rattle.std.specs.Prelude.{◌≡◌, ◌≢◌, ◌⊎◌, ℕ, ◌<◌, ◌
 use mathlib.Core.Option.{some, none}
 use lib.ListN.{get_elem?}
 use Rattle.atomic_table.specs.Table.{State}
+use Rattle.ticket_lock.specs.declared.rule.Slot.{Slot}
 use Rattle.ticket_lock.specs.declared.rule.Start.{Start}
 use Rattle.ticket_lock.specs.declared.rule.Opening.{Opening}
 use Rattle.ticket_lock.specs.declared.rule.View.{View}
@@ -62,16 +63,19 @@ module _ {F W : Type 0} where
 abbrev pub opening_of : {T F : Type 0} → (T → F) → Start T → Opening F
 opening_of fixed_of start = record { numbers = start.numbers; fixed = fixed_of start.value.value }
 
+abbrev pub in_slot : {T : Type 0} → T → Slot T
+in_slot x = record { value = x }
+
 -- the value is in the slot, and no pass has it
-pub record IsHome {T F W : Type 0} (fixed_of : T → F) (past_of : T → List (ℕ × W)) (o : Opening F) (past : List (ℕ × W)) (s : State (Option T) (View F W)) : Type 0 where
+pub record IsHome {T F W : Type 0} (fixed_of : T → F) (past_of : T → List (ℕ × W)) (o : Opening F) (past : List (ℕ × W)) (s : State (Slot T) (View F W)) : Type 0 where
   pub value : T
-  pub slot : s.homes ≡ some (Some value) ∷ []
+  pub slot : s.homes ≡ some (in_slot value) ∷ []
   pub fixed : fixed_of value ≡ o.fixed
   pub past_is : past_of value ≡ past
   pub nobody : (id : ℕ) (v : View F W) (t : ℕ) → IsSeated s.views id v → v.turn ≢ Holding t
 
 -- the value is out with a pass whose ticket is served, and that has seen the whole past
-pub record IsOut {T F W : Type 0} (serving : ℕ) (past : List (ℕ × W)) (s : State (Option T) (View F W)) : Type 0 where
+pub record IsOut {T F W : Type 0} (serving : ℕ) (past : List (ℕ × W)) (s : State (Slot T) (View F W)) : Type 0 where
   pub slot : s.homes ≡ none ∷ []
   pub holder : ℕ
   pub view : View F W
@@ -80,7 +84,7 @@ pub record IsOut {T F W : Type 0} (serving : ℕ) (past : List (ℕ × W)) (s : 
   pub seen : view.seen ≡ past
 
 -- the lock rule: `serving` and then `next` count the tickets; each pass knows what is true, and no two have a number or a ticket in common; and the value is at home, or out with one of them
-pub record LockRule {T F W : Type 0} (fixed_of : T → F) (past_of : T → List (ℕ × W)) (o : Opening F) (s : State (Option T) (View F W)) : Type 0 where
+pub record LockRule {T F W : Type 0} (fixed_of : T → F) (past_of : T → List (ℕ × W)) (o : Opening F) (s : State (Slot T) (View F W)) : Type 0 where
   pub next : ℕ
   pub serving : ℕ
   pub past : List (ℕ × W)

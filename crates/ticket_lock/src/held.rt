@@ -9,21 +9,25 @@ use crate::pass::Pass;
 use crate::plays::HandBack;
 use crate::rule::{HOME, NEXT, Place, SERVING, Words};
 use std::marker::Model;
+use std::snapshot::Snapshot;
 
 /// The value, with the pass that took it. It can't be dropped: it has to be released.
+///
+/// The value stays in its place in the lock, and is lent from there.
 pub struct Held<'a, T: Kept> {
     pub(crate) words: &'a Words<T>,
     pub(crate) lo: u64,
     pub(crate) seat: Place<T>,
-    pub(crate) value: T,
+    /// The value as it was taken. It has no bytes.
+    pub(crate) taken: Snapshot<T>,
 }
 
 impl<'a, T: Kept> Model for Held<'a, T> {
-    ghost use Rattle.ticket_lock.specs.Known.{Hold, known_of, IsServed};
+    ghost use Rattle.ticket_lock.specs.Known.{Hold, known_of, value_in, IsServed};
 
     ghost Value = { Hold T.Fixed T.What T };
 
-    ghost view = { λ h. record { pass = known_of h.seat; value = h.value } };
+    ghost view = { λ h. record { pass = known_of h.seat; value = value_in h.taken.value h.seat.me.1 } };
 
     ghost invariant = { λ h. IsServed h.words.now.table_id h.seat h.lo };
 }
@@ -39,7 +43,8 @@ impl<'a, T: Kept> Held<'a, T> {
             T.row self.entry result (with_value self.old)) }
         ensures shows { result.now ≡ self.old.value }
     {
-        &mut self.value
+        let slot = self.seat.slot_mut(self.words, HOME);
+        &mut slot.value
     }
 
     /// Gives the value back to the lock, and serves the next ticket. The fixed part is to be as it was, and the past to have
@@ -53,9 +58,8 @@ impl<'a, T: Kept> Held<'a, T> {
             words,
             lo,
             mut seat,
-            value,
+            taken: _,
         } = self;
-        words.exchange(&mut seat, HOME, Some(value));
         let served = words.fetch_add::<HandBack>(&mut seat, SERVING, 1);
         // Somebody waits who may sleep. One wake alone could reach another than the next, and then all would sleep.
         let expected = words.peek(NEXT);

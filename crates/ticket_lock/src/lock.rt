@@ -8,7 +8,7 @@ use crate::held::Held;
 use crate::kept::Kept;
 use crate::pass::Pass;
 use crate::plays::{Both, Cut, Halves, Last, Recall};
-use crate::rule::{Board, HOME, SERVING, Start};
+use crate::rule::{Board, HOME, SERVING, Slot, Start};
 use crate::ticket::{draw, wait};
 use atomic_table::Table;
 use std::alloc::{Allocator, Global};
@@ -68,7 +68,7 @@ impl<T: Kept, A: Allocator> TicketLock<T, A> {
             value: Snapshot::of(&value),
         };
         let mut slots = Vec::new(alloc.clone().map_err(|_| NoMemory)?);
-        slots.push(Some(value)).map_err(|_| NoMemory)?;
+        slots.push(Slot { value }).map_err(|_| NoMemory)?;
         match Table::new(alloc, &[first, first], slots, &start) {
             Ok((table, seat)) => Ok((
                 TicketLock { table },
@@ -159,12 +159,13 @@ impl<T: Kept, A: Allocator> TicketLock<T, A> {
             return Err((Spent, Pass { lo, seat, expected }));
         };
         wait(rt, words, &mut seat, ticket);
-        let value = words.exchange(&mut seat, HOME, None).unwrap();
+        let slot = seat.slot_mut(words, HOME);
+        let taken = Snapshot::of(&slot.value);
         Ok(Held {
             words,
             lo,
             seat,
-            value,
+            taken,
         })
     }
 
@@ -186,7 +187,7 @@ impl<T: Kept, A: Allocator> TicketLock<T, A> {
         } = pass;
         let ended = table.shared.split_seat::<Last>(&mut seat);
         let mut closed = table.close_with(seat);
-        let value = closed.take(HOME).unwrap();
+        let Slot { value } = closed.take(HOME);
         closed.free();
         (
             value,

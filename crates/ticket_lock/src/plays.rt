@@ -2,14 +2,14 @@
 ghost use Rattle.std.specs.Prelude.{ℕ};
 
 use crate::kept::Kept;
-use crate::rule::View;
+use crate::rule::{Slot, View};
 use atomic_table::{Join, Play, Split};
 use std::marker::{Brand, PhantomData};
 
 /// A look at `next`, which may find that all tickets are drawn.
 pub(crate) struct LookNext;
 
-impl<T, F, W> Play<Option<T>, View<F, W>> for LookNext {
+impl<T, F, W> Play<Slot<T>, View<F, W>> for LookNext {
     ghost use Rattle.ticket_lock.specs.Steps.{looked_next};
 
     ghost then = { looked_next };
@@ -18,7 +18,7 @@ impl<T, F, W> Play<Option<T>, View<F, W>> for LookNext {
 /// The look after a join, which tells that both passes still have their own entries.
 pub(crate) struct Recall;
 
-impl<T, F, W> Play<Option<T>, View<F, W>> for Recall {
+impl<T, F, W> Play<Slot<T>, View<F, W>> for Recall {
     ghost use Rattle.ticket_lock.specs.Steps.{recalled};
 
     ghost then = { recalled };
@@ -27,7 +27,7 @@ impl<T, F, W> Play<Option<T>, View<F, W>> for Recall {
 /// The exchange on `next` that draws a ticket.
 pub(crate) struct Draw;
 
-impl<T, F, W> Play<Option<T>, View<F, W>> for Draw {
+impl<T, F, W> Play<Slot<T>, View<F, W>> for Draw {
     ghost use Rattle.ticket_lock.specs.Steps.{drawn};
 
     ghost then = { drawn };
@@ -36,7 +36,7 @@ impl<T, F, W> Play<Option<T>, View<F, W>> for Draw {
 /// A look at `serving`, which takes the value where it finds the own ticket.
 pub(crate) struct Serve;
 
-impl<T: Kept> Play<Option<T>, View<T::Fixed, T::What>> for Serve {
+impl<T: Kept> Play<Slot<T>, View<T::Fixed, T::What>> for Serve {
     ghost use Rattle.ticket_lock.specs.Steps.{served};
 
     ghost then = { served T.fixed T.past };
@@ -45,7 +45,7 @@ impl<T: Kept> Play<Option<T>, View<T::Fixed, T::What>> for Serve {
 /// The exchange on `serving` that adds 1 and gives the value back.
 pub(crate) struct HandBack;
 
-impl<T: Kept> Play<Option<T>, View<T::Fixed, T::What>> for HandBack {
+impl<T: Kept> Play<Slot<T>, View<T::Fixed, T::What>> for HandBack {
     ghost use Rattle.ticket_lock.specs.Steps.{handed_back};
 
     ghost then = { handed_back T.past };

@@ -23,6 +23,12 @@ pub struct Start<T> {
     pub value: Snapshot<T>,
 }
 
+/// What the slot has.
+#[derive(Drop)]
+pub struct Slot<T> {
+    pub value: T,
+}
+
 /// What stays as it was at the opening. No value of it is made.
 pub struct Opening<F> {
     pub numbers: u64,
@@ -63,7 +69,7 @@ pub struct View<F, W> {
 /// The table keeps the lock rule.
 pub struct Tickets;
 
-impl<T: Kept> TableRule<Option<T>, View<T::Fixed, T::What>, Start<T>> for Tickets {
+impl<T: Kept> TableRule<Slot<T>, View<T::Fixed, T::What>, Start<T>> for Tickets {
     ghost use Rattle.ticket_lock.specs.Rule.{LockRule, opening_of, first_view};
 
     ghost holds = { λ start. LockRule T.fixed T.past (opening_of T.fixed start) };
@@ -72,7 +78,7 @@ impl<T: Kept> TableRule<Option<T>, View<T::Fixed, T::What>, Start<T>> for Ticket
 }
 
 pub(crate) type Board<T, A> = Table<
-    Option<T>,
+    Slot<T>,
     View<<T as Kept>::Fixed, <T as Kept>::What>,
     Start<T>,
     Tickets,
@@ -80,10 +86,10 @@ pub(crate) type Board<T, A> = Table<
 >;
 
 pub(crate) type Words<T> = Shared<
-    Option<T>,
+    Slot<T>,
     View<<T as Kept>::Fixed, <T as Kept>::What>,
     Start<T>,
     Tickets,
 >;
 
-pub(crate) type Place<T> = Seat<Option<T>, View<<T as Kept>::Fixed, <T as Kept>::What>>;
+pub(crate) type Place<T> = Seat<Slot<T>, View<<T as Kept>::Fixed, <T as Kept>::What>>;

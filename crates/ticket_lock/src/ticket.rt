@@ -1,5 +1,5 @@
-//! The two loops of a thread that takes the lock.
-ghost use Rattle.std.specs.Prelude.{◌≡◌, ◌<◌, ◌^◌, true, [], IfSome, MatchOption, None};
+//! How a thread takes the lock: it draws a ticket, and waits until that is served. Each is tried once before there is a loop.
+ghost use Rattle.std.specs.Prelude.{◌≡◌, ◌<◌, ◌^◌, true, [], IfSome, MatchOption, MatchResult, None};
 ghost use Rattle.ticket_lock.specs.declared.rule.Turn.TheVariants.{Waiting};
 ghost use Rattle.ticket_lock.specs.Steps.{IsHanded, Becomes, IsIdle, IsWaiting};
 
@@ -30,6 +30,26 @@ fn to_try<T: Kept>(words: &Words<T>, seat: &mut Place<T>, expected: u64) -> Opti
     if next == END { None } else { Some(next) }
 }
 
+/// Tries to draw the expected ticket. Err: it isn't drawn, the pass is as it was, and this was found to be the next ticket; or there is none of
+/// the expected number.
+fn try_draw<T: Kept>(words: &Words<T>, seat: &mut Place<T>, expected: u64) -> Result<(), u64>
+    requires table { (seat.old.table_id ≡ words.now.table_id) × (words.now.table_id.words ≡ 2) }
+    requires idle { IsIdle seat.old }
+    ensures { MatchResult result
+        (λ _. Becomes seat.old seat.new (record seat.old.me.0 { turn = Waiting expected }, []))
+        (λ _. Becomes seat.old seat.new seat.old.me) }
+{
+    if expected >= END {
+        return Err(expected);
+    }
+    let found = words.compare_exchange::<Draw>(seat, NEXT, expected, expected + 1);
+    if found == expected {
+        Ok(())
+    } else {
+        Err(found)
+    }
+}
+
 /// Draws the next ticket. None: they are all drawn.
 ///
 /// It tries the expected ticket at once: an exchange that is lost tells which ticket is next, as a look before it would, and a look before an exchange
@@ -46,25 +66,71 @@ pub(crate) fn draw<T: Kept, R: Wait>(
         (Becomes seat.old seat.new (record seat.old.me.0 { out = true }, []))
         (λ t. Becomes seat.old seat.new (record seat.old.me.0 { turn = Waiting t }, [])) }
 {
+    match try_draw(words, seat, expected) {
+        Ok(()) => Some(expected),
+        Err(next) => draw_again(rt, words, seat, next),
+    }
+}
+
+/// The same, after a try that was lost.
+fn draw_again<T: Kept, R: Wait>(
+    rt: &R,
+    words: &Words<T>,
+    seat: &mut Place<T>,
+    expected: u64,
+) -> Option<u64>
+    requires table { (seat.old.table_id ≡ words.now.table_id) × (words.now.table_id.words ≡ 2) }
+    requires idle { IsIdle seat.old }
+    ensures { MatchOption result
+        (Becomes seat.old seat.new (record seat.old.me.0 { out = true }, []))
+        (λ t. Becomes seat.old seat.new (record seat.old.me.0 { turn = Waiting t }, [])) }
+{
     let backoff = Backoff::new();
     let mut next = expected;
     for _ in rt.forever() {
-        let ticket = to_try(words, seat, next)?;
-        next = words.compare_exchange::<Draw>(seat, NEXT, ticket, ticket + 1);
-        if next == ticket {
-            return Some(ticket);
-        }
         backoff.spin();
+        let ticket = to_try(words, seat, next)?;
+        match try_draw(words, seat, ticket) {
+            Ok(()) => return Some(ticket),
+            Err(found) => next = found,
+        }
     }
     unreachable!()
 }
 
-/// Waits until the ticket is served, and takes the value, which is then in the slot that the seat has. The look that finds the ticket takes
-/// it: no other thread has that ticket, so none has to be kept out by an exchange.
+/// A look whether the ticket is served. The look that finds it takes the value, which is then in the slot that the seat has: no other thread
+/// has that ticket, so none has to be kept out by an exchange. Err: this one is served, and the pass is as it was.
+fn try_take<T: Kept>(words: &Words<T>, seat: &mut Place<T>, ticket: u64) -> Result<(), u64>
+    requires table { (seat.old.table_id ≡ words.now.table_id) × (words.now.table_id.words ≡ 2) }
+    requires waiting { IsWaiting seat.old ticket }
+    ensures same { (seat.new.table_id ≡ seat.old.table_id) × (seat.new.id ≡ seat.old.id) }
+    ensures handed { MatchResult result (λ _. (x : T) × IsHanded T.fixed T.past seat.old.me.0 ticket x seat.new.me) (λ _. seat.new.me ≡ seat.old.me) }
+{
+    let served = words.load::<Serve>(seat, SERVING);
+    if served == ticket {
+        Ok(())
+    } else {
+        Err(served)
+    }
+}
+
+/// Waits until the ticket is served, and takes the value, which is then in the slot that the seat has.
+pub(crate) fn wait<T: Kept, R: Wait>(rt: &R, words: &Words<T>, seat: &mut Place<T>, ticket: u64)
+    requires table { (seat.old.table_id ≡ words.now.table_id) × (words.now.table_id.words ≡ 2) }
+    requires waiting { IsWaiting seat.old ticket }
+    ensures same { (seat.new.table_id ≡ seat.old.table_id) × (seat.new.id ≡ seat.old.id) }
+    ensures handed { (x : T) × IsHanded T.fixed T.past seat.old.me.0 ticket x seat.new.me }
+{
+    if try_take(words, seat, ticket).is_err() {
+        wait_on(rt, words, seat, ticket);
+    }
+}
+
+/// The same, where another ticket was served at the first look.
 ///
 /// It looks at first, and then sleeps. A thread that only looked, or that gave up its processor between two looks, would hold up the
 /// queue where more threads run than there are processors: each hand-over would wait until the scheduler comes round to the next.
-pub(crate) fn wait<T: Kept, R: Wait>(rt: &R, words: &Words<T>, seat: &mut Place<T>, ticket: u64)
+fn wait_on<T: Kept, R: Wait>(rt: &R, words: &Words<T>, seat: &mut Place<T>, ticket: u64)
     requires table { (seat.old.table_id ≡ words.now.table_id) × (words.now.table_id.words ≡ 2) }
     requires waiting { IsWaiting seat.old ticket }
     ensures same { (seat.new.table_id ≡ seat.old.table_id) × (seat.new.id ≡ seat.old.id) }
@@ -73,10 +139,9 @@ pub(crate) fn wait<T: Kept, R: Wait>(rt: &R, words: &Words<T>, seat: &mut Place<
     let backoff = Backoff::new();
     let mut looks = 0u32;
     for _ in rt.forever() {
-        let served = words.load::<Serve>(seat, SERVING);
-        if served == ticket {
+        let Err(served) = try_take(words, seat, ticket) else {
             return;
-        }
+        };
         if looks < LOOKS && ticket.saturating_sub(served) <= NEAR {
             looks += 1;
             backoff.spin();
