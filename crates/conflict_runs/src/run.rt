@@ -9,7 +9,7 @@ ghost use Rattle.conflicts.specs.Parties.{meeting_in};
 ghost use Rattle.conflicts.specs.Violated.{violation_in};
 ghost use Rattle.conflict_runs.specs.Runs as spec;
 
-use conflicts::{Blame, ByteRange, Kind, Pair, Violated, reads_outside};
+use conflicts::{Blame, BlamedByte, ByteRange, Kind, Violated, reads_outside};
 use rv32_exec::Image;
 use spec_history::{Entry, Flat};
 use std::alloc::AllocError;
@@ -122,7 +122,7 @@ impl Told {
         ensures { result ≡ spec.run_of image.now entries.now (violation_in flat.now self.now.violated) load addr }
     {
         let store = self.violated.store(image, flat, entries, addr)?;
-        let pair = Pair {
+        let pair = BlamedByte {
             load,
             store,
             byte: addr,

@@ -11,4 +11,4 @@ mod report;
 mod sums;
 mod words;
 
-pub use report::print_conflicts;
+pub use report::{Findings, print_conflicts};

@@ -20,10 +20,19 @@ use rv32_exec::{Image, NoMemory};
 use spec_history::Entry;
 use std::alloc::{AllocError, Global};
 
+/// What was found in a history: where each of its entries stood, the explanations of its violations, for each explanation the list of its
+/// further runs, and how its attempts ended.
+#[derive(Drop)]
+pub struct Findings {
+    pub sites: Vec<Option<Site>>,
+    pub explanations: Vec<Explanation>,
+    pub further: Vec<Vec<Run>>,
+    pub ends: Ends,
+}
+
 /// The report of which conflicts rolled back: lines for each explanation, in order, for each attempt that was cancelled, and for
 /// each that goes on, the sums of epochs, pairs, lines, instructions and kinds, and the total. It takes the homefree epoch after
-/// the history, which is how many epochs have committed, the sites, the explanations and the ends of the history, and for each
-/// explanation the list of its further runs.
+/// the history, which is how many epochs have committed, and what was found in the history.
 ///
 /// `NoMemory`: memory ran out, and nothing was made.
 pub fn print_conflicts(
@@ -31,14 +40,12 @@ pub fn print_conflicts(
     image: &Image,
     homefree: u32,
     entries: &[Entry],
-    sites: &[Option<Site>],
-    found: &[Explanation],
-    further: &[Vec<Run>],
-    ends: &Ends,
+    findings: &Findings,
 ) -> Result<Vec<u8>, NoMemory>
-    ensures { IfOk result (λ text. spec.IsPrinted image.now homefree entries.now sites.now found.now (lists_of further.now) ends.now.ended.items ends.now.running.items text.items) }
+    ensures { IfOk result (λ text. spec.IsPrinted image.now homefree entries.now findings.now.sites.items findings.now.explanations.items (lists_of findings.now.further.items)
+        findings.now.ends.ended.items findings.now.ends.running.items text.items) }
 {
-    report_lines(alloc, image, homefree, entries, sites, found, further, ends).map_err(|_| NoMemory)
+    report_lines(alloc, image, homefree, entries, findings).map_err(|_| NoMemory)
 }
 
 fn report_lines(
@@ -46,16 +53,17 @@ fn report_lines(
     image: &Image,
     homefree: u32,
     entries: &[Entry],
-    sites: &[Option<Site>],
-    found: &[Explanation],
-    further: &[Vec<Run>],
-    ends: &Ends,
+    findings: &Findings,
 ) -> Result<Vec<u8>, AllocError>
-    ensures { IfOk result (λ text. spec.IsPrinted image.now homefree entries.now sites.now found.now (lists_of further.now) ends.now.ended.items ends.now.running.items text.items) }
+    ensures { IfOk result (λ text. spec.IsPrinted image.now homefree entries.now findings.now.sites.items findings.now.explanations.items (lists_of findings.now.further.items)
+        findings.now.ends.ended.items findings.now.ends.running.items text.items) }
 {
+    let sites = findings.sites.as_slice();
+    let found = findings.explanations.as_slice();
+    let further = findings.further.as_slice();
     let summed = rollbacks(alloc, image, entries, sites, found)?;
-    let sums = summary(alloc, image, homefree, summed.as_slice(), ends)?;
-    let attempts = attempt_lines(alloc, entries, ends)?;
+    let sums = summary(alloc, image, homefree, summed.as_slice(), &findings.ends)?;
+    let attempts = attempt_lines(alloc, entries, &findings.ends)?;
     let mut text = violations(alloc, image, entries, sites, found, further)?;
     text.extend_from_slice(attempts.as_slice())?;
     text.extend_from_slice(sums.as_slice())?;

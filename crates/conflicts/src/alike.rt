@@ -16,7 +16,7 @@ use spec_history::{Entry, Flat, What};
 
 /// A blamed byte, with its load and its store.
 #[derive(Clone, Copy)]
-pub struct Pair {
+pub struct BlamedByte {
     /// The load that read it first, by its place in the history.
     pub load: usize,
     /// The store to blame for it.
@@ -55,7 +55,7 @@ impl Violated {
         flat: &Flat,
         entries: &[Entry],
         start: usize,
-        pair: Pair,
+        pair: BlamedByte,
         addr: u32,
     ) -> bool
         requires start { attempts.attempt_place entries.now self.now.parties.victim self.now.place ≡ Some start }
@@ -90,7 +90,7 @@ impl Violated {
         flat: &Flat,
         entries: &[Entry],
         start: usize,
-        pair: Pair,
+        pair: BlamedByte,
     ) -> u32
         requires start { attempts.attempt_place entries.now self.now.parties.victim self.now.place ≡ Some start }
         requires blamed { pair.byte < image.now.size }
@@ -115,7 +115,7 @@ impl Violated {
         flat: &Flat,
         entries: &[Entry],
         start: usize,
-        pair: Pair,
+        pair: BlamedByte,
     ) -> u32
         requires start { attempts.attempt_place entries.now self.now.parties.victim self.now.place ≡ Some start }
         requires blamed { pair.byte < image.now.size }
@@ -141,7 +141,7 @@ impl Violated {
         flat: &Flat,
         entries: &[Entry],
         start: usize,
-        pair: Pair,
+        pair: BlamedByte,
     ) -> ByteRange
         requires start { attempts.attempt_place entries.now self.now.parties.victim self.now.place ≡ Some start }
         requires blamed { pair.byte < image.now.size }

@@ -8,7 +8,7 @@ ghost use Rattle.conflicts.specs.Parties.{meeting_in};
 ghost use Rattle.conflicts.specs.Violated as spec;
 
 use crate::accesses::{attempt_place, last_store, reads_outside};
-use crate::alike::Pair;
+use crate::alike::BlamedByte;
 use crate::explanation::{Blame, Kind};
 use crate::meeting::{Parties, line_of};
 use rv32_exec::Image;
@@ -117,7 +117,13 @@ impl Violated {
         let load = self.load(image, flat, entries, start)?;
         let byte = self.byte_at(image, flat, entries, start, load)?;
         let store = self.store(image, flat, entries, byte)?;
-        let bytes = self.range(image, flat, entries, start, Pair { load, store, byte });
+        let bytes = self.range(
+            image,
+            flat,
+            entries,
+            start,
+            BlamedByte { load, store, byte },
+        );
         Some(Blame {
             load,
             store,

@@ -15,7 +15,7 @@ mod meeting;
 mod standing;
 
 pub use accesses::{attempt_number, attempt_place, reads_outside};
-pub use alike::Pair;
+pub use alike::BlamedByte;
 pub use blame::Violated;
 pub use explanation::{Blame, ByteRange, Explanation, Kind, Runner};
 pub use history::explain;

@@ -1,5 +1,5 @@
 -- What `why` comes to, and what it wrote.
-use Rattle.std.specs.Prelude.{◌≡◌, ◌⊎◌, ℕ, List, Option}
+use Rattle.std.specs.Prelude.{◌≡◌, ◌⊎◌, ℕ, List, Option, length, map, All}
 use Rattle.std.specs.Io.KnownBytes.{Appends, Keeps}
 use Rattle.rv32_image.specs.Image.{LoadedImage}
 use Rattle.spec_history.specs.declared.entry.Entry.{Entry}
@@ -10,7 +10,21 @@ use Rattle.trace_commands.specs.declared.outcome.Verdict.{Verdict}
 use Rattle.trace_commands.specs.declared.outcome.Verdict.TheVariants.{Legal, Illegal}
 use Rattle.trace_commands.specs.Audit.{IsNoVerdict, IsTracedBy, IsVerdict, verdict_line}
 use Rattle.trace_commands.specs.Outcome.{AppendsPrefix, Conclusion}
+use Rattle.conflicts.specs.Explained.{IsExplained, places_of, violations_before}
+use Rattle.conflicts.specs.Sites.{sites_before}
+use Rattle.attempt_ends.specs.Ends.{ended_before, running_after}
+use Rattle.conflict_runs.specs.Runs.{further_runs, lists_of}
+use Rattle.conflict_text.specs.declared.report.Findings.{Findings}
 use Rattle.why.specs.Explaining.{IsReport}
+
+-- what was found in the history is right
+pub record AreFindings (image : LoadedImage) (cores : ℕ) (history : List Entry) (findings : Findings) : Type 0 where
+  pub sites : findings.sites.items ≡ sites_before image cores history (length history)
+  pub each_once : places_of findings.explanations.items ≡ violations_before history (length history)
+  pub explained : All (IsExplained image cores history) findings.explanations.items
+  pub further : lists_of findings.further.items ≡ map (further_runs image cores history) findings.explanations.items
+  pub ended : findings.ends.ended.items ≡ ended_before image cores history (length history)
+  pub running : findings.ends.running.items ≡ running_after image cores history
 
 -- what is written of a history by the verdict of its audit: the report, or the line of the entry that is refused
 abbrev pub IsTold : LoadedImage → ℕ → List Entry → Verdict → List ℕ → Type 0

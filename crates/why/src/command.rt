@@ -7,8 +7,10 @@ ghost use Rattle.why.specs.Why as spec;
 
 use attempt_ends::ends;
 use conflict_runs::further;
-use conflict_text::print_conflicts;
+use conflict_text::{Findings, print_conflicts};
 use conflicts::{explain, sites};
+use rv32_exec::Image;
+use spec_history::Entry;
 use std::alloc::Global;
 use std::io::{Read, Write};
 use trace_commands::{
@@ -82,27 +84,22 @@ fn report_of(alloc: Global, traced: &Traced, homefree: u32) -> Option<Vec<u8>>
 {
     let image = &traced.image;
     let entries = traced.entries.as_slice();
-    let Ok(found) = explain(alloc, image, traced.cores, entries) else {
-        return None;
-    };
-    let Ok(stood) = sites(alloc, image, traced.cores, entries) else {
-        return None;
-    };
-    let Ok(runs) = further(alloc, image, traced.cores, entries, found.as_slice()) else {
-        return None;
-    };
-    let Ok(ended) = ends(alloc, image, traced.cores, entries) else {
-        return None;
-    };
-    let printed = print_conflicts(
-        alloc,
-        image,
-        homefree,
-        entries,
-        stood.as_slice(),
-        found.as_slice(),
-        runs.as_slice(),
-        &ended,
-    );
-    printed.ok()
+    let findings = findings_of(alloc, image, traced.cores, entries)?;
+    print_conflicts(alloc, image, homefree, entries, &findings).ok()
+}
+
+/// What is found in a history, or none where memory ran out.
+fn findings_of(alloc: Global, image: &Image, cores: u32, entries: &[Entry]) -> Option<Findings>
+    ensures { IfSome result (spec.AreFindings image.now cores entries.now) }
+{
+    let explanations = explain(alloc, image, cores, entries).ok()?;
+    let sites = sites(alloc, image, cores, entries).ok()?;
+    let further = further(alloc, image, cores, entries, explanations.as_slice()).ok()?;
+    let ends = ends(alloc, image, cores, entries).ok()?;
+    Some(Findings {
+        sites,
+        explanations,
+        further,
+        ends,
+    })
 }
