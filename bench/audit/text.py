@@ -1,9 +1,10 @@
 #!/usr/bin/env python3
-"""Megabytes per second of printing and of reading a trace, and the time and memory of `trace_cli audit` on it.
+"""Megabytes per second of printing and of reading a trace, and the time and memory of `trace_cli audit` and of `why` on it.
 
-Build the programs first: `rt run` in crates/audit_bench and in crates/trace_cli leaves them in out/ there. The histories, of 10,000, 100,000
-and 1,000,000 entries, are made here by history.py, from a seed. `audit_bench` prints each as a trace and has to read the same history back;
-the audit has to find it legal, with the homefree epoch that it was made with. Needs GNU time, /usr/bin/time.
+Build the programs first: `rt run` in crates/audit_bench, crates/trace_cli and crates/why leaves them in out/ there. The histories, of 10,000,
+100,000 and 1,000,000 entries, are made here by history.py, from a seed. `audit_bench` prints each as a trace and has to read the same history
+back; the audit has to find it legal, with the homefree epoch that it was made with; the report of `why` has to tell of each of its violations,
+and of as many epochs committed. Needs GNU time, /usr/bin/time.
 """
 import pathlib
 import re
@@ -11,11 +12,12 @@ import statistics
 import subprocess
 import tempfile
 
-from history import encoded, history
+from history import HURT, encoded, history
 
 ROOT = pathlib.Path(__file__).resolve().parents[2]
 BENCH = ROOT / "crates" / "audit_bench" / "out" / "audit_bench"
 PROGRAM = ROOT / "crates" / "trace_cli" / "out" / "trace_cli"
+WHY = ROOT / "crates" / "why" / "out" / "why"
 IMAGE = re.search(r'const IMAGE: &str =\s*"(.*?)";', (ROOT / "crates/audit_bench/src/main.rt").read_text(), re.S).group(1).replace("\\n", "\n")
 SEED = "histogram"
 ROUNDS = 9
@@ -38,17 +40,33 @@ def text_rates(file, count, size, times):
     return [size * times / int(taken) * 1e3 for taken in re.findall(r"(\d+) ns", done.stderr)]
 
 
-def audit(file, count, homefree):
-    """The processor seconds of the program, and the most memory that it held, in kilobytes."""
+def measured(file, *command):
+    """What a program prints, its processor seconds, and the most memory that it held, in kilobytes."""
     with open(file, "rb") as stdin:
-        done = subprocess.run(["/usr/bin/time", "-f", "%U %S %M", PROGRAM, "audit"], stdin=stdin, capture_output=True, text=True)
-    assert done.returncode == 0 and done.stdout == f"legal {count} {homefree}\n", (done.stdout, done.stderr)
+        done = subprocess.run(["/usr/bin/time", "-f", "%U %S %M", *command], stdin=stdin, capture_output=True, text=True)
+    assert done.returncode == 0, (done.stdout, done.stderr)
     user, system, most = done.stderr.split()
-    return float(user) + float(system), int(most)
+    return done.stdout, float(user) + float(system), int(most)
+
+
+def audit(file, count, homefree):
+    """The seconds and the kilobytes of an audit."""
+    printed, seconds, most = measured(file, PROGRAM, "audit")
+    assert printed == f"legal {count} {homefree}\n", printed
+    return seconds, most
+
+
+def explain(file, violations, homefree):
+    """The seconds and the kilobytes of a report."""
+    printed, seconds, most = measured(file, WHY)
+    told = sum(line.startswith("hurt ") for line in printed.splitlines())
+    total = re.search(r"^total epochs \d+ committed (\d+) useful \d+ rollbacks (\d+) ", printed, re.M)
+    assert total and (told, *map(int, total.groups())) == (violations, homefree, violations), (told, total)
+    return seconds, most
 
 
 def main():
-    print("  entries     MB    MB/s printed    MB/s read    audit, s    audit, MB")
+    print("  entries     MB    MB/s printed    MB/s read    audit, s    audit, MB    why, s    why, MB    audit to why")
     with tempfile.TemporaryDirectory() as folder:
         for count, times in CASES:
             entries, homefree = history(count, SEED)
@@ -58,10 +76,12 @@ def main():
             records.write_bytes(encoded(entries))
             traced.write_text(text)
             rates = [text_rates(records, count, size, times) for _ in range(ROUNDS)]
-            audits = [audit(traced, count, homefree) for _ in range(ROUNDS)]
+            violations = sum(kind == HURT for _, kind, *_ in entries)
+            both = [(audit(traced, count, homefree), explain(traced, violations, homefree)) for _ in range(ROUNDS)]
             printed, read = (statistics.median(column) for column in zip(*rates))
-            seconds, most = statistics.median(a for a, _ in audits), max(b for _, b in audits)
-            print(f"{count:9,}{size / 1e6:7.1f}{printed:16.0f}{read:13.0f}{seconds:12.3f}{most / 1024:13.1f}")
+            (seconds, most), (longer, more) = ((statistics.median(a for a, _ in runs), max(b for _, b in runs)) for runs in zip(*both))
+            print(f"{count:9,}{size / 1e6:7.1f}{printed:16.0f}{read:13.0f}{seconds:12.3f}{most / 1024:13.1f}", end="")
+            print(f"{longer:10.3f}{more / 1024:11.1f}{f'{seconds / longer:.2f}' if seconds >= 0.1 else '-':>16}")
 
 
 if __name__ == "__main__":

@@ -1,4 +1,4 @@
--- What the code asks of the entries: whether an attempt has been violated.
+-- What the entries say: whether an attempt has been violated.
 use Rattle.std.specs.Prelude.{◌≡◌, ℕ, zero, suc, ◌==◌, Bool, true, false, List, Option, Some, if◌then◌else◌}
 use Rattle.spec_history.specs.declared.entry.Entry.{Entry}
 use Rattle.spec_history.specs.declared.entry.What.{What}
@@ -22,6 +22,6 @@ is_violated entries core epoch (suc place) =
     else if entry_is entries place (is_violation epoch) then true
     else is_violated entries core epoch place
 
--- so much is known of the cores that run
+-- the entries before a place say of each core that runs whether its attempt has been violated
 abbrev pub AreMarked : List Entry → ℕ → (ℕ → Option CoreState) → Type 0
 AreMarked entries place cores = (k : ℕ) (c : CoreState) → cores k ≡ Some c → c.hurt ≡ is_violated entries k c.epoch place

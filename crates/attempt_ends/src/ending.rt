@@ -83,8 +83,10 @@ fn cancelled(
     ended_as(flat, place, Ending::Cancelled, by, core)
 }
 
-/// The attempt that the entry at a place ends, if it ends one.
-pub(crate) fn ended_by(
+/// The attempt that the entry at a place ends, if it ends one. It takes the machine before the entry, and the whole history.
+///
+/// The entries before the place have to say which attempts are violated, as those do that the machine has replayed.
+pub fn ended_by(
     flat: &Flat,
     cores: u32,
     entries: &[Entry],

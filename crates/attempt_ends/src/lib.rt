@@ -3,12 +3,12 @@
 
 mod ended;
 mod ending;
-mod history;
 pub mod laws;
 mod running;
 mod tally;
 mod violated;
 
 pub use ended::{Ended, Ending, Ends, Running};
-pub use history::ends;
+pub use ending::ended_by;
+pub use running::running_in;
 pub use tally::{Tally, tally_as, tally_running};

@@ -45,8 +45,10 @@ fn keep(running: &mut Vec<Running>, found: Option<Running>) -> Result<(), AllocE
     Ok(())
 }
 
-/// The attempts that go on after the history, in the order of the cores.
-pub(crate) fn running_in(
+/// The attempts that go on after the history, in the order of the cores. It takes the machine after the history.
+///
+/// The entries have to say which attempts are violated, as those do that the machine has replayed.
+pub fn running_in(
     alloc: Global,
     flat: &Flat,
     cores: u32,

@@ -1,4 +1,4 @@
 mod Listing
 mod Running
 mod Searching
-mod Telling
+pub mod Telling

@@ -14,10 +14,10 @@ use Rattle.conflicts.specs.declared.explanation.Explanation.{Explanation}
 use Rattle.conflicts.specs.declared.explanation.Kind.{Kind}
 use Rattle.conflicts.specs.declared.explanation.Kind.TheVariants.{TrueSharing, SilentStore, FalseSharing}
 use Rattle.conflicts.specs.Searches.{first_below}
-use Rattle.conflicts.specs.Attempts.{covers, entry_is, reads_outside, state_before}
+use Rattle.conflicts.specs.Attempts.{covers, reads_outside, state_before}
 use Rattle.conflicts.specs.Blame.{Violation, blamed_range, blamed_store, read_at, written_in}
 use Rattle.conflicts.specs.Conflict.{Meeting, is_changed, is_shared, line_has, meeting}
-use Rattle.conflicts.specs.Explained.{is_hurt, what_at}
+use Rattle.conflicts.specs.Explained.{what_at}
 use Rattle.conflict_runs.specs.declared.run.Run.{Run}
 
 -- ---- runs
@@ -113,11 +113,6 @@ runs_in image entries e None = []
 
 abbrev pub further_runs : LoadedImage → ℕ → List Entry → Explanation → List Run
 further_runs image count entries e = runs_in image entries e (state_before image count entries e.place)
-
--- the list of an explanation, where a violation stands at the place
-abbrev pub runs_at : LoadedImage → FlatState → List Entry → ℕ → Option Explanation → List (List Run)
-runs_at image s entries place next =
-    if entry_is entries place (λ entry. is_hurt entry.what) then option_to_list (option_map (λ e. runs_in image entries e (Some s)) next) else []
 
 -- the lists that vectors hold
 abbrev pub lists_of : List (Vec Run Global) → List (List Run)

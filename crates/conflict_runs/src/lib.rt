@@ -6,5 +6,5 @@ mod history;
 mod lines;
 mod run;
 
-pub use history::further;
+pub use history::further_runs;
 pub use run::Run;

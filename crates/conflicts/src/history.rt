@@ -59,8 +59,11 @@ fn keep(explanations: &mut Vec<Explanation>, found: Option<Explanation>) -> Resu
     Ok(())
 }
 
-/// The explanation of the violation at a place, if the entry there is one and can be.
-fn explanation_at(
+/// The explanation of the violation at a place, if the entry there is one; it takes the machine before it, and the whole history.
+///
+/// It has one for each violation that the machine does not refuse. `explain` asks it at each place; who replays a history for more than
+/// that asks it there.
+pub fn explanation_at(
     image: &Image,
     cores: u32,
     flat: &Flat,

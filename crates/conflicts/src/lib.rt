@@ -18,6 +18,6 @@ pub use accesses::{attempt_number, attempt_place, reads_outside};
 pub use alike::BlamedByte;
 pub use blame::Violated;
 pub use explanation::{Blame, ByteRange, Explanation, Kind, Runner};
-pub use history::explain;
+pub use history::{explain, explanation_at};
 pub use meeting::{Parties, line_of};
-pub use standing::{Site, sites};
+pub use standing::{Site, site_of, sites};

@@ -57,8 +57,8 @@ fn keep(sites: &mut Vec<Option<Site>>, site: Option<Site>) -> Result<(), AllocEr
     Ok(())
 }
 
-/// Where a core stands before its next event.
-fn site_of(flat: &Flat, core: u32) -> Option<Site>
+/// Where a core stands before its next event; nothing for one that runs no epoch.
+pub fn site_of(flat: &Flat, core: u32) -> Option<Site>
     ensures { result ≡ spec.site_in flat.now.image ((state_in flat.now).cores core) }
 {
     let next = flat.next_event(core)?;

@@ -1,21 +1,18 @@
-ghost use Rattle.std.specs.Prelude.{◌≡◌, ◌+◌, IfSome};
+ghost use Rattle.std.specs.Prelude.{◌≡◌, ◌+◌, length};
 ghost use Rattle.rv32_image.specs.Input.{TakesAtMost};
 ghost use Rattle.rv32_image.specs.Reading.{ForText};
 ghost use Rattle.trace_text.specs.TraceText.{longest_trace_text};
-ghost use Rattle.why.specs.Explaining.{IsReport};
+ghost use Rattle.trace_commands.specs.declared.outcome.Verdict.TheVariants.{Legal};
+ghost use Rattle.trace_commands.specs.Audit.{IsVerdict};
 ghost use Rattle.why.specs.Why as spec;
 
-use attempt_ends::ends;
-use conflict_runs::further;
+use crate::finding::find;
 use conflict_text::{Findings, print_conflicts};
-use conflicts::{explain, sites};
-use rv32_exec::Image;
-use spec_history::Entry;
+use rv32_exec::NoMemory;
+use spec_history::Illegal;
 use std::alloc::Global;
 use std::io::{Read, Write};
-use trace_commands::{
-    Outcome, StopCause, Traced, Verdict, read_traced, verdict_line, verdict_of, write_whole,
-};
+use trace_commands::{Outcome, StopCause, Traced, Verdict, read_traced, verdict_line, write_whole};
 
 /// `why`: replays the trace that the reader gives below its image on the flat machine, and writes the report of which conflicts
 /// rolled back; where the trace is illegal, the line of an audit.
@@ -50,20 +47,36 @@ fn run_why<R: Read, W: Write>(alloc: Global, reader: &mut R, writer: &mut W) -> 
 fn explain_traced<W: Write>(alloc: Global, traced: &Traced, writer: &mut W) -> Outcome
     ensures { spec.IsTracedOutcome traced.now.image traced.now.cores traced.now.entries.items (W.contents writer.old) (W.contents writer.new) result }
 {
-    let Some(verdict) = verdict_of(
-        alloc,
-        &traced.image,
-        traced.cores,
-        traced.entries.as_slice(),
-    ) else {
-        return Outcome::Stopped(StopCause::NoMemory);
+    match find(alloc, traced) {
+        Ok((findings, homefree)) => report(alloc, traced, &findings, homefree, writer),
+        Err((_, Illegal::NoMemory)) => Outcome::Stopped(StopCause::NoMemory),
+        Err((place, refusal)) => {
+            let verdict = Verdict::Illegal { place, refusal };
+            tell(verdict, verdict_line(verdict).as_bytes(), writer)
+        }
+    }
+}
+
+/// Writes the report of a legal history with this homefree epoch after it, of what was found in it.
+fn report<W: Write>(
+    alloc: Global,
+    traced: &Traced,
+    findings: &Findings,
+    homefree: u32,
+    writer: &mut W,
+) -> Outcome
+    requires found { spec.AreFindings traced.now.image traced.now.cores traced.now.entries.items findings.now }
+    requires legal { IsVerdict traced.now.image traced.now.cores traced.now.entries.items (Legal (length traced.now.entries.items) homefree) }
+    ensures { spec.IsTracedOutcome traced.now.image traced.now.cores traced.now.entries.items (W.contents writer.old) (W.contents writer.new) result }
+{
+    let entries = traced.entries.as_slice();
+    let verdict = Verdict::Legal {
+        entries: entries.len(),
+        homefree,
     };
-    match verdict {
-        Verdict::Legal { homefree, .. } => match report_of(alloc, traced, homefree) {
-            Some(report) => tell(verdict, report.as_slice(), writer),
-            None => Outcome::Stopped(StopCause::NoMemory),
-        },
-        Verdict::Illegal { .. } => tell(verdict, verdict_line(verdict).as_bytes(), writer),
+    match print_conflicts(alloc, &traced.image, homefree, entries, findings) {
+        Ok(text) => tell(verdict, text.as_slice(), writer),
+        Err(NoMemory) => Outcome::Stopped(StopCause::NoMemory),
     }
 }
 
@@ -76,30 +89,4 @@ fn tell<W: Write>(verdict: Verdict, told: &[u8], writer: &mut W) -> Outcome
     } else {
         Outcome::Stopped(StopCause::Write)
     }
-}
-
-/// The report of a history with this homefree epoch after it, or none where memory ran out.
-fn report_of(alloc: Global, traced: &Traced, homefree: u32) -> Option<Vec<u8>>
-    ensures { IfSome result (λ text. IsReport traced.now.image traced.now.cores traced.now.entries.items homefree text.items) }
-{
-    let image = &traced.image;
-    let entries = traced.entries.as_slice();
-    let findings = findings_of(alloc, image, traced.cores, entries)?;
-    print_conflicts(alloc, image, homefree, entries, &findings).ok()
-}
-
-/// What is found in a history, or none where memory ran out.
-fn findings_of(alloc: Global, image: &Image, cores: u32, entries: &[Entry]) -> Option<Findings>
-    ensures { IfSome result (spec.AreFindings image.now cores entries.now) }
-{
-    let explanations = explain(alloc, image, cores, entries).ok()?;
-    let sites = sites(alloc, image, cores, entries).ok()?;
-    let further = further(alloc, image, cores, entries, explanations.as_slice()).ok()?;
-    let ends = ends(alloc, image, cores, entries).ok()?;
-    Some(Findings {
-        sites,
-        explanations,
-        further,
-        ends,
-    })
 }

@@ -9,6 +9,7 @@ use trace_commands::{Outcome, StopCause};
 use work::work;
 
 mod command;
+mod finding;
 #[cfg(test)]
 mod tests;
 mod work;
