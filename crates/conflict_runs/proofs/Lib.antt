@@ -1,3 +1,4 @@
+mod Beginning
 mod Listing
 mod Running
 mod Searching

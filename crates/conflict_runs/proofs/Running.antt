@@ -12,24 +12,22 @@ use Rattle.conflicts.specs.declared.explanation.ByteRange.{ByteRange}
 use Rattle.conflicts.specs.declared.explanation.Explanation.{Explanation}
 use Rattle.conflicts.specs.declared.explanation.Kind.TheVariants.{TrueSharing, SilentStore, FalseSharing}
 use Rattle.conflicts.specs.Attempts.{attempt_place, covers, is_after, reads_outside}
-use Rattle.conflicts.specs.Blame.{Violation, blamed_range, blamed_store, read_at}
+use Rattle.conflicts.specs.Blame.{Violation, blamed_range, read_at}
 use Rattle.conflicts.specs.Conflict.{is_changed, is_shared}
 use Rattle.conflicts.specs.Explained.{what_at}
 use Rattle.conflicts.proofs.Searching.{first_none}
 use Rattle.conflict_runs.specs.declared.run.Run.{Run}
-use Rattle.conflict_runs.specs.Runs.{byte_in, is_blamed, is_falsely_shared, line_run, load_in, only, run_from, run_in, run_kind, run_of, run_with, runs_by, shared_run, violation_of}
+use Rattle.conflict_runs.specs.Runs.{begins_blamed, byte_in, is_falsely_shared, line_run, load_in, only, run_from, run_at, run_in, run_kind, run_of, run_with, runs_by, shared_run, violation_of}
 use Rattle.conflict_runs.proofs.Listing.{no_runs}
 use Rattle.conflict_runs.proofs.Searching.{unread}
 
 -- the run that was made
 pub made : (image : LoadedImage) (entries : List Entry) (v : Violation) (load a store : ℕ) (bytes : ByteRange) (changes : Bool)
-    → Some store ≡ blamed_store image entries v a → bytes ≡ blamed_range image entries v load store a
-    → changes ≡ any_below image.size (λ x. covers bytes.first bytes.length x && is_changed v.bytes x)
-    → Some (record { kind = if changes then TrueSharing else v.kind; load = load; store = store; bytes = bytes }) ≡ run_of image entries v load a
-made image entries v load a store bytes changes by_store by_range by_changes =
-    ap (λ (b : Bool). Some (record { kind = if b then TrueSharing else v.kind; load = load; store = store; bytes = bytes })) by_changes
-    ∙ (ap (λ (r : ByteRange). Some (record { kind = run_kind image v.bytes v.kind r; load = load; store = store; bytes = r })) by_range
-    ∙ ap (option_map (run_with image entries v load a)) by_store)
+    → bytes ≡ blamed_range image entries v load store a → changes ≡ any_below image.size (λ x. covers bytes.first bytes.length x && is_changed v.bytes x)
+    → record { kind = if changes then TrueSharing else v.kind; load = load; store = store; bytes = bytes } ≡ run_with image entries v load a store
+made image entries v load a store bytes changes by_range by_changes =
+    ap (λ (b : Bool). record { kind = if b then TrueSharing else v.kind; load = load; store = store; bytes = bytes }) by_changes
+    ∙ ap (λ (r : ByteRange). record { kind = run_kind image v.bytes v.kind r; load = load; store = store; bytes = r }) by_range
 
 -- ---- none
 
@@ -43,6 +41,18 @@ either_none : (b : Bool) (run : Option Run) → run ≡ None → (if b then run 
 either_none true run is = is
 either_none false run is = refl
 
+-- where no run begins
+pub unshared_within : (image : LoadedImage) (entries : List Entry) (blame : Option Blame) (v : Violation) (a : ℕ) → run_from image entries v a ≡ None → shared_run image entries blame v a ≡ None
+unshared_within image entries blame v a none = either_none (is_shared v.bytes a && not (begins_blamed blame a)) (run_from image entries v a) none
+
+-- of a shared byte, the run that was told
+pub shared_told : (image : LoadedImage) (entries : List Entry) (blame : Option Blame) (v : Violation) (a : ℕ) (run kept : Option Run) → is_shared v.bytes a ≡ true → run ≡ run_at image entries v a
+    → kept ≡ (if not (begins_blamed blame a) then only (λ r. r.bytes.first == a) run else None) → kept ≡ shared_run image entries blame v a
+shared_told image entries blame v a run kept shared told by =
+    by
+    ∙ (ap (λ (o : Option Run). if not (begins_blamed blame a) then only (λ r. r.bytes.first == a) o else None) told
+    ∙ ap (λ (b : Bool). if b && not (begins_blamed blame a) then run_from image entries v a else None) (sym shared))
+
 -- where no attempt began
 no_read : (entries : List Entry) (core before a place : ℕ) → attempt_place entries core before ≡ None → reads_outside entries core before a place ≡ false
 no_read entries core before a place is = unread entries core before a place (ap (λ (o : Option ℕ). is_after o place) is)
@@ -52,8 +62,8 @@ never_read entries v a is = first_none v.place (reads_outside entries v.victim v
 
 no_shared : (image : LoadedImage) (entries : List Entry) (blame : Option Blame) (v : Violation) (a : ℕ) → attempt_place entries v.victim v.place ≡ None → shared_run image entries blame v a ≡ None
 no_shared image entries blame v a is =
-    either_none (is_shared v.bytes a) (only (λ run. not (is_blamed blame run)) (run_from image entries v a))
-    (ap (λ (o : Option ℕ). only (λ run. not (is_blamed blame run)) (only (λ run. run.bytes.first == a) (option_and_then (λ load. run_of image entries v load a) o))) (never_read entries v a is))
+    either_none (is_shared v.bytes a && not (begins_blamed blame a)) (run_from image entries v a)
+    (ap (λ (o : Option ℕ). only (λ run. run.bytes.first == a) (option_and_then (λ load. run_of image entries v load a) o)) (never_read entries v a is))
 
 never_in : (image : LoadedImage) (entries : List Entry) (v : Violation) (line : ℕ) → attempt_place entries v.victim v.place ≡ None → load_in image entries v.victim v.place line ≡ None
 never_in image entries v line is =
@@ -64,8 +74,8 @@ never_in image entries v line is =
 
 no_in : (image : LoadedImage) (entries : List Entry) (blame : Option Blame) (v : Violation) (line : ℕ) → attempt_place entries v.victim v.place ≡ None → line_run image entries blame v line ≡ None
 no_in image entries blame v line is =
-    either_none (is_falsely_shared image v.bytes line) (only (λ run. not (is_blamed blame run)) (run_in image entries v line))
-    (ap (λ (o : Option ℕ). only (λ run. not (is_blamed blame run)) (option_and_then (λ load. option_and_then (run_of image entries v load) (byte_in image entries v.victim v.place line load)) o)) (never_in image entries v line is))
+    either_none (is_falsely_shared image v.bytes line) (only (λ run. not (begins_blamed blame run.bytes.first)) (run_in image entries v line))
+    (ap (λ (o : Option ℕ). only (λ run. not (begins_blamed blame run.bytes.first)) (option_and_then (λ load. option_and_then (run_of image entries v load) (byte_in image entries v.victim v.place line load)) o)) (never_in image entries v line is))
 
 both_none : (xs ys : List Run) → xs ≡ [] → ys ≡ [] → xs ++ ys ≡ []
 both_none xs ys first second = rw (first, second) refl

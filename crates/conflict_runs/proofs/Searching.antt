@@ -1,5 +1,5 @@
 -- What a load reads first.
-use Rattle.std.proofs.Common.{◌≡◌, ℕ, ◌+◌, ◌*◌, ◌/◌, ◌<◌, ◌≤◌, ◌&&◌, Bool, true, false, is_some, List, length, slice_index, Option, Some, None, option_map, refl, ap, ◌∙◌, arith, le-ltb}
+use Rattle.std.proofs.Common.{◌≡◌, ℕ, ◌+◌, ◌*◌, ◌/◌, ◌<◌, ◌≤◌, ◌&&◌, Bool, true, false, is_some, nat_le, nat_lt, List, length, slice_index, Option, Some, None, option_map, refl, ap, ◌∙◌, arith, le-ltb}
 use Rattle.memory_bytes.specs.Shadow.{IsAmong}
 use Rattle.rv32_image.specs.Image.{LoadedImage}
 use Rattle.rv32_image.specs.declared.version.Version.{Version}
@@ -69,3 +69,14 @@ byte_within Two size line x below inside = omega (arith, below, inside)
 pub line_room : (v : Version) (size line : ℕ) → line < size / (limits_of v).line_length → size ≤ 1048576 → line * (limits_of v).line_length + (limits_of v).line_length < 4294967296
 line_room One size line below most = omega (arith, below, most)
 line_room Two size line below most = omega (arith, below, most)
+
+-- ---- one that was just tried
+
+none_between : (a c : Bool) → (a && (false && c)) ≡ false
+none_between true c = refl
+none_between false c = refl
+
+-- none is nearer than itself
+pub no_nearer_itself : (from line next : ℕ) (passes : Bool) → next ≡ line → (nat_le from line && (nat_lt line next && passes)) ≡ false
+no_nearer_itself from line next passes same =
+    ap (λ b. nat_le from line && (b && passes)) (le-ltb line next (omega (arith, same))) ∙ none_between (nat_le from line) passes

@@ -1,6 +1,6 @@
 -- The further runs of bytes at which two epochs met in a violation, beside the one that is blamed.
 -- Source: this project.
-use Rattle.std.specs.Prelude.{ℕ, zero, suc, ◌+◌, ◌*◌, ◌/◌, ◌==◌, ◌&&◌, not, Bool, false, List, [], ◌++◌, map, Option, Some, None, is_some, option_and_then, option_map, option_to_list, Vec, if◌then◌else◌}
+use Rattle.std.specs.Prelude.{ℕ, zero, suc, ◌+◌, ◌*◌, ◌/◌, ◌==◌, ◌&&◌, not, nat_lt, Bool, false, List, [], ◌++◌, map, Option, Some, None, is_some, option_and_then, option_map, option_to_list, Vec, if◌then◌else◌}
 use Rattle.std.specs.declared.alloc.Global.{Global}
 use Rattle.rv32_image.specs.Image.{LoadedImage}
 use Rattle.rv32_image.specs.Version.{limits_of}
@@ -35,23 +35,27 @@ run_with image entries v load a store =
 abbrev pub run_of : LoadedImage → List Entry → Violation → ℕ → ℕ → Option Run
 run_of image entries v load a = option_map (run_with image entries v load a) (blamed_store image entries v a)
 
--- the blamed run is the one that begins where the blamed bytes do
-abbrev pub is_blamed : Option Blame → Run → Bool
-is_blamed None run = false
-is_blamed (Some pair) run = pair.bytes.first == run.bytes.first
+-- the blamed run begins at this byte
+abbrev pub begins_blamed : Option Blame → ℕ → Bool
+begins_blamed None a = false
+begins_blamed (Some pair) a = pair.bytes.first == a
 
 abbrev pub only : (Run → Bool) → Option Run → Option Run
 only test run = option_and_then (λ r. if test r then Some r else None) run
 
 -- ---- of bytes that are written and were read
 
+-- the run of a byte
+abbrev pub run_at : LoadedImage → List Entry → Violation → ℕ → Option Run
+run_at image entries v a = option_and_then (λ load. run_of image entries v load a) (read_at entries v a)
+
 -- the run that begins at a byte, if one does
 abbrev pub run_from : LoadedImage → List Entry → Violation → ℕ → Option Run
-run_from image entries v a = only (λ run. run.bytes.first == a) (option_and_then (λ load. run_of image entries v load a) (read_at entries v a))
+run_from image entries v a = only (λ run. run.bytes.first == a) (run_at image entries v a)
 
 abbrev pub shared_run : LoadedImage → List Entry → Option Blame → Violation → ℕ → Option Run
 shared_run image entries blame v a =
-    if is_shared v.bytes a then only (λ run. not (is_blamed blame run)) (run_from image entries v a) else None
+    if is_shared v.bytes a && not (begins_blamed blame a) then run_from image entries v a else None
 
 -- ---- of lines alone
 
@@ -78,7 +82,7 @@ run_in image entries v line =
 
 abbrev pub line_run : LoadedImage → List Entry → Option Blame → Violation → ℕ → Option Run
 line_run image entries blame v line =
-    if is_falsely_shared image v.bytes line then only (λ run. not (is_blamed blame run)) (run_in image entries v line) else None
+    if is_falsely_shared image v.bytes line then only (λ run. not (begins_blamed blame run.bytes.first)) (run_in image entries v line) else None
 
 -- ---- of a violation
 
@@ -117,3 +121,10 @@ further_runs image count entries e = runs_in image entries e (state_before image
 -- the lists that vectors hold
 abbrev pub lists_of : List (Vec Run Global) → List (List Run)
 lists_of vectors = map (λ (v : Vec Run Global). v.items) vectors
+
+-- ---- what the code keeps
+
+-- this address is below the end of a run
+abbrev pub is_below_end : Option Run → ℕ → Bool
+is_below_end None a = false
+is_below_end (Some run) a = nat_lt a (run.bytes.first + run.bytes.length)

@@ -1,6 +1,7 @@
 //! The runs of bytes that the cause writes and the victim had read.
 
-ghost use Rattle.std.specs.Prelude.{◌≡◌, ◌<◌, ◌++◌, ◌&&◌, nat_le, nat_lt, OnOk, Some};
+ghost use Rattle.std.specs.Prelude.{◌≡◌, ◌<◌, ◌≤◌, ◌++◌, ◌^◌, ◌==◌, ◌&&◌, not, ℕ, nat_le, nat_lt, OnOk, None, Some, if◌then◌else◌, true};
+ghost use Rattle.conflicts.specs.declared.explanation.Kind.TheVariants.{SilentStore};
 ghost use Rattle.conflicts.specs.Attempts as attempts;
 ghost use Rattle.conflicts.specs.Conflict as conflict;
 ghost use Rattle.conflicts.specs.Parties.{meeting_in};
@@ -8,7 +9,7 @@ ghost use Rattle.conflicts.specs.Searches.{IsNext};
 ghost use Rattle.conflicts.specs.Violated.{violation_in};
 ghost use Rattle.conflict_runs.specs.Runs as spec;
 
-use crate::run::{Run, Told, keep};
+use crate::run::{Run, Told, end_of, keep};
 use rv32_exec::Image;
 use spec_history::{Entry, Flat};
 use std::alloc::AllocError;
@@ -36,15 +37,25 @@ impl Told {
         next
     }
 
-    /// The run that begins at a byte.
-    fn run_from(&self, image: &Image, flat: &Flat, entries: &[Entry], addr: u32) -> Option<Run>
+    /// The run of a byte.
+    fn run_at(&self, image: &Image, flat: &Flat, entries: &[Entry], addr: u32) -> Option<Run>
         requires image { flat.now.image ≡ image.now }
         requires start { attempts.attempt_place entries.now self.now.violated.parties.victim self.now.violated.place ≡ Some self.now.start }
         requires within { addr < image.now.size }
-        ensures { result ≡ spec.run_from image.now entries.now (violation_in flat.now self.now.violated) addr }
+        ensures { result ≡ spec.run_at image.now entries.now (violation_in flat.now self.now.violated) addr }
     {
         let load = self.read_at(entries, addr)?;
-        let run = self.run_of(image, flat, entries, load, addr)?;
+        self.run_of(image, flat, entries, load, addr)
+    }
+
+    /// The run of a byte, if it begins there and isn't the blamed one.
+    fn further(&self, run: Option<Run>, addr: u32) -> Option<Run>
+        ensures { result ≡ (if not (spec.begins_blamed self.now.blame addr) then spec.only (λ r. r.bytes.first == addr) run else None) }
+    {
+        if self.begins_blamed(addr) {
+            return None;
+        }
+        let run = run?;
         if run.bytes.first == addr {
             Some(run)
         } else {
@@ -52,21 +63,7 @@ impl Told {
         }
     }
 
-    /// The further run that begins at a byte.
-    fn shared_run(&self, image: &Image, flat: &Flat, entries: &[Entry], addr: u32) -> Option<Run>
-        requires image { flat.now.image ≡ image.now }
-        requires start { attempts.attempt_place entries.now self.now.violated.parties.victim self.now.violated.place ≡ Some self.now.start }
-        requires within { addr < image.now.size }
-        ensures { result ≡ spec.shared_run image.now entries.now self.now.blame (violation_in flat.now self.now.violated) addr }
-    {
-        if !self.violated.parties.is_shared(flat, addr) {
-            return None;
-        }
-        let run = self.run_from(image, flat, entries, addr)?;
-        if self.is_blamed(run) { None } else { Some(run) }
-    }
-
-    /// The further runs of bytes, in ascending order, at the end of a list.
+    /// The further runs of bytes, in ascending order, at the end of a list. No other begins within a run, so its bytes are passed over.
     pub(crate) fn push_shared(
         &self,
         runs: &mut Vec<Run>,
@@ -76,6 +73,7 @@ impl Told {
     ) -> Result<(), AllocError>
         requires image { flat.now.image ≡ image.now }
         requires start { attempts.attempt_place entries.now self.now.violated.parties.victim self.now.violated.place ≡ Some self.now.start }
+        requires kind { self.now.violated.kind ≡ SilentStore }
         ensures { OnOk result (runs.new.items ≡ runs.old.items
             ++ spec.runs_below image.now.size (spec.shared_run image.now entries.now self.now.blame (violation_in flat.now self.now.violated))) }
     {
@@ -86,9 +84,24 @@ impl Told {
             if addr >= size {
                 return Ok(());
             }
-            keep(runs, self.shared_run(image, flat, entries, addr))?;
-            from = addr + 1;
+            let run = self.run_at(image, flat, entries, addr);
+            keep(runs, self.further(run, addr))?;
+            from = end_after(image, run, addr);
         }
         Ok(())
+    }
+}
+
+/// The first address above a byte that is not of its run.
+fn end_after(image: &Image, run: Option<Run>, addr: u32) -> u32
+    requires within { addr < image.now.size }
+    requires room { image.now.size < 2 ^ 32 }
+    ensures above { addr < result }
+    ensures most { result ≤ image.now.size }
+    ensures of_run { (a : ℕ) → addr < a → a < result → spec.is_below_end run a ≡ true }
+{
+    match run {
+        Some(run) => end_of(image, run.bytes).max(addr + 1),
+        None => addr + 1,
     }
 }

@@ -78,18 +78,20 @@ impl Told {
     }
 
     /// The first such line from this one on; the number of lines, where there is none. It is that of a byte that the victim has
-    /// read, so no other is tried.
+    /// read, so no other is tried, and one that was just tried isn't tried once more.
     fn next_line(&self, image: &Image, flat: &Flat, from: u32) -> u32
         requires { flat.now.image ≡ image.now }
         ensures { IsNext (spec.is_falsely_shared image.now (meeting_in flat.now self.now.violated.parties)) from
             (image.now.size / (limits_of image.now.version).line_length) result }
     {
         let mut next = lines_of(image);
+        let mut tried = next;
         for addr in flat.read_addresses(self.violated.parties.victim) {
             let line = line_of(image, *addr);
-            if self.is_nearer_line(image, flat, from, next, line) {
+            if line != tried && self.is_nearer_line(image, flat, from, next, line) {
                 next = line;
             }
+            tried = line;
         }
         next
     }
@@ -126,7 +128,11 @@ impl Told {
             return None;
         }
         let run = self.run_in(image, flat, entries, line)?;
-        if self.is_blamed(run) { None } else { Some(run) }
+        if self.begins_blamed(run.bytes.first) {
+            None
+        } else {
+            Some(run)
+        }
     }
 
     /// The further runs of lines, in ascending order, at the end of a list.

@@ -4,6 +4,7 @@ ghost use Rattle.std.specs.Prelude.{◌≡◌, ◌<◌, ◌≤◌, ◌+◌, ◌+
 ghost use Rattle.spec_history.specs.Refusal.{any_below};
 ghost use Rattle.conflicts.specs.declared.explanation.Kind.TheVariants.{FalseSharing};
 ghost use Rattle.conflicts.specs.Attempts as attempts;
+ghost use Rattle.conflicts.specs.Blame as blame;
 ghost use Rattle.conflicts.specs.Conflict as conflict;
 ghost use Rattle.conflicts.specs.Parties.{meeting_in};
 ghost use Rattle.conflicts.specs.Violated.{violation_in};
@@ -41,7 +42,7 @@ pub(crate) struct Told {
 }
 
 /// Where so many bytes end, in memory.
-fn end_of(image: &Image, bytes: ByteRange) -> u32
+pub(crate) fn end_of(image: &Image, bytes: ByteRange) -> u32
     ensures within { result ≤ image.now.size }
     ensures inside { (a : ℕ) → a < result → a < bytes.first + bytes.length }
     ensures covered { (a : ℕ) → attempts.covers bytes.first bytes.length a ≡ true → a < image.now.size → a < result }
@@ -107,6 +108,28 @@ impl Told {
         false
     }
 
+    /// The run of a byte that this load read first, and this store gave its value.
+    fn run_with(&self, image: &Image, flat: &Flat, entries: &[Entry], pair: BlamedByte) -> Run
+        requires image { flat.now.image ≡ image.now }
+        requires start { attempts.attempt_place entries.now self.now.violated.parties.victim self.now.violated.place ≡ Some self.now.start }
+        requires stored { blame.blamed_store image.now entries.now (violation_in flat.now self.now.violated) pair.byte ≡ Some pair.store }
+        requires within { pair.byte < image.now.size }
+        ensures { result ≡ spec.run_with image.now entries.now (violation_in flat.now self.now.violated) pair.load pair.byte pair.store }
+    {
+        let bytes = self.violated.range(image, flat, entries, self.start, pair);
+        let kind = if self.changes(image, flat, bytes) {
+            Kind::TrueSharing
+        } else {
+            self.violated.kind
+        };
+        Run {
+            kind,
+            load: pair.load,
+            store: pair.store,
+            bytes,
+        }
+    }
+
     /// The run of a byte that this load read first.
     pub(crate) fn run_of(
         &self,
@@ -127,26 +150,15 @@ impl Told {
             store,
             byte: addr,
         };
-        let bytes = self.violated.range(image, flat, entries, self.start, pair);
-        let kind = if self.changes(image, flat, bytes) {
-            Kind::TrueSharing
-        } else {
-            self.violated.kind
-        };
-        Some(Run {
-            kind,
-            load,
-            store,
-            bytes,
-        })
+        Some(self.run_with(image, flat, entries, pair))
     }
 
-    /// The run is the blamed one.
-    pub(crate) fn is_blamed(&self, run: Run) -> bool
-        ensures { result ≡ spec.is_blamed self.now.blame run }
+    /// The blamed run begins at this byte.
+    pub(crate) fn begins_blamed(&self, addr: u32) -> bool
+        ensures { result ≡ spec.begins_blamed self.now.blame addr }
     {
         match self.blame {
-            Some(pair) => pair.bytes.first == run.bytes.first,
+            Some(pair) => pair.bytes.first == addr,
             None => false,
         }
     }
