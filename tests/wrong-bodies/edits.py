@@ -1,0 +1,127 @@
+"""Wrong bodies of a crate: what each edit changes, in which functions, and which of them can be tried together."""
+import os
+import re
+from dataclasses import dataclass
+
+from sources import functions_of, module_of, types_of
+
+
+class BadEdit(Exception):
+    """An edit that can't be applied, with the reason."""
+
+
+@dataclass(frozen=True)
+class Change:
+    """One pair of an edit: where the text `old` stands once in a file, `new` takes its place."""
+
+    file: str
+    old: str
+    new: str
+
+
+@dataclass(frozen=True)
+class Edit:
+    """A wrong body: its name, what it changes, the paths of the functions that it changes, and whether it changes nothing but
+    their bodies, so that no other function can tell."""
+
+    name: str
+    changes: tuple
+    functions: frozenset
+    in_bodies: bool
+
+
+class Sources:
+    """The source files of a crate, and the functions in them."""
+
+    def __init__(self, folder):
+        self.folder, self.texts = folder, {}
+        for at, _, names in os.walk(f"{folder}/src"):
+            for name in names:
+                path = os.path.relpath(f"{at}/{name}", folder)
+                with open(f"{at}/{name}", encoding="utf-8") as it:
+                    self.texts[path] = it.read()
+        self.homes = {name: module_of(path) for path, text in self.texts.items() for name in types_of(text)}
+
+    def path_of(self, file, function):
+        """What the checker calls a function, below the crate: a method stands in the module of its type."""
+        module = self.homes.get(function.holder, module_of(file))
+        return "::".join(filter(None, [module, function.holder, function.name]))
+
+    def functions(self, file, text):
+        """The functions of a file with this text, by what the checker calls them."""
+        return {self.path_of(file, it): it for it in functions_of(text)}
+
+
+def changes_of(text):
+    """The pairs of an edit's text: lines `file: PATH`, `old: TEXT`, `new: TEXT`."""
+    file, old, found = None, None, []
+    for line in text.split("\n"):
+        if line.startswith("file: "):
+            file = line.removeprefix("file: ").strip()
+        elif line.startswith("old: "):
+            old = line.removeprefix("old: ")
+        elif line.startswith("new:"):
+            if not file or not old:
+                raise BadEdit("a line 'new:' stands before any 'file:' or 'old:' line")
+            found.append(Change(file, old, line.removeprefix("new:").removeprefix(" ")))
+            old = None
+    if not found:
+        raise BadEdit("it has no pair of 'old:' and 'new:'")
+    return tuple(found)
+
+
+def changed(sources, changes, texts=None):
+    """The texts of the files that these changes make of the sources, or of `texts` where that has the file."""
+    texts = dict(texts or {})
+    for it in changes:
+        text = texts.get(it.file, sources.texts.get(it.file))
+        if text is None:
+            raise BadEdit(f"there is no file {it.file}")
+        if text.count(it.old) != 1:
+            raise BadEdit(f"a text of it stands in {it.file} {text.count(it.old)} times, and not once")
+        texts[it.file] = text.replace(it.old, it.new)
+    return texts
+
+
+def read_edit(path, sources):
+    """The edit in a file. It changes at least one function; what it changes outside of functions comes along."""
+    with open(path, encoding="utf-8") as it:
+        changes = changes_of(it.read())
+    texts, functions, in_bodies = {}, set(), True
+    for it in changes:
+        before = texts.get(it.file, sources.texts.get(it.file, ""))
+        texts = changed(sources, [it], texts)
+        line = before[: before.find(it.old)].count("\n") + 1
+        found = {name: of for name, of in sources.functions(it.file, before).items() if of.first <= line <= of.last}
+        functions |= found.keys()
+        in_bodies = in_bodies and (it.old.startswith("use ") or any(stays_inside(it, line, of) for of in found.values()))
+    if not functions:
+        raise BadEdit("it changes no function")
+    if texts == {file: sources.texts[file] for file in texts}:
+        raise BadEdit("it changes nothing")
+    return Edit(os.path.basename(path).removesuffix(".edit"), changes, frozenset(functions), in_bodies)
+
+
+def stays_inside(change, line, function):
+    """Whether a change at a line is one of the function's body alone: below its opening brace, or behind it on the same line."""
+    return line > function.body or line == function.body and change.old.endswith("{") and change.new.startswith(change.old)
+
+
+def batches_of(edits, sources):
+    """The edits in as few lists as one pass finds: in a list each function is changed once, and each text stands once. What
+    changes more than bodies and imports has a list of its own."""
+    yield from ([it] for it in edits if not it.in_bodies)
+    left = [it for it in edits if it.in_bodies]
+    while left:
+        batch, later, used, texts = [], [], set(), {}
+        for edit in left:
+            try:
+                if used & edit.functions:
+                    raise BadEdit("a function of it is changed already")
+                texts = changed(sources, edit.changes, texts)
+                used |= edit.functions
+                batch.append(edit)
+            except BadEdit:
+                later.append(edit)
+        yield batch
+        left = later

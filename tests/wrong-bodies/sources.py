@@ -1,0 +1,94 @@
+"""The functions of a Rattle source file: where each stands, and what the checker calls it."""
+import re
+from dataclasses import dataclass
+
+FUNCTION = re.compile(r'( *)(?:pub(?:\([a-z ]+\))? )?(?:const )?(?:unsafe )?(?:extern "C" )?fn (\w+)')
+HOLDER = re.compile(r"( *)(?:pub(?:\([a-z ]+\))? )?(?:unsafe )?(impl|trait)\b(.*)")
+ABOVE = re.compile(r"\s*(?:#\[|//)")
+TYPE = re.compile(r"(?m)^(?:pub(?:\([a-z ]+\))? )?(?:struct|enum|trait) (\w+)")
+CYCLE = re.compile(r"#\[cycle\((\w+)\)\]")
+
+
+@dataclass(frozen=True)
+class Function:
+    """A function of a source file; its lines count from 1 and begin with the comments and attributes above it. The lines of its
+    body come after that with the brace, `body`."""
+
+    holder: str
+    name: str
+    cycle: str
+    first: int
+    body: int
+    last: int
+
+
+def functions_of(text):
+    """The functions of a source text that `rt fmt` has laid out, where a body ends at the indentation of its head."""
+    lines, found, holders = text.split("\n"), [], []
+    for at, line in enumerate(lines):
+        while holders and line.rstrip() == " " * holders[-1][0] + "}":
+            holders.pop()
+        holder, function = HOLDER.match(line), FUNCTION.match(line)
+        if holder and not ended_by_itself(line):
+            holders.append((len(holder[1]), holder_name(holder[2], header_from(lines, at))))
+        elif function:
+            first = at
+            while first > 0 and ABOVE.match(lines[first - 1]):
+                first -= 1
+            cycle = next((it[1] for it in map(CYCLE.search, lines[first:at]) if it), function[2])
+            last = last_line(lines, at, function[1])
+            body = next((it for it in range(at, last) if lines[it].rstrip() == function[1] + "{"), at)
+            found.append(Function(holders[-1][1] if holders else "", function[2], cycle, first + 1, body + 1, last + 1))
+    return found
+
+
+def types_of(text):
+    """The names of the structs, enums and traits that a source text declares."""
+    return TYPE.findall(text)
+
+
+def ended_by_itself(line):
+    """Whether an item that begins on this line ends on it."""
+    return line.rstrip().endswith((";", "}")) and line.count("{") == line.count("}")
+
+
+def last_line(lines, at, indent):
+    if ended_by_itself(lines[at]):
+        return at
+    return next((it for it in range(at + 1, len(lines)) if lines[it].rstrip() in (indent + "}", indent + ");")), len(lines) - 1)
+
+
+def header_from(lines, at):
+    """The text of an item from the line at which it begins to the brace of its body."""
+    header = ""
+    for line in lines[at:]:
+        header += line + " "
+        if "{" in line:
+            break
+    return header.partition("{")[0]
+
+
+def holder_name(kind, header):
+    """What the checker puts before the functions of an impl or of a trait: of `impl Tr<A> for Ty<B>` it is TyTrA."""
+    plain = without_parameters(header.partition(kind)[2]).partition(" where ")[0]
+    if kind == "trait":
+        return re.match(r"\s*(\w+)", plain)[1]
+    *of, own = [re.findall(r"\w+", it)[-1] for it in plain.split(" for ")]
+    given = re.search(rf"\b{of[0]}<([\w:]+)> for ", header) if of else None
+    return own + "".join(of) + (given[1].split("::")[-1] if given else "")
+
+
+def without_parameters(text):
+    """The text without what stands in angle brackets."""
+    kept, depth = "", 0
+    for at, it in enumerate(text):
+        depth += it == "<"
+        kept += it * (depth == 0)
+        depth -= it == ">" and text[at - 1] not in "-="
+    return kept
+
+
+def module_of(file):
+    """The module that a source file is, as `a::b` for src/a/b.rt, and nothing for a crate's root."""
+    inside = file.removeprefix("src/").removesuffix(".rt")
+    return "" if inside in ("lib", "main") else inside.removesuffix("/mod").replace("/", "::")

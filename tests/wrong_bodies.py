@@ -1,0 +1,125 @@
+#!/usr/bin/env python3
+"""Tests tests/wrong-bodies/run, which tries wrong bodies on the prover: a small repository with one crate, and edits that have to
+be told as refused, and others, one in each form that says nothing of a contract, that have to be told as not refused.
+
+Usage: tests/wrong_bodies.py
+
+Needs the command `rt` of the Rattle kit, and is skipped without it. It takes about a minute. Exits with 1 where a check failed.
+"""
+import re
+import shutil
+import subprocess
+import sys
+import tempfile
+from pathlib import Path
+
+TOP = Path(__file__).resolve().parent.parent
+SOURCE = """\
+//! Numbers one after the other.
+#![tactic(auto)]
+ghost use Rattle.std.specs.Prelude.{◌≡◌, ◌+◌, ◌<◌};
+
+/// The number after `n`.
+pub fn next(n: u32) -> u32
+    requires { n < 100 }
+    ensures { result ≡ n + 1 }
+{
+    // one more
+    n + 1
+}
+
+/// The number two after `n`.
+pub fn next_but_one(n: u32) -> u32
+    requires { n < 99 }
+    ensures { result ≡ n + 2 }
+{
+    let one = next(n);
+    next(one)
+}
+
+/// The number three after `n`.
+pub fn next_but_two(n: u32) -> u32
+    requires { n < 98 }
+    ensures { result ≡ n + 3 }
+{
+    let after = next(n);
+    next_but_one(after)
+}
+"""
+ANSWERS = """\
+use Rattle.std.proofs.Common.{arith}
+use Rattle.steps.proofs.next_but_one.Goals as goal
+
+pub returns : goal.returns
+returns c = let one = c.next-one.ensures in let two = c.next.ensures in omega (arith, one, two)
+"""
+# Name of an edit: its pairs of old and new text, and what has to be told of it.
+EDITS = {
+    "next_is_two_more": ([("    n + 1", "    n + 2")], "refused: "),
+    "next_but_one_adds_the_limit": ([("    next(one)", "    next(one) + 1")], "refused: "),
+    "next_changes_nothing": ([("    n + 1", "    n + 1")], "FAILED, BAD EDIT: it changes nothing"),
+    "next_changes_a_comment": ([("// one more", "// plus one")], "FAILED, NOT REFUSED by a message at next: proved"),
+    "next_breaks_another_function": ([("result ≡ n + 1 }", "n < result }")], "FAILED, NOT REFUSED by a message at next: proved"),
+    "next_does_not_compile": ([("    n + 1", "    n + true")], "FAILED, DOES NOT COMPILE: src/lib.rt:11:9: error[mismatched-types]"),
+    "next_of_a_text_that_is_not_there": ([("    n + 7", "    n + 1")], "FAILED, BAD EDIT: a text of it stands in src/lib.rt 0 times"),
+    "next_but_one_renames_a_step": (
+        [("let one = next(n);\n    next(one)", "let first = next(n);\n    next(first)")], "FAILED, NOT REFUSED by a message at next_but_one"),
+    "next_but_two_is_right_over_a_broken_one": (
+        [("    next_but_one(after)", "    next(next_but_one(n))")], "FAILED, NOT REFUSED by a message at next_but_two: proved"),
+    "the_head_of_the_file": ([("//! Numbers one", "//! Numbers, one")], "FAILED, BAD EDIT: it changes no function"),
+}
+
+
+def write(path, text):
+    path.parent.mkdir(parents=True, exist_ok=True)
+    path.write_text(text)
+
+
+def edit_text(pairs):
+    """The lines of an edit; a pair of several lines is one pair for each line."""
+    lines = ["file: src/lib.rt"]
+    for old, new in pairs:
+        for before, after in zip(old.split("\n"), new.split("\n")):
+            lines += [f"old: {before}", f"new: {after}"]
+    return "\n".join(lines) + "\n"
+
+
+def repository(top):
+    """Lays out a repository with the crate `steps`, its edits and the tool."""
+    subprocess.run(["git", "init", "--quiet", str(top)], check=True)
+    write(top / "crates.txt", "steps:\n")
+    write(top / "crates/steps/src/lib.rt", SOURCE)
+    write(top / "crates/steps/proofs/next_but_one/Answers.antt", ANSWERS)
+    for name, (pairs, _) in EDITS.items():
+        write(top / f"tests/wrong-bodies/steps/{name}.edit", edit_text(pairs))
+    for file in [*(TOP / "tests/wrong-bodies").glob("*.py"), TOP / "tests/wrong-bodies/run", TOP / "tools/crates.py"]:
+        (top / file.relative_to(TOP)).parent.mkdir(parents=True, exist_ok=True)
+        shutil.copy(file, top / file.relative_to(TOP))
+
+
+def told(top):
+    """What the tool prints of each edit, its last line and its status."""
+    ran = subprocess.run([top / "tests/wrong-bodies/run", "steps"], capture_output=True, text=True, check=False)
+    lines = ran.stdout.splitlines()
+    return dict(re.findall(r"(?m)^steps/(\w+): (.*)$", ran.stdout)), lines[-1] if lines else ran.stderr, ran.returncode
+
+
+def main():
+    if not shutil.which("rt"):
+        print("skipped: the command rt of the Rattle kit is not installed")
+        return 0
+    with tempfile.TemporaryDirectory() as folder:
+        repository(Path(folder))
+        said, last, status = told(Path(folder))
+    refused = sum(wanted.startswith("refused") for _, wanted in EDITS.values())
+    checks = [(name, said.get(name, "nothing"), wanted) for name, (_, wanted) in EDITS.items()]
+    checks += [("the last line", last, f"{refused} refused, {len(EDITS) - refused} failed"), ("the status", str(status), "1")]
+    failed = [it for it in checks if not it[1].startswith(it[2])]
+    for name, got, wanted in failed:
+        print(f"FAILED {name}: got {got!r}, wanted {wanted!r}")
+    print(f"{len(checks) - len(failed)} checks passed, {len(failed)} failed")
+    return 1 if failed else 0
+
+
+if __name__ == "__main__":
+    sys.exit(main())
