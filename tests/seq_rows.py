@@ -239,6 +239,9 @@ ACCEPTED = [
 
 USAGE = [["x"], [], ["help"], ["audit", "x"], ["audit", "--help"], ["AUDIT"], ["seq", "audit"], ["seq", "--help"], ["seq", "x"], ["SEQ"], ["--help"], ["--version"], ["run"], ["run", "--cores", "9"]]
 
+# Words that ./trace_cli answers itself, with a page of help.
+WRAPPERS_OWN = [[], ["--help"]]
+
 
 def run(command, words, text):
     data = text if isinstance(text, bytes) else text.encode("ascii")
@@ -250,7 +253,8 @@ def main():
     command = sys.argv[1:] or [str(ROOT / "trace_cli"), "seq"]
     program = command[:-1]
     rows = [(name, ["seq"], text, expected) for name, text, expected in RUNS + REFUSALS + ACCEPTED]
-    rows += [("words " + " ".join(words), words, FOUR, ("", "usage\n", 2)) for words in USAGE]
+    own = [] if sys.argv[1:] else WRAPPERS_OWN
+    rows += [("words " + " ".join(words), words, FOUR, ("", "usage\n", 2)) for words in USAGE if words not in own]
     failed = 0
     for name, words, text, expected in rows:
         got = run(program, words, text)

@@ -3,8 +3,8 @@
 
 Usage: tests/wrapper.py
 
-Each row works in a small tree of its own, with a stub in the place of `rt`, so nothing is proved: the stub notes how it was
-called, and makes a program that prints its words and its standard input. Exits with 1 where a check failed.
+Each row works in a small tree of its own, with stubs in the place of the kit's commands, so nothing is proved: they note how they
+were called, and make a program that prints its words and its standard input. Exits with 1 where a check failed.
 """
 
 import os
@@ -15,7 +15,7 @@ import tempfile
 import time
 from pathlib import Path
 
-WRAPPER = Path(__file__).resolve().parent.parent / "trace_cli"
+TOP = Path(__file__).resolve().parent.parent
 CRATES = """\
 # the crates
 low:
@@ -24,43 +24,64 @@ middle: low kit_library
 trace_cli: kit_library middle low
 bench: middle
 """
-STUB = """\
+RT = """\
 #!/bin/sh
-crate=$(basename "$PWD")
-echo "$crate $*" >>"$CALLS"
-echo "said of $crate"
-echo "warned of $crate" >&2
-cat >/dev/null
-[ "$crate" != "$REFUSED" ] || exit 1
-[ "$1" != run ] || [ -n "$NOTHING" ] || {
-    mkdir -p out
-    printf '#!/bin/sh\\necho "words $*"\\ncat\\nexit 3\\n' >"out/$crate"
-    chmod +x "out/$crate"
-}
+case $1 in
+    doc) echo "$KIT/START-HERE.md" ;;
+    version) echo "kit 1" ;;
+    try) shift 2; echo "unproved $*"; cat; exit 4 ;;
+esac
 """
-BUILD = ["low lib", "middle lib", "trace_cli run -- seq"]
+# The kit's checker: notes the crate and the verb, and what a program is linked from is the program.
+CHECKER = """\
+#!/bin/sh
+verb=$1
+for word; do
+    case $word in --crate-name=*) crate=${word#*=} ;; esac
+    last=$word
+done
+echo "$crate $verb" >>"$CALLS"
+echo "said of $crate"
+echo "checked $crate::f, 1 of 2"
+[ -z "$SLOW" ] || sleep "$SLOW"
+[ "$crate" != "$REFUSED" ] || exit 1
+case $last in
+    --*) ;;
+    *.o) printf '#!/bin/sh\\necho "words $*"\\ncat\\nexit 3\\n' >"$last"; chmod +x "$last" ;;
+    *) mkdir -p "$last" ;;
+esac
+"""
+LINKER = """\
+#!/bin/sh
+[ -n "$NOTHING" ] || cp -p "$7" "$6"
+"""
+BUILD = ["low build", "low check", "middle build", "middle check", "trace_cli build", "trace_cli check"]
 MOST_MILLISECONDS = 60
 
 
 class Tree:
-    """A tree with the wrapper, a few crates and a stub of rt."""
+    """A tree with the wrapper, a few crates and stubs of the kit's commands."""
 
     def __init__(self, folder):
         self.top = Path(folder, "a tree")
         self.calls = Path(folder, "calls")
         self.bin = Path(folder, "bin")
-        for crate in ("low", "other", "middle", "trace_cli", "bench"):
+        self.kit = Path(folder, "kit")
+        for crate in ("low", "other", "middle"):
             self.write(f"crates/{crate}/src/lib.rt", crate)
         self.write("crates/low/src/tests.rt", "tests")
         self.write("crates/low/proofs/Lib.antt", "proof")
         self.write("crates.txt", CRATES)
         self.write("HANDLES", "none")
-        self.write("crates/trace_cli/args", "seq\n")
+        self.write("crates/trace_cli/src/main.rt", "program")
         self.write("crates/bench/src/main.rt", "bench")
-        self.write("trace_cli", WRAPPER.read_text()).chmod(0o755)
-        self.bin.mkdir()
-        (self.bin / "rt").write_text(STUB)
-        (self.bin / "rt").chmod(0o755)
+        for name in ("trace_cli", "tools/build", "tools/crates.py", "tools/help/trace_cli"):
+            self.write(name, (TOP / name).read_text()).chmod(0o755)
+        for path, text in ((self.bin / "rt", RT), (self.kit / "bin/rattle", CHECKER), (self.kit / "bin/rattle-link", LINKER)):
+            path.parent.mkdir(parents=True, exist_ok=True)
+            path.write_text(text)
+            path.chmod(0o755)
+        (self.bin / "python3").symlink_to(sys.executable)
 
     def write(self, name, text):
         path = self.top / name
@@ -68,17 +89,17 @@ class Tree:
         path.write_text(text)
         return path
 
-    def run(self, wrapper=None, path=None, **environment):
-        """The wrapper's output, its lines on standard error, its status and the calls of rt."""
+    def run(self, wrapper=None, path=None, words=("seq", "b c"), **environment):
+        """The wrapper's output, its lines on standard error, its status and the calls of the checker, sorted."""
         self.calls.write_text("")
         environment = {"PATH": f"{path or self.bin}:/usr/bin:/bin", "CALLS": str(self.calls), "REFUSED": "", "NOTHING": "",
-                       **environment}
-        done = subprocess.run([str(wrapper or self.top / "trace_cli"), "seq", "b c"], input="given\n", text=True,
+                       "SLOW": "", "KIT": str(self.kit), **environment}
+        done = subprocess.run([str(wrapper or self.top / "trace_cli"), *words], input="given\n", text=True,
                               capture_output=True, env=environment, check=False)
-        return done.stdout, done.stderr.splitlines(), done.returncode, self.calls.read_text().splitlines()
+        return done.stdout, done.stderr.splitlines(), done.returncode, sorted(self.calls.read_text().splitlines())
 
     def is_run(self, calls, wrapper=None):
-        """What is wrong where the program has to run after these calls of rt, or None."""
+        """What is wrong where the program has to run after these calls of the checker, or None."""
         output, errors, status, made = self.run(wrapper)
         if (output, status, made) != ("words seq b c\ngiven\n", 3, calls) or bool(errors) != bool(calls):
             return f"got {output!r}, {errors!r}, {status}, {made!r}"
@@ -89,15 +110,45 @@ def rows():
     """The checks: each takes a new tree and answers what is wrong, or None."""
     def first_run(tree):
         output, errors, status, calls = tree.run()
-        wanted = [
-            "trace_cli: not built for these sources yet; rt proves 3 crates first, where it hasn't yet, each in about"
-            " a minute; see out/trace_cli.log",
-            "trace_cli: low (1 of 3)", "trace_cli: middle (2 of 3)", "trace_cli: trace_cli (3 of 3)",
-        ]
         log = (tree.top / "out" / "trace_cli.log").read_text()
-        if (output, errors, status, calls) != ("words seq b c\ngiven\n", wanted, 3, BUILD):
+        good = (output, status, calls, len(errors)) == ("words seq b c\ngiven\n", 3, BUILD, 2)
+        good = good and errors[0].startswith("trace_cli: not built for these sources yet; 3 of its 3 crates are to be proved, on ")
+        good = good and errors[1] == "trace_cli: proved and built in 0 min 00 s"
+        if not good:
             return f"got {output!r}, {errors!r}, {status}, {calls!r}"
-        return None if log.count("said of") == log.count("warned of") == 3 else f"the log is {log!r}"
+        return None if log.count("said of") == 6 else f"the log is {log!r}"
+
+    def progress(tree):
+        text = (tree.top / "tools/build").read_text()
+        tree.write("tools/build", text.replace("SECONDS_BETWEEN_LINES = 20", "SECONDS_BETWEEN_LINES = 0.3"))
+        _, errors, _, _ = tree.run(SLOW="0.7")
+        wanted = "trace_cli: 1 of 3 crates proved, 0 min 0"
+        lines = [it for it in errors if it.startswith(wanted) and it.endswith("; now middle 1 of 2 functions")]
+        return None if lines else f"got {errors!r}"
+
+    def unproved(tree):
+        output, errors, status, calls = tree.run(words=("--unproved", "seq", "b c"))
+        good = (output, status, calls, len(errors)) == ("unproved seq b c\ngiven\n", 4, [], 1) and "is unproved" in errors[0]
+        if not good:
+            return f"got {output!r}, {errors!r}, {status}, {calls!r}"
+        tree.is_run(BUILD)
+        output, errors, status, calls = tree.run(words=("--unproved", "seq", "b c"))
+        good = (output, status, calls, len(errors)) == ("words seq b c\ngiven\n", 3, [], 1) and "is the proved one" in errors[0]
+        return None if good else f"built: got {output!r}, {errors!r}, {status}, {calls!r}"
+
+    def helps(tree):
+        page = (tree.top / "tools/help/trace_cli").read_text()
+        for words in ((), ("-h",), ("--help",)):
+            output, errors, status, calls = tree.run(words=words)
+            if not output.startswith(page) or "Nothing is built yet" not in output or (errors, status, calls) != ([], 0, []):
+                return f"{words}: got {output!r}, {errors!r}, {status}, {calls!r}"
+        tree.is_run(BUILD)
+        output, errors, status, calls = tree.run(words=())
+        return None if (output, errors, status, calls) == (page, [], 0, []) else f"built: got {output!r}, {errors!r}, {status}"
+
+    def with_kept_work(tree):
+        (tree.top / "crates/low/out/incremental").mkdir(parents=True)
+        return tree.is_run(BUILD)
 
     def after(change, calls):
         def check(tree):
@@ -121,8 +172,8 @@ def rows():
 
     def another_program(tree):
         (tree.top / "bench").symlink_to("trace_cli")
-        return (tree.is_run(["low lib", "middle lib", "bench run --"], tree.top / "bench") or tree.is_run([], tree.top / "bench")
-                or tree.is_run(["low lib", "middle lib", "trace_cli run -- seq"]))
+        return (tree.is_run(["bench build", "bench check", *BUILD[:4]], tree.top / "bench") or tree.is_run([], tree.top / "bench")
+                or tree.is_run(BUILD[4:]))
 
     def from_its_folder(tree):
         tree.is_run(BUILD)
@@ -131,13 +182,13 @@ def rows():
 
     def refused(tree):
         output, errors, status, calls = tree.run(REFUSED="middle")
-        good = output == "" and status == 126 and calls == BUILD[:2] and "warned of middle" in errors
-        good = good and "trace_cli: middle is not proved and built; out/trace_cli.log has what rt says, which ends so:" in errors
-        return tree.is_run(BUILD) if good else f"got {output!r}, {errors!r}, {status}, {calls!r}"
+        good = output == "" and status == 126 and calls == [*BUILD[:2], "middle check"] and "said of middle" in errors
+        good = good and "trace_cli: middle is not proved and built; out/trace_cli.log has what the checker says, which ends so:" in errors
+        return tree.is_run(BUILD[2:]) if good else f"got {output!r}, {errors!r}, {status}, {calls!r}"
 
     def no_program(tree):
         output, errors, status, _ = tree.run(NOTHING="1")
-        good = output == "" and status == 126 and any("rt made no program" in line for line in errors)
+        good = output == "" and status == 126 and any("nothing was made of trace_cli" in line for line in errors)
         return None if good else f"got {output!r}, {errors!r}, {status}"
 
     def without_rt(tree):
@@ -146,6 +197,7 @@ def rows():
             return None
         output, errors, status, _ = tree.run(path=tree.top)
         wanted = ["trace_cli: the command rt of the Rattle kit is not installed, so the program can't be built"]
+        (tree.top / "python3").symlink_to(sys.executable)
         if (output, errors, status) != ("", wanted, 127):
             return f"got {output!r}, {errors!r}, {status}"
         tree.is_run(BUILD)
@@ -163,21 +215,25 @@ def rows():
 
     return [
         ("first run", first_run),
+        ("progress", progress),
+        ("an unproved run", unproved),
+        ("the page of help", helps),
+        ("over work that a check kept", with_kept_work),
         ("second run", after(lambda tree: None, [])),
         ("a source that changed", after(lambda tree: tree.write("crates/low/src/lib.rt", "LOW"), BUILD)),
         ("a source that changed, with an old time", after(with_an_old_time, BUILD)),
         ("a proof that changed", after(lambda tree: tree.write("crates/low/proofs/Lib.antt", "PROOF"), BUILD)),
-        ("a new specification", after(lambda tree: tree.write("crates/middle/specs/Lib.antt", "new"), BUILD)),
-        ("a source that went", after(lambda tree: (tree.top / "crates/middle/src/lib.rt").unlink(), BUILD)),
+        ("a new specification", after(lambda tree: tree.write("crates/middle/specs/Lib.antt", "new"), BUILD[2:])),
+        ("a source that went", after(lambda tree: (tree.top / "crates/middle/src/lib.rt").unlink(), BUILD[2:])),
         ("a source that was touched", after(touched, [])),
         ("the program's tests", after(lambda tree: tree.write("crates/low/src/tests.rt", "TESTS"), [])),
         ("a crate that isn't the program's", after(lambda tree: tree.write("crates/other/src/lib.rt", "OTHER"), [])),
-        ("a bench", after(lambda tree: tree.write("crates/bench/src/lib.rt", "BENCH"), [])),
-        ("an edit that must be refused", after(lambda tree: tree.write("crates/low/must-fail/a.edit", "edit"), [])),
+        ("a bench", after(lambda tree: tree.write("crates/bench/src/main.rt", "BENCH"), [])),
         ("another crate in crates.txt", after(
             lambda tree: tree.write("crates.txt", CRATES.replace("kit_library middle low", "middle other")),
-            ["low lib", "middle lib", "other lib", "trace_cli run -- seq"])),
-        ("the program went", after(lambda tree: (tree.top / "crates/trace_cli/out/trace_cli").unlink(), BUILD)),
+            ["other build", "other check", *BUILD[4:]])),
+        ("the program went", after(lambda tree: (tree.top / "crates/trace_cli/out/trace_cli").unlink(), BUILD[4:])),
+        ("a library went", after(lambda tree: shutil.rmtree(tree.top / "crates/low/out/statements"), [])),
         ("symbolic links", links),
         ("a link of another program's name", another_program),
         ("from its own folder", from_its_folder),
