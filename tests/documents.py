@@ -1,5 +1,5 @@
 #!/usr/bin/env python3
-"""The pages of this project: links, the definitions that contracts cite, and the length of the root README.
+"""The pages of this project: links, the definitions that contracts cite, counts, and the length of the root README.
 
 Usage: tests/documents.py [--list]
 
@@ -92,7 +92,7 @@ def clauses(text, module, exported):
 
 def cited():
     """Each definition that a contract cites: crate, file below specs/ and name."""
-    listed = set(re.findall(r"(?m)^(\w+)[^:\n]*:", (ROOT / "crates.txt").read_text()))
+    listed = set(listed_crates())
     found = set()
     for source in sorted((ROOT / "crates").glob("*/src/**/*.rt")):
         crate = source.relative_to(ROOT / "crates").parts[0]
@@ -179,12 +179,45 @@ def lengths():
     yield "README.md", None if count <= MOST_WORDS_OF_README else f"has {count} words, more than {MOST_WORDS_OF_README}"
 
 
+NUMBERS = "no one two three four five six seven eight nine ten eleven twelve thirteen fourteen fifteen sixteen seventeen eighteen nineteen twenty".split()
+COUNTED = re.compile(r"\b(?:all|the)\s+(\d[\d,]*|" + "|".join(NUMBERS[2:]) + r")\s+(?:[a-z]+\s+)?(crates|test\s+crates|wrong\s+bodies|edits)\b", re.I)
+TIMED = re.compile(r"\b(?:\d+|" + "|".join(NUMBERS[2:]) + r")\s+(?:processor\s+)?minutes\b[^.]*\bprocessors?\b", re.I)
+
+
+def listed_crates():
+    return re.findall(r"(?m)^(\w+)[^:#\n]*:", (ROOT / "crates.txt").read_text())
+
+
+def true_counts():
+    """How many there are of what pages may count."""
+    crates = listed_crates()
+    edits = len([*(ROOT / "tests/wrong-bodies").glob("*/*.edit")])
+    tests = len([name for name in crates if name.endswith("_tests")])
+    return {"crates": len(crates), "test crates": tests, "wrong bodies": edits, "edits": edits}
+
+
+def counts():
+    """Each count on a page of what the project has; that of minutes, which no test can know, may stand on one page alone."""
+    truth, timed = true_counts(), []
+    for page in pages():
+        if page.name == "CHANGELOG.md":
+            continue
+        text = page.read_text()
+        timed += [page.relative_to(ROOT)] * bool(TIMED.search(text))
+        for number, what in COUNTED.findall(text):
+            what = re.sub(r"\s+", " ", what.lower())
+            count = NUMBERS.index(number.lower()) if number.lower() in NUMBERS else int(number.replace(",", ""))
+            wrong = None if count == truth[what] else f"is wrong: there are {truth[what]}"
+            yield f"{page.relative_to(ROOT)}: the count {number} {what}", wrong
+    yield "minutes on processors", None if len(timed) <= 1 else f"stand on {', '.join(map(str, timed))}: one page is their home"
+
+
 def main():
     if sys.argv[1:] == ["--list"]:
         for name, wrong in definitions():
             print(name, wrong or "")
         return 0
-    checks = [*definitions(), *stale(), *links(), *lengths()]
+    checks = [*definitions(), *stale(), *links(), *lengths(), *counts()]
     failed = [(name, wrong) for name, wrong in checks if wrong]
     for name, wrong in failed:
         print(f"FAILED {name} {wrong}")
