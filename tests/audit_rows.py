@@ -24,6 +24,9 @@ ONE = image(COUNTER)
 OF_ONE = ["0 start 0", "0 load 00000040 4 00000000", "0 store 00000040 4 00000000", "0 commit"]
 STRAIGHT = ["0 start 0", "0 publish", "0 load 00000040 4 00000000", "0 store 00000040 4 00000000", "0 commit"]
 FAULTS = image("00000000")
+# Epochs of ten loads, one after the other on one core.
+MANY_LOADS = image("83220004" * 10 + "67800000", epochs=60_001)
+LEGAL_LOADS = [line for epoch in range(60_000) for line in [f"0 start {epoch}", *["0 load 00000040 4 00000000"] * 10, "0 commit"]]
 LONGEST = 33_554_432
 
 
@@ -65,6 +68,8 @@ def padded(text, length):
 VERDICTS = [
     ("nine entries with a hurt", traced(WAIT, NINE), legal(9, 2)),
     ("without the hurt", traced(WAIT, without(NINE, 4)), illegal(4, "HurtMissing")),
+    ("as many entries as an input can have", traced(WAIT, ["0 commit"] * 3_700_000), illegal(0, "NotThere")),
+    ("many legal entries, and one that isn't", traced(MANY_LOADS, LEGAL_LOADS + ["0 publish"]), illegal(len(LEGAL_LOADS), "NotThere")),
     ("a load of an idle core", traced(WAIT, NINE[3:4]), illegal(0, "NotThere")),
     ("the second epoch first", traced(WAIT, ["0 start 1"]), illegal(0, "NotNext")),
     ("a publish of a later epoch", traced(WAIT, NINE[:4] + ["1 publish"]), illegal(4, "NotHomefree")),

@@ -67,6 +67,17 @@ WORDS = [
     ["run", "--cores", "2", "--trace=yes"], ["run", "--cores", "2", "--help"], ["run", "--help"], ["--cores", "2", "run"],
     ["run", "--core", "2"], ["seq", "--cores", "2"], ["audit", "--trace"],
 ]
+# One core makes as many entries of an epoch as it loads, and two: of 14 loads each 1,048,560 in all, where 1,048,576 have room and
+# a turn asks for 16; of 15 loads a full history. In order there is no such limit.
+def loads(count):
+    return image("83220004" * count + "67800000", epochs=65_535)
+
+
+LONG = [
+    ("a history that has just room", ["run", "--cores", "1"], loads(14), done(65_535)),
+    ("a history that is full", ["run", "--cores", "1"], loads(15), ("", "stopped HistoryFull\n", 3)),
+    ("a loop in order with more accesses than a history has room for", ["seq"], loads(15), done(65_535)),
+]
 
 
 def traced_differs(program, name, cores, text):
@@ -96,7 +107,7 @@ def main():
     rows = [(name, ["run", "--cores", str(cores)], text, expected) for name, cores, text, expected in RUNS]
     rows += [("the trace of " + name, ["run", "--cores", str(cores), "--trace"], text, (printed, "", 1 if "fault" in printed else 0))
              for name, cores, text, printed in TRACES]
-    rows += [("words " + " ".join(words), words, FOUR, USAGE) for words in WORDS]
+    rows += [("words " + " ".join(words), words, FOUR, USAGE) for words in WORDS] + LONG
     wrong = []
     for name, words, text, expected in rows:
         got = run(program, words, text)

@@ -237,7 +237,9 @@ ACCEPTED = [
     ("at up to the last byte", FOUR + "at 000000ff 01\n", done(4, at(0x40, "06"))),
 ]
 
-USAGE = [["x"], [], ["help"], ["audit", "x"], ["audit", "--help"], ["AUDIT"], ["seq", "audit"], ["seq", "--help"], ["seq", "x"], ["SEQ"], ["--help"], ["--version"], ["run"], ["run", "--cores", "9"]]
+USAGE = [["x"], [], ["help"], ["audit", "x"], ["audit", "--help"], ["AUDIT"], ["seq", "audit"], ["seq", "--help"], ["seq", "x"], ["SEQ"], ["--help"], ["--version"], ["run"], ["run", "--cores", "9"],
+         # words that are no UTF-8
+         [b"\xff"], [b"seq\xff"], ["seq", b"\xc3"]]
 
 # Words that ./trace_cli answers itself, with a page of help.
 WRAPPERS_OWN = [[], ["--help"]]
@@ -254,7 +256,7 @@ def main():
     program = command[:-1]
     rows = [(name, ["seq"], text, expected) for name, text, expected in RUNS + REFUSALS + ACCEPTED]
     own = [] if sys.argv[1:] else WRAPPERS_OWN
-    rows += [("words " + " ".join(words), words, FOUR, ("", "usage\n", 2)) for words in USAGE if words not in own]
+    rows += [(f"words {words}", words, FOUR, ("", "usage\n", 2)) for words in USAGE if words not in own]
     failed = 0
     for name, words, text, expected in rows:
         got = run(program, words, text)
