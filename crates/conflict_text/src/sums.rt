@@ -32,7 +32,6 @@ pub(crate) fn push_counts(text: &mut Vec<u8>, counts: Counts) -> Result<(), Allo
 }
 
 /// What the violations of an epoch cost.
-#[tactic(auto, unfolding(crate::specs::Report::epoch_line))]
 fn push_epoch(text: &mut Vec<u8>, epoch: u32, sum: Sum) -> Result<(), AllocError>
     ensures { OnOk result (text.new.items ≡ text.old.items ++ spec.epoch_line (epoch, sum)) }
 {
