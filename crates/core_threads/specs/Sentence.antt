@@ -6,6 +6,7 @@ use Rattle.rv32_exec.specs.declared.sequential.End.{End}
 use Rattle.rv32_exec.specs.Sequential.{published_memory}
 use Rattle.run_ledger.specs.declared.counts.Counts.{Counts}
 use Rattle.run_ledger.specs.Counts.{no_counts}
+use Rattle.spec_history.specs.Conflict.{AreKnown}
 use Rattle.spec_history.specs.FlatState.{FlatState}
 use Rattle.spec_history.specs.Laws.{Holds}
 use Rattle.spec_history.specs.Replay.{replay}
@@ -14,7 +15,7 @@ use Rattle.homefree.specs.declared.answer.StopCause.TheVariants.{HistoryFull}
 use Rattle.homefree.specs.declared.book.Loop.{Loop}
 use Rattle.homefree.specs.Agrees.{Agrees}
 use Rattle.homefree.specs.BookView.{BookView, IsFull}
-use Rattle.homefree.specs.Caused.{HasCauses, AreKnown}
+use Rattle.homefree.specs.Caused.{HasCauses}
 use Rattle.homefree.specs.Counted.{counted_in}
 use Rattle.homefree.specs.Driven.{IsInOrder}
 use Rattle.homefree.specs.LockView.{loop_of}
