@@ -21,9 +21,10 @@ use Rattle.spec_history.proofs.Legal.{legal_entry}
 use Rattle.spec_history.proofs.Replays.{replayed}
 use Rattle.conflicts.specs.declared.explanation.Explanation.{Explanation}
 use Rattle.conflicts.specs.declared.explanation.Runner.{Runner}
-use Rattle.conflicts.specs.Attempts.{entry_is, passes, state_before}
-use Rattle.conflicts.specs.Explained.{IsExplained, is_hurt, places_of, violations_before}
-use Rattle.conflicts.proofs.Searching.{first_at}
+use Rattle.spec_history.specs.Conflict.{entry_is, passes, is_hurt}
+use Rattle.conflicts.specs.Attempts.{state_before}
+use Rattle.conflicts.specs.Explained.{IsExplained, places_of, violations_before}
+use Rattle.spec_history.proofs.Searches.{first_at}
 use Rattle.attempt_ends.specs.declared.ended.Ended.{Ended}
 use Rattle.attempt_ends.specs.declared.ended.Ending.{Ending}
 use Rattle.attempt_ends.specs.declared.ended.Ending.TheVariants.{Committed, Violated, Cancelled}

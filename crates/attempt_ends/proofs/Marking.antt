@@ -11,7 +11,8 @@ use Rattle.spec_history.specs.View.{FlatView, IsApplied, cores_in, state_in}
 use Rattle.spec_history.proofs.Keeping.{at_core}
 use Rattle.spec_history.proofs.Legal.{and_true, legal_entry}
 use Rattle.spec_history.proofs.Replays.{effect-idle, effect-on, not_running}
-use Rattle.conflicts.specs.Attempts.{is_begin, passes}
+use Rattle.spec_history.specs.Conflict.{passes}
+use Rattle.conflicts.specs.Attempts.{is_begin}
 use Rattle.attempt_ends.specs.Violated.{AreMarked, hurts, is_violated, is_violation}
 
 -- ---- what an entry does to a core

@@ -5,7 +5,8 @@ use Rattle.spec_history.specs.declared.entry.Entry.{Entry}
 use Rattle.spec_history.specs.FlatState.{CoreState, FlatState}
 use Rattle.spec_history.specs.Refusal.{has}
 use Rattle.conflicts.specs.declared.explanation.Runner.{Runner}
-use Rattle.conflicts.specs.Attempts.{core_does, entry_is, is_begin}
+use Rattle.spec_history.specs.Conflict.{entry_is}
+use Rattle.conflicts.specs.Attempts.{core_does, is_begin}
 use Rattle.attempt_ends.specs.declared.ended.Ended.{Ended}
 use Rattle.attempt_ends.specs.declared.ended.Ending.TheVariants.{Cancelled}
 use Rattle.attempt_ends.specs.declared.ended.Running.{Running}

@@ -14,7 +14,7 @@ use Rattle.spec_history.specs.Refusal.{has, is_at}
 use Rattle.spec_history.specs.Replay.{replay}
 use Rattle.conflicts.specs.declared.explanation.Runner.{Runner}
 use Rattle.conflicts.specs.Attempts.{state_before}
-use Rattle.conflicts.specs.Searches.{first_below}
+use Rattle.spec_history.specs.Searches.{first_below}
 use Rattle.attempt_ends.specs.declared.ended.Ended.{Ended}
 use Rattle.attempt_ends.specs.declared.ended.Ending.{Ending}
 use Rattle.attempt_ends.specs.declared.ended.Ending.TheVariants.{Committed, Violated, Cancelled}

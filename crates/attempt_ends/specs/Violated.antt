@@ -4,7 +4,8 @@ use Rattle.spec_history.specs.declared.entry.Entry.{Entry}
 use Rattle.spec_history.specs.declared.entry.What.{What}
 use Rattle.spec_history.specs.declared.entry.What.TheVariants.{Hurt}
 use Rattle.spec_history.specs.FlatState.{CoreState}
-use Rattle.conflicts.specs.Attempts.{core_does, entry_is, is_begin}
+use Rattle.spec_history.specs.Conflict.{entry_is}
+use Rattle.conflicts.specs.Attempts.{core_does, is_begin}
 
 abbrev pub hurts : ℕ → What → Bool
 hurts epoch (Hurt e) = epoch == e

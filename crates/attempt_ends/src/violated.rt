@@ -2,7 +2,8 @@
 
 ghost use Rattle.std.specs.Prelude.{◌≡◌};
 ghost use Rattle.attempt_ends.specs.Violated as spec;
-ghost use Rattle.conflicts.specs.Attempts.{core_does, entry_is, is_begin};
+ghost use Rattle.spec_history.specs.Conflict.{entry_is};
+ghost use Rattle.conflicts.specs.Attempts.{core_does, is_begin};
 
 use conflicts::Runner;
 use spec_history::{Entry, What};

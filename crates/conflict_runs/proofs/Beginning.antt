@@ -5,11 +5,11 @@ use Rattle.std.proofs.lemmas.Bool.{cases_eq, eq-eqb}
 use Rattle.rv32_image.specs.Image.{LoadedImage}
 use Rattle.spec_history.specs.declared.entry.Entry.{Entry}
 use Rattle.spec_history.proofs.Legal.{and_true}
-use Rattle.conflicts.specs.declared.explanation.Kind.{Kind}
-use Rattle.conflicts.specs.declared.explanation.Kind.TheVariants.{SilentStore}
-use Rattle.conflicts.specs.Searches.{first_below, last_below}
+use Rattle.spec_history.specs.declared.kind.Kind.{Kind}
+use Rattle.spec_history.specs.declared.kind.Kind.TheVariants.{SilentStore}
+use Rattle.spec_history.specs.Searches.{first_below, last_below}
 use Rattle.conflicts.specs.Blame.{Violation, after, blamed_range, blamed_store, goes_with, is_alike, is_place, range_around, read_at}
-use Rattle.conflicts.specs.Conflict.{is_shared}
+use Rattle.spec_history.specs.Conflict.{is_shared}
 use Rattle.conflicts.proofs.Blaming.{either_way}
 use Rattle.conflict_runs.specs.declared.run.Run.{Run}
 use Rattle.conflict_runs.specs.Runs.{is_below_end, only, run_at, run_from, run_with}

@@ -10,12 +10,11 @@ use Rattle.spec_history.specs.Refusal.{any_below}
 use Rattle.conflicts.specs.declared.explanation.Blame.{Blame}
 use Rattle.conflicts.specs.declared.explanation.ByteRange.{ByteRange}
 use Rattle.conflicts.specs.declared.explanation.Explanation.{Explanation}
-use Rattle.conflicts.specs.declared.explanation.Kind.TheVariants.{TrueSharing, SilentStore, FalseSharing}
+use Rattle.spec_history.specs.declared.kind.Kind.TheVariants.{TrueSharing, SilentStore, FalseSharing}
 use Rattle.conflicts.specs.Attempts.{attempt_place, covers, is_after, reads_outside}
 use Rattle.conflicts.specs.Blame.{Violation, blamed_range, read_at}
-use Rattle.conflicts.specs.Conflict.{is_changed, is_shared}
-use Rattle.conflicts.specs.Explained.{what_at}
-use Rattle.conflicts.proofs.Searching.{first_none}
+use Rattle.spec_history.specs.Conflict.{is_changed, is_shared, what_at}
+use Rattle.spec_history.proofs.Searches.{first_none}
 use Rattle.conflict_runs.specs.declared.run.Run.{Run}
 use Rattle.conflict_runs.specs.Runs.{begins_blamed, byte_in, is_falsely_shared, line_run, load_in, only, run_from, run_at, run_in, run_kind, run_of, run_with, runs_by, shared_run, violation_of}
 use Rattle.conflict_runs.proofs.Listing.{no_runs}

@@ -8,8 +8,8 @@ use Rattle.rv32_image.specs.Version.{limits_of}
 use Rattle.spec_history.specs.declared.entry.Entry.{Entry}
 use Rattle.spec_history.proofs.Legal.{and_true, some_below}
 use Rattle.conflicts.specs.Attempts.{attempt_place, is_after, reads_outside}
-use Rattle.conflicts.specs.Conflict.{Meeting, is_shared, line_has, line_of}
-use Rattle.conflicts.proofs.Searching.{first_none}
+use Rattle.spec_history.specs.Conflict.{Meeting, is_shared, line_has, line_of}
+use Rattle.spec_history.proofs.Searches.{first_none}
 use Rattle.conflict_runs.specs.Runs.{byte_in, is_falsely_shared}
 
 by_after : (after loads unstored : Bool) → after ≡ false → ((after && loads) && unstored) ≡ false

@@ -11,13 +11,12 @@ use Rattle.spec_history.specs.Refusal.{any_below}
 use Rattle.conflicts.specs.declared.explanation.Blame.{Blame}
 use Rattle.conflicts.specs.declared.explanation.ByteRange.{ByteRange}
 use Rattle.conflicts.specs.declared.explanation.Explanation.{Explanation}
-use Rattle.conflicts.specs.declared.explanation.Kind.{Kind}
-use Rattle.conflicts.specs.declared.explanation.Kind.TheVariants.{TrueSharing, SilentStore, FalseSharing}
-use Rattle.conflicts.specs.Searches.{first_below}
+use Rattle.spec_history.specs.declared.kind.Kind.{Kind}
+use Rattle.spec_history.specs.declared.kind.Kind.TheVariants.{TrueSharing, SilentStore, FalseSharing}
+use Rattle.spec_history.specs.Searches.{first_below}
 use Rattle.conflicts.specs.Attempts.{covers, reads_outside, state_before}
 use Rattle.conflicts.specs.Blame.{Violation, blamed_range, blamed_store, read_at, written_in}
-use Rattle.conflicts.specs.Conflict.{Meeting, is_changed, is_shared, line_has, meeting}
-use Rattle.conflicts.specs.Explained.{what_at}
+use Rattle.spec_history.specs.Conflict.{Meeting, is_changed, is_shared, line_has, meeting, what_at}
 use Rattle.conflict_runs.specs.declared.run.Run.{Run}
 
 -- ---- runs

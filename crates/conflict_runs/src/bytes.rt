@@ -1,11 +1,11 @@
 //! The runs of bytes that the cause writes and the victim had read.
 
 ghost use Rattle.std.specs.Prelude.{◌≡◌, ◌<◌, ◌≤◌, ◌++◌, ◌^◌, ◌==◌, ◌&&◌, not, ℕ, nat_le, nat_lt, OnOk, None, Some, if◌then◌else◌, true};
-ghost use Rattle.conflicts.specs.declared.explanation.Kind.TheVariants.{SilentStore};
+ghost use Rattle.spec_history.specs.declared.kind.Kind.TheVariants.{SilentStore};
 ghost use Rattle.conflicts.specs.Attempts as attempts;
-ghost use Rattle.conflicts.specs.Conflict as conflict;
+ghost use Rattle.spec_history.specs.Conflict as conflict;
 ghost use Rattle.conflicts.specs.Parties.{meeting_in};
-ghost use Rattle.conflicts.specs.Searches.{IsNext};
+ghost use Rattle.spec_history.specs.Searches.{IsNext};
 ghost use Rattle.conflicts.specs.Violated.{violation_in};
 ghost use Rattle.conflict_runs.specs.Runs as spec;
 

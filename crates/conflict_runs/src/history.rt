@@ -2,7 +2,7 @@
 
 ghost use Rattle.std.specs.Prelude.{◌≡◌, IfOk, OnOk, Some, ◌++◌};
 ghost use Rattle.spec_history.specs.View.{state_in};
-ghost use Rattle.conflicts.specs.Explained as explained;
+ghost use Rattle.spec_history.specs.Conflict as conflict;
 ghost use Rattle.conflict_runs.specs.Runs as spec;
 
 use crate::run::{Run, Told};
@@ -33,7 +33,7 @@ pub fn further_runs(
 
 /// What the entry at a place says, if there is one.
 fn what_at(entries: &[Entry], place: Option<usize>) -> Option<What>
-    ensures { result ≡ explained.what_at entries.now place }
+    ensures { result ≡ conflict.what_at entries.now place }
 {
     let entry = entries.get(place?)?;
     Some(entry.what)

@@ -3,9 +3,9 @@
 ghost use Rattle.std.specs.Prelude.{◌≡◌, ◌<◌, ◌+◌, ◌*◌, ◌/◌, ◌^◌, ◌++◌, ◌&&◌, ℕ, nat_le, nat_lt, is_some, IfSome, OnOk, Some};
 ghost use Rattle.rv32_image.specs.Version.{limits_of};
 ghost use Rattle.conflicts.specs.Attempts as attempts;
-ghost use Rattle.conflicts.specs.Conflict as conflict;
+ghost use Rattle.spec_history.specs.Conflict as conflict;
 ghost use Rattle.conflicts.specs.Parties.{meeting_in};
-ghost use Rattle.conflicts.specs.Searches.{IsNext};
+ghost use Rattle.spec_history.specs.Searches.{IsNext};
 ghost use Rattle.conflicts.specs.Violated.{violation_in};
 ghost use Rattle.conflict_runs.specs.Runs as spec;
 

@@ -2,10 +2,10 @@
 
 ghost use Rattle.std.specs.Prelude.{◌≡◌, ◌<◌, ◌≤◌, ◌+◌, ◌++◌, ◌&&◌, ℕ, OnOk, Some, option_to_list, true};
 ghost use Rattle.spec_history.specs.Refusal.{any_below};
-ghost use Rattle.conflicts.specs.declared.explanation.Kind.TheVariants.{FalseSharing};
+ghost use Rattle.spec_history.specs.declared.kind.Kind.TheVariants.{FalseSharing};
 ghost use Rattle.conflicts.specs.Attempts as attempts;
 ghost use Rattle.conflicts.specs.Blame as blame;
-ghost use Rattle.conflicts.specs.Conflict as conflict;
+ghost use Rattle.spec_history.specs.Conflict as conflict;
 ghost use Rattle.conflicts.specs.Parties.{meeting_in};
 ghost use Rattle.conflicts.specs.Violated.{violation_in};
 ghost use Rattle.conflict_runs.specs.Runs as spec;

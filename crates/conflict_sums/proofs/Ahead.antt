@@ -5,9 +5,9 @@ use Rattle.std.proofs.lemmas.List.Elements.{All-get_or}
 use Rattle.std.proofs.Math.ListN.{get_or-eq_default}
 use Rattle.std.specs.Option.{option_or}
 use Rattle.spec_history.specs.declared.entry.Entry.{Entry}
-use Rattle.conflicts.specs.Attempts.{entry_is}
-use Rattle.conflicts.specs.Searches.{first_below}
-use Rattle.conflicts.proofs.Searching.{first_at, first_none}
+use Rattle.spec_history.specs.Conflict.{entry_is}
+use Rattle.spec_history.specs.Searches.{first_below}
+use Rattle.spec_history.proofs.Searches.{first_at, first_none}
 use Rattle.conflicts.specs.declared.explanation.Explanation.{Explanation}
 use Rattle.conflicts.specs.declared.explanation.Runner.{Runner}
 use Rattle.conflicts.specs.Fates.{first_after, is_over, over_at}

@@ -2,7 +2,7 @@
 use Rattle.std.specs.Prelude.{◌+◌, List, Option, Some, None, count_by, filter, max, min, option_map}
 use Rattle.std.specs.List.{fold}
 use Rattle.conflicts.specs.declared.explanation.ByteRange.{ByteRange}
-use Rattle.conflicts.specs.declared.explanation.Kind.TheVariants.{TrueSharing, SilentStore, FalseSharing, FullBuffer}
+use Rattle.spec_history.specs.declared.kind.Kind.TheVariants.{TrueSharing, SilentStore, FalseSharing, FullBuffer}
 use Rattle.conflict_sums.specs.declared.kinds.Counts.{Counts}
 use Rattle.conflict_sums.specs.declared.pair_sums.Bounds.{Bounds}
 use Rattle.conflict_sums.specs.declared.pair_sums.Fates.{Fates}

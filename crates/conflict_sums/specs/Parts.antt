@@ -1,7 +1,7 @@
 -- Parts of the violations of a history: those that have something in common.
 use Rattle.std.specs.Prelude.{ℕ, ◌==◌, ◌&&◌, Bool, true, false, Option, Some, None, is_none}
-use Rattle.conflicts.specs.declared.explanation.Kind.{Kind}
-use Rattle.conflicts.specs.declared.explanation.Kind.TheVariants.{TrueSharing, SilentStore, FalseSharing, FullBuffer, Unexplained}
+use Rattle.spec_history.specs.declared.kind.Kind.{Kind}
+use Rattle.spec_history.specs.declared.kind.Kind.TheVariants.{TrueSharing, SilentStore, FalseSharing, FullBuffer, Unexplained}
 use Rattle.conflict_sums.specs.declared.part.Part.{Part}
 use Rattle.conflict_sums.specs.declared.part.Part.TheVariants.{Whole, OfKind, OfPair, Unpaired, StoredAt, LoadedAt, OfLine, OfEpoch}
 use Rattle.conflict_sums.specs.declared.rollback.Pair.{Pair}

@@ -6,12 +6,11 @@ use Rattle.spec_history.specs.declared.entry.Entry.{Entry}
 use Rattle.conflicts.specs.declared.explanation.Blame.{Blame}
 use Rattle.conflicts.specs.declared.explanation.ByteRange.{ByteRange}
 use Rattle.conflicts.specs.declared.explanation.Explanation.{Explanation}
-use Rattle.conflicts.specs.declared.explanation.Kind.{Kind}
-use Rattle.conflicts.specs.declared.explanation.Kind.TheVariants.{FullBuffer}
+use Rattle.spec_history.specs.declared.kind.Kind.{Kind}
+use Rattle.spec_history.specs.declared.kind.Kind.TheVariants.{FullBuffer}
 use Rattle.conflicts.specs.declared.standing.Site.{Site}
 use Rattle.conflicts.specs.Blame.{accessed_line}
-use Rattle.conflicts.specs.Conflict.{line_of}
-use Rattle.conflicts.specs.Explained.{what_at}
+use Rattle.spec_history.specs.Conflict.{line_of, what_at}
 use Rattle.conflicts.specs.Fates.{held_at, is_stale_pair, undone_at}
 use Rattle.conflict_sums.specs.declared.rollback.Pair.{Pair}
 use Rattle.conflict_sums.specs.declared.rollback.Rollback.{Rollback}

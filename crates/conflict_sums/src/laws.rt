@@ -8,7 +8,7 @@ ghost use Rattle.spec_history.specs.FlatState.{FlatState};
 ghost use Rattle.spec_history.specs.Refusal.{refusal_of};
 ghost use Rattle.conflicts.specs.declared.explanation.Explanation.{Explanation};
 ghost use Rattle.conflicts.specs.Explained.{IsExplainedIn};
-ghost use Rattle.conflicts.specs.declared.explanation.Kind.TheVariants.{TrueSharing, SilentStore, FalseSharing, FullBuffer, Unexplained};
+ghost use Rattle.spec_history.specs.declared.kind.Kind.TheVariants.{TrueSharing, SilentStore, FalseSharing, FullBuffer, Unexplained};
 ghost use Rattle.conflict_sums.specs.declared.part.Part.TheVariants.{Whole, OfKind, OfPair, Unpaired};
 ghost use Rattle.conflict_sums.specs.declared.rollback.Pair.{Pair};
 ghost use Rattle.conflict_sums.specs.declared.rollback.Rollback.{Rollback};

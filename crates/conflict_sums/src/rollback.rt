@@ -1,7 +1,7 @@
 //! What of each explanation is summed.
 
 ghost use Rattle.std.specs.Prelude.{◌≡◌, ◌*◌, ◌/◌, ◌≤◌, IfOk, map};
-ghost use Rattle.conflicts.specs.Conflict as conflict;
+ghost use Rattle.spec_history.specs.Conflict as conflict;
 ghost use Rattle.conflict_sums.specs.Rollbacks as spec;
 
 use crate::endings::Endings;

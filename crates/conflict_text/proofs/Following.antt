@@ -3,11 +3,12 @@ use Rattle.std.proofs.Common.{◌≡◌, ℕ, zero, suc, ◌+◌, ◌<◌, ◌�
 use Rattle.spec_history.specs.declared.entry.Entry.{Entry}
 use Rattle.spec_history.specs.declared.entry.What.{What}
 use Rattle.spec_history.specs.declared.entry.What.TheVariants.{Start, Restart}
-use Rattle.conflicts.specs.Attempts.{core_does, is_after, is_begin, is_start, passes}
-use Rattle.conflicts.specs.Searches.{count_below, last_below}
+use Rattle.spec_history.specs.Conflict.{passes}
+use Rattle.conflicts.specs.Attempts.{core_does, is_after, is_begin, is_start}
+use Rattle.spec_history.specs.Searches.{count_below, last_below}
 use Rattle.conflicts.proofs.Backwards.{last_at}
 use Rattle.conflicts.proofs.Numbering.{no_one, one_in, other_in}
-use Rattle.conflicts.proofs.Searching.{and_no}
+use Rattle.spec_history.proofs.Searches.{and_no}
 use Rattle.conflict_text.specs.declared.followed.Attempt.{Attempt}
 use Rattle.conflict_text.specs.Followed.{IsAttempt, own_at, stepped}
 

@@ -4,7 +4,7 @@ use Rattle.spec_history.specs.declared.entry.Entry.{Entry}
 use Rattle.spec_history.specs.declared.entry.What.{What}
 use Rattle.spec_history.specs.declared.entry.What.TheVariants.{Start, Restart}
 use Rattle.conflicts.specs.Attempts.{attempt_number, core_does, is_start}
-use Rattle.conflicts.specs.Searches.{last_below}
+use Rattle.spec_history.specs.Searches.{last_below}
 use Rattle.conflict_sums.specs.Endings.{AreEndings}
 use Rattle.conflict_text.specs.declared.followed.Attempt.{Attempt}
 use Rattle.conflict_text.specs.declared.followed.Followed.{Followed}

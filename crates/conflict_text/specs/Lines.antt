@@ -11,12 +11,11 @@ use Rattle.spec_history.specs.declared.entry.What.TheVariants.{Load, Store, Hurt
 use Rattle.conflicts.specs.declared.explanation.Blame.{Blame}
 use Rattle.conflicts.specs.declared.explanation.ByteRange.{ByteRange}
 use Rattle.conflicts.specs.declared.explanation.Explanation.{Explanation}
-use Rattle.conflicts.specs.declared.explanation.Kind.{Kind}
-use Rattle.conflicts.specs.declared.explanation.Kind.TheVariants.{TrueSharing, SilentStore, FalseSharing, FullBuffer, Unexplained}
+use Rattle.spec_history.specs.declared.kind.Kind.{Kind}
+use Rattle.spec_history.specs.declared.kind.Kind.TheVariants.{TrueSharing, SilentStore, FalseSharing, FullBuffer, Unexplained}
 use Rattle.conflicts.specs.declared.standing.Site.{Site}
 use Rattle.conflicts.specs.Attempts.{attempt_number}
-use Rattle.conflicts.specs.Conflict.{line_of}
-use Rattle.conflicts.specs.Explained.{what_at}
+use Rattle.spec_history.specs.Conflict.{line_of, what_at}
 use Rattle.conflicts.specs.Fates.{held_at, moot_at, since, undone_at}
 use Rattle.conflict_runs.specs.declared.run.Run.{Run}
 use Rattle.trace_text.specs.Printing.{hex_word}

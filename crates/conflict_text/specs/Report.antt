@@ -10,8 +10,8 @@ use Rattle.spec_history.specs.declared.entry.Entry.{Entry}
 use Rattle.attempt_ends.specs.declared.ended.Ended.{Ended}
 use Rattle.attempt_ends.specs.declared.ended.Running.{Running}
 use Rattle.conflicts.specs.declared.explanation.Explanation.{Explanation}
-use Rattle.conflicts.specs.declared.explanation.Kind.{Kind}
-use Rattle.conflicts.specs.declared.explanation.Kind.TheVariants.{TrueSharing, SilentStore, FalseSharing, FullBuffer, Unexplained}
+use Rattle.spec_history.specs.declared.kind.Kind.{Kind}
+use Rattle.spec_history.specs.declared.kind.Kind.TheVariants.{TrueSharing, SilentStore, FalseSharing, FullBuffer, Unexplained}
 use Rattle.conflicts.specs.declared.standing.Site.{Site}
 use Rattle.conflict_runs.specs.declared.run.Run.{Run}
 use Rattle.conflict_sums.specs.declared.keys.Key.TheVariants.{Epoch, Line, Load, Store}

@@ -1,6 +1,6 @@
 //! The two accesses of a violation: those that are blamed, or those that met at a full buffer.
 ghost use Rattle.std.specs.Prelude.{◌≡◌, ◌++◌, ◌*◌, ◌/◌, ◌≤◌, OnOk};
-ghost use Rattle.conflicts.specs.Explained as explained;
+ghost use Rattle.spec_history.specs.Conflict as conflict;
 ghost use Rattle.conflict_text.specs.Lines as spec;
 
 use crate::words::{push_address, push_named, push_place};
@@ -12,7 +12,7 @@ use trace_text::push_hex;
 
 /// What the entry at a place says, if there is one.
 pub(crate) fn what_at(entries: &[Entry], place: Option<usize>) -> Option<What>
-    ensures { result ≡ explained.what_at entries.now place }
+    ensures { result ≡ conflict.what_at entries.now place }
 {
     let entry = entries.get(place?)?;
     Some(entry.what)

@@ -1,7 +1,7 @@
 //! The lines that tell of one violation.
 ghost use Rattle.std.specs.Prelude.{◌≡◌, ◌++◌, OnOk};
 ghost use Rattle.conflicts.specs.Attempts as attempts;
-ghost use Rattle.conflicts.specs.Explained as explained;
+ghost use Rattle.spec_history.specs.Conflict as conflict;
 ghost use Rattle.conflicts.specs.Fates as fates;
 ghost use Rattle.conflict_text.specs.Followed.{IsFollowed};
 ghost use Rattle.conflict_text.specs.Lines as spec;
@@ -92,7 +92,7 @@ fn push_later(text: &mut Vec<u8>, sites: &[Option<Site>], e: Explanation) -> Res
 /// What undid the causer's attempt, which was over there, if it did not commit.
 fn undoing(entries: &[Entry], e: Explanation, over: Option<usize>) -> Option<What>
     requires { over ≡ fates.over_at entries.now e }
-    ensures { result ≡ explained.what_at entries.now (fates.undone_at entries.now e) }
+    ensures { result ≡ conflict.what_at entries.now (fates.undone_at entries.now e) }
 {
     let what = entries.get(over?)?.what;
     match what {

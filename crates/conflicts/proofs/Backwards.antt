@@ -1,7 +1,7 @@
 -- What a search from the back finds.
 use Rattle.std.proofs.Common.{◌≡◌, ℕ, zero, suc, ◌+◌, ◌<◌, ◌≤◌, ◌&&◌, Bool, true, false, nat_lt, Option, Some, None, refl, sym, ap, ◌∙◌, inl, inr, arith, lt-ltb, ltb-true}
 use Rattle.std.proofs.lemmas.Bool.{cases_eq}
-use Rattle.conflicts.specs.Searches.{last_below}
+use Rattle.spec_history.specs.Searches.{last_below}
 use Rattle.conflicts.specs.Attempts.{is_after}
 
 pub last_none : (n : ℕ) (test : ℕ → Bool) → ((k : ℕ) → k < n → test k ≡ false) → last_below n test ≡ None

@@ -18,8 +18,7 @@ use Rattle.spec_history.proofs.Legal.{legal_entry, legal_is, and_true, not_true,
 use Rattle.spec_history.proofs.Missing.{quiet_misses}
 use Rattle.spec_history.proofs.Searches.{one_passes}
 use Rattle.spec_history.proofs.Replays.{Whole, all_entries, effect-on, replayed}
-use Rattle.conflicts.specs.Conflict.{is_changed, own_bytes, read_bytes, written}
-use Rattle.conflicts.specs.Conflict.{is_notice}
+use Rattle.spec_history.specs.Conflict.{is_changed, own_bytes, read_bytes, written, is_notice}
 use Rattle.conflicts.specs.Laws.{cancels_one, commits, missed_by, notices_by, refusal_after}
 use Rattle.conflicts.proofs.Needed.{before_of, core_other, missed_from, running, with_hurt}
 

@@ -1,5 +1,5 @@
 -- Explanations that grow by one entry of the history.
-use Rattle.std.proofs.Common.{◌≡◌, ℕ, suc, ◌+◌, ◌==◌, ◌&&◌, not, Bool, true, false, is_some, nat_lt, slice_get, option_map, List, [], ◌∷◌, ◌++◌, take, All, IfSome, Option, Some, None, option_to_list, refl, sym, ap, ◌∙◌, add-one, eqb-true}
+use Rattle.std.proofs.Common.{◌≡◌, ◌≢◌, ℕ, suc, ◌+◌, ◌==◌, ◌&&◌, not, Bool, true, false, is_some, nat_lt, slice_get, option_map, List, [], ◌∷◌, ◌++◌, take, All, IfSome, Option, Some, None, option_to_list, refl, sym, ap, ◌∙◌, add-one, eqb-true}
 use Rattle.std.proofs.lemmas.List.{append-nil, map-append}
 use Rattle.std.proofs.lemmas.List.Elements.{All-push}
 use Rattle.rv32_image.specs.Image.{LoadedImage}
@@ -14,11 +14,11 @@ use Rattle.spec_history.proofs.Legal.{legal_entry, and_true, some_below}
 use Rattle.spec_history.proofs.Searches.{one_passes}
 use Rattle.conflicts.specs.declared.explanation.Blame.{Blame}
 use Rattle.conflicts.specs.declared.explanation.Explanation.{Explanation}
-use Rattle.conflicts.specs.declared.explanation.Kind.{Kind}
-use Rattle.conflicts.specs.Attempts.{entry_is, passes}
-use Rattle.conflicts.specs.Conflict.{cause_of}
+use Rattle.spec_history.specs.declared.kind.Kind.{Kind}
+use Rattle.spec_history.specs.declared.kind.Kind.TheVariants.{Unexplained}
+use Rattle.spec_history.specs.Conflict.{AreKnown, entry_is, passes, cause_of, is_hurt, kind_of, what_at}
 use Rattle.conflicts.specs.Later.{later_by}
-use Rattle.conflicts.specs.Explained.{IsExplained, IsExplainedIn, blame_by, is_hurt, kind_of, places_of, violations_before, what_at}
+use Rattle.conflicts.specs.Explained.{IsExplained, IsExplainedIn, blame_by, places_of, violations_before}
 
 -- ---- one violation for each place
 
@@ -165,3 +165,12 @@ hurt_there entries place entry epoch at is = sym (ap (λ o. passes o (λ (e : En
 
 pub same_entry : (o : Option Entry) (a b : Entry) → o ≡ Some a → o ≡ Some b → a ≡ b
 same_entry o a b first second = cc
+
+-- ---- what is known of each violation is known of its explanation
+
+pub is_of_a_kind : (image : LoadedImage) (count : ℕ) (entries : List Entry) (e : Explanation) → AreKnown image count entries → IsExplained image count entries e → e.kind ≢ Unexplained
+is_of_a_kind image count entries e known explained same =
+    let x = explained.explained in
+    known e.place e.causer.core e.victim.core explained.before x.violated
+    (x.entry ∙ ap (λ (n : ℕ). Some (record { by = e.causer.core; what = Hurt n })) x.victim_epoch) explained.replays x.victim_runs
+    (ap (λ o. kind_of image explained.before e.causer.core e.victim.core (what_at entries o)) (sym x.cause) ∙ (sym x.kind ∙ same))

@@ -2,11 +2,11 @@
 use Rattle.std.proofs.Common.{◌≡◌, ℕ, zero, suc, ◌<◌, ◌≤◌, ◌&&◌, ◌||◌, Bool, true, false, nat_lt, is_none, Option, Some, None, unwrap_or, if◌then◌else◌, refl, sym, ap, ◌∙◌, inl, inr, arith, lt-ltb, le-ltb, ltb-true, ne_eqb}
 use Rattle.std.specs.Option.{option_or}
 use Rattle.std.proofs.lemmas.Bool.{cases_eq, eq-eqb}
-use Rattle.conflicts.specs.Searches.{first_below, last_below}
+use Rattle.spec_history.specs.Searches.{first_below, last_below}
 use Rattle.conflicts.specs.Attempts.{is_after}
 use Rattle.conflicts.specs.Blame.{is_place}
 use Rattle.conflicts.proofs.Backwards.{from_start, last_at, none_after}
-use Rattle.conflicts.proofs.Searching.{first_at}
+use Rattle.spec_history.proofs.Searches.{first_at}
 use Rattle.conflicts.proofs.Blaming.{either_way}
 
 -- ---- what is known of a number that was found

@@ -1,4 +1,3 @@
-pub mod Searching
 pub mod Backwards
 pub mod Blaming
 mod Listed
@@ -10,4 +9,3 @@ mod Between
 pub mod Growing
 pub mod Nearing
 pub mod Numbering
-pub mod Staying

@@ -3,12 +3,11 @@ use Rattle.std.proofs.Common.{◌≡◌, ℕ, ◌<◌, false, List, length, slic
 use Rattle.memory_bytes.specs.Shadow.{IsAmong}
 use Rattle.rv32_image.specs.Image.{LoadedImage}
 use Rattle.spec_history.specs.Refusal.{any_below}
-use Rattle.spec_history.proofs.Searches.{all_fail}
+use Rattle.spec_history.proofs.Searches.{all_fail, and_no}
 use Rattle.conflicts.specs.declared.meeting.ByteTest.{ByteTest}
 use Rattle.conflicts.specs.declared.meeting.ByteTest.TheVariants.{Changed, Shared, Beside}
-use Rattle.conflicts.specs.Conflict.{Meeting}
+use Rattle.spec_history.specs.Conflict.{Meeting}
 use Rattle.conflicts.specs.Parties.{passes}
-use Rattle.conflicts.proofs.Searching.{and_no}
 
 -- a byte that the victim has not read passes none of the tests
 unread : (image : LoadedImage) (m : Meeting) (test : ByteTest) (a : ℕ) → m.reads a ≡ None → passes image m test a ≡ false

@@ -16,7 +16,7 @@ use Rattle.spec_history.proofs.Legal.{IsLegalEntry, legal_entry, and_true, not_t
 use Rattle.spec_history.proofs.Keeping.{same_core}
 use Rattle.spec_history.proofs.Searches.{all_fail, one_passes}
 use Rattle.spec_history.proofs.Replays.{Whole, replayed, effect-on}
-use Rattle.conflicts.specs.Conflict.{written, meeting, is_changed, read_bytes}
+use Rattle.spec_history.specs.Conflict.{written, meeting, is_changed, read_bytes}
 use Rattle.conflicts.specs.Laws.{commits, missed_by}
 
 -- the state in which the core of this epoch is hurt

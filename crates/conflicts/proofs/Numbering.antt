@@ -1,10 +1,10 @@
 -- How often an attempt was begun again.
 use Rattle.std.proofs.Common.{◌≡◌, ℕ, zero, suc, ◌+◌, ◌<◌, ◌≤◌, ◌&&◌, Bool, true, false, nat_lt, Option, None, refl, sym, ap, subst, ◌∙◌, inl, inr, arith, add-one, lt-ltb, le-ltb}
 use Rattle.std.proofs.lemmas.Bool.{cases_eq}
-use Rattle.conflicts.specs.Searches.{count_below, last_below}
+use Rattle.spec_history.specs.Searches.{count_below, last_below}
 use Rattle.conflicts.specs.Attempts.{is_after}
 use Rattle.conflicts.proofs.Backwards.{Passed, last_at, last_none, passed_more}
-use Rattle.conflicts.proofs.Searching.{count_one, count_other}
+use Rattle.spec_history.proofs.Searches.{count_one, count_other}
 
 pub no_one : (n : ℕ) (test : ℕ → Bool) → ((k : ℕ) → k < n → test k ≡ false) → count_below n test ≡ 0
 unfolding count_below

@@ -5,8 +5,8 @@ use Rattle.spec_history.proofs.Legal.{and_true}
 use Rattle.spec_history.specs.declared.entry.Entry.{Entry}
 use Rattle.spec_history.specs.declared.entry.What.{What}
 use Rattle.spec_history.specs.declared.entry.What.TheVariants.{Start, Load, Store, Hurt, Cancel, Publish, Commit, Fault, Restart}
-use Rattle.conflicts.specs.declared.explanation.Kind.{Kind}
-use Rattle.conflicts.specs.declared.explanation.Kind.TheVariants.{TrueSharing, SilentStore, FalseSharing, FullBuffer, Unexplained}
+use Rattle.spec_history.specs.declared.kind.Kind.{Kind}
+use Rattle.spec_history.specs.declared.kind.Kind.TheVariants.{TrueSharing, SilentStore, FalseSharing, FullBuffer, Unexplained}
 use Rattle.conflicts.specs.Attempts.{attempt_does, attempt_place, core_does, is_after, last_store, stores_byte}
 use Rattle.conflicts.specs.Blame.{Violation, blamed_store, store_beside, store_to, stored_by}
 use Rattle.conflicts.specs.Violated.{has_one_store, is_store}

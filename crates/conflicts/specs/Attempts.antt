@@ -1,22 +1,15 @@
 -- The attempts of a history, and the accesses in them.
 -- Source: an epoch that is violated is run again from its start, in Steffan, Colohan, Zhai and Mowry, "A Scalable
 -- Approach to Thread-Level Speculation", ISCA 2000; each of its runs is an attempt here.
-use Rattle.std.specs.Prelude.{ℕ, ◌+◌, ◌==◌, ◌&&◌, Bool, true, false, List, take, Option, Some, None, is_none, nat_le, nat_lt, slice_get}
+use Rattle.std.specs.Prelude.{ℕ, ◌+◌, ◌==◌, ◌&&◌, Bool, true, false, List, take, Option, Some, None, is_none, nat_le, nat_lt}
 use Rattle.rv32_image.specs.Image.{LoadedImage}
 use Rattle.spec_history.specs.declared.entry.Entry.{Entry}
 use Rattle.spec_history.specs.declared.entry.What.{What}
 use Rattle.spec_history.specs.declared.entry.What.TheVariants.{Start, Load, Store, Restart}
+use Rattle.spec_history.specs.Conflict.{entry_is}
 use Rattle.spec_history.specs.FlatState.{FlatState}
 use Rattle.spec_history.specs.Replay.{replay}
-use Rattle.conflicts.specs.Searches.{first_below, last_below, count_below}
-
-abbrev pub passes : Option Entry → (Entry → Bool) → Bool
-passes None test = false
-passes (Some entry) test = test entry
-
--- there is an entry at this place, and it passes the test
-abbrev pub entry_is : List Entry → ℕ → (Entry → Bool) → Bool
-entry_is entries place test = passes (slice_get entries place) test
+use Rattle.spec_history.specs.Searches.{first_below, last_below, count_below}
 
 -- there is one of this core
 abbrev pub core_does : List Entry → ℕ → ℕ → (What → Bool) → Bool

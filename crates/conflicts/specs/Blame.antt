@@ -7,11 +7,11 @@ use Rattle.spec_history.specs.declared.entry.What.{What}
 use Rattle.spec_history.specs.declared.entry.What.TheVariants.{Load, Store}
 use Rattle.conflicts.specs.declared.explanation.Blame.{Blame}
 use Rattle.conflicts.specs.declared.explanation.ByteRange.{ByteRange}
-use Rattle.conflicts.specs.declared.explanation.Kind.{Kind}
-use Rattle.conflicts.specs.declared.explanation.Kind.TheVariants.{TrueSharing, SilentStore, FalseSharing}
-use Rattle.conflicts.specs.Searches.{first_below, last_below}
+use Rattle.spec_history.specs.declared.kind.Kind.{Kind}
+use Rattle.spec_history.specs.declared.kind.Kind.TheVariants.{TrueSharing, SilentStore, FalseSharing}
+use Rattle.spec_history.specs.Searches.{first_below, last_below}
 use Rattle.conflicts.specs.Attempts.{attempt_does, last_store, first_read, reads_outside}
-use Rattle.conflicts.specs.Conflict.{Meeting, is_shared, is_changed, is_beside, line_of}
+use Rattle.spec_history.specs.Conflict.{Meeting, is_shared, is_changed, is_beside, line_of}
 
 -- a violation with its cause: where both stand in the history, who made it, who was violated, and the bytes that meet
 pub record Violation : Type 0 where

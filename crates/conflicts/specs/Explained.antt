@@ -1,29 +1,18 @@
 -- What an explanation says, and the explanations of a history.
-use Rattle.std.specs.Prelude.{◌≡◌, ℕ, zero, suc, ◌++◌, List, [], ◌∷◌, map, take, Bool, true, false, Option, Some, None, option_and_then, option_map, slice_get, if◌then◌else◌}
+use Rattle.std.specs.Prelude.{◌≡◌, ℕ, zero, suc, ◌++◌, List, [], ◌∷◌, map, take, Option, Some, None, slice_get, if◌then◌else◌}
 use Rattle.rv32_image.specs.Image.{LoadedImage}
 use Rattle.rv32_exec.specs.NextEvent.{next_event}
 use Rattle.spec_history.specs.declared.entry.Entry.{Entry}
 use Rattle.spec_history.specs.declared.entry.What.{What}
 use Rattle.spec_history.specs.declared.entry.What.TheVariants.{Hurt}
+use Rattle.spec_history.specs.declared.kind.Kind.{Kind}
+use Rattle.spec_history.specs.Conflict.{cause_of, entry_is, is_hurt, kind_of, meeting, what_at}
 use Rattle.spec_history.specs.FlatState.{CoreState, FlatState}
 use Rattle.spec_history.specs.Replay.{replay}
 use Rattle.conflicts.specs.declared.explanation.Blame.{Blame}
 use Rattle.conflicts.specs.declared.explanation.Explanation.{Explanation}
-use Rattle.conflicts.specs.declared.explanation.Kind.{Kind}
-use Rattle.conflicts.specs.declared.explanation.Kind.TheVariants.{Unexplained}
-use Rattle.conflicts.specs.Attempts.{entry_is}
 use Rattle.conflicts.specs.Blame.{blame_of}
-use Rattle.conflicts.specs.Conflict.{cause_of, kind_with, meeting}
 use Rattle.conflicts.specs.Later.{later_by}
-
--- what the entry at this place says, if there is one
-abbrev pub what_at : List Entry → Option ℕ → Option What
-what_at entries place = option_and_then (λ j. option_map (λ (entry : Entry). entry.what) (slice_get entries j)) place
-
--- the kind of a violation of one core by another, in the state before it, with this cause
-abbrev pub kind_of : LoadedImage → FlatState → ℕ → ℕ → Option What → Kind
-kind_of image s causer victim None = Unexplained
-kind_of image s causer victim (Some cause) = kind_with image (meeting s causer cause victim) cause
 
 -- the load and the store that are blamed, where there is a cause
 abbrev pub blame_by : LoadedImage → FlatState → List Entry → ℕ → ℕ → ℕ → Kind → Option ℕ → Option What → Option Blame
@@ -65,10 +54,6 @@ pub record IsExplained (image : LoadedImage) (count : ℕ) (entries : List Entry
   pub before : FlatState
   pub replays : replay image count (take e.place entries) ≡ Some before
   pub explained : IsExplainedIn image before entries e
-
-abbrev pub is_hurt : What → Bool
-is_hurt (Hurt epoch) = true
-is_hurt what = false
 
 -- the places of the violations before this place, in order
 unfoldable pub violations_before : List Entry → ℕ → List ℕ

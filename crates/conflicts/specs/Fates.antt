@@ -6,16 +6,15 @@ use Rattle.spec_history.specs.declared.entry.What.{What}
 use Rattle.spec_history.specs.declared.entry.What.TheVariants.{Hurt, Cancel, Commit, Restart}
 use Rattle.conflicts.specs.declared.explanation.Blame.{Blame}
 use Rattle.conflicts.specs.declared.explanation.Explanation.{Explanation}
-use Rattle.conflicts.specs.declared.explanation.Kind.{Kind}
-use Rattle.conflicts.specs.declared.explanation.Kind.TheVariants.{FullBuffer}
+use Rattle.spec_history.specs.declared.kind.Kind.{Kind}
+use Rattle.spec_history.specs.declared.kind.Kind.TheVariants.{FullBuffer}
 use Rattle.conflicts.specs.declared.explanation.Runner.{Runner}
 use Rattle.conflicts.specs.declared.fates.Sign.{Sign}
 use Rattle.conflicts.specs.declared.fates.Sign.TheVariants.{Over, Settled}
 use Rattle.conflicts.specs.declared.standing.Site.{Site}
-use Rattle.conflicts.specs.Searches.{first_below}
-use Rattle.conflicts.specs.Attempts.{entry_is}
+use Rattle.spec_history.specs.Searches.{first_below}
+use Rattle.spec_history.specs.Conflict.{entry_is, what_at}
 use Rattle.conflicts.specs.Blame.{accessed_line, first_stored_in}
-use Rattle.conflicts.specs.Explained.{what_at}
 
 -- the first entry after a place that passes the test
 abbrev pub first_after : List Entry → ℕ → (Entry → Bool) → Option ℕ

@@ -6,11 +6,11 @@ use Rattle.spec_history.specs.declared.entry.What.{What}
 use Rattle.spec_history.specs.declared.entry.What.TheVariants.{Store}
 use Rattle.spec_history.specs.FlatState.{FlatState}
 use Rattle.spec_history.specs.Refusal.{any_below}
-use Rattle.conflicts.specs.declared.explanation.Kind.{Kind}
-use Rattle.conflicts.specs.declared.explanation.Kind.TheVariants.{FalseSharing}
-use Rattle.conflicts.specs.Searches.{first_below}
-use Rattle.conflicts.specs.Attempts.{entry_is, is_begin, covers}
-use Rattle.conflicts.specs.Conflict.{read_bytes}
+use Rattle.spec_history.specs.declared.kind.Kind.{Kind}
+use Rattle.spec_history.specs.declared.kind.Kind.TheVariants.{FalseSharing}
+use Rattle.spec_history.specs.Searches.{first_below}
+use Rattle.spec_history.specs.Conflict.{entry_is, read_bytes}
+use Rattle.conflicts.specs.Attempts.{is_begin, covers}
 
 -- a core has read this byte from outside
 abbrev pub was_read : FlatState → ℕ → ℕ → Bool

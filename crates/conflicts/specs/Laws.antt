@@ -10,7 +10,7 @@ use Rattle.spec_history.specs.declared.illegal.Illegal.TheVariants.{HurtMissing}
 use Rattle.spec_history.specs.FlatState.{CoreState, FlatState}
 use Rattle.spec_history.specs.Refusal.{any_below, has, refusal_of}
 use Rattle.spec_history.specs.Replay.{replay_from}
-use Rattle.conflicts.specs.Conflict.{is_changed, meeting}
+use Rattle.spec_history.specs.Conflict.{is_changed, meeting}
 use Rattle.conflicts.specs.Fates.{cancels}
 
 -- the core commits bytes by this: it publishes, commits or faults, or it has published and stores

@@ -1,8 +1,6 @@
--- Definitions to believe: numbers that pass a test, the attempts of a history, what a violation was about, what an
--- explanation says, whom it blames, what became of it, which instruction an entry is of, and what the law says.
-pub mod Searches
+-- Definitions to believe: the attempts of a history, what an explanation says, whom it blames, what became of it, which instruction
+-- an entry is of, and what the law says.
 pub mod Attempts
-pub mod Conflict
 pub mod Later
 pub mod Explained
 pub mod Blame

@@ -7,7 +7,7 @@ use Rattle.conflicts.specs.declared.meeting.ByteTest.{ByteTest}
 use Rattle.conflicts.specs.declared.meeting.ByteTest.TheVariants.{Changed, Shared, Beside}
 use Rattle.conflicts.specs.declared.meeting.LineTest.{LineTest}
 use Rattle.conflicts.specs.declared.meeting.LineTest.TheVariants.{Written, Stored}
-use Rattle.conflicts.specs.Conflict.{Meeting, meeting, is_changed, is_shared, is_beside, holds_line}
+use Rattle.spec_history.specs.Conflict.{Meeting, meeting, is_changed, is_shared, is_beside, holds_line}
 
 -- the bytes that meet
 abbrev pub meeting_in : FlatView → Parties → Meeting

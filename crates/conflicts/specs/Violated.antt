@@ -4,8 +4,8 @@ use Rattle.spec_history.specs.declared.entry.What.{What}
 use Rattle.spec_history.specs.declared.entry.What.TheVariants.{Store}
 use Rattle.spec_history.specs.View.{FlatView}
 use Rattle.conflicts.specs.declared.blame.Violated.{Violated}
-use Rattle.conflicts.specs.declared.explanation.Kind.{Kind}
-use Rattle.conflicts.specs.declared.explanation.Kind.TheVariants.{FalseSharing}
+use Rattle.spec_history.specs.declared.kind.Kind.{Kind}
+use Rattle.spec_history.specs.declared.kind.Kind.TheVariants.{FalseSharing}
 use Rattle.conflicts.specs.Blame.{Violation}
 use Rattle.conflicts.specs.Parties.{meeting_in}
 

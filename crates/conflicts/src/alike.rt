@@ -4,15 +4,15 @@ ghost use Rattle.std.specs.Prelude.{◌≡◌, ◌<◌, ◌≤◌, ◌&&◌, not
 ghost use Rattle.conflicts.specs.Attempts as attempts;
 ghost use Rattle.conflicts.specs.Blame as blame;
 ghost use Rattle.conflicts.specs.Parties.{meeting_in};
-ghost use Rattle.conflicts.specs.Searches.{first_below, last_below};
+ghost use Rattle.spec_history.specs.Searches.{first_below, last_below};
 ghost use Rattle.conflicts.specs.Violated as spec;
 
 use crate::accesses::{is_first_read, is_last_store};
 use crate::blame::Violated;
-use crate::explanation::{ByteRange, Kind};
+use crate::explanation::ByteRange;
 use crate::meeting::line_of;
 use rv32_exec::Image;
-use spec_history::{Entry, Flat, What};
+use spec_history::{Entry, Flat, Kind, What};
 
 /// A blamed byte, with its load and its store.
 #[derive(Clone, Copy)]

@@ -9,10 +9,10 @@ ghost use Rattle.conflicts.specs.Violated as spec;
 
 use crate::accesses::{attempt_place, last_store, reads_outside};
 use crate::alike::BlamedByte;
-use crate::explanation::{Blame, Kind};
+use crate::explanation::Blame;
 use crate::meeting::{Parties, line_of};
 use rv32_exec::Image;
-use spec_history::{Entry, Flat, What};
+use spec_history::{Entry, Flat, Kind, What};
 
 /// A violation with its cause: who meets in it, of what kind it is, and where both stand.
 #[derive(Clone, Copy)]

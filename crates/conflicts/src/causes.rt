@@ -3,8 +3,8 @@
 ghost use Rattle.std.specs.Prelude.{◌≡◌, ◌<◌, length, false, not, true, MatchOption};
 ghost use Rattle.spec_history.specs.Refusal.{any_below, is_at};
 ghost use Rattle.spec_history.specs.View as view;
-ghost use Rattle.conflicts.specs.Attempts.{entry_is};
-ghost use Rattle.conflicts.specs.Conflict as spec;
+ghost use Rattle.spec_history.specs.Conflict.{entry_is};
+ghost use Rattle.spec_history.specs.Conflict as spec;
 
 use spec_history::{Entry, Flat, What};
 

@@ -2,7 +2,7 @@
 
 ghost use Rattle.std.specs.Prelude.{◌≡◌, ◌<◌, ◌&&◌, nat_lt, length};
 ghost use Rattle.conflicts.specs.Attempts as attempts;
-ghost use Rattle.conflicts.specs.Attempts.{entry_is};
+ghost use Rattle.spec_history.specs.Conflict.{entry_is};
 ghost use Rattle.conflicts.specs.Fates as spec;
 
 use crate::accesses::attempt_number;

@@ -1,16 +1,16 @@
 //! Which store held the line of a full buffer.
 
 ghost use Rattle.std.specs.Prelude.{◌≡◌, ◌<◌, ℕ, Some};
-ghost use Rattle.conflicts.specs.declared.explanation.Kind.TheVariants.{FullBuffer};
+ghost use Rattle.spec_history.specs.declared.kind.Kind.TheVariants.{FullBuffer};
 ghost use Rattle.conflicts.specs.Attempts as attempts;
 ghost use Rattle.conflicts.specs.Blame as blame;
-ghost use Rattle.conflicts.specs.Conflict as conflict;
+ghost use Rattle.spec_history.specs.Conflict as conflict;
 ghost use Rattle.conflicts.specs.Fates as spec;
 
 use crate::accesses::attempt_place;
-use crate::explanation::{Explanation, Kind};
+use crate::explanation::Explanation;
 use rv32_exec::Image;
-use spec_history::{Entry, What};
+use spec_history::{Entry, Kind, What};
 
 /// The line of the caches in which an address lies, in memory or not.
 fn line_at(image: &Image, addr: u32) -> u32

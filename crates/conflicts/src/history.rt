@@ -5,16 +5,17 @@ ghost use Rattle.spec_history.specs.declared.entry.Entry.{Entry};
 ghost use Rattle.spec_history.specs.Refusal.{refusal_of};
 ghost use Rattle.spec_history.specs.Replay.{replay};
 ghost use Rattle.spec_history.specs.View.{IsAuditFault, cores_in, state_in};
-ghost use Rattle.conflicts.specs.Attempts.{entry_is};
+ghost use Rattle.spec_history.specs.Conflict as conflict;
+ghost use Rattle.spec_history.specs.Conflict.{entry_is};
 ghost use Rattle.conflicts.specs.Explained as spec;
 
 use crate::blame::Violated;
 use crate::causes::{cause_of, core_at};
-use crate::explanation::{Blame, Explanation, Kind, Runner};
+use crate::explanation::{Blame, Explanation, Runner};
 use crate::later::later_of;
 use crate::meeting::Parties;
 use rv32_exec::Image;
-use spec_history::{Entry, Flat, Illegal, What};
+use spec_history::{Entry, Flat, Illegal, Kind, What};
 use std::alloc::{AllocError, Global};
 
 /// The explanations of the violations of a history on a machine of so many cores: one for each, in order.
@@ -75,7 +76,7 @@ pub fn explanation_at(
     requires place { place < length entries.now }
     ensures explained { IfSome result (λ e. (e.place ≡ place) × spec.IsExplainedIn image.now (state_in flat.now) entries.now e) }
     ensures found { (entry : Entry) → slice_get entries.now place ≡ Some entry → refusal_of image.now cores (state_in flat.now) entry ≡ None
-        → is_some result ≡ entry_is entries.now place (λ e. spec.is_hurt e.what) }
+        → is_some result ≡ entry_is entries.now place (λ e. conflict.is_hurt e.what) }
 {
     let Entry { by, what } = entries[place];
     let What::Hurt(epoch) = what else {
@@ -119,8 +120,8 @@ fn conflict_of(
     cause: Option<usize>,
 ) -> (Kind, Option<Blame>)
     requires { flat.now.image ≡ image.now }
-    ensures kind { result.0 ≡ spec.kind_of image.now (state_in flat.now) causer victim (spec.what_at entries.now cause) }
-    ensures blame { result.1 ≡ spec.blame_by image.now (state_in flat.now) entries.now place causer victim result.0 cause (spec.what_at entries.now cause) }
+    ensures kind { result.0 ≡ conflict.kind_of image.now (state_in flat.now) causer victim (conflict.what_at entries.now cause) }
+    ensures blame { result.1 ≡ spec.blame_by image.now (state_in flat.now) entries.now place causer victim result.0 cause (conflict.what_at entries.now cause) }
 {
     let Some(cause) = cause else {
         return (Kind::Unexplained, None);

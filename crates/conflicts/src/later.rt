@@ -3,13 +3,13 @@
 ghost use Rattle.std.specs.Prelude.{◌≡◌, ◌<◌, ◌≤◌, ◌+◌, ◌&&◌, ℕ, length, nat_lt, true};
 ghost use Rattle.spec_history.specs.Refusal.{any_below};
 ghost use Rattle.spec_history.specs.View.{state_in};
-ghost use Rattle.conflicts.specs.Attempts.{covers, entry_is};
+ghost use Rattle.spec_history.specs.Conflict.{entry_is};
+ghost use Rattle.conflicts.specs.Attempts.{covers};
 ghost use Rattle.conflicts.specs.Later as spec;
-ghost use Rattle.conflicts.specs.Searches.{first_below};
+ghost use Rattle.spec_history.specs.Searches.{first_below};
 
-use crate::explanation::Kind;
 use rv32_exec::Image;
-use spec_history::{Entry, Flat, What};
+use spec_history::{Entry, Flat, Kind, What};
 
 /// Where an access to so many bytes ends, in memory.
 fn end_of(image: &Image, first: u32, width: u32) -> u32

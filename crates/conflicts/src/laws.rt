@@ -1,6 +1,7 @@
-//! What makes true sharing mean something, and what a cause is worth, over the definitions alone: the functions do nothing, and their contracts are the laws.
+//! What makes true sharing mean something, what a cause is worth, and what is known of each explanation, over the definitions alone: the
+//! functions do nothing, and their contracts are the laws.
 
-ghost use Rattle.std.specs.Prelude.{◌≡◌, ◌++◌, ℕ, List, ◌∷◌, All, Some, None, true, if◌then◌else◌};
+ghost use Rattle.std.specs.Prelude.{◌≡◌, ◌≢◌, ◌++◌, ℕ, List, ◌∷◌, All, Some, None, true, if◌then◌else◌};
 ghost use Rattle.rv32_image.specs.Image.{LoadedImage, IsImage};
 ghost use Rattle.spec_history.specs.declared.entry.Entry.{Entry};
 ghost use Rattle.spec_history.specs.declared.entry.What.{What};
@@ -9,7 +10,10 @@ ghost use Rattle.spec_history.specs.FlatState.{CoreState, FlatState};
 ghost use Rattle.spec_history.specs.Effect.{effect};
 ghost use Rattle.spec_history.specs.Refusal.{refusal_of};
 ghost use Rattle.spec_history.specs.Replay.{replay};
-ghost use Rattle.conflicts.specs.Conflict.{cause_of, is_notice};
+ghost use Rattle.spec_history.specs.Conflict.{AreKnown, cause_of, is_notice};
+ghost use Rattle.conflicts.specs.declared.explanation.Explanation.{Explanation};
+ghost use Rattle.conflicts.specs.Explained.{IsExplained};
+ghost use Rattle.spec_history.specs.declared.kind.Kind.TheVariants.{Unexplained};
 ghost use Rattle.conflicts.specs.Laws.{cancels_one, commits, missed_by, notices_by, refusal_after};
 
 /// Where a violation is followed by its cause, and the cause commits bytes: without the violation, the cause is refused with
@@ -38,4 +42,10 @@ pub fn only_true_sharing_is_missed_among_others()
 /// What causes a violation stays its cause, whatever comes after it.
 pub fn a_cause_stays()
     ensures { (entries more : List Entry) (place core cause : ℕ) → cause_of entries place core ≡ Some cause → cause_of (entries ++ more) place core ≡ Some cause }
+{}
+
+/// Where each violation of a history is of a kind, so is each explanation.
+pub fn each_explanation_is_of_a_kind()
+    ensures { (image : LoadedImage) (cores : ℕ) (entries : List Entry) (e : Explanation) → AreKnown image cores entries → IsExplained image cores entries e
+        → e.kind ≢ Unexplained }
 {}

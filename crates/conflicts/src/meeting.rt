@@ -4,14 +4,13 @@ ghost use Rattle.std.specs.Prelude.{◌≡◌, ◌<◌, ◌+◌, ◌*◌, ◌/�
 ghost use Rattle.memory_bytes.specs.Maps.{stored};
 ghost use Rattle.rv32_image.specs.Version.{limits_of};
 ghost use Rattle.spec_history.specs.Refusal.{any_below};
-ghost use Rattle.conflicts.specs.Searches.{IsNext, count_below};
+ghost use Rattle.spec_history.specs.Searches.{IsNext, count_below};
 ghost use Rattle.conflicts.specs.Blame as blame;
-ghost use Rattle.conflicts.specs.Conflict as conflict;
+ghost use Rattle.spec_history.specs.Conflict as conflict;
 ghost use Rattle.conflicts.specs.Parties as spec;
 
-use crate::explanation::Kind;
 use rv32_exec::Image;
-use spec_history::{Flat, What};
+use spec_history::{Flat, Kind, What};
 
 /// Who meets in a violation: the core that makes it, what that core does next, and the core that is violated.
 #[derive(Clone, Copy)]

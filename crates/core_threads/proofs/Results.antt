@@ -19,7 +19,7 @@ use Rattle.homefree.proofs.Knowing.{are_known}
 use Rattle.core_threads.specs.declared.fault.RunFault.{RunFault}
 use Rattle.core_threads.specs.Faults.{fault_of}
 use Rattle.core_threads.specs.Passes.{Knows, IsCounted, counts_in}
-use Rattle.core_threads.specs.Sentence.{Stands, Finishes, Halts}
+use Rattle.core_threads.specs.Sentence.{Stands, Finishes, Halts, Explains}
 use Rattle.core_threads.proofs.Counting.{counts-past}
 
 -- ---- all entries are those of the last pass
@@ -58,9 +58,6 @@ module _ {S : Type 0} (view : S → StoreView) (b : BookView S) (i : InStep view
         published = p.published;
         committed = record { long = p.holds.long; bytes = λ a. i.agrees.committed a ∙ p.holds.bytes a };
         totals = i.counted;
-        caused = i.caused;
-        known = are_known b.image b.cores b.history i.kinds;
-        passes = i.passes;
       }
 
   pub finishes : (end : End) (ended : Option End) (totals counted : Counts) → ended ≡ i.state.end → ended ≡ Some end → totals ≡ b.totals → counted ≡ b.totals → Finishes view (loop_of b) b end totals counted
@@ -85,3 +82,6 @@ module _ {S : Type 0} (view : S → StoreView) (b : BookView S) (i : InStep view
     fault_is = fault_is ∙ ap (λ c. fault_of c) stops;
     full = i.full;
   }
+
+  pub explains : Explains view b
+  explains = record { caused = i.caused; known = are_known b.image b.cores b.history i.kinds; passes = i.passes }

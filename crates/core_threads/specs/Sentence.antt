@@ -6,6 +6,7 @@ use Rattle.rv32_exec.specs.declared.sequential.End.{End}
 use Rattle.rv32_exec.specs.Sequential.{published_memory}
 use Rattle.run_ledger.specs.declared.counts.Counts.{Counts}
 use Rattle.run_ledger.specs.Counts.{no_counts}
+use Rattle.spec_history.specs.Conflict.{AreKnown}
 use Rattle.spec_history.specs.FlatState.{FlatState}
 use Rattle.spec_history.specs.Laws.{Holds}
 use Rattle.spec_history.specs.Replay.{replay}
@@ -14,7 +15,7 @@ use Rattle.homefree.specs.declared.answer.StopCause.TheVariants.{HistoryFull}
 use Rattle.homefree.specs.declared.book.Loop.{Loop}
 use Rattle.homefree.specs.Agrees.{Agrees}
 use Rattle.homefree.specs.BookView.{BookView, IsFull}
-use Rattle.homefree.specs.Caused.{HasCauses, AreKnown}
+use Rattle.homefree.specs.Caused.{HasCauses}
 use Rattle.homefree.specs.Counted.{counted_in}
 use Rattle.homefree.specs.Driven.{IsInOrder}
 use Rattle.homefree.specs.LockView.{loop_of}
@@ -25,8 +26,7 @@ use Rattle.core_threads.specs.Faults.{fault_of}
 
 -- the history replays on the one-thread machine to the state that the book holds, and committed memory is exactly what the epochs
 -- before the homefree one, and the instructions that the homefree one has published, leave when run in order from the loaded image;
--- the book's totals are the counts of its history, each violation in it has its cause and is of a kind, and over caches no
--- entry passes over a later epoch that has read in a line which it writes
+-- the book's totals are the counts of its history
 pub record Stands {S : Type 0} (view : S → StoreView) (b : BookView S) (state : FlatState) : Type 0 where
   pub replays : replay b.image b.cores b.history ≡ Some state
   pub agrees : Agrees state (view b.store)
@@ -34,9 +34,6 @@ pub record Stands {S : Type 0} (view : S → StoreView) (b : BookView S) (state 
   pub published : published_memory b.image state.homefree state.published ≡ Some memory
   pub committed : Holds b.image (view b.store).committed memory
   pub totals : b.totals ≡ counted_in b.history
-  pub caused : HasCauses b.history
-  pub known : AreKnown b.image b.cores b.history
-  pub passes : IsOfCaches view → PassesOverNone b.image b.cores b.history
 
 -- the book of a run whose loop is over: it ended as the sequential loop does, with its memory, and the cores counted all that the
 -- history has
@@ -64,3 +61,12 @@ pub record Halts {S : Type 0} (view : S → StoreView) (l : Loop) (b : BookView 
 abbrev pub HaltsWith : {S : Type 0} → (S → StoreView) → Loop → Option (BookView S) → RunFault → Counts → Type 0
 HaltsWith view l (Some b) fault counted = Halts view l b fault counted
 HaltsWith view l None fault counted = (fault ≡ NoMemory) × (counted ≡ no_counts)
+
+-- ---- beside the sentence
+
+-- each violation in the history has its cause and is of a kind, and over caches no entry passes over a later epoch that has read in a
+-- line which it writes
+pub record Explains {S : Type 0} (view : S → StoreView) (b : BookView S) : Type 0 where
+  pub caused : HasCauses b.history
+  pub known : AreKnown b.image b.cores b.history
+  pub passes : IsOfCaches view → PassesOverNone b.image b.cores b.history

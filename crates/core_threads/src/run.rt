@@ -1,9 +1,9 @@
 //! A run of a whole loop: the book at its end, and what the cores counted.
-ghost use Rattle.std.specs.Prelude.{◌≡◌, ◌≤◌, IfOk, IfErr, None};
+ghost use Rattle.std.specs.Prelude.{◌≡◌, ◌≤◌, IfOk, IfErr, IfSome, MatchResult, None};
 ghost use Rattle.run_ledger.specs.Counts.{no_counts};
 ghost use Rattle.homefree.specs.LockView.{loop_of};
 ghost use Rattle.violations.specs.Rule.{IsCoreCount};
-ghost use Rattle.core_threads.specs.Sentence.{Finishes, HaltsWith};
+ghost use Rattle.core_threads.specs.Sentence.{Explains, Finishes, HaltsWith};
 
 use crate::cores::run_threads;
 use crate::fault::RunFault;
@@ -57,6 +57,9 @@ const NOTHING: Counts = Counts {
 /// Where the loop is over, its end and committed memory are those of the sequential loop. Else the run was halted, for the cause for
 /// which the book was stopped, or since all tickets of the lock were drawn. The cores are 1 to the most that the image's version
 /// allows, and the room is 16 to 1,048,576 entries.
+///
+/// Beside that, in each book that it gives back, of a loop that is over or was halted, each violation has its cause and is of a
+/// kind, and over caches nobody is passed over who has read what is written.
 pub fn run_cores<S: EpochStore, G: Gate, R: Threads + Wait + Sync>(
     rt: &R,
     alloc: Global,
@@ -70,6 +73,7 @@ pub fn run_cores<S: EpochStore, G: Gate, R: Threads + Wait + Sync>(
     requires most { room ≤ 1048576 }
     ensures finished { IfOk result (λ f. Finishes S.view (record { image = image.now; cores = cores; room = room }) f.book f.end f.totals f.counted) }
     ensures halted { IfErr result (λ h. HaltsWith S.view (record { image = image.now; cores = cores; room = room }) h.book h.fault h.counted) }
+    ensures explained { MatchResult result (λ f. Explains S.view f.book) (λ h. IfSome h.book (Explains S.view)) }
 {
     let Ok((book, shares)) = Book::<S>::new(alloc, image, cores, room) else {
         return Err(without_book());
@@ -101,6 +105,7 @@ fn outcome<S: EpochStore>(book: Book<S>, counted: Counts) -> Result<Finished<S>,
     requires { counted ≡ book.totals }
     ensures finished { IfOk result (λ f. Finishes S.view (loop_of book) f.book f.end f.totals f.counted) }
     ensures halted { IfErr result (λ h. HaltsWith S.view (loop_of book) h.book h.fault h.counted) }
+    ensures explained { MatchResult result (λ f. Explains S.view f.book) (λ h. IfSome h.book (Explains S.view)) }
 {
     match book.ended() {
         Some(end) => Ok(Finished {

@@ -11,8 +11,8 @@ use Rattle.homefree.specs.declared.answer.Answer.{Answer}
 use Rattle.homefree.specs.Hurts.{cancels, epoch_on, is_other}
 use Rattle.homefree.specs.Turned as turn
 use Rattle.homefree.specs.Turned.{Acts, Follows, Outcome, Turn, entry_of, hurts_of}
-use Rattle.conflicts.specs.Conflict.{can_cause, is_notice}
-use Rattle.conflicts.proofs.Staying.{stays_some, there}
+use Rattle.spec_history.specs.Conflict.{can_cause, is_notice}
+use Rattle.spec_history.proofs.Staying.{stays_some, there}
 use Rattle.homefree.specs.Caused.{HasCauses}
 use Rattle.homefree.proofs.Causing.{IsAct, all_answered, found_past, has_cause, notices_then, told_both, told_each}
 

@@ -4,10 +4,8 @@ use Rattle.std.proofs.lemmas.Bool.{cases_lt, eq-eqb, le-ltb}
 use Rattle.spec_history.specs.declared.entry.Entry.{Entry}
 use Rattle.spec_history.specs.declared.entry.What.{What}
 use Rattle.spec_history.specs.declared.entry.What.TheVariants.{Start, Load, Store, Hurt, Cancel, Restart, Publish, Commit, Fault}
-use Rattle.conflicts.specs.Attempts.{entry_is}
-use Rattle.conflicts.specs.Conflict.{is_notice, can_cause, cause_of, next_act}
-use Rattle.conflicts.specs.Explained.{is_hurt}
-use Rattle.conflicts.proofs.Searching.{first_at, and_no}
+use Rattle.spec_history.specs.Conflict.{entry_is, is_notice, can_cause, cause_of, next_act, is_hurt}
+use Rattle.spec_history.proofs.Searches.{first_at, and_no}
 use Rattle.homefree.specs.Hurts.{entry, entry_for_each}
 
 and_both : (a b : Bool) → a ≡ true → b ≡ true → (a && b) ≡ true

@@ -23,9 +23,8 @@ use Rattle.spec_history.proofs.Keeping.{with_core_other, with_core_same}
 use Rattle.spec_history.proofs.Legal.{some_below, none_below}
 use Rattle.spec_history.proofs.Replays.{effect-on}
 use Rattle.spec_history.proofs.Searches.{all_fail}
-use Rattle.conflicts.specs.declared.explanation.Kind.TheVariants.{Unexplained}
-use Rattle.conflicts.specs.Conflict.{is_notice, can_cause, is_beside, line_of, line_has, own_bytes, read_bytes, meeting, written}
-use Rattle.conflicts.specs.Explained.{kind_of}
+use Rattle.spec_history.specs.declared.kind.Kind.TheVariants.{Unexplained}
+use Rattle.spec_history.specs.Conflict.{is_notice, can_cause, is_beside, line_of, line_has, own_bytes, read_bytes, meeting, written, kind_of}
 use Rattle.violations.specs.declared.attempt.Attempt.{Attempt}
 use Rattle.violations.specs.View.{Shape, StoreView, IsSettled, epoch_of, is_accessed}
 use Rattle.violations.specs.View as view

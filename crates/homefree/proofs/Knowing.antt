@@ -13,12 +13,10 @@ use Rattle.spec_history.specs.FlatState.{CoreState, FlatState}
 use Rattle.spec_history.specs.Refusal.{refusal_of}
 use Rattle.spec_history.specs.Replay.{where_legal, replay, replay_from}
 use Rattle.spec_history.proofs.Reaching.{one_more_entry}
-use Rattle.conflicts.specs.Attempts.{entry_is, passes}
-use Rattle.conflicts.specs.Conflict.{is_notice, can_cause, cause_of}
-use Rattle.conflicts.specs.Explained.{kind_of, what_at}
-use Rattle.conflicts.proofs.Searching.{first_at, and_no}
-use Rattle.conflicts.proofs.Staying.{stays, there}
-use Rattle.homefree.specs.Caused.{IsKnown, HasKinds, AreKnown}
+use Rattle.spec_history.specs.Conflict.{AreKnown, entry_is, passes, is_notice, can_cause, cause_of, what_at}
+use Rattle.spec_history.proofs.Searches.{first_at, and_no}
+use Rattle.spec_history.proofs.Staying.{stays, there}
+use Rattle.homefree.specs.Caused.{IsKnown, HasKinds}
 use Rattle.homefree.specs.Missed.{IsMissed, IsFurtherStore, PassesOverNone}
 
 never : (A : Type 0) → false ≡ true → A
@@ -285,10 +283,5 @@ no_passes image count place k x t at replays missed = absurd (omega (arith, slic
 pub no_kinds : (image : LoadedImage) (count : ℕ) → HasKinds image count []
 no_kinds image count place by k t c at replays runs = absurd (omega (arith, slice_get_within [] place (record { by = by; what = Hurt c.epoch }) at))
 
--- so each explanation is of a kind
 pub are_known : (image : LoadedImage) (count : ℕ) (entries : List Entry) → HasKinds image count entries → AreKnown image count entries
-are_known image count entries kinds e explained same =
-    let x = explained.explained in
-    (kinds e.place e.causer.core e.victim.core explained.before x.violated
-    (x.entry ∙ ap (λ (n : ℕ). Some (record { by = e.causer.core; what = Hurt n })) x.victim_epoch) explained.replays x.victim_runs).kind
-    (ap (λ o. kind_of image explained.before e.causer.core e.victim.core (what_at entries o)) (sym x.cause) ∙ (sym x.kind ∙ same))
+are_known image count entries kinds place by k s c at replays runs = (kinds place by k s c at replays runs).kind

@@ -12,10 +12,10 @@ use Rattle.spec_history.specs.declared.entry.What.TheVariants.{Load, Store}
 use Rattle.spec_history.specs.FlatState.{CoreState}
 use Rattle.spec_history.proofs.Searches.{one_passes}
 use Rattle.spec_history.specs.Refusal.{any_below}
-use Rattle.conflicts.specs.declared.explanation.Kind.TheVariants.{TrueSharing, SilentStore, FalseSharing, FullBuffer, Unexplained}
-use Rattle.conflicts.specs.Conflict.{Meeting, kind_with, is_changed, is_shared, is_beside, is_crowded, is_full_at, holds_line, line_has}
-use Rattle.conflicts.specs.Conflict as conflict
-use Rattle.conflicts.specs.Searches.{count_below}
+use Rattle.spec_history.specs.declared.kind.Kind.TheVariants.{TrueSharing, SilentStore, FalseSharing, FullBuffer, Unexplained}
+use Rattle.spec_history.specs.Conflict.{Meeting, kind_with, is_changed, is_shared, is_beside, is_crowded, is_full_at, holds_line, line_has}
+use Rattle.spec_history.specs.Conflict as conflict
+use Rattle.spec_history.specs.Searches.{count_below}
 use Rattle.violations.specs.View.{Shape, StoreView}
 use Rattle.violations.specs.View as view
 use Rattle.violations.specs.Rule.{OwnsIn, AreApart, IsCrowded, shape_of}

@@ -6,10 +6,8 @@ use Rattle.spec_history.specs.declared.entry.What.{What}
 use Rattle.spec_history.specs.declared.entry.What.TheVariants.{Hurt}
 use Rattle.spec_history.specs.FlatState.{CoreState, FlatState}
 use Rattle.spec_history.specs.Replay.{replay}
-use Rattle.conflicts.specs.declared.explanation.Explanation.{Explanation}
-use Rattle.conflicts.specs.declared.explanation.Kind.TheVariants.{Unexplained}
-use Rattle.conflicts.specs.Conflict.{cause_of}
-use Rattle.conflicts.specs.Explained.{IsExplained, is_hurt, kind_of, what_at}
+use Rattle.spec_history.specs.declared.kind.Kind.TheVariants.{Unexplained}
+use Rattle.spec_history.specs.Conflict.{cause_of, is_hurt, kind_of, what_at}
 use Rattle.homefree.specs.Missed.{IsFurtherStore}
 
 -- after each violation stands what caused it: the next act, which is one of the violating core, and can violate
@@ -27,7 +25,3 @@ abbrev pub HasKinds : LoadedImage → ℕ → List Entry → Type 0
 HasKinds image cores history =
     (place by k : ℕ) (s : FlatState) (c : CoreState) → slice_get history place ≡ Some (record { by = by; what = Hurt c.epoch })
     → replay image cores (take place history) ≡ Some s → s.cores k ≡ Some c → IsKnown image s by k (what_at history (cause_of history place by))
-
--- so no explanation says that a violation is of no kind
-abbrev pub AreKnown : LoadedImage → ℕ → List Entry → Type 0
-AreKnown image cores history = (e : Explanation) → IsExplained image cores history e → e.kind ≢ Unexplained

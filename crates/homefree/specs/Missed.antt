@@ -7,7 +7,7 @@ use Rattle.spec_history.specs.declared.entry.Entry.{Entry}
 use Rattle.spec_history.specs.declared.entry.What.TheVariants.{Store}
 use Rattle.spec_history.specs.FlatState.{CoreState, FlatState}
 use Rattle.spec_history.specs.Replay.{replay}
-use Rattle.conflicts.specs.Conflict.{meeting, is_beside, line_of, line_has}
+use Rattle.spec_history.specs.Conflict.{meeting, is_beside, line_of, line_has}
 use Rattle.violations.specs.View.{StoreView}
 
 -- core k isn't hurt, runs a later epoch than the core of this entry, and has read a byte of a line that the entry writes

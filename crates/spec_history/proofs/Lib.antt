@@ -6,6 +6,7 @@ pub mod Going
 pub mod Entries
 pub mod Replays
 pub mod Searches
+pub mod Staying
 pub mod CoreStates
 pub mod Missing
 pub mod Parts

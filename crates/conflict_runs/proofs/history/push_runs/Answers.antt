@@ -2,8 +2,8 @@ use Rattle.std.proofs.Common.{◌/◌, List, sym, ap}
 use Rattle.std.proofs.lemmas.Result.{on_ok_weaker}
 use Rattle.rv32_image.specs.Version.{limits_of}
 use Rattle.spec_history.specs.View.{state_in}
-use Rattle.conflicts.specs.declared.explanation.Kind.TheVariants.{SilentStore, FalseSharing}
-use Rattle.conflicts.specs.Explained.{what_at}
+use Rattle.spec_history.specs.declared.kind.Kind.TheVariants.{SilentStore, FalseSharing}
+use Rattle.spec_history.specs.Conflict.{what_at}
 use Rattle.conflicts.specs.Violated.{violation_in}
 use Rattle.conflict_runs.specs.declared.run.Run.{Run}
 use Rattle.conflict_runs.specs.declared.run.Told.{Told}

@@ -3,7 +3,7 @@ use Rattle.std.proofs.lemmas.Bool.{cases_eq}
 use Rattle.rv32_image.specs.declared.version.Limits.{Limits}
 use Rattle.rv32_image.specs.Version.{limits_of}
 use Rattle.conflicts.specs.Attempts.{reads_outside}
-use Rattle.conflicts.proofs.Searching.{first_at, first_none}
+use Rattle.spec_history.proofs.Searches.{first_at, first_none}
 use Rattle.conflict_runs.proofs.lines.byte_in.Goals as goal
 
 pub returns-then-reads_outside-clause-byte : goal.returns-then-reads_outside-clause-byte

@@ -1,5 +1,5 @@
 use Rattle.std.proofs.Common.{◌≤◌, ℕ, Bool, is_some, sym, ap, ◌∙◌, arith}
-use Rattle.conflicts.proofs.Searching.{first_at, first_none}
+use Rattle.spec_history.proofs.Searches.{first_at, first_none}
 use Rattle.conflict_runs.specs.Runs.{byte_in}
 use Rattle.conflict_runs.proofs.Searching.{none_until}
 use Rattle.conflict_runs.proofs.lines.load_in.Goals as goal

@@ -1,6 +1,6 @@
 use Rattle.std.proofs.Common.{◌≤◌, ℕ, Bool, sym, ◌∙◌, arith}
 use Rattle.conflicts.specs.Attempts.{reads_outside}
-use Rattle.conflicts.proofs.Searching.{first_at, first_none}
+use Rattle.spec_history.proofs.Searches.{first_at, first_none}
 use Rattle.conflict_runs.proofs.Searching.{unread_until}
 use Rattle.conflict_runs.proofs.run.first_read.Goals as goal
 

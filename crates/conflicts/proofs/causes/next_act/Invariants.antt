@@ -1,6 +1,5 @@
 use Rattle.std.proofs.Common.{◌≡◌, ◌<◌, ◌&&◌, ℕ, false, not, nat_lt}
-use Rattle.conflicts.specs.Attempts.{entry_is}
-use Rattle.conflicts.specs.Conflict.{is_notice}
+use Rattle.spec_history.specs.Conflict.{entry_is, is_notice}
 use Rattle.conflicts.proofs.causes.next_act.Given as goal
 
 -- none so far is after the place and no notice

@@ -1,5 +1,5 @@
 use Rattle.std.proofs.Common.{◌≡◌, ◌<◌, ◌&&◌, ℕ, false, nat_lt}
-use Rattle.conflicts.specs.Attempts.{entry_is}
+use Rattle.spec_history.specs.Conflict.{entry_is}
 use Rattle.conflicts.specs.Fates.{shows}
 use Rattle.conflicts.proofs.fates.first_after.Given as goal
 

@@ -2,9 +2,9 @@ use Rattle.std.proofs.Common.{◌&&◌, ◌∙◌, ℕ, Bool, nat_lt, length, sy
 use Rattle.spec_history.specs.declared.entry.Entry.{Entry}
 use Rattle.spec_history.specs.View.{state_in}
 use Rattle.spec_history.proofs.CoreStates.{also_at}
-use Rattle.conflicts.specs.Attempts.{entry_is}
+use Rattle.spec_history.specs.Conflict.{entry_is}
 use Rattle.conflicts.specs.Later.{ends_or_stores, was_read}
-use Rattle.conflicts.proofs.Searching.{first_at, first_none}
+use Rattle.spec_history.proofs.Searches.{first_at, first_none}
 use Rattle.conflicts.proofs.later.first_sign.Goals as goal
 
 pub loop-j-init : goal.loop-j-init

@@ -1,6 +1,6 @@
 use Rattle.std.proofs.Common.{◌≡◌, ◌<◌, ◌&&◌, ℕ, false, nat_lt}
 use Rattle.spec_history.specs.View.{state_in}
-use Rattle.conflicts.specs.Attempts.{entry_is}
+use Rattle.spec_history.specs.Conflict.{entry_is}
 use Rattle.conflicts.specs.Later.{ends_or_stores, was_read}
 use Rattle.conflicts.proofs.later.first_sign.Given as goal
 

@@ -3,7 +3,7 @@ use Rattle.std.proofs.lemmas.Bool.{cases_eq}
 use Rattle.spec_history.proofs.Legal.{and_true}
 use Rattle.spec_history.proofs.Searches.{all_fail, one_passes}
 use Rattle.conflicts.specs.Attempts.{covers}
-use Rattle.conflicts.specs.Conflict.{is_changed}
+use Rattle.spec_history.specs.Conflict.{is_changed}
 use Rattle.conflicts.specs.Parties.{meeting_in}
 use Rattle.conflict_runs.proofs.run.Told.changes.Goals as goal
 

@@ -1,5 +1,5 @@
 use Rattle.std.proofs.Common.{◌≡◌, ◌<◌, ◌≤◌, ℕ, false}
-use Rattle.conflicts.specs.Conflict.{is_changed}
+use Rattle.spec_history.specs.Conflict.{is_changed}
 use Rattle.conflicts.specs.Parties.{meeting_in}
 use Rattle.conflict_runs.proofs.run.Told.changes.Given as goal
 

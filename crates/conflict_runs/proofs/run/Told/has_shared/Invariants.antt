@@ -1,6 +1,6 @@
 use Rattle.std.proofs.Common.{◌≡◌, ◌<◌, ◌+◌, ◌*◌, ℕ, Bool, false}
 use Rattle.rv32_image.specs.Version.{limits_of}
-use Rattle.conflicts.specs.Conflict.{is_shared}
+use Rattle.spec_history.specs.Conflict.{is_shared}
 use Rattle.conflicts.specs.Parties.{meeting_in}
 use Rattle.conflict_runs.proofs.run.Told.has_shared.Given as goal
 

@@ -1,6 +1,6 @@
 use Rattle.std.proofs.Common.{◌≡◌, ◌/◌, ◌&&◌, ℕ, Bool, false, nat_le, nat_lt, slice_index, refl, sym, ap, ◌∙◌, arith}
 use Rattle.rv32_image.specs.Version.{limits_of}
-use Rattle.conflicts.specs.Conflict.{line_of}
+use Rattle.spec_history.specs.Conflict.{line_of}
 use Rattle.conflicts.specs.Parties.{meeting_in}
 use Rattle.conflicts.proofs.Nearing.{nearer, next_of, no_nearer, none_tried}
 use Rattle.conflict_runs.specs.Runs.{is_falsely_shared}

@@ -1,6 +1,6 @@
 use Rattle.std.proofs.Common.{◌≡◌, ◌/◌, ◌&&◌, nat_le, nat_lt, false, slice_index}
 use Rattle.rv32_image.specs.Version.{limits_of}
-use Rattle.conflicts.specs.Conflict.{line_of}
+use Rattle.spec_history.specs.Conflict.{line_of}
 use Rattle.conflicts.specs.Parties.{meeting_in}
 use Rattle.conflicts.proofs.Nearing.{Nearest}
 use Rattle.conflict_runs.specs.Runs.{is_falsely_shared}

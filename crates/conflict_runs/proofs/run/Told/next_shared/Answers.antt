@@ -1,5 +1,5 @@
 use Rattle.std.proofs.Common.{ℕ, Bool, slice_index, sym, ◌∙◌, arith}
-use Rattle.conflicts.specs.Conflict.{is_shared}
+use Rattle.spec_history.specs.Conflict.{is_shared}
 use Rattle.conflicts.specs.Parties.{meeting_in}
 use Rattle.conflicts.proofs.Nearing.{nearer, next_of, no_nearer, none_tried}
 use Rattle.conflict_runs.proofs.Searching.{shared_listed}

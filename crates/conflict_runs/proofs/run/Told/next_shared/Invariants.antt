@@ -1,5 +1,5 @@
 use Rattle.std.proofs.Common.{slice_index}
-use Rattle.conflicts.specs.Conflict.{is_shared}
+use Rattle.spec_history.specs.Conflict.{is_shared}
 use Rattle.conflicts.specs.Parties.{meeting_in}
 use Rattle.conflicts.proofs.Nearing.{Nearest}
 use Rattle.conflict_runs.proofs.run.Told.next_shared.Given as goal

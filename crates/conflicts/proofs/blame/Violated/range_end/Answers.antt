@@ -2,7 +2,7 @@ use Rattle.std.proofs.Common.{◌<◌, ◌&&◌, not, nat_lt, ℕ, Bool, Option,
 use Rattle.spec_history.proofs.CoreStates.{also_at}
 use Rattle.conflicts.specs.Blame.{is_alike}
 use Rattle.conflicts.specs.Violated.{violation_in}
-use Rattle.conflicts.proofs.Searching.{first_at, first_none}
+use Rattle.spec_history.proofs.Searches.{first_at, first_none}
 use Rattle.conflicts.proofs.blame.Violated.range_end.Goals as goal
 
 pub loop-addr-init : goal.loop-addr-init

@@ -1,6 +1,6 @@
 use Rattle.std.proofs.Common.{◌/◌, ◌&&◌, ℕ, Bool, nat_le, nat_lt, slice_index, sym, ap, ◌∙◌, arith}
 use Rattle.rv32_image.specs.Version.{limits_of}
-use Rattle.conflicts.specs.Conflict.{line_of}
+use Rattle.spec_history.specs.Conflict.{line_of}
 use Rattle.conflicts.specs.Parties.{holds_other, meeting_in}
 use Rattle.conflicts.proofs.Nearing.{held_line, nearer, next_of, no_nearer, none_tried}
 use Rattle.conflicts.proofs.meeting.Parties.next_beside.Goals as goal

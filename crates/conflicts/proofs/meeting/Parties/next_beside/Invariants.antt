@@ -1,6 +1,6 @@
 use Rattle.std.proofs.Common.{◌/◌, slice_index}
 use Rattle.rv32_image.specs.Version.{limits_of}
-use Rattle.conflicts.specs.Conflict.{line_of}
+use Rattle.spec_history.specs.Conflict.{line_of}
 use Rattle.conflicts.specs.Parties.{holds_other, meeting_in}
 use Rattle.conflicts.proofs.Nearing.{Nearest}
 use Rattle.conflicts.proofs.meeting.Parties.next_beside.Given as goal

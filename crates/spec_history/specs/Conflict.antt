@@ -1,21 +1,37 @@
--- What a violation was about: its cause, the bytes that meet, and their lines.
+-- What a violation was about: its cause, the bytes that meet, their lines, and its kind.
 -- Source: true and false sharing are those of Torrellas, Lam and Hennessy, "False Sharing and Spatial Locality in
 -- Multiprocessor Caches", IEEE Transactions on Computers, 1994; a silent store is that of Lepak and Lipasti, "On the Value Locality of
 -- Store Instructions", ISCA 2000; the ownership required buffer is that of Steffan, Colohan, Zhai and Mowry, "A Scalable
 -- Approach to Thread-Level Speculation", ISCA 2000.
-use Rattle.std.specs.Prelude.{ℕ, ◌+◌, ◌*◌, ◌/◌, ◌==◌, ◌&&◌, not, Bool, true, false, List, length, Option, Some, None, is_some, nat_le, nat_lt, option_and_then, if◌then◌else◌}
+use Rattle.std.specs.Prelude.{◌≡◌, ◌≢◌, ℕ, ◌+◌, ◌*◌, ◌/◌, ◌==◌, ◌&&◌, not, Bool, true, false, List, length, take, Option, Some, None, is_some, nat_le, nat_lt, option_and_then, option_map, slice_get, if◌then◌else◌}
 use Rattle.memory_bytes.specs.Maps.{nothing, over, stored}
 use Rattle.rv32_image.specs.Image.{LoadedImage}
 use Rattle.rv32_image.specs.Version.{limits_of}
 use Rattle.spec_history.specs.declared.entry.Entry.{Entry}
 use Rattle.spec_history.specs.declared.entry.What.{What}
 use Rattle.spec_history.specs.declared.entry.What.TheVariants.{Load, Store, Hurt, Cancel, Publish, Commit, Fault}
+use Rattle.spec_history.specs.declared.kind.Kind.{Kind}
+use Rattle.spec_history.specs.declared.kind.Kind.TheVariants.{TrueSharing, SilentStore, FalseSharing, FullBuffer, Unexplained}
 use Rattle.spec_history.specs.FlatState.{CoreState, FlatState}
 use Rattle.spec_history.specs.Refusal.{any_below}
-use Rattle.conflicts.specs.declared.explanation.Kind.{Kind}
-use Rattle.conflicts.specs.declared.explanation.Kind.TheVariants.{TrueSharing, SilentStore, FalseSharing, FullBuffer, Unexplained}
-use Rattle.conflicts.specs.Searches.{first_below, count_below}
-use Rattle.conflicts.specs.Attempts.{entry_is}
+use Rattle.spec_history.specs.Replay.{replay}
+use Rattle.spec_history.specs.Searches.{first_below, count_below}
+
+abbrev pub passes : Option Entry → (Entry → Bool) → Bool
+passes None test = false
+passes (Some entry) test = test entry
+
+-- there is an entry at this place, and it passes the test
+abbrev pub entry_is : List Entry → ℕ → (Entry → Bool) → Bool
+entry_is entries place test = passes (slice_get entries place) test
+
+-- what the entry at this place says, if there is one
+abbrev pub what_at : List Entry → Option ℕ → Option What
+what_at entries place = option_and_then (λ j. option_map (λ (entry : Entry). entry.what) (slice_get entries j)) place
+
+abbrev pub is_hurt : What → Bool
+is_hurt (Hurt epoch) = true
+is_hurt what = false
 
 -- what a turn tells of other cores before it acts
 abbrev pub is_notice : What → Bool
@@ -119,3 +135,14 @@ kind_with image m cause =
     else if any_below image.size (is_beside image m) then FalseSharing
     else if is_crowded image m cause then FullBuffer
     else Unexplained
+
+-- the kind of a violation of one core by another, in the state before it, with this cause
+abbrev pub kind_of : LoadedImage → FlatState → ℕ → ℕ → Option What → Kind
+kind_of image s causer victim None = Unexplained
+kind_of image s causer victim (Some cause) = kind_with image (meeting s causer cause victim) cause
+
+-- each violation of a history is of a kind: none is unexplained
+abbrev pub AreKnown : LoadedImage → ℕ → List Entry → Type 0
+AreKnown image cores history =
+    (place by k : ℕ) (s : FlatState) (c : CoreState) → slice_get history place ≡ Some (record { by = by; what = Hurt c.epoch })
+    → replay image cores (take place history) ≡ Some s → s.cores k ≡ Some c → kind_of image s by k (what_at history (cause_of history place by)) ≢ Unexplained

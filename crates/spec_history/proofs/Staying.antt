@@ -4,9 +4,8 @@ use Rattle.std.specs.Option.{option_or}
 use Rattle.std.proofs.lemmas.Bool.{cases_lt}
 use Rattle.std.proofs.lemmas.List.{length-append}
 use Rattle.spec_history.specs.declared.entry.Entry.{Entry}
-use Rattle.conflicts.specs.Attempts.{entry_is, passes}
-use Rattle.conflicts.specs.Conflict.{is_notice, can_cause, cause_of, next_act}
-use Rattle.conflicts.specs.Searches.{first_below}
+use Rattle.spec_history.specs.Conflict.{entry_is, passes, is_notice, can_cause, cause_of, next_act}
+use Rattle.spec_history.specs.Searches.{first_below}
 
 never : (A : Type 0) → false ≡ true → A
 never A is = absurd cc
