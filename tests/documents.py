@@ -16,8 +16,8 @@ from pathlib import Path
 ROOT = Path(__file__).resolve().parent.parent
 DOCS = ROOT / "docs"
 MOST_WORDS_OF_README = 1600
-# Crates whose functions nobody outside uses: tests and benches.
-WITHOUT_CONTRACTS = {"machine_tests", "audit_bench", "lock_bench", "turns_bench"}
+# Crates whose functions nobody outside uses: tests.
+WITHOUT_CONTRACTS = {"machine_tests"}
 NAME = r"[^\s(){}.,;λ]+"
 
 

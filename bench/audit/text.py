@@ -1,7 +1,7 @@
 #!/usr/bin/env python3
 """Megabytes per second of printing and of reading a trace, and the time and memory of `trace_cli audit` and of `why` on it.
 
-Build the programs first: `rt run` in crates/audit_bench, crates/trace_cli and crates/why leaves them in out/ there. The histories, of 10,000,
+`audit_bench` is built by bench/build, where it isn't yet; build the others first, by calling ./trace_cli and ./why. The histories, of 10,000,
 100,000 and 1,000,000 entries, are made here by history.py, from a seed. `audit_bench` prints each as a trace and has to read the same history
 back; the audit has to find it legal, with the homefree epoch that it was made with; the report of `why` has to tell of each of its violations,
 and of as many epochs committed. Needs GNU time, /usr/bin/time.
@@ -15,10 +15,11 @@ import tempfile
 from history import HURT, encoded, history
 
 ROOT = pathlib.Path(__file__).resolve().parents[2]
-BENCH = ROOT / "crates" / "audit_bench" / "out" / "audit_bench"
+BUILD = ROOT / "bench" / "build"
+BENCH = ROOT / "out" / "bench" / "audit_bench"
 PROGRAM = ROOT / "crates" / "trace_cli" / "out" / "trace_cli"
 WHY = ROOT / "crates" / "why" / "out" / "why"
-IMAGE = re.search(r'const IMAGE: &str =\s*"(.*?)";', (ROOT / "crates/audit_bench/src/main.rt").read_text(), re.S).group(1).replace("\\n", "\n")
+IMAGE = re.search(r'const IMAGE: &str =\s*"(.*?)";', (ROOT / "bench/audit/program/src/main.rt.txt").read_text(), re.S).group(1).replace("\\n", "\n")
 SEED = "histogram"
 ROUNDS = 9
 # entries, and how often a run prints and reads them
@@ -66,6 +67,7 @@ def explain(file, violations, homefree):
 
 
 def main():
+    subprocess.run([BUILD, "audit"], check=True)
     print("  entries     MB    MB/s printed    MB/s read    audit, s    audit, MB    why, s    why, MB    audit to why")
     with tempfile.TemporaryDirectory() as folder:
         for count, times in CASES:

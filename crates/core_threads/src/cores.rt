@@ -26,6 +26,18 @@ impl<S: EpochStore> Promise<(Pass<Book<S>>, Shares, LoopEnd)> for Counted<S> {
     ghost kept_by = { λ p r. IsLater p.0.value r.0 × IsCounted r.0 r.1 };
 }
 
+/// What the threads of a run have in common: the image and the number of cores are the book's.
+#[derive(Drop)]
+struct Run<'s, S: EpochStore, G, R> {
+    rt: &'s R,
+    lock: &'s TicketLock<Book<S>>,
+    image: &'s Image,
+    gate: &'s G,
+    cores: u32,
+    ghost same_image: { lock.now.fixed.image ≡ image.now },
+    ghost all_cores: { (cores ≡ lock.now.fixed.cores) × (cores ≤ 16) },
+}
+
 /// A thread for each core, in a scope of their own, and their passes and shares together once all are joined.
 pub(crate) fn run_threads<'x, S: EpochStore, G: Gate, R: Threads + Wait + Sync>(
     rt: &'x R,
@@ -43,60 +55,60 @@ pub(crate) fn run_threads<'x, S: EpochStore, G: Gate, R: Threads + Wait + Sync>(
     ensures later { IsLater pass result.0 }
     ensures counted { IsCounted result.0 result.1 }
 {
+    let run = Run {
+        rt,
+        lock,
+        image,
+        gate,
+        cores,
+    };
+    let run = &run;
     thread::scope(
         thread::scope_env(),
         rt,
         move |scope| -> (Pass<Book<S>>, Shares)
-            requires own { pass.lock ≡ Some lock.now }
-            requires image { lock.now.fixed.image ≡ image.now }
-            requires cores { (pass.lo < pass.hi) × (pass.hi ≡ cores + 1) × (cores ≡ lock.now.fixed.cores) × (cores ≤ 16) }
+            requires own { (pass.lock ≡ Some run.now.lock.now) × (pass.lo < pass.hi) × (pass.hi ≡ run.now.cores + 1) }
             requires new { (mine pass ≡ []) × (length pass.seen ≤ 1048576) × (shares ≡ no_counts) }
             requires sync { IsSync R.row × IsSync G.row × IsSend S.row }
             ensures later { IsLater pass result.0 }
             ensures counted { IsCounted result.0 result.1 }
-        { start(rt, scope, lock, pass, shares, image, gate, cores) },
+        { start(scope, run, pass, shares) },
     )
 }
 
 /// Starts a thread for each number of the pass but its last, and joins them. Where a thread is refused, the book is stopped, and
 /// what the thread was to run is run here, so that its pass and its shares come back.
 fn start<'s, E, S: EpochStore + 's, G: Gate + 's, R: Threads + Wait + Sync>(
-    rt: &'s R,
     scope: &Scope<'s, E>,
-    lock: &'s TicketLock<Book<S>>,
+    run: &'s Run<'s, S, G, R>,
     pass: Pass<Book<S>>,
     shares: Shares,
-    image: &'s Image,
-    gate: &'s G,
-    cores: u32,
 ) -> (Pass<Book<S>>, Shares)
-    requires own { pass.lock ≡ Some lock.now }
-    requires image { lock.now.fixed.image ≡ image.now }
-    requires cores { (pass.lo < pass.hi) × (pass.hi ≡ cores + 1) × (cores ≡ lock.now.fixed.cores) × (cores ≤ 16) }
+    requires own { (pass.lock ≡ Some run.now.lock.now) × (pass.lo < pass.hi) × (pass.hi ≡ run.now.cores + 1) }
     requires new { (mine pass ≡ []) × (length pass.seen ≤ 1048576) × (shares ≡ no_counts) }
     ensures later { IsLater pass result.0 }
     ensures counted { IsCounted result.0 result.1 }
 {
-    if pass.who() >= cores as u64 {
+    if pass.who() >= run.cores as u64 {
         return (pass, shares);
     }
-    let (first, ours, rest, theirs) = split_off(lock, pass, shares);
+    let (first, ours, rest, theirs) = split_off(run.lock, pass, shares);
     let promise = Counted(Snapshot::of(&first));
     let job = move || -> (Pass<Book<S>>, Shares, LoopEnd)
-        requires { (first.lock ≡ Some lock.now) × (first.lo < lock.now.fixed.cores) × (lock.now.fixed.cores ≤ 16) × (lock.now.fixed.image ≡ image.now) × IsCounted first ours }
+        requires { (first.lock ≡ Some run.now.lock.now) × (first.lo < run.now.cores) × IsCounted first ours }
         ensures { IsLater first result.0 × IsCounted result.0 result.1 }
-    { core_loop(rt, lock, first, ours, image, gate) };
+    { core_loop(run.rt, run.lock, first, ours, run.image, run.gate) };
     match scope.spawn_with(promise, job) {
         Ok(thread) => {
-            let (rest, theirs) = start(rt, scope, lock, rest, theirs, image, gate, cores);
-            let (first, ours, _) = thread.join(rt);
-            (lock.join(first, rest), gather(ours, theirs))
+            let (rest, theirs) = start(scope, run, rest, theirs);
+            let (first, ours, _) = thread.join(run.rt);
+            (run.lock.join(first, rest), gather(ours, theirs))
         }
         Err(refused) => {
-            let (rest, _) = halt(rt, lock, rest, StopCause::NoThread);
+            let (rest, _) = halt(run.rt, run.lock, rest, StopCause::NoThread);
             let (first, ours, _) = (refused.value)();
-            let (rest, theirs) = start(rt, scope, lock, rest, theirs, image, gate, cores);
-            (lock.join(first, rest), gather(ours, theirs))
+            let (rest, theirs) = start(scope, run, rest, theirs);
+            (run.lock.join(first, rest), gather(ours, theirs))
         }
     }
 }

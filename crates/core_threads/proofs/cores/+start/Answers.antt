@@ -2,8 +2,8 @@ use Rattle.std.proofs.Common.{rules, ◌+◌, ◌∙◌, ap}
 use Rattle.core_threads.proofs.Passing.{new_counted, both_counted, may_gather, all_gathered, kept_of, later_trans}
 use Rattle.core_threads.proofs.cores.+start.Goals as goal
 
-pub returns-then-who-cores-clause-counted : goal.returns-then-who-cores-clause-counted
-returns-then-who-cores-clause-counted g t c = new_counted c.args.pass c.args.shares c.requires.new.0 c.requires.new.1 c.requires.new.2
+pub returns-then-who-run-clause-counted : goal.returns-then-who-run-clause-counted
+returns-then-who-run-clause-counted g t c = new_counted c.args.pass c.args.shares c.requires.new.0 c.requires.new.1 c.requires.new.2
 
 pub gather-requires : goal.gather-requires
 gather-requires g t c =
