@@ -7,8 +7,8 @@ The words come from the GNU assembler (riscv64-unknown-elf-as) and the results
 from qemu-riscv32, which runs every case as a user program and logs pc and
 registers before each instruction. Nothing of this project is run, so the
 vectors are independent of it. Writes one text file per group; and `fields.txt`,
-which gives the fields of words as the assembler's text has them, with tests of
-the decoder over some of its rows, in the crate `rv32_decode`. Needs the Debian packages
+which gives the fields of words as the assembler's text has them, and again as
+the rows of the decoder's tests, in the crate `machine_tests`. Needs the Debian packages
 gcc-riscv64-unknown-elf and qemu-user; the files made by it are kept in the
 repository, so the tests need neither.
 """
@@ -20,7 +20,7 @@ import tempfile
 from pathlib import Path
 
 HERE = Path(__file__).resolve().parent
-DECODER_TESTS = HERE.parent.parent / "crates" / "rv32_decode" / "src" / "tests" / "fields.rt"
+DECODER_ROWS = HERE.parent.parent / "crates" / "machine_tests" / "src" / "decoding" / "rows.rt"
 AS = "riscv64-unknown-elf-as"
 LD = "riscv64-unknown-elf-ld"
 NM = "riscv64-unknown-elf-nm"
@@ -535,49 +535,31 @@ def field_rows(cases):
     return [(text, word_alone(text), name, fields) for text, name, fields in cases]
 
 
-def rust_fields(fields):
-    """The fields as in a struct expression, with `x` and `by` for the small numbers."""
-    spelled = {"rd": "x({})", "rs1": "x({})", "rs2": "x({})", "amount": "by({})"}
-    return ", ".join(f"{name}: " + (spelled[name].format(value) if name in spelled else f"0x{value:08x}")
-                     for name, value in fields.items())
-
-
 FIELD_GROUPS = {
     "registers": fields_of_registers, "immediates": fields_of_immediates,
     "loads_and_stores": fields_of_memory, "jumps_and_upper_immediates": fields_of_jumps,
 }
 
 
-ALL_ROWS = ("add", "addi", "slli", "lw", "sw", "beq", "jal", "jalr", "lui")
-
-
-def chosen(table):
-    """All rows of one instruction per format, and one row of each other, by turns."""
-    place = {}
-    for row in table:
-        place.setdefault(row[2], []).append(row)
-    for number, (mnemonic, rows) in enumerate(place.items()):
-        yield from rows if mnemonic in ALL_ROWS else [rows[number % len(rows)]]
-
-
-def field_test(name, table):
-    """A test of the decoder over a table, as source."""
-    rows = "".join(f"        (0x{word:08x}, Instr::{mnemonic.capitalize()} {{ {rust_fields(fields)} }}),\n"
+def decoder_rows(name, table):
+    """A table as source: a line of a word, the instruction's name, and its fields in order."""
+    rows = "".join(f"{word:08x} {mnemonic} " + " ".join(f"{value:x}" for value in fields.values()) + "\n"
                    for _, word, mnemonic, fields in table)
-    return (f"#[test]\n#[rattlefmt::skip]\nfn decodes_{name}(rt: HostRuntime) {{\n    for (word, instruction) in [\n{rows}    ] {{\n"
-            '        assert_eq!(rt; decode(word), Ok(instruction), "at {word}");\n    }\n}\n')
+    return f'pub const {name.upper()}: &str = "\n{rows}";\n'
 
 
 def write_fields():
-    """`fields.txt`, and tests of the decoder over some of its rows."""
-    lines, rust = ["# Words and their fields: text, word, name, fields."], ["use super::*;\n"]
+    """`fields.txt`, and the rows of the decoder's tests."""
+    lines = ["# Words and their fields: text, word, name, fields."]
+    rust = ["//! Words and their fields in hexadecimal, made by `tests/vectors/make.py`: the word, the instruction's name, and its fields in\n"
+            "//! order.\n"]
     for name, cases in FIELD_GROUPS.items():
         table = field_rows(cases())
         lines += [f"{text} | {word:08x} | {mnemonic} | " + " ".join(f"{key}={value:x}" for key, value in fields.items())
                   for text, word, mnemonic, fields in table]
-        rust.append(field_test(name, chosen(table)))
+        rust.append(decoder_rows(name, table))
     (HERE / "fields.txt").write_text("\n".join(lines) + "\n")
-    DECODER_TESTS.write_text("\n".join(rust))
+    DECODER_ROWS.write_text("\n".join(rust))
     print(f"{'fields':10} {len(lines) - 1:4} rows")
 
 

@@ -1,5 +1,5 @@
 -- Conditions of calls, from those of each core.
-use Rattle.std.proofs.Common.{◌≡◌, ◌≢◌, ◌≤◌, ◌<◌, ℕ, Bool, true, false, not, Option, Some, None, ◌+◌, ◌%◌, refl, sym, ap, subst, ◌∙◌}
+use Rattle.std.proofs.Common.{◌≡◌, ◌≢◌, ◌≤◌, ◌<◌, ℕ, Bool, true, false, not, Option, Some, None, ◌+◌, ◌%◌, refl, ap, subst, ◌∙◌}
 use Rattle.violations.specs.declared.attempt.Attempt.{Attempt}
 use mathlib.Core.Bool.{beq}
 use Rattle.memory_bytes.specs.Bytes.{IsWidth}

@@ -1,7 +1,11 @@
-//! Tests of the explanations of violations, over public calls alone.
+//! Tests of the text of traces, of the commands `seq` and `audit`, and of the explanations of violations, over public calls alone.
 #![tactic(auto)]
 
+#[cfg(test)]
+mod commands;
 #[cfg(test)]
 mod explained;
 #[cfg(test)]
 mod rows;
+#[cfg(test)]
+mod texts;

@@ -4,7 +4,5 @@
 #![tactic(auto)]
 
 mod buffer;
-#[cfg(test)]
-mod tests;
 
 pub use buffer::{LARGEST_LIMIT, Orb, OrbFull};

@@ -10,6 +10,3 @@ pub use memory::committed_bytes;
 pub use options::RunOptions;
 pub use run::do_run;
 pub use text::with_history;
-
-#[cfg(test)]
-mod tests;

@@ -4,8 +4,6 @@
 
 mod counts;
 mod ledger;
-#[cfg(test)]
-mod tests;
 
 pub use counts::Counts;
 pub use ledger::{

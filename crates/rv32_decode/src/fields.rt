@@ -43,7 +43,7 @@ impl Register {
 /// How far SLLI, SRLI and SRAI shift: 0 to 31 bits. Contracts see it as that number.
 ///
 /// Source: RISC-V Unprivileged ISA, "Integer Register-Immediate Instructions".
-#[derive(Clone, Copy, Debug, PartialEq, Eq)]
+#[derive(Clone, Copy)]
 pub struct ShiftAmount {
     bits: u8,
 }

@@ -4,7 +4,7 @@ use crate::fields::{Register, ShiftAmount};
 /// in bytes from the instruction's own address.
 ///
 /// Source: RISC-V Unprivileged ISA, chapter "RV32I Base Integer Instruction Set".
-#[derive(Clone, Copy, Debug, PartialEq, Eq)]
+#[derive(Clone, Copy)]
 pub enum Instr {
     /// Load upper immediate: `rd` becomes `imm`, whose low 12 bits are 0.
     Lui {

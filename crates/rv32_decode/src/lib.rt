@@ -14,6 +14,3 @@ pub use decoder::decode;
 pub use fields::{Register, ShiftAmount};
 pub use instr::Instr;
 pub use refused::Refused;
-
-#[cfg(test)]
-mod tests;

@@ -11,6 +11,3 @@ pub use line::{LONGEST_LINE, LineState, Marks};
 pub use next::{Next, Order};
 pub use others::{after_other_load, after_other_store, after_publish};
 pub use own::{after_own_load, after_own_store, after_violation, settled};
-
-#[cfg(test)]
-mod tests;

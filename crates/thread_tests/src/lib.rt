@@ -1,8 +1,14 @@
-//! Tests of runs on threads, over public calls alone.
+//! Tests of runs on threads and of the command `run`, of the lock and of what a run counts, over public calls alone.
 #![tactic(auto)]
 
 #[cfg(test)]
+mod commands;
+#[cfg(test)]
+mod counts;
+#[cfg(test)]
 mod gates;
+#[cfg(test)]
+mod locks;
 #[cfg(test)]
 mod look;
 #[cfg(test)]

@@ -1,134 +1,34 @@
-//! What no clause says: that the calls succeed, what the words start at, and the printed names.
-ghost use Rattle.std.specs.Prelude.{◌≡◌, Some, IfOk};
-ghost use Rattle.ticket_lock.specs.Past.{GrowsBy};
+//! What no call shows: what the words start at.
+ghost use Rattle.std.specs.Prelude.{[]};
 
 use crate::rule::{NEXT, SERVING};
-use crate::{Kept, NoMemory, Pass, Spent, TicketLock};
-use std::alloc::Global;
-use std::sync::Wait;
+use crate::{Kept, TicketLock};
 use std::test::Fail;
 
-/// A list of entries, each with the number of the pass that made it.
+/// A value that has no past.
 #[derive(Drop)]
-struct List {
-    entries: Vec<(u64, char)>,
-}
+struct Nothing;
 
-impl Kept for List {
+impl Kept for Nothing {
     type Fixed = ();
 
-    type What = char;
+    type What = ();
 
     ghost fixed = { λ _. tt };
 
-    ghost past = { λ l. l.entries.items };
+    ghost past = { λ _. [] };
 }
 
-impl List {
-    // Adds an entry, unless there is no memory.
-    fn add(&mut self, who: u64, what: char)
-        ensures { GrowsBy who self.old.entries.items self.new.entries.items }
-    {
-        let _ = self.entries.push((who, what));
-    }
-}
-
-// One turn, in which the pass adds an entry.
-fn add<R: Wait>(
-    rt: &R,
-    lock: &TicketLock<List>,
-    pass: Pass<List>,
-    what: char,
-) -> Result<Pass<List>, Spent>
-    requires { pass.lock ≡ Some lock.now }
-    ensures { IfOk result (λ p. (p.lock ≡ pass.lock) × (p.lo ≡ pass.lo) × (p.hi ≡ pass.hi)) }
-{
-    let who = pass.who();
-    match lock.lock(rt, pass) {
-        Ok(mut held) => {
-            held.value().add(who, what);
-            Ok(held.release())
-        }
-        Err((spent, _pass)) => Err(spent),
-    }
-}
-
-#[test]
-fn a_pass_finds_the_entries_of_both(rt: HostRuntime) -> Result<(), Fail> {
-    let list = List {
-        entries: Vec::new(rt.alloc()),
-    };
-    let (lock, pass) = TicketLock::open(rt.alloc(), list, 2)?;
-    let (first, second) = lock.split(pass, 1);
-    assert_eq!(rt; (first.who(), second.who()), (0, 1));
-    let first = add(&rt, &lock, first, 'a')?;
-    let second = add(&rt, &lock, second, 'b')?;
-    let first = match lock.lock(&rt, first) {
-        Ok(mut held) => {
-            assert_eq!(rt;
-                held.value().entries.as_slice(),
-                [(0, 'a'), (1, 'b')].as_slice()
-            );
-            held.release()
-        }
-        Err((spent, _pass)) => return Err(spent.into()),
-    };
-    let pass = lock.join(first, second);
-    let (list, whole) = lock.close(pass);
-    assert_eq!(rt; list.entries.as_slice(), [(0, 'a'), (1, 'b')].as_slice());
-    assert_eq!(rt; whole.who(), 0);
-    Ok(())
-}
-
-// `open` starts both words at 0, and `open_at` at `first`.
+/// `open` starts both words at 0, and `open_at` at `first`.
 #[test]
 fn both_words_start_at_the_first_ticket(rt: HostRuntime) -> Result<(), Fail> {
-    let list = List {
-        entries: Vec::new(rt.alloc()),
-    };
-    let (lock, _pass) = TicketLock::open(rt.alloc(), list, 1)?;
+    let (lock, _pass) = TicketLock::open(rt.alloc(), Nothing, 1)?;
     let words = &lock.table.shared;
     assert_eq!(rt; (words.peek(NEXT), words.peek(SERVING)), (0, 0));
     for first in [7, 1 << 63] {
-        let list = List {
-            entries: Vec::new(rt.alloc()),
-        };
-        let (lock, _pass) = TicketLock::open_at(rt.alloc(), list, 1, first)?;
+        let (lock, _pass) = TicketLock::open_at(rt.alloc(), Nothing, 1, first)?;
         let words = &lock.table.shared;
         assert_eq!(rt; (words.peek(NEXT), words.peek(SERVING)), (first, first));
     }
     Ok(())
-}
-
-// How many turns a lock has left whose first ticket is `first`.
-#[test]
-fn no_ticket_is_drawn_past_the_last(rt: HostRuntime) -> Result<(), Fail> {
-    for (first, turns) in [(1 << 63, 0), ((1 << 63) - 1, 1), ((1 << 63) - 3, 3)] {
-        let list = List {
-            entries: Vec::new(rt.alloc()),
-        };
-        let (lock, mut pass) = TicketLock::open_at(rt.alloc(), list, 1, first)?;
-        for _ in 0..turns {
-            pass = add(&rt, &lock, pass, 'a')?;
-        }
-        let pass = match lock.lock(&rt, pass) {
-            Ok(held) => {
-                held.release();
-                panic!(rt; "a ticket past the last, from {first}")
-            }
-            Err((spent, pass)) => {
-                assert_eq!(rt; spent, Spent);
-                pass
-            }
-        };
-        let (list, _pass) = lock.close(pass);
-        assert_eq!(rt; list.entries.len(), turns);
-    }
-    Ok(())
-}
-
-#[test]
-fn errors_print_their_names(rt: HostRuntime) {
-    assert_eq!(rt; NoMemory.name(), "NoMemory");
-    assert_eq!(rt; Spent.name(), "Spent");
 }

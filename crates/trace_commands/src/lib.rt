@@ -14,6 +14,3 @@ pub use report::{print_open_report, print_report};
 pub use seq::do_seq;
 pub use traced::{Traced, read_traced};
 pub use write::write_whole;
-
-#[cfg(test)]
-mod tests;

@@ -12,6 +12,3 @@ pub use digits::{push_hex, push_number};
 pub use fault::{LONGEST_TRACE_TEXT, TraceFault, TraceFaultKind};
 pub use print::print_trace;
 pub use read::{image_part, read_trace};
-
-#[cfg(test)]
-mod tests;

@@ -16,6 +16,3 @@ pub use plain::PlainStore;
 pub use step::{Step, WaitCause};
 pub use store::EpochStore;
 pub use waiting::Waiting;
-
-#[cfg(test)]
-mod tests;

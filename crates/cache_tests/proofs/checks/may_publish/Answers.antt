@@ -1,4 +1,4 @@
-use Rattle.std.proofs.Common.{◌≤◌, ◌<◌, ℕ, sym, arith}
+use Rattle.std.proofs.Common.{sym, arith}
 use Rattle.spec_bus.specs.Cached.{store_view}
 use Rattle.cache_tests.proofs.Checking.{publishes_is}
 use Rattle.cache_tests.proofs.checks.may_publish.Goals as goal

@@ -1,4 +1,6 @@
-use crate::{
+//! What a run counts.
+
+use run_ledger::{
     Counts, Unequal, agree, count_commit, count_load, count_restart, count_store, gather, open,
 };
 use std::test::Fail;

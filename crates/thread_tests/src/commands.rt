@@ -1,9 +1,9 @@
-//! What no contract can say: that a run with room and memory comes to its end, and which failures stop it.
+//! The command `run`: what no contract can say, which is that a run with room and memory comes to its end, and which failures stop it.
 
 ghost use Rattle.std.specs.Prelude.{◌≡◌};
 
-use super::*;
 use core_threads::{Gate, Open, Shut};
+use run_command::{RunOptions, do_run};
 use rv32_exec::Arrived;
 use std::io;
 use std::io::{Error, ErrorKind, Read, Write};

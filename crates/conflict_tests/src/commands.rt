@@ -1,10 +1,10 @@
-//! What no contract can say: that failed reads and writes end a command, tried once and not again.
+//! The commands `seq` and `audit`: what no contract can say, which is that failed reads and writes end a command, tried once and not again.
 
-use super::*;
 use std::alloc::Global;
 use std::io;
 use std::io::{Error, ErrorKind, Read, Write};
 use std::test::Fail;
+use trace_commands::{do_audit, do_seq};
 
 /// The image whose epochs add their numbers to one word.
 const COUNTER: &str = "size 256\nepochs 4\nlimit 100\ncode 83220004b382a2002320500467800000\n";

@@ -1,7 +1,9 @@
+//! The buffer of a core.
+
 ghost use Rattle.std.specs.Prelude.{◌≡◌, true};
 ghost use Rattle.orb.specs.Lines.{IsLimit};
 
-use super::*;
+use orb::{Orb, OrbFull};
 use std::process::Abort;
 use std::test::Fail;
 

@@ -2,7 +2,7 @@ use Rattle.std.proofs.Common.{◌≡◌, ℕ, inl, inr, replicate, refl, slice_i
 use Rattle.std.proofs.Math.ListN.{get_or-eq_default}
 use Rattle.std.proofs.lemmas.Bool.{cases_lt}
 use Rattle.std.proofs.lemmas.List.{get_or-replicate}
-use Rattle.cache_lines.proofs.tests.counted.Goals as goal
+use Rattle.cache_tests.proofs.lines.counted.Goals as goal
 
 zeros : (x : ℕ) → slice_index (replicate 32 0) x ≡ 0
 zeros x =

@@ -1,6 +1,8 @@
-use super::*;
+//! The plain store, and sets of cores.
+
 use rv32_image::image_of;
 use std::test::Fail;
+use violations::{CoreSet, EpochStore, PlainStore, Waiting};
 
 /// Two epochs and 256 bytes of memory; the code is a jump to the end.
 const IMAGE: &str = "size 256\nepochs 2\nlimit 50\ncode 67800000\nat 00000040 05\n";

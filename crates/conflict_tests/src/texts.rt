@@ -1,9 +1,9 @@
-//! Worked histories and their texts, and what happens where memory runs out.
+//! Texts of traces: worked histories and their texts, and what happens where memory runs out.
 
-use super::*;
 use rv32_image::{NoMemory, Version};
 use spec_history::{Entry, What};
 use std::test::Fail;
+use trace_text::{TraceFault, TraceFaultKind, image_part, print_trace, read_trace};
 
 /// An image above a trace; its own reader is not asked here.
 const IMAGE: &str = "size 256\n# an image\n";

@@ -1,0 +1,452 @@
+//! The calls of the cache of one core by hand, for lines of 16 and of 32 bytes.
+
+ghost use Rattle.std.specs.Prelude.{◌≡◌, ◌≤◌, ℕ, true, IsTrue, slice_index};
+ghost use Rattle.memory_bytes.specs.Bytes.{IsWidth};
+ghost use Rattle.cache_lines.specs.Lines.{is_line_length};
+ghost use Rattle.cache_lines.specs.Placed.{FitsLength};
+
+use crate::words::{cell, hex, index, is_row, marks, number, state, word};
+use cache_lines::{Cache, Line, WAYS};
+use spec_states::LineState::{E, I, M, S, SpE, SpS};
+use spec_states::{LineState, Marks};
+use std::process::Abort;
+use std::test::Fail;
+
+const NONE: Marks = Marks::NONE;
+
+/// Marks of a line that was not loaded, with these bytes modified.
+const fn stored(bytes: u32) -> Marks {
+    Marks {
+        loaded: false,
+        bytes,
+    }
+}
+
+/// Marks of a line that was loaded, with these bytes modified.
+const fn loaded(bytes: u32) -> Marks {
+    Marks {
+        loaded: true,
+        bytes,
+    }
+}
+
+const LOADED: Marks = Marks {
+    loaded: true,
+    bytes: 0,
+};
+
+/// Cells that count up from `from` to the line length, with 0 past it.
+fn counted(from: u8, length: usize) -> [u8; 32]
+    requires { IsTrue (is_line_length length) }
+    ensures { (x : ℕ) → length ≤ x → slice_index result x ≡ 0 }
+{
+    let mut cells = [0; 32];
+    for x in 0..length {
+        cells[x] = from.wrapping_add(x as u8);
+    }
+    cells
+}
+
+/// A line that counts its cells.
+fn line_of(rt: &impl Abort, length: usize, addr: u32, state: LineState, marks: Marks) -> Line
+    requires { IsTrue (is_line_length length) }
+    ensures addr { result.addr ≡ addr }
+    ensures fits { FitsLength length result }
+{
+    assert!(rt; length == 32 || marks.bytes < 0x1_0000);
+    Line {
+        addr,
+        state,
+        marks,
+        cells: counted(0, length),
+    }
+}
+
+/// Puts a line into a way, which no other way of its set has.
+fn put(rt: &impl Abort, cache: &mut Cache, way: usize, line: (u32, LineState, Marks)) {
+    let (addr, state, marks) = line;
+    let length = cache.line_length();
+    assert!(rt; way < WAYS && addr as usize % length == 0);
+    if way == 0 {
+        assert!(rt; !cache.line(addr, 1).is_copy_of(addr));
+    } else {
+        assert!(rt; !cache.line(addr, 0).is_copy_of(addr));
+    }
+    let line = line_of(rt, length, addr, state, marks);
+    cache.fill(way, line);
+}
+
+/// A cache of lines of `length` bytes with two lines in the set of `4 * length`: there in way 0, at `8 * length` in way 1.
+fn pair(
+    rt: &impl Abort,
+    length: usize,
+    first: (LineState, Marks),
+    second: (LineState, Marks),
+) -> Cache {
+    assert!(rt; length == 16 || length == 32);
+    let mut cache = Cache::new(length);
+    put(rt, &mut cache, 0, (4 * length as u32, first.0, first.1));
+    put(rt, &mut cache, 1, (8 * length as u32, second.0, second.1));
+    cache
+}
+
+/// Whether the line in this way of the set of `addr` has this state, these marks and these cells.
+fn is_line(
+    cache: &Cache,
+    addr: u32,
+    way: usize,
+    state: LineState,
+    marks: Marks,
+    cells: [u8; 32],
+) -> bool {
+    way < WAYS
+        && *cache.line(addr, way)
+            == Line {
+                addr,
+                state,
+                marks,
+                cells,
+            }
+}
+
+/// The tables below.
+#[derive(Clone, Copy)]
+enum Rows {
+    Victims,
+    Numbers,
+    Stores,
+    Refreshes,
+    RollBacks,
+}
+
+impl Rows {
+    fn text(self) -> &'static str {
+        match self {
+            Rows::Victims => VICTIMS,
+            Rows::Numbers => NUMBERS,
+            Rows::Stores => STORES,
+            Rows::Refreshes => REFRESHES,
+            Rows::RollBacks => ROLL_BACKS,
+        }
+    }
+
+    /// Whether a row holds, of lines of this length where it names none.
+    fn hold(self, rt: &impl Abort, row: &str, length: usize) -> Option<bool> {
+        match self {
+            Rows::Victims => is_victim(rt, row, length),
+            Rows::Numbers => is_number(rt, row),
+            Rows::Stores => is_store(rt, row),
+            Rows::Refreshes => is_refresh(rt, row),
+            Rows::RollBacks => is_roll_back(rt, row, length),
+        }
+    }
+}
+
+/// Each row of a table holds, of lines of either length.
+fn are_rows(rt: &impl Abort, rows: Rows) {
+    for row in rows.text().split('\n') {
+        for length in [16, 32] {
+            assert!(rt;
+                !is_row(row) || rows.hold(rt, row, length) == Some(true),
+                "{row}"
+            );
+        }
+    }
+}
+
+const VICTIMS: &str = "
+# way 0, way 1, the way that gives way
+E I 1
+I I 0
+I E 0
+SpS I 1
+SpS S 1
+M SpE 0
+E E 0
+SpS SpE -
+";
+
+/// Whether a row of `VICTIMS` holds.
+fn is_victim(rt: &impl Abort, row: &str, length: usize) -> Option<bool> {
+    let (first, second) = (state(word(row, 0))?, state(word(row, 1))?);
+    assert!(rt; length == 16 || length == 32);
+    let unit = length as u32;
+    let cache = pair(rt, length, (first, LOADED), (second, LOADED));
+    let want = index(row, 2);
+    Some(
+        cache.victim(4 * unit) == want
+            && cache.victim(12 * unit) == want
+            && cache.victim(5 * unit) == Some(0),
+    )
+}
+
+#[test]
+fn victims(rt: HostRuntime) {
+    are_rows(&rt, Rows::Victims);
+}
+
+#[test]
+fn a_new_cache_is_empty(rt: HostRuntime) {
+    for length in [16, 32] {
+        assert!(rt; length == 16 || length == 32);
+        let cache = Cache::new(length);
+        assert_eq!(rt; cache.line_length(), length);
+        for addr in [0, 16, 32, 48, 64, 96] {
+            for way in 0..WAYS {
+                assert_eq!(rt; cache.line(addr, way).state, I);
+            }
+            assert_eq!(rt; cache.find(addr), None);
+        }
+    }
+}
+
+#[test]
+fn lines_are_found_by_their_addresses(rt: HostRuntime) {
+    for length in [16, 32] {
+        let unit = length as u32;
+        let mut cache = pair(&rt, length, (S, NONE), (M, NONE));
+        put(&rt, &mut cache, 1, (5 * unit, E, NONE));
+        let found = [4 * unit, 8 * unit, 5 * unit, 12 * unit, 0, 4 * unit + 4].map(
+            |addr| cache.find(addr),
+        );
+        assert_eq!(rt;
+            found,
+            [Some(0), Some(1), Some(1), None, None, None],
+            "{length}"
+        );
+        // An invalid line takes the place of a copy, which is gone then.
+        put(&rt, &mut cache, 0, (4 * unit, I, NONE));
+        assert_eq!(rt;
+            [cache.find(4 * unit), cache.find(8 * unit)],
+            [None, Some(1)],
+            "{length}"
+        );
+        // A line of another address takes its place too.
+        put(&rt, &mut cache, 1, (12 * unit, E, NONE));
+        assert_eq!(rt;
+            [cache.find(8 * unit), cache.find(12 * unit)],
+            [None, Some(1)],
+            "{length}"
+        );
+    }
+}
+
+#[test]
+fn sets_go_by_the_line_length(rt: HostRuntime) {
+    // Lines of 32 bytes at 64 and 128 stand in sets 2 and 0, lines of 16 bytes both in set 0.
+    for (length, want) in [(16, [false, true]), (32, [false, false])] {
+        assert!(rt; length == 16 || length == 32);
+        let mut cache = Cache::new(length);
+        put(&rt, &mut cache, 0, (64, S, NONE));
+        put(&rt, &mut cache, 0, (128, S, NONE));
+        assert_eq!(rt; cache.find(128), Some(0));
+        assert_eq!(rt;
+            [cache.find(128).is_none(), cache.find(64).is_none()],
+            want,
+            "{length}"
+        );
+    }
+}
+
+const NUMBERS: &str = "
+# offset, width, number
+0 1 0
+31 1 1f
+6 2 706
+30 2 1f1e
+12 4 0f0e0d0c
+28 4 1f1e1d1c
+";
+
+/// Whether a row of `NUMBERS` holds, of a line of 32 bytes that counts its cells.
+fn is_number(rt: &impl Abort, row: &str) -> Option<bool> {
+    let (offset, width, want) = (number(row, 0)?, number(row, 1)?, hex(row, 2)?);
+    assert!(rt;
+        offset < 29 && width == 4 || offset < 31 && width == 2 || offset < 32 && width == 1
+    );
+    let line = line_of(rt, 32, 64, S, NONE);
+    Some(line.number_at(offset, width) == want)
+}
+
+#[test]
+fn numbers_are_read_with_the_low_byte_first(rt: HostRuntime) -> Result<(), Fail> {
+    are_rows(&rt, Rows::Numbers);
+    let stored = Line {
+        cells: with_bytes([0; 32], 0, "ff").ok_or("a byte")?,
+        ..Line::INVALID
+    };
+    assert!(rt; stored.number_at(0, 4) == 255);
+    Ok(())
+}
+
+/// The cells, with these bytes from `offset` on.
+fn with_bytes(cells: [u8; 32], offset: usize, bytes: &str) -> Option<[u8; 32]> {
+    let mut with = cells;
+    let mut x = offset;
+    for byte in bytes.split_whitespace() {
+        let cell = with.get_mut(x)?;
+        *cell = u8::from_str_radix(byte, 16).ok()?;
+        x = x.wrapping_add(1);
+    }
+    Some(with)
+}
+
+const STORES: &str = "
+# length, offset, width, value | the bytes that change
+16 7 1 123456ff | ff
+16 4 2 1234abcd | cd ab
+16 12 4 12345678 | 78 56 34 12
+32 7 1 123456ff | ff
+32 16 1 123456ff | ff
+32 30 2 1234abcd | cd ab
+32 12 4 12345678 | 78 56 34 12
+32 28 4 12345678 | 78 56 34 12
+";
+
+/// Whether a row of `STORES` holds.
+fn is_store(rt: &impl Abort, row: &str) -> Option<bool> {
+    let (length, offset) = (index(row, 0)?, number(row, 1)?);
+    let (width, value) = (number(row, 2)?, hex(row, 3)?);
+    assert!(rt; length == 16 || length == 32);
+    let addr = 4 * length as u32;
+    let mut cache = pair(rt, length, (SpE, stored(0xf0)), (S, NONE));
+    assert!(rt; offset < cache.line_length() as u32 && (width == 1 || width == 2 || width == 4));
+    assert!(rt; offset % width == 0);
+    cache.write_bytes(addr, 0, offset, width, value);
+    let want = with_bytes(counted(0, length), offset as usize, cell(row, 1))?;
+    Some(
+        is_line(&cache, addr, 0, SpE, stored(0xf0), want)
+            && is_line(&cache, 2 * addr, 1, S, NONE, counted(0, length)),
+    )
+}
+
+#[test]
+fn stores_write_the_low_bytes_first(rt: HostRuntime) {
+    are_rows(&rt, Rows::Stores);
+}
+
+const REFRESHES: &str = "
+# length, the mask, its first byte, and how many bytes it has
+16 0 0 0
+16 40 6 1
+16 60 5 2
+16 8000 15 1
+16 ffff 0 16
+32 40 6 1
+32 10000 16 1
+32 c0000000 30 2
+32 ffffffff 0 32
+";
+
+/// Cells that count up from 100, but for so many from `first` on, which count up from `first`.
+fn counted_but_for(length: usize, first: usize, count: usize) -> [u8; 32]
+    requires { IsTrue (is_line_length length) }
+{
+    let mut cells = counted(100, length);
+    for x in 0..32 {
+        if first <= x && x - first < count {
+            cells[x] = x as u8;
+        }
+    }
+    cells
+}
+
+/// Whether a row of `REFRESHES` holds: the bytes of the mask stay, among those that are given from 100 on.
+fn is_refresh(rt: &impl Abort, row: &str) -> Option<bool> {
+    let (length, mask) = (index(row, 0)?, hex(row, 1)?);
+    let (first, count) = (index(row, 2)?, index(row, 3)?);
+    assert!(rt; length == 16 || length == 32);
+    let addr = 8 * length as u32;
+    let mut cache = pair(rt, length, (S, NONE), (SpS, stored(mask)));
+    let length = cache.line_length();
+    cache.refresh(addr, 1, counted(100, length));
+    let want = counted_but_for(length, first, count);
+    Some(
+        is_line(&cache, addr, 1, SpS, stored(mask), want)
+            && is_line(&cache, addr / 2, 0, S, NONE, counted(0, length)),
+    )
+}
+
+#[test]
+fn a_refresh_spares_own_bytes(rt: HostRuntime) {
+    are_rows(&rt, Rows::Refreshes);
+}
+
+/// The states of the two ways of the set of `addr`, and whether either has marks.
+fn states(cache: &Cache, addr: u32) -> ([LineState; 2], bool) {
+    let (first, second) = (cache.line(addr, 0), cache.line(addr, 1));
+    (
+        [first.state, second.state],
+        first.marks != NONE || second.marks != NONE,
+    )
+}
+
+#[test]
+#[rattlefmt::skip]
+fn rollbacks_and_publishes_of_one_line(rt: HostRuntime) {
+    for length in [16, 32] {
+        let (low, high) = (4 * length as u32, 8 * length as u32);
+        let own = loaded(1 << (length as u32 - 1));
+        let mut cache = pair(&rt, length, (SpS, LOADED), (SpE, own));
+        cache.roll_back(low, 0);
+        assert!(rt; is_line(&cache, low, 0, S, NONE, counted(0, cache.line_length())), "{length}");
+        assert!(rt; is_line(&cache, high, 1, SpE, own, counted(0, cache.line_length())), "{length}");
+        cache.roll_back(high, 1);
+        assert_eq!(rt; [cache.find(low), cache.find(high)], [Some(0), None], "{length}");
+
+        let mut cache = pair(&rt, length, (SpS, own), (SpE, LOADED));
+        cache.settle(low, 0, false);
+        assert!(rt; is_line(&cache, low, 0, S, NONE, counted(0, cache.line_length())), "{length}");
+        assert!(rt; is_line(&cache, high, 1, SpE, LOADED, counted(0, cache.line_length())), "{length}");
+        cache.settle(high, 1, true);
+        assert_eq!(rt; states(&cache, low), ([S, E], false), "{length}");
+        put(&rt, &mut cache, 0, (low, SpS, own));
+        cache.settle(low, 0, true);
+        assert_eq!(rt; states(&cache, low), ([M, E], false), "{length}");
+    }
+}
+
+const ROLL_BACKS: &str = "
+# before | after a rollback | after a publish where no other core holds the line
+I . 0 | I | I
+S . 0 | S | S
+E . 0 | E | E
+M . 0 | M | M
+SpS r 0 | S | S
+SpS . 80 | I | M
+SpE r 0 | E | E
+SpE r 1 | I | M
+";
+
+/// A cache with lines of this state and these marks: one beside a line that was loaded, and one alone in its set.
+fn twice(rt: &impl Abort, length: usize, state: LineState, marks: Marks) -> Cache {
+    assert!(rt; length == 16 || length == 32);
+    let mut cache = pair(rt, length, (state, marks), (SpE, LOADED));
+    put(rt, &mut cache, 1, (7 * length as u32, state, marks));
+    cache
+}
+
+/// Whether each copy of the line has this state, the one beside it is E, and none has marks.
+fn are_all(cache: &Cache, length: usize, state: LineState) -> bool
+    requires { IsTrue (is_line_length length) }
+{
+    let unit = length as u32;
+    states(cache, 4 * unit) == ([state, E], false) && states(cache, 7 * unit) == ([I, state], false)
+}
+
+/// Whether a row of `ROLL_BACKS` holds.
+fn is_roll_back(rt: &impl Abort, row: &str, length: usize) -> Option<bool> {
+    let (before, marks) = (state(word(row, 0))?, marks(row, 1, 0)?);
+    let (back, published) = (state(cell(row, 1))?, state(cell(row, 2))?);
+    assert!(rt; length == 16 || length == 32);
+    let mut rolled_back = twice(rt, length, before, marks);
+    rolled_back.roll_back_all();
+    let mut settled = twice(rt, length, before, marks);
+    settled.settle_all();
+    Some(are_all(&rolled_back, length, back) && are_all(&settled, length, published))
+}
+
+#[test]
+fn rollbacks_and_publishes_of_all_lines(rt: HostRuntime) {
+    are_rows(&rt, Rows::RollBacks);
+}

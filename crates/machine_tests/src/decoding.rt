@@ -1,0 +1,120 @@
+//! Each kind of word, by its fields. Words that are refused, and what each instruction does, are rows of `tests/vectors`, which the whole
+//! program runs.
+
+mod rows;
+
+use rows::{IMMEDIATES, JUMPS_AND_UPPER_IMMEDIATES, LOADS_AND_STORES, REGISTERS};
+use rv32_decode::{Instr, Refused, Register, decode};
+use std::process::Abort;
+
+/// The number of a register.
+fn x(register: Register) -> u32 {
+    register.number() as u32
+}
+
+/// The name of an instruction, and its fields in order, with 0 in the place of those that it lacks.
+#[rattlefmt::skip]
+fn shown(instr: Instr) -> (&'static str, [u32; 3]) {
+    match instr {
+        Instr::Lui { rd, imm } => ("lui", [x(rd), imm, 0]),
+        Instr::Auipc { rd, imm } => ("auipc", [x(rd), imm, 0]),
+        Instr::Jal { rd, offset } => ("jal", [x(rd), offset, 0]),
+        Instr::Jalr { rd, rs1, imm } => ("jalr", [x(rd), x(rs1), imm]),
+        Instr::Beq { rs1, rs2, offset } => ("beq", [x(rs1), x(rs2), offset]),
+        Instr::Bne { rs1, rs2, offset } => ("bne", [x(rs1), x(rs2), offset]),
+        Instr::Blt { rs1, rs2, offset } => ("blt", [x(rs1), x(rs2), offset]),
+        Instr::Bge { rs1, rs2, offset } => ("bge", [x(rs1), x(rs2), offset]),
+        Instr::Bltu { rs1, rs2, offset } => ("bltu", [x(rs1), x(rs2), offset]),
+        Instr::Bgeu { rs1, rs2, offset } => ("bgeu", [x(rs1), x(rs2), offset]),
+        Instr::Lb { rd, rs1, imm } => ("lb", [x(rd), x(rs1), imm]),
+        Instr::Lh { rd, rs1, imm } => ("lh", [x(rd), x(rs1), imm]),
+        Instr::Lw { rd, rs1, imm } => ("lw", [x(rd), x(rs1), imm]),
+        Instr::Lbu { rd, rs1, imm } => ("lbu", [x(rd), x(rs1), imm]),
+        Instr::Lhu { rd, rs1, imm } => ("lhu", [x(rd), x(rs1), imm]),
+        Instr::Sb { rs1, rs2, imm } => ("sb", [x(rs1), x(rs2), imm]),
+        Instr::Sh { rs1, rs2, imm } => ("sh", [x(rs1), x(rs2), imm]),
+        Instr::Sw { rs1, rs2, imm } => ("sw", [x(rs1), x(rs2), imm]),
+        Instr::Addi { rd, rs1, imm } => ("addi", [x(rd), x(rs1), imm]),
+        Instr::Slti { rd, rs1, imm } => ("slti", [x(rd), x(rs1), imm]),
+        Instr::Sltiu { rd, rs1, imm } => ("sltiu", [x(rd), x(rs1), imm]),
+        Instr::Xori { rd, rs1, imm } => ("xori", [x(rd), x(rs1), imm]),
+        Instr::Ori { rd, rs1, imm } => ("ori", [x(rd), x(rs1), imm]),
+        Instr::Andi { rd, rs1, imm } => ("andi", [x(rd), x(rs1), imm]),
+        Instr::Slli { rd, rs1, amount } => ("slli", [x(rd), x(rs1), amount.bits() as u32]),
+        Instr::Srli { rd, rs1, amount } => ("srli", [x(rd), x(rs1), amount.bits() as u32]),
+        Instr::Srai { rd, rs1, amount } => ("srai", [x(rd), x(rs1), amount.bits() as u32]),
+        Instr::Add { rd, rs1, rs2 } => ("add", [x(rd), x(rs1), x(rs2)]),
+        Instr::Sub { rd, rs1, rs2 } => ("sub", [x(rd), x(rs1), x(rs2)]),
+        Instr::Sll { rd, rs1, rs2 } => ("sll", [x(rd), x(rs1), x(rs2)]),
+        Instr::Slt { rd, rs1, rs2 } => ("slt", [x(rd), x(rs1), x(rs2)]),
+        Instr::Sltu { rd, rs1, rs2 } => ("sltu", [x(rd), x(rs1), x(rs2)]),
+        Instr::Xor { rd, rs1, rs2 } => ("xor", [x(rd), x(rs1), x(rs2)]),
+        Instr::Srl { rd, rs1, rs2 } => ("srl", [x(rd), x(rs1), x(rs2)]),
+        Instr::Sra { rd, rs1, rs2 } => ("sra", [x(rd), x(rs1), x(rs2)]),
+        Instr::Or { rd, rs1, rs2 } => ("or", [x(rd), x(rs1), x(rs2)]),
+        Instr::And { rd, rs1, rs2 } => ("and", [x(rd), x(rs1), x(rs2)]),
+        Instr::Fence => ("fence", [0, 0, 0]),
+    }
+}
+
+/// The word at a place of a row, counted from 0; empty where there is none.
+fn word<'a>(row: &'a str, place: usize) -> &'a str {
+    row.split_whitespace().nth(place).unwrap_or("")
+}
+
+/// The number at a place of a row, in hexadecimal.
+fn hex(row: &str, place: usize) -> Option<u32> {
+    u32::from_str_radix(word(row, place), 16).ok()
+}
+
+/// Whether a row's word is that instruction, with those fields.
+fn is_decoded(row: &str) -> Option<bool> {
+    let decoded = decode(hex(row, 0)?).ok()?;
+    let (name, fields) = shown(decoded);
+    let third = hex(row, 4).unwrap_or(0);
+    Some(name == word(row, 1) && fields == [hex(row, 2)?, hex(row, 3)?, third])
+}
+
+/// Each row's word is that instruction.
+fn are_decoded(rt: &impl Abort, rows: &str) {
+    for row in rows.split('\n') {
+        assert!(rt; row.is_empty() || is_decoded(row) == Some(true), "{row}");
+    }
+}
+
+#[test]
+fn decodes_registers(rt: HostRuntime) {
+    are_decoded(&rt, REGISTERS);
+}
+
+#[test]
+fn decodes_immediates(rt: HostRuntime) {
+    are_decoded(&rt, IMMEDIATES);
+}
+
+#[test]
+fn decodes_loads_and_stores(rt: HostRuntime) {
+    are_decoded(&rt, LOADS_AND_STORES);
+}
+
+#[test]
+fn decodes_jumps_and_upper_immediates(rt: HostRuntime) {
+    are_decoded(&rt, JUMPS_AND_UPPER_IMMEDIATES);
+}
+
+#[test]
+fn refuses_words(rt: HostRuntime) {
+    assert!(rt; matches!(decode(0), Err(Refused::Illegal)));
+    assert!(rt; matches!(decode(0x0010_0073), Err(Refused::System)));
+}
+
+#[test]
+fn decodes_a_fence(rt: HostRuntime) {
+    assert!(rt; matches!(decode(0x0ff0_000f), Ok(Instr::Fence)));
+}
+
+#[test]
+fn names_the_reasons(rt: HostRuntime) {
+    assert_eq!(rt; Refused::Illegal.name(), "Illegal");
+    assert_eq!(rt; Refused::System.name(), "System");
+}
