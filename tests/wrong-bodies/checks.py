@@ -29,7 +29,7 @@ class Said:
 
 def check(kit, crates, name, texts, functions, kept):
     """Checks these functions of a crate with these texts of its files, over what earlier checks left in the folder `kept`."""
-    with tempfile.TemporaryDirectory(prefix="wrong-bodies-") as room:
+    with tempfile.TemporaryDirectory(prefix="wrong-bodies-", ignore_cleanup_errors=True) as room:
         for part in PARTS:
             if os.path.isdir(f"{crates.folder(name)}/{part}"):
                 shutil.copytree(f"{crates.folder(name)}/{part}", f"{room}/{part}")
