@@ -17,3 +17,5 @@ mod programs;
 mod runs;
 #[cfg(test)]
 mod stops;
+#[cfg(test)]
+mod words;
