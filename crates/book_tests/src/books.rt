@@ -4,14 +4,15 @@ ghost use Rattle.std.specs.Prelude.{◌≡◌, ◌<◌};
 ghost use Rattle.homefree.specs.BookView.{IsOfSameLoop};
 ghost use Rattle.homefree.specs.Counted.{IsNoMore};
 
+use crate::images::{image_again, image_named, read_image};
 use crate::random::Random;
 use crate::refusing::Refusing;
-use crate::rows::{EXIT, ROWS, Row, SMALL, SUM_OF_FOUR, SUM_OF_TWO, counts_in, numbers_of, row_of};
+use crate::rows::{IMAGES, ROWS, Row, SMALL, counts_in, numbers_of, row_of};
 use crate::walk::{drive_new, hart_after, look, open, turn, walk, walk_again};
 use crate::words::{end_of, entries_of, is_row};
 use homefree::{Answer, Book, StopCause, TurnFault};
 use run_ledger::Shares;
-use rv32_exec::{End, Hart, Image, NoMemory, image_of};
+use rv32_exec::{End, Hart, Image, NoMemory};
 use spec_bus::CachedBus;
 use spec_history::{Entry, What};
 use std::alloc::{AllocError, Global};
@@ -38,37 +39,67 @@ fn is_row_of<S: EpochStore>(book: &Book<S>, row: &Row, entries: &[Entry]) -> boo
 }
 
 /// The last turn's fault has this word. A word for another answer is that of no fault.
-fn is_fault(driven: &Result<Option<End>, TurnFault>, word: Option<&&'static str>) -> bool {
-    match (driven, word) {
-        (Err(fault), Some(word)) => fault.name() == *word,
-        (Ok(_), Some(word)) => *word != "HistoryFull" && *word != "NoMemory",
-        (answer, None) => answer.is_ok(),
+fn is_fault(driven: &Result<Option<End>, TurnFault>, word: &str) -> bool {
+    match driven {
+        Err(fault) => fault.name() == word,
+        Ok(_) => word != "HistoryFull" && word != "NoMemory",
     }
 }
 
-/// A row, turn by turn. Answers the word for each turn.
+/// What a row says, read.
+#[derive(Drop)]
+struct Worked {
+    image: Image,
+    schedule: Vec<u32>,
+    entries: Vec<Entry>,
+}
+
+/// Reads a row.
+fn read_row(alloc: Global, row: &Row) -> Result<Worked, Fail> {
+    let image = read_image(alloc, row.image)?;
+    let schedule = numbers_of(alloc, row.schedule)?;
+    let entries = entries_of(alloc, row.entries)?;
+    Ok(Worked {
+        image,
+        schedule,
+        entries,
+    })
+}
+
+/// The turns of a row at its new book. Answers the word for the last turn.
+fn walk_book<S: EpochStore>(
+    rt: &impl Abort,
+    alloc: Global,
+    row: &Row,
+    worked: &Worked,
+    book: &mut Book<S>,
+    shares: &mut Shares,
+) -> Result<&'static str, Fail>
+    requires cores { book.old.cores ≡ row.now.cores }
+    requires image { book.old.image ≡ worked.now.image }
+    requires shares { IsNoMore shares.old book.old.totals }
+{
+    let (image, schedule) = (&worked.image, worked.schedule.as_slice());
+    let answers = walk(rt, alloc, book, image, row.cores, schedule, shares)?;
+    assert!(rt; are_words(answers.as_slice(), row.answers));
+    Ok(answers.last().copied().unwrap_or(""))
+}
+
+/// A row, turn by turn. Answers the word for the last turn.
 fn walk_row<S: EpochStore>(
     rt: &impl Abort,
     alloc: Global,
     row: &Row,
-    schedule: &[u32],
-    entries: &[Entry],
-) -> Result<Vec<&'static str>, Fail> {
-    let image = image_of(alloc, row.image.as_bytes())?;
-    let made: Result<(Book<S>, Shares), NoMemory> = open(rt, alloc, &image, row.cores, row.room);
+    worked: &Worked,
+) -> Result<&'static str, Fail> {
+    let (image, cores) = (&worked.image, row.cores);
+    let made: Result<(Book<S>, Shares), NoMemory> = open(rt, alloc, image, cores, row.room);
     let (mut book, mut shares) = made?;
-    let answers = walk(
-        rt,
-        alloc,
-        &mut book,
-        &image,
-        row.cores,
-        schedule,
-        &mut shares,
-    )?;
-    assert!(rt; is_row_of(&book, row, entries) && shares.counts() == book.totals());
-    look(rt, alloc, &book, &image, row.cores)?;
-    Ok(answers)
+    let last = walk_book(rt, alloc, row, worked, &mut book, &mut shares)?;
+    assert!(rt; is_row_of(&book, row, worked.entries.as_slice()));
+    assert!(rt; shares.counts() == book.totals());
+    look(rt, alloc, &book, image, cores)?;
+    Ok(last)
 }
 
 /// A row by `drive`, whose last turn had this answer.
@@ -76,44 +107,46 @@ fn drive_row<S: EpochStore>(
     rt: &impl Abort,
     alloc: Global,
     row: &Row,
-    schedule: &[u32],
-    entries: &[Entry],
-    last: Option<&&'static str>,
+    worked: &Worked,
+    last: &str,
 ) -> Result<(), Fail> {
-    let image = image_of(alloc, row.image.as_bytes())?;
+    let schedule = worked.schedule.as_slice();
     let driven: (Book<S>, Result<Option<End>, TurnFault>) = drive_new(
-        rt, alloc, &image, row.cores, row.room, schedule,
+        rt,
+        alloc,
+        &worked.image,
+        row.cores,
+        row.room,
+        schedule,
     )?;
-    assert!(rt; driven.0.history() == entries && is_fault(&driven.1, last));
+    assert!(rt; driven.0.history() == worked.entries.as_slice() && is_fault(&driven.1, last));
     Ok(())
 }
 
 /// A row, turn by turn, and then by `drive`.
 fn try_row<S: EpochStore>(rt: &impl Abort, alloc: Global, row: &Row) -> Result<(), Fail> {
-    let schedule = numbers_of(alloc, row.schedule)?;
-    let entries = entries_of(alloc, row.entries)?;
-    let answers = walk_row::<S>(rt, alloc, row, schedule.as_slice(), entries.as_slice())?;
-    assert!(rt; are_words(answers.as_slice(), row.answers));
-    drive_row::<S>(
-        rt,
-        alloc,
-        row,
-        schedule.as_slice(),
-        entries.as_slice(),
-        answers.last(),
-    )
+    let worked = read_row(alloc, row)?;
+    let last = walk_row::<S>(rt, alloc, row, &worked)?;
+    drive_row::<S>(rt, alloc, row, &worked, last)
+}
+
+/// A row over its store.
+fn try_line(rt: &impl Abort, alloc: Global, line: &str) -> Result<(), Fail> {
+    let row = row_of(line);
+    if row.store == "waiting" {
+        try_row::<Waiting<PlainStore>>(rt, alloc, &row)
+    } else if row.store == "caches" {
+        try_row::<CachedBus>(rt, alloc, &row)
+    } else {
+        try_row::<PlainStore>(rt, alloc, &row)
+    }
 }
 
 #[test]
 fn takes_turns_by_worked_schedules(rt: HostRuntime) -> Result<(), Fail> {
-    for line in ROWS.split('\n').filter(|line| is_row(line)) {
-        let row = row_of(line).ok_or(line)?;
-        if row.store == "waiting" {
-            try_row::<Waiting<PlainStore>>(&rt, rt.alloc(), &row)?;
-        } else if row.store == "caches" {
-            try_row::<CachedBus>(&rt, rt.alloc(), &row)?;
-        } else {
-            try_row::<PlainStore>(&rt, rt.alloc(), &row)?;
+    for line in ROWS.split('\n') {
+        if is_row(line) {
+            try_line(&rt, rt.alloc(), line)?;
         }
     }
     Ok(())
@@ -121,25 +154,33 @@ fn takes_turns_by_worked_schedules(rt: HostRuntime) -> Result<(), Fail> {
 
 /// The schedule of so many turns that has this number: its digits, the last one first.
 fn schedule_of(alloc: Global, number: u32, cores: u32, turns: u32) -> Result<Vec<u32>, AllocError> {
+    let base = cores.max(1);
     let mut schedule = Vec::new(alloc);
     let mut rest = number;
     for _ in 0..turns {
-        schedule.push(rest.checked_rem(cores).unwrap_or(0))?;
-        rest = rest.checked_div(cores).unwrap_or(0);
+        schedule.push(rest % base)?;
+        rest /= base;
     }
     Ok(schedule)
 }
 
-/// A book by this schedule: no turn fails.
+/// A book by the schedule of this number: no turn fails.
 fn drive_well<S: EpochStore>(
     rt: &impl Abort,
     alloc: Global,
     image: &Image,
     cores: u32,
-    schedule: &[u32],
+    turns: u32,
+    number: u32,
 ) -> Result<(), Fail> {
+    let schedule = schedule_of(alloc, number, cores, turns)?;
     let driven: (Book<S>, Result<Option<End>, TurnFault>) = drive_new(
-        rt, alloc, image, cores, 1024, schedule,
+        rt,
+        alloc,
+        image,
+        cores,
+        1024,
+        schedule.as_slice(),
     )?;
     assert!(rt; driven.1.is_ok());
     Ok(())
@@ -153,10 +194,9 @@ fn try_all<S: EpochStore>(
     cores: u32,
     turns: u32,
 ) -> Result<(), Fail> {
-    let image = image_of(alloc, text.as_bytes())?;
+    let image = read_image(alloc, text)?;
     for number in 0..cores.saturating_pow(turns) {
-        let schedule = schedule_of(alloc, number, cores, turns)?;
-        drive_well::<S>(rt, alloc, &image, cores, schedule.as_slice())?;
+        drive_well::<S>(rt, alloc, &image, cores, turns, number)?;
     }
     Ok(())
 }
@@ -193,11 +233,16 @@ fn every_short_schedule_is_legal_and_ends_as_the_sequential_loop_does(
     Ok(())
 }
 
+/// A random image.
+fn random_image(alloc: Global, random: &mut Random, second: bool) -> Result<Image, Fail> {
+    let text = random.image(alloc, second)?;
+    read_image(alloc, text.as_str())
+}
+
 /// A random loop by a random schedule; where it is over, true.
 fn try_random(rt: &impl Abort, alloc: Global, random: &mut Random) -> Result<bool, Fail> {
     let second = random.below(2) == 1;
-    let text = random.image(alloc, second)?;
-    let image = image_of(alloc, text.as_bytes())?;
+    let image = random_image(alloc, random, second)?;
     let cores = 1 + random.below(if second { 16 } else { 8 });
     let schedule = random.schedule(alloc, cores)?;
     let room = 32 + random.below(200);
@@ -210,7 +255,7 @@ fn try_random(rt: &impl Abort, alloc: Global, random: &mut Random) -> Result<boo
 
 #[test]
 fn random_loops_are_legal_and_end_as_the_sequential_loop_does(rt: HostRuntime) -> Result<(), Fail> {
-    let mut random = Random::new();
+    let mut random = Random::new(0);
     let mut ended = 0_u32;
     for _ in 0..2000 {
         if try_random(&rt, rt.alloc(), &mut random)? {
@@ -251,14 +296,19 @@ fn tell_it<S: EpochStore>(rt: &impl Abort, book: &mut Book<S>, image: &Image, sh
     assert!(rt; loaded.is_some() && loaded != started && loaded_again == loaded);
 }
 
-#[test]
-fn a_core_is_told_its_hart(rt: HostRuntime) -> Result<(), Fail> {
-    let image = image_of(rt.alloc(), SUM_OF_FOUR.as_bytes())?;
-    let made: Result<(Book<PlainStore>, Shares), NoMemory> = open(&rt, rt.alloc(), &image, 1, 64);
+/// The core of a new book is told its hart.
+fn is_told(rt: &impl Abort, alloc: Global, image: &Image) -> Result<(), Fail> {
+    let made: Result<(Book<PlainStore>, Shares), NoMemory> = open(rt, alloc, image, 1, 64);
     let (mut book, mut shares) = made?;
-    tell_it(&rt, &mut book, &image, &mut shares);
+    tell_it(rt, &mut book, image, &mut shares);
     assert!(rt; book.len() == 2);
     Ok(())
+}
+
+#[test]
+fn a_core_is_told_its_hart(rt: HostRuntime) -> Result<(), Fail> {
+    let image = read_image(rt.alloc(), image_named(IMAGES, "SUM_OF_FOUR"))?;
+    is_told(&rt, rt.alloc(), &image)
 }
 
 /// The first of two stops is the book's.
@@ -289,15 +339,20 @@ fn turn_stopped<S: EpochStore>(
     assert!(rt; book.len() == 1 && book.homefree() == 0);
 }
 
+/// A new book is stopped when its core has begun an epoch.
+fn is_stopped(rt: &impl Abort, alloc: Global, image: &Image) -> Result<(), Fail> {
+    let made: Result<(Book<PlainStore>, Shares), NoMemory> = open(rt, alloc, image, 1, 64);
+    let (mut book, mut shares) = made?;
+    let started = told(&mut book, image, None, &mut shares);
+    stop_twice(rt, &mut book);
+    turn_stopped(rt, &mut book, image, started, &mut shares);
+    look(rt, alloc, &book, image, 1)
+}
+
 #[test]
 fn a_stopped_book_takes_no_more_turns(rt: HostRuntime) -> Result<(), Fail> {
-    let image = image_of(rt.alloc(), SUM_OF_TWO.as_bytes())?;
-    let made: Result<(Book<PlainStore>, Shares), NoMemory> = open(&rt, rt.alloc(), &image, 1, 64);
-    let (mut book, mut shares) = made?;
-    let started = told(&mut book, &image, None, &mut shares);
-    stop_twice(&rt, &mut book);
-    turn_stopped(&rt, &mut book, &image, started, &mut shares);
-    look(&rt, rt.alloc(), &book, &image, 1)
+    let image = read_image(rt.alloc(), image_named(IMAGES, "SUM_OF_TWO"))?;
+    is_stopped(&rt, rt.alloc(), &image)
 }
 
 /// A book whose loop has ended with an exit is not stopped.
@@ -314,51 +369,64 @@ fn read_the_end<S: EpochStore>(rt: &impl Abort, book: &Book<S>, size: u32) {
     assert!(rt; book.committed(size) == None);
 }
 
-#[test]
-fn a_loop_that_is_over_is_not_stopped(rt: HostRuntime) -> Result<(), Fail> {
-    let image = image_of(rt.alloc(), EXIT.as_bytes())?;
+/// A new book whose loop ends with an exit is not stopped then.
+fn is_not_stopped(rt: &impl Abort, alloc: Global, image: &Image) -> Result<(), Fail> {
     let schedule = [0, 1, 0, 1, 0];
     let driven: (Book<PlainStore>, Result<Option<End>, TurnFault>) = drive_new(
-        &rt,
-        rt.alloc(),
-        &image,
-        2,
-        64,
-        schedule.as_slice(),
+        rt, alloc, image, 2, 64, &schedule,
     )?;
     assert!(rt; driven.1 == Ok(Some(End::Exit(0))));
     let mut book = driven.0;
-    stop_too_late(&rt, &mut book);
-    read_the_end(&rt, &book, image.size());
+    stop_too_late(rt, &mut book);
+    read_the_end(rt, &book, image.size());
     Ok(())
+}
+
+#[test]
+fn a_loop_that_is_over_is_not_stopped(rt: HostRuntime) -> Result<(), Fail> {
+    let image = read_image(rt.alloc(), image_named(IMAGES, "EXIT"))?;
+    is_not_stopped(&rt, rt.alloc(), &image)
+}
+
+/// Four turns of a core, the last two of which get no memory.
+fn refuse_two<S: EpochStore>(
+    rt: &impl Abort,
+    alloc: Global,
+    book: &mut Book<S>,
+    image: &Image,
+    shares: &mut Shares,
+) -> Result<(), Fail>
+    requires cores { book.old.cores ≡ 1 }
+    requires image { book.old.image ≡ image.now }
+    requires shares { IsNoMore shares.old book.old.totals }
+{
+    let answers = walk(rt, alloc, book, image, 1, &[0, 0, 0, 0], shares)?;
+    assert!(rt; are_words(answers.as_slice(), "go go NoMemory NoMemory"));
+    Ok(())
+}
+
+/// The history of a book has these entries.
+fn has_entries<S: EpochStore>(alloc: Global, book: &Book<S>, text: &str) -> Result<bool, Fail> {
+    let entries = entries_of(alloc, text)?;
+    Ok(book.history() == entries.as_slice())
+}
+
+/// A new book whose store refuses memory at the third turn is as it was.
+fn is_left(rt: &impl Abort, alloc: Global, image: &Image) -> Result<(), Fail> {
+    let made: Result<(Book<Refusing<PlainStore>>, Shares), NoMemory> = open(
+        rt, alloc, image, 1, 64,
+    );
+    let (mut book, mut shares) = made?;
+    refuse_two(rt, alloc, &mut book, image, &mut shares)?;
+    assert!(rt; has_entries(alloc, &book, "0 start 0; 0 load 64 4 0")?);
+    look(rt, alloc, &book, image, 1)
 }
 
 /// The store refuses memory at the third turn, and nothing has changed then.
 #[test]
 fn a_store_that_is_refused_memory_leaves_the_book(rt: HostRuntime) -> Result<(), Fail> {
-    let image = image_of(rt.alloc(), SUM_OF_FOUR.as_bytes())?;
-    let made: Result<(Book<Refusing<PlainStore>>, Shares), NoMemory> = open(
-        &rt,
-        rt.alloc(),
-        &image,
-        1,
-        64,
-    );
-    let (mut book, mut shares) = made?;
-    let schedule = [0, 0, 0, 0];
-    let answers = walk(
-        &rt,
-        rt.alloc(),
-        &mut book,
-        &image,
-        1,
-        schedule.as_slice(),
-        &mut shares,
-    )?;
-    let entries = entries_of(rt.alloc(), "0 start 0; 0 load 64 4 0")?;
-    assert!(rt; are_words(answers.as_slice(), "go go NoMemory NoMemory"));
-    assert!(rt; book.history() == entries.as_slice());
-    look(&rt, rt.alloc(), &book, &image, 1)
+    let image = read_image(rt.alloc(), image_named(IMAGES, "SUM_OF_FOUR"))?;
+    is_left(&rt, rt.alloc(), &image)
 }
 
 /// A book has eight entries with these counts, and the sum of two epochs at 64.
@@ -366,34 +434,36 @@ fn holds_the_sum<S: EpochStore>(book: &Book<S>) -> bool {
     book.len() == 8 && book.totals() == counts_in("2 2 0 2") && book.committed(64) == Some(1)
 }
 
-/// It passes too where any one of its allocations fails, as by `rt try --test --fail-alloc N`: a turn that is refused memory
-/// changes nothing, and goes through at the next try.
-#[test]
-fn want_of_memory_changes_nothing(rt: HostRuntime) -> Result<(), Fail> {
-    let alloc = rt.alloc();
-    let image = image_of(alloc, SUM_OF_TWO.as_bytes()).or_else(|_| image_of(
-        alloc,
-        SUM_OF_TWO.as_bytes(),
-    ))?;
-    let mut made: Result<(Book<PlainStore>, Shares), NoMemory> = open(&rt, alloc, &image, 1, 64);
+/// One core runs the sum of two epochs, and takes turns again where memory was refused.
+fn sums_again(rt: &impl Abort, alloc: Global, image: &Image) -> Result<(), Fail> {
+    let mut made: Result<(Book<PlainStore>, Shares), NoMemory> = open(rt, alloc, image, 1, 64);
     if made.is_err() {
-        made = open(&rt, alloc, &image, 1, 64);
+        made = open(rt, alloc, image, 1, 64);
     }
     let (mut book, mut shares) = made?;
-    let end = walk_again(&rt, &mut book, &image, &mut shares);
+    let end = walk_again(rt, &mut book, image, &mut shares);
     assert!(rt; end == Some(End::Done(2)) && shares.counts() == counts_in("2 2 0 2"));
     assert!(rt; holds_the_sum(&book));
     Ok(())
 }
 
+/// It passes too where any one of its allocations fails, as by `rt try --test --fail-alloc N`: a turn that is refused memory
+/// changes nothing, and goes through at the next try.
+#[test]
+fn want_of_memory_changes_nothing(rt: HostRuntime) -> Result<(), Fail> {
+    let image = image_again(rt.alloc(), image_named(IMAGES, "SUM_OF_TWO"))?;
+    sums_again(&rt, rt.alloc(), &image)
+}
+
+/// The fault has this name, and prints it.
+fn is_named(rt: &impl Abort, alloc: Global, fault: TurnFault, name: &str) -> Result<(), Fail> {
+    assert!(rt; fault.name() == name);
+    assert!(rt; format!(in alloc; "{fault}")?.as_str() == name);
+    Ok(())
+}
+
 #[test]
 fn names_are_printed(rt: HostRuntime) -> Result<(), Fail> {
-    for (fault, name) in [
-        (TurnFault::HistoryFull, "HistoryFull"),
-        (TurnFault::NoMemory, "NoMemory"),
-    ] {
-        assert!(rt; fault.name() == name);
-        assert!(rt; format!(in rt.alloc(); "{fault}")?.as_str() == name);
-    }
-    Ok(())
+    is_named(&rt, rt.alloc(), TurnFault::HistoryFull, "HistoryFull")?;
+    is_named(&rt, rt.alloc(), TurnFault::NoMemory, "NoMemory")
 }

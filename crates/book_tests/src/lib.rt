@@ -1,10 +1,18 @@
-//! Tests of histories and of the book over their public calls.
+//! Tests of histories, of the book, and of the caches on a bus beside a plain slow bus, over public calls alone.
 #![tactic(auto)]
 
 #[cfg(test)]
 mod books;
 #[cfg(test)]
+mod buses;
+#[cfg(test)]
 mod history;
+#[cfg(test)]
+mod images;
+#[cfg(test)]
+mod plain_bus;
+#[cfg(test)]
+mod plain_core;
 #[cfg(test)]
 mod random;
 #[cfg(test)]

@@ -1,4 +1,4 @@
-//! Random images and schedules.
+//! Random numbers, images and schedules.
 ghost use Rattle.std.specs.Prelude.{◌<◌};
 
 use std::alloc::{AllocError, Global};
@@ -10,9 +10,9 @@ pub struct Random {
 }
 
 impl Random {
-    pub fn new() -> Random {
+    pub fn new(seed: u64) -> Random {
         Random {
-            state: 0x9e37_79b9_7f4a_7c15,
+            state: seed ^ 0x9e37_79b9_7f4a_7c15,
         }
     }
 
@@ -27,6 +27,11 @@ impl Random {
         self.state ^= self.state >> 27;
         let high = self.state.wrapping_mul(0x2545_f491_4f6c_dd1d) >> 32;
         high as u32 % count
+    }
+
+    /// A word.
+    pub fn number(&mut self) -> u32 {
+        (self.below(0x1_0000) << 16) | self.below(0x1_0000)
     }
 
     /// One of the registers x5 to x10.
@@ -57,16 +62,12 @@ impl Random {
 
     /// The text of an image of up to 7 epochs.
     pub fn image(&mut self, alloc: Global, second: bool) -> Result<String, AllocError> {
-        let mut text = String::new(alloc);
-        if second {
-            text.push_str("version 2\n")?;
-        }
-        text.push_str("size 256\n")?;
-        if self.below(3) == 0 {
-            text.push_str("exit\n")?;
-        }
+        let version = if second { "version 2\n" } else { "" };
+        let exit = if self.below(3) == 0 { "exit\n" } else { "" };
         let (epochs, limit) = (self.below(8), self.below(40).wrapping_add(1));
-        text.push_str(format!(in alloc; "epochs {epochs}\nlimit {limit}\ncode ")?.as_str())?;
+        let mut text = format!(in alloc;
+            "{version}size 256\n{exit}epochs {epochs}\nlimit {limit}\ncode "
+        )?;
         for _ in 0..self.below(9) {
             push_word(&mut text, self.instruction())?;
         }

@@ -1,88 +1,96 @@
 //! Schedules of turns with what comes of them, worked out by hand from the cases of a turn.
 
+use crate::images::image_named;
 use crate::words::{cell, number};
 use run_ledger::Counts;
 use std::alloc::Global;
 use std::test::Fail;
 
-/// Epoch 0 stores 1 to 64. Epoch 1 loops until it loads it.
-///
-/// `beq x10,x0,+16; lw x5,64(x0); beq x5,x0,-4; jalr x0,0(x1); addi x5,x0,1; sw x5,64(x0); jalr x0,0(x1)`
-const SIGNAL: &str =
-    "size 256\nepochs 2\nlimit 50\ncode 6308050083220004e38e02fe67800000930210002320500467800000\n";
-
-/// Epoch 0 loads the word at 64, to which epoch 1 stores 1.
-///
-/// `beq x10,x0,+12; sw x10,64(x0); jalr x0,0(x1); lw x5,64(x0); jalr x0,0(x1)`
-const LOAD_FIRST: &str =
-    "size 256\nepochs 2\nlimit 100\ncode 630605002320a004678000008322000467800000\n";
-
-/// Each of two epochs stores 255 to its byte at 64, 65.
-///
-/// `addi x5,x0,255; sb x5,64(x10); jalr x0,0(x1)`
-const BYTES: &str = "size 256\nepochs 2\nlimit 100\ncode 9302f00f2300550467800000\n";
-
-/// Each epoch adds its number to the word at 64.
-///
-/// `lw x5,64(x0); add x5,x5,x10; sw x5,64(x0); jalr x0,0(x1)`
-const SUM_OF_ONE: &str = "size 256\nepochs 1\nlimit 100\ncode 83220004b382a2002320500467800000\n";
-
-/// The same of two epochs.
-pub const SUM_OF_TWO: &str =
-    "size 256\nepochs 2\nlimit 100\ncode 83220004b382a2002320500467800000\n";
-
-/// The same of four epochs.
-pub const SUM_OF_FOUR: &str =
-    "size 256\nepochs 4\nlimit 100\ncode 83220004b382a2002320500467800000\n";
-
-/// The same in version 2.
-const SUM_IN_VERSION_2: &str =
-    "version 2\nsize 256\nepochs 4\nlimit 100\ncode 83220004b382a2002320500467800000\n";
-
-/// Each of three epochs adds its number and 1 to the word at 64.
-///
-/// `lw x5,64(x0); addi x6,x10,1; add x5,x5,x6; sw x5,64(x0); jalr x0,0(x1)`
-const ADD: &str = "size 256\nepochs 3\nlimit 50\ncode 8322000413031500b38262002320500467800000\n";
-
-/// Each of two epochs stores its number to its word at 64, 68.
-///
-/// `slli x5,x10,2; sw x10,64(x5); jalr x0,0(x1)`
-const OWN_WORDS: &str = "size 256\nepochs 2\nlimit 100\ncode 9312250023a0a20467800000\n";
-
-/// Each of two epochs stores its number to 64, and then exits the loop.
-///
-/// `sw x10,64(x0); addi x10,x0,1; jalr x0,0(x1)`
-pub const EXIT: &str = "size 256\nepochs 2\nlimit 50\nexit\ncode 2320a0041305100067800000\n";
-
-/// Each of two epochs adds 1 to the word at 64, and then faults.
-///
-/// `lw x5,64(x0); addi x5,x5,1; sw x5,64(x0); ecall`
-const CALL: &str = "size 256\nepochs 2\nlimit 50\ncode 83220004938212002320500473000000\n";
-
-/// Epoch 1 loads the word at 64 and faults.
-///
-/// `beq x10,x0,+12; lw x5,64(x0); ecall; jalr x0,0(x1)`
-const CALL_AT_ONE: &str = "size 256\nepochs 2\nlimit 50\ncode 63060500832200047300000067800000\n";
-
-/// Each epoch loads the words at 64, 128 and 192, whose lines are of one set.
-///
-/// `lw x5,64(x0); lw x6,128(x0); lw x7,192(x0); jalr x0,0(x1)`
-const ONE_SET: &str = "size 256\nepochs 2\nlimit 100\ncode 83220004032300088323000c67800000\n";
-
-/// Epoch 0 loads the words at 64, 80, 96, 112 and 128. Epoch 1 stores 1 to them.
-///
-/// `beq x10,x0,+28; sw x10` to 64, 80, 96, 112, 128; `jalr x0,0(x1); lw x5` from 64, 80, 96, 112, 128; `jalr x0,0(x1)`
-const FIVE_LOADS_FIRST: &str =
-    "size 256\nepochs 2\nlimit 100\ncode 630e05002320a0042328a0042320a0062328a0062320a00867800000832200048322000583220006832200078322000867800000\n";
-
-/// Epoch 0 stores 0 to the words at 64, 80, 96, 112 and 128. Epoch 1 loads them.
-///
-/// `beq x10,x0,+28; lw x5` from 64, 80, 96, 112, 128; `jalr x0,0(x1); sw x10` to 64, 80, 96, 112, 128; `jalr x0,0(x1)`
-const FIVE_STORES_FIRST: &str =
-    "size 256\nepochs 2\nlimit 100\ncode 630e05008322000483220005832200068322000783220008678000002320a0042328a0042320a0062328a0062320a00867800000\n";
-
-/// Nothing is to be run.
-const NOTHING: &str = "size 256\nepochs 0\nlimit 50\ncode 67800000\n";
+/// The images: before each its name, what its epochs do, and their instructions.
+pub const IMAGES: &str = "
+=SIGNAL | Epoch 0 stores 1 to 64. Epoch 1 loops until it loads it. | beq x10,x0,+16; lw x5,64(x0); beq x5,x0,-4; jalr x0,0(x1); addi x5,x0,1; sw x5,64(x0); jalr x0,0(x1)
+size 256
+epochs 2
+limit 50
+code 6308050083220004e38e02fe67800000930210002320500467800000
+=LOAD_FIRST | Epoch 0 loads the word at 64, to which epoch 1 stores 1. | beq x10,x0,+12; sw x10,64(x0); jalr x0,0(x1); lw x5,64(x0); jalr x0,0(x1)
+size 256
+epochs 2
+limit 100
+code 630605002320a004678000008322000467800000
+=BYTES | Each of two epochs stores 255 to its byte at 64, 65. | addi x5,x0,255; sb x5,64(x10); jalr x0,0(x1)
+size 256
+epochs 2
+limit 100
+code 9302f00f2300550467800000
+=SUM_OF_ONE | Each epoch adds its number to the word at 64. | lw x5,64(x0); add x5,x5,x10; sw x5,64(x0); jalr x0,0(x1)
+size 256
+epochs 1
+limit 100
+code 83220004b382a2002320500467800000
+=SUM_OF_TWO | The same of two epochs.
+size 256
+epochs 2
+limit 100
+code 83220004b382a2002320500467800000
+=SUM_OF_FOUR | The same of four epochs.
+size 256
+epochs 4
+limit 100
+code 83220004b382a2002320500467800000
+=SUM_IN_VERSION_2 | The same in version 2.
+version 2
+size 256
+epochs 4
+limit 100
+code 83220004b382a2002320500467800000
+=ADD | Each of three epochs adds its number and 1 to the word at 64. | lw x5,64(x0); addi x6,x10,1; add x5,x5,x6; sw x5,64(x0); jalr x0,0(x1)
+size 256
+epochs 3
+limit 50
+code 8322000413031500b38262002320500467800000
+=OWN_WORDS | Each of two epochs stores its number to its word at 64, 68. | slli x5,x10,2; sw x10,64(x5); jalr x0,0(x1)
+size 256
+epochs 2
+limit 100
+code 9312250023a0a20467800000
+=EXIT | Each of two epochs stores its number to 64, and then exits the loop. | sw x10,64(x0); addi x10,x0,1; jalr x0,0(x1)
+size 256
+epochs 2
+limit 50
+exit
+code 2320a0041305100067800000
+=CALL | Each of two epochs adds 1 to the word at 64, and then faults. | lw x5,64(x0); addi x5,x5,1; sw x5,64(x0); ecall
+size 256
+epochs 2
+limit 50
+code 83220004938212002320500473000000
+=CALL_AT_ONE | Epoch 1 loads the word at 64 and faults. | beq x10,x0,+12; lw x5,64(x0); ecall; jalr x0,0(x1)
+size 256
+epochs 2
+limit 50
+code 63060500832200047300000067800000
+=ONE_SET | Each epoch loads the words at 64, 128 and 192, whose lines are of one set. | lw x5,64(x0); lw x6,128(x0); lw x7,192(x0); jalr x0,0(x1)
+size 256
+epochs 2
+limit 100
+code 83220004032300088323000c67800000
+=FIVE_LOADS_FIRST | Epoch 0 loads the words at 64, 80, 96, 112 and 128. Epoch 1 stores 1 to them. | beq x10,x0,+28; sw x10 to 64, 80, 96, 112, 128; jalr x0,0(x1); lw x5 from 64, 80, 96, 112, 128; jalr x0,0(x1)
+size 256
+epochs 2
+limit 100
+code 630e05002320a0042328a0042320a0062328a0062320a00867800000832200048322000583220006832200078322000867800000
+=FIVE_STORES_FIRST | Epoch 0 stores 0 to the words at 64, 80, 96, 112 and 128. Epoch 1 loads them. | beq x10,x0,+28; lw x5 from 64, 80, 96, 112, 128; jalr x0,0(x1); sw x10 to 64, 80, 96, 112, 128; jalr x0,0(x1)
+size 256
+epochs 2
+limit 100
+code 630e05008322000483220005832200068322000783220008678000002320a0042328a0042320a0062328a0062320a00867800000
+=NOTHING | Nothing is to be run.
+size 256
+epochs 0
+limit 50
+code 67800000
+";
 
 /// Images with little memory. The code is that of `SIGNAL`, `LOAD_FIRST`, `SUM_OF_TWO`, `ADD`, `EXIT` and `CALL`.
 pub const SMALL: [&str; 6] = [
@@ -143,11 +151,11 @@ pub struct Row<'a> {
 }
 
 /// What a line of the table says.
-pub fn row_of<'a>(line: &'a str) -> Option<Row<'a>> {
-    Some(Row {
+pub fn row_of<'a>(line: &'a str) -> Row<'a> {
+    Row {
         name: cell(line, 0),
         store: cell(line, 1),
-        image: image_named(cell(line, 2))?,
+        image: image_named(IMAGES, cell(line, 2)),
         cores: number(cell(line, 3), 0),
         room: number(cell(line, 4), 0),
         schedule: cell(line, 5),
@@ -155,37 +163,7 @@ pub fn row_of<'a>(line: &'a str) -> Option<Row<'a>> {
         entries: cell(line, 7),
         counts: cell(line, 8),
         end: cell(line, 9),
-    })
-}
-
-/// The texts of the images by name.
-const IMAGES: [(&str, &str); 16] = [
-    ("SIGNAL", SIGNAL),
-    ("LOAD_FIRST", LOAD_FIRST),
-    ("BYTES", BYTES),
-    ("SUM_OF_ONE", SUM_OF_ONE),
-    ("SUM_OF_TWO", SUM_OF_TWO),
-    ("SUM_OF_FOUR", SUM_OF_FOUR),
-    ("SUM_IN_VERSION_2", SUM_IN_VERSION_2),
-    ("ADD", ADD),
-    ("OWN_WORDS", OWN_WORDS),
-    ("EXIT", EXIT),
-    ("CALL", CALL),
-    ("CALL_AT_ONE", CALL_AT_ONE),
-    ("NOTHING", NOTHING),
-    ("ONE_SET", ONE_SET),
-    ("FIVE_LOADS_FIRST", FIVE_LOADS_FIRST),
-    ("FIVE_STORES_FIRST", FIVE_STORES_FIRST),
-];
-
-/// The text of an image.
-fn image_named(name: &str) -> Option<&'static str> {
-    for (of, text) in IMAGES {
-        if of == name {
-            return Some(text);
-        }
     }
-    None
 }
 
 /// The numbers of a list.

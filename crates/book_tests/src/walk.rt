@@ -206,11 +206,21 @@ pub fn look<S: EpochStore>(
     image: &Image,
     cores: u32,
 ) -> Result<(), Fail> {
-    let flat = audit(alloc, image, cores, book.history())
-        .ok()
-        .ok_or("illegal")?;
-    assert!(rt; is_after(book, &flat, image.size()));
+    match audit(alloc, image, cores, book.history()) {
+        Ok(flat) => assert!(rt; is_after(book, &flat, image.size())),
+        Err(_) => return Err("illegal".into()),
+    }
     assert!(rt; book.totals() == counts_of(book.history()));
+    ends_in_order(rt, alloc, book, image)
+}
+
+/// A book whose loop is over says the same as the sequential loop.
+fn ends_in_order<S: EpochStore>(
+    rt: &impl Abort,
+    alloc: Global,
+    book: &Book<S>,
+    image: &Image,
+) -> Result<(), Fail> {
     if let Some(end) = book.ended() {
         let whole = run_in_order(alloc, image)?;
         assert!(rt; whole.end() == end && holds(book, whole.bytes()));
@@ -230,12 +240,33 @@ fn is_after<S: EpochStore>(book: &Book<S>, flat: &Flat, size: u32) -> bool {
 
 /// Committed memory is these bytes.
 fn holds<S: EpochStore>(book: &Book<S>, bytes: &[u8]) -> bool {
-    for (addr, byte) in (0..1 << 20).zip(bytes) {
+    let mut addr = 0_u32;
+    for byte in bytes {
         if book.committed(addr) != Some(*byte) {
             return false;
         }
+        addr = addr.wrapping_add(1);
     }
     true
+}
+
+/// Drives a book through a schedule of its cores.
+fn drive_all<S: EpochStore>(
+    rt: &impl Abort,
+    book: &mut Book<S>,
+    cores: u32,
+    schedule: &[u32],
+    shares: &mut Shares,
+) -> Result<Option<End>, TurnFault>
+    requires cores { book.old.cores ≡ cores }
+    requires shares { IsNoMore shares.old book.old.totals }
+{
+    assert!(rt; schedule.iter().all(|core| *core < cores));
+    let driven = drive(book, schedule, shares);
+    assert!(rt; shares.counts() == book.totals());
+    // A loop of no epochs is over before any turn tells it.
+    assert!(rt; driven == Ok(book.ended()) || driven.is_err() || schedule.is_empty());
+    driven
 }
 
 /// Drives a new book through a schedule, and looks at it then.
@@ -249,11 +280,7 @@ pub fn drive_new<S: EpochStore>(
 ) -> Result<(Book<S>, Result<Option<End>, TurnFault>), Fail> {
     let made: Result<(Book<S>, Shares), NoMemory> = open(rt, alloc, image, cores, room);
     let (mut book, mut shares) = made?;
-    assert!(rt; schedule.iter().all(|core| *core < cores));
-    let driven = drive(&mut book, schedule, &mut shares);
-    assert_eq!(rt; shares.counts(), book.totals());
-    // A loop of no epochs is over before any turn tells it.
-    assert!(rt; driven == Ok(book.ended()) || driven.is_err() || schedule.is_empty());
+    let driven = drive_all(rt, &mut book, cores, schedule, &mut shares);
     look(rt, alloc, &book, image, cores)?;
     Ok((book, driven))
 }

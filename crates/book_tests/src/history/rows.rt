@@ -1,108 +1,123 @@
 //! Histories with what comes of them, worked out by hand from the table of entries.
 
+use crate::images::image_named;
 use crate::words::{cell, end_of, number};
 use rv32_exec::End;
 
-/// Epoch 0 stores 1 to 64. Epoch 1 loops until it loads it.
-///
-/// `beq x10,x0,+16; lw x5,64(x0); beq x5,x0,-4; jalr x0,0(x1); addi x5,x0,1; sw x5,64(x0); jalr x0,0(x1)`
-const SIGNAL: &str =
-    "size 256\nepochs 2\nlimit 50\ncode 6308050083220004e38e02fe67800000930210002320500467800000\n";
-
-/// Each of three epochs adds its number to the word at 64.
-///
-/// `lw x5,64(x0); add x5,x5,x10; sw x5,64(x0); jalr x0,0(x1)`
-const SUM: &str = "size 256\nepochs 3\nlimit 100\ncode 83220004b382a2002320500467800000\n";
-
-/// Each of three epochs adds its number and 1 to the word at 64.
-///
-/// `lw x5,64(x0); addi x6,x10,1; add x5,x5,x6; sw x5,64(x0); jalr x0,0(x1)`
-pub const ADD: &str =
-    "size 256\nepochs 3\nlimit 50\ncode 8322000413031500b38262002320500467800000\n";
-
-/// Each of two epochs counts the byte at 64, stores its number to the half word at 66, and loads the word between.
-///
-/// `lbu x5,64(x0); sh x10,66(x0); lw x6,64(x0); addi x6,x6,1; sb x6,64(x0); jalr x0,0(x1)`
-pub const WIDTHS: &str =
-    "size 256\nepochs 2\nlimit 50\ncode 834200042311a00403230004130313002300600467800000\n";
-
-/// One epoch loads negative numbers of 2 bytes and of 1.
-///
-/// `lh x5,64(x0); lb x6,64(x0); sw x5,68(x0); sh x6,72(x0); jalr x0,0(x1)`
-const SIGNS: &str =
-    "size 256\nepochs 1\nlimit 50\ncode 8312000403030004232250042314600467800000\nat 00000040 80ff\n";
-
-/// Each of three epochs stores its number to 64, where 255 stands, and loads it.
-///
-/// `sw x10,64(x0); lw x5,64(x0); jalr x0,0(x1)`
-const STORE_FIRST: &str =
-    "size 256\nepochs 3\nlimit 50\ncode 2320a0048322000467800000\nat 00000040 ff\n";
-
-/// Epoch 0 stores 9 to the bytes 64 and 65. Epoch 1 stores its number to the byte 64, and loads the word.
-///
-/// `beq x10,x0,+16; sb x10,64(x0); lw x5,64(x0); jalr x0,0(x1);`
-/// `addi x5,x0,9; sb x5,64(x0); sb x5,65(x0); jalr x0,0(x1)`
-const PART: &str =
-    "size 256\nepochs 2\nlimit 50\ncode 630805002300a00483220004678000009302900023005004a300500467800000\n";
-
-/// Epoch 0 stores 1 to 64. Epoch 1 stores 1 to 68 only where it loads 0 from 64.
-///
-/// `bne x10,x0,+16; addi x5,x0,1; sw x5,64(x0); jalr x0,0(x1);`
-/// `lw x5,64(x0); bne x5,x0,+8; sw x10,68(x0); jalr x0,0(x1)`
-const FORK: &str =
-    "size 256\nepochs 2\nlimit 50\ncode 6318050093021000232050046780000083220004639402002322a00467800000\n";
-
-/// Each of two epochs adds 1 to the word at 64, and then faults.
-///
-/// `lw x5,64(x0); addi x5,x5,1; sw x5,64(x0); ecall`
-const CALL: &str = "size 256\nepochs 2\nlimit 50\ncode 83220004938212002320500473000000\n";
-
-/// Epoch 1 loads the word at 64 and faults.
-///
-/// `beq x10,x0,+12; lw x5,64(x0); ecall; jalr x0,0(x1)`
-const CALL_AT_ONE: &str = "size 256\nepochs 2\nlimit 50\ncode 63060500832200047300000067800000\n";
-
-/// Nothing is to be run.
-const EMPTY: &str = "size 256\nepochs 0\nlimit 50\ncode 67800000\nat 00000040 05\n";
-
-/// Each of three epochs stores its number to 64, and then exits the loop.
-///
-/// `sw x10,64(x0); addi x10,x0,1; jalr x0,0(x1)`
-const EXIT: &str = "size 256\nepochs 3\nlimit 50\nexit\ncode 2320a0041305100067800000\n";
-
-/// The same loop of two epochs.
-const EXIT_OF_TWO: &str = "exit\nsize 256\nepochs 2\nlimit 50\ncode 2320a0041305100067800000\n";
-
-/// The same loop of one epoch, and of none.
-const EXIT_OF_ONE: &str = "size 256\nepochs 1\nlimit 50\nexit\ncode 2320a0041305100067800000\n";
-
-/// The same loop of no epoch.
-const EXIT_OF_NONE: &str = "size 256\nepochs 0\nlimit 50\nexit\ncode 2320a0041305100067800000\n";
-
-/// The same loop, which no epoch may exit.
-const NO_EXIT: &str = "size 256\nepochs 3\nlimit 50\ncode 2320a0041305100067800000\n";
-
-/// Each of eight epochs stores its number to its word at 64, 68, .. Epoch 2 exits the loop.
-///
-/// `slli x5,x10,2; sw x10,64(x5); xori x10,x10,2; sltiu x10,x10,1; jalr x0,0(x1)`
-const SEARCH: &str =
-    "size 256\nepochs 8\nlimit 50\nexit\ncode 9312250023a0a204134525001335150067800000\n";
-
-/// Each of three epochs counts the word at 64, and then exits the loop.
-///
-/// `lw x5,64(x0); addi x5,x5,1; sw x5,64(x0); addi x10,x0,1; jalr x0,0(x1)`
-const COUNT_AND_EXIT: &str =
-    "size 256\nepochs 3\nlimit 50\nexit\ncode 8322000493821200232050041305100067800000\n";
-
-/// Each of 16 epochs stores the number 4294967292 to the last word of 1,048,576 bytes.
-///
-/// `lui x5,0x100; sw x1,-4(x5); jalr x0,0(x1)`
-pub const LARGE: &str =
-    "version 2\nsize 1048576\nepochs 16\nlimit 50\ncode b702100023ae12fe67800000\n";
-
-/// Row by row the same as `SIGNAL`, in version 2.
-const SIGNAL_2: &str =
-    "version 2\nsize 256\nepochs 2\nlimit 50\ncode 6308050083220004e38e02fe67800000930210002320500467800000\n";
+/// The images: before each its name, what its epochs do, and their instructions.
+pub const IMAGES: &str = "
+=SIGNAL | Epoch 0 stores 1 to 64. Epoch 1 loops until it loads it. | beq x10,x0,+16; lw x5,64(x0); beq x5,x0,-4; jalr x0,0(x1); addi x5,x0,1; sw x5,64(x0); jalr x0,0(x1)
+size 256
+epochs 2
+limit 50
+code 6308050083220004e38e02fe67800000930210002320500467800000
+=SUM | Each of three epochs adds its number to the word at 64. | lw x5,64(x0); add x5,x5,x10; sw x5,64(x0); jalr x0,0(x1)
+size 256
+epochs 3
+limit 100
+code 83220004b382a2002320500467800000
+=ADD | Each of three epochs adds its number and 1 to the word at 64. | lw x5,64(x0); addi x6,x10,1; add x5,x5,x6; sw x5,64(x0); jalr x0,0(x1)
+size 256
+epochs 3
+limit 50
+code 8322000413031500b38262002320500467800000
+=WIDTHS | Each of two epochs counts the byte at 64, stores its number to the half word at 66, and loads the word between. | lbu x5,64(x0); sh x10,66(x0); lw x6,64(x0); addi x6,x6,1; sb x6,64(x0); jalr x0,0(x1)
+size 256
+epochs 2
+limit 50
+code 834200042311a00403230004130313002300600467800000
+=SIGNS | One epoch loads negative numbers of 2 bytes and of 1. | lh x5,64(x0); lb x6,64(x0); sw x5,68(x0); sh x6,72(x0); jalr x0,0(x1)
+size 256
+epochs 1
+limit 50
+code 8312000403030004232250042314600467800000
+at 00000040 80ff
+=STORE_FIRST | Each of three epochs stores its number to 64, where 255 stands, and loads it. | sw x10,64(x0); lw x5,64(x0); jalr x0,0(x1)
+size 256
+epochs 3
+limit 50
+code 2320a0048322000467800000
+at 00000040 ff
+=PART | Epoch 0 stores 9 to the bytes 64 and 65. Epoch 1 stores its number to the byte 64, and loads the word. | beq x10,x0,+16; sb x10,64(x0); lw x5,64(x0); jalr x0,0(x1); addi x5,x0,9; sb x5,64(x0); sb x5,65(x0); jalr x0,0(x1)
+size 256
+epochs 2
+limit 50
+code 630805002300a00483220004678000009302900023005004a300500467800000
+=FORK | Epoch 0 stores 1 to 64. Epoch 1 stores 1 to 68 only where it loads 0 from 64. | bne x10,x0,+16; addi x5,x0,1; sw x5,64(x0); jalr x0,0(x1); lw x5,64(x0); bne x5,x0,+8; sw x10,68(x0); jalr x0,0(x1)
+size 256
+epochs 2
+limit 50
+code 6318050093021000232050046780000083220004639402002322a00467800000
+=CALL | Each of two epochs adds 1 to the word at 64, and then faults. | lw x5,64(x0); addi x5,x5,1; sw x5,64(x0); ecall
+size 256
+epochs 2
+limit 50
+code 83220004938212002320500473000000
+=CALL_AT_ONE | Epoch 1 loads the word at 64 and faults. | beq x10,x0,+12; lw x5,64(x0); ecall; jalr x0,0(x1)
+size 256
+epochs 2
+limit 50
+code 63060500832200047300000067800000
+=EMPTY | Nothing is to be run.
+size 256
+epochs 0
+limit 50
+code 67800000
+at 00000040 05
+=EXIT | Each of three epochs stores its number to 64, and then exits the loop. | sw x10,64(x0); addi x10,x0,1; jalr x0,0(x1)
+size 256
+epochs 3
+limit 50
+exit
+code 2320a0041305100067800000
+=EXIT_OF_TWO | The same loop of two epochs.
+exit
+size 256
+epochs 2
+limit 50
+code 2320a0041305100067800000
+=EXIT_OF_ONE | The same loop of one epoch, and of none.
+size 256
+epochs 1
+limit 50
+exit
+code 2320a0041305100067800000
+=EXIT_OF_NONE | The same loop of no epoch.
+size 256
+epochs 0
+limit 50
+exit
+code 2320a0041305100067800000
+=NO_EXIT | The same loop, which no epoch may exit.
+size 256
+epochs 3
+limit 50
+code 2320a0041305100067800000
+=SEARCH | Each of eight epochs stores its number to its word at 64, 68, .. Epoch 2 exits the loop. | slli x5,x10,2; sw x10,64(x5); xori x10,x10,2; sltiu x10,x10,1; jalr x0,0(x1)
+size 256
+epochs 8
+limit 50
+exit
+code 9312250023a0a204134525001335150067800000
+=COUNT_AND_EXIT | Each of three epochs counts the word at 64, and then exits the loop. | lw x5,64(x0); addi x5,x5,1; sw x5,64(x0); addi x10,x0,1; jalr x0,0(x1)
+size 256
+epochs 3
+limit 50
+exit
+code 8322000493821200232050041305100067800000
+=LARGE | Each of 16 epochs stores the number 4294967292 to the last word of 1,048,576 bytes. | lui x5,0x100; sw x1,-4(x5); jalr x0,0(x1)
+version 2
+size 1048576
+epochs 16
+limit 50
+code b702100023ae12fe67800000
+=SIGNAL_2 | Row by row the same as SIGNAL, in version 2.
+version 2
+size 256
+epochs 2
+limit 50
+code 6308050083220004e38e02fe67800000930210002320500467800000
+";
 
 /// Histories that are legal, one a line: a name, the image, the number of cores, the entries, and the state after them. An
 /// entry is the core, what it did, and decimal numbers. The state is the homefree epoch, the published instructions, the
@@ -232,48 +247,14 @@ pub struct Row<'a> {
 }
 
 /// What a line of a table says.
-pub fn row_of<'a>(line: &'a str) -> Option<Row<'a>> {
-    Some(Row {
+pub fn row_of<'a>(line: &'a str) -> Row<'a> {
+    Row {
         name: cell(line, 0),
-        image: image_named(cell(line, 1))?,
+        image: image_named(IMAGES, cell(line, 1)),
         cores: number(cell(line, 2), 0),
         entries: cell(line, 3),
         want: cell(line, 4),
-    })
-}
-
-/// The texts of the images by name.
-const IMAGES: [(&str, &str); 20] = [
-    ("SIGNAL", SIGNAL),
-    ("SUM", SUM),
-    ("ADD", ADD),
-    ("WIDTHS", WIDTHS),
-    ("SIGNS", SIGNS),
-    ("STORE_FIRST", STORE_FIRST),
-    ("PART", PART),
-    ("FORK", FORK),
-    ("CALL", CALL),
-    ("CALL_AT_ONE", CALL_AT_ONE),
-    ("EMPTY", EMPTY),
-    ("EXIT", EXIT),
-    ("EXIT_OF_TWO", EXIT_OF_TWO),
-    ("EXIT_OF_ONE", EXIT_OF_ONE),
-    ("EXIT_OF_NONE", EXIT_OF_NONE),
-    ("NO_EXIT", NO_EXIT),
-    ("SEARCH", SEARCH),
-    ("COUNT_AND_EXIT", COUNT_AND_EXIT),
-    ("LARGE", LARGE),
-    ("SIGNAL_2", SIGNAL_2),
-];
-
-/// The text of an image.
-fn image_named(name: &str) -> Option<&'static str> {
-    for (of, text) in IMAGES {
-        if of == name {
-            return Some(text);
-        }
     }
-    None
 }
 
 /// The state after a history.

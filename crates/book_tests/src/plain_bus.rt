@@ -21,11 +21,11 @@ pub enum Told {
 
 /// What becomes of another core's copy.
 #[derive(Clone, Copy)]
-pub struct Effect {
+struct Effect {
     state: LineState,
     enters: bool,
     /// The owner is violated, and its copy goes.
-    pub hurt: bool,
+    hurt: bool,
     /// The owner is earlier and its buffer is full: the sender has to wait.
     busy: bool,
 }
@@ -42,8 +42,39 @@ impl Effect {
     }
 }
 
+/// What becomes of the copies of all other cores.
+#[derive(Clone, Copy)]
+struct Effects {
+    states: [LineState; CORES],
+    enter: [bool; CORES],
+    hurt: [bool; CORES],
+    busy: [bool; CORES],
+}
+
+impl Effects {
+    /// There are no copies.
+    fn none() -> Effects {
+        Effects {
+            states: [LineState::I; CORES],
+            enter: [false; CORES],
+            hurt: [false; CORES],
+            busy: [false; CORES],
+        }
+    }
+
+    /// No other core has the line afterwards.
+    fn is_alone(&self) -> bool {
+        self.states == [LineState::I; CORES]
+    }
+
+    /// Some core makes the sender wait.
+    fn is_busy(&self) -> bool {
+        self.busy != [false; CORES]
+    }
+}
+
 /// What an access gives.
-#[derive(Clone, Copy, PartialEq, Eq)]
+#[derive(Clone, Copy)]
 pub enum PlainStep {
     Done { value: u32, hurt: [bool; CORES] },
     Wait(WaitCause),
@@ -83,30 +114,11 @@ fn table(copy: &PlainLine, told: Told, later: bool) -> Effect {
     effect
 }
 
-/// Who is violated.
-pub fn hurt_of(effects: &[Effect; CORES]) -> [bool; CORES] {
-    let mut hurt = [false; CORES];
-    for (one, effect) in hurt.iter_mut().zip(effects.iter()) {
-        *one = effect.hurt;
-    }
-    hurt
-}
-
 /// These are violated too.
 fn add_hurt(hurt: &mut [bool; CORES], more: &[bool; CORES]) {
     for k in 0..CORES {
         hurt[k] |= more[k];
     }
-}
-
-/// No other core has the line afterwards.
-fn is_alone(effects: &[Effect; CORES]) -> bool {
-    effects.iter().all(|effect| effect.state == LineState::I)
-}
-
-/// Some core makes the sender wait.
-fn is_busy(effects: &[Effect; CORES]) -> bool {
-    effects.iter().any(|effect| effect.busy)
 }
 
 /// The bus.
@@ -224,19 +236,24 @@ impl PlainBus {
     }
 
     /// What a transaction makes of all other copies, found before anything changes.
-    fn effects(&self, sender: usize, told: Told, addr: u32) -> [Effect; CORES] {
-        let mut effects = [Effect::none(); CORES];
+    fn effects(&self, sender: usize, told: Told, addr: u32) -> Effects {
+        let mut effects = Effects::none();
         for k in 0..CORES {
             if k != sender {
-                effects[k] = self.effect(sender, k, told, addr);
+                let effect = self.effect(sender, k, told, addr);
+                effects.states[k] = effect.state;
+                effects.enter[k] = effect.enters;
+                effects.hurt[k] = effect.hurt;
+                effects.busy[k] = effect.busy;
             }
         }
         effects
     }
 
     /// Core `k` does what the transaction makes of its copy.
-    fn hear(&mut self, k: usize, told: Told, addr: u32, effect: &Effect, line: &[u8; LINE]) {
-        if effect.hurt {
+    fn hear(&mut self, k: usize, told: Told, addr: u32, effects: &Effects, line: &[u8; LINE]) {
+        let at = k % CORES;
+        if effects.hurt[at] {
             self.core_mut(k).drop_attempt();
         }
         let Some(place) = self.core(k).place_of(addr) else {
@@ -247,14 +264,14 @@ impl PlainBus {
             self.write_memory(addr, &copy.cells);
         }
         let owner = self.core_mut(k);
-        if effect.enters && !effect.hurt {
+        if effects.enter[at] && !effects.hurt[at] {
             owner.enter(addr);
         }
         let copy = &mut owner.lines[place % 8];
-        if effect.state == LineState::I {
+        if effects.states[at] == LineState::I {
             copy.invalidate();
         } else {
-            copy.state = effect.state;
+            copy.state = effects.states[at];
             if told == Told::Publish {
                 copy.cells = copy.merged(line);
             }
@@ -262,17 +279,10 @@ impl PlainBus {
     }
 
     /// All other cores do.
-    fn tell(
-        &mut self,
-        sender: usize,
-        told: Told,
-        addr: u32,
-        effects: &[Effect; CORES],
-        line: &[u8; LINE],
-    ) {
+    fn tell(&mut self, sender: usize, told: Told, addr: u32, effects: &Effects, line: &[u8; LINE]) {
         for k in 0..CORES {
             if k != sender {
-                self.hear(k, told, addr, &effects[k], line);
+                self.hear(k, told, addr, effects, line);
             }
         }
     }
@@ -332,12 +342,12 @@ impl PlainBus {
         let effects = if copy.state == LineState::I {
             self.effects(access.core as usize, Told::Load, addr)
         } else {
-            [Effect::none(); CORES]
+            Effects::none()
         };
         if self.has_no_way(access.core as usize, addr) {
             return PlainStep::Wait(WaitCause::NoWay);
         }
-        if is_busy(&effects) {
+        if effects.is_busy() {
             return PlainStep::Wait(WaitCause::OrbBusy);
         }
         if copy.state == LineState::I {
@@ -351,10 +361,10 @@ impl PlainBus {
                 &copy.cells,
             );
         }
-        self.load_own(access, &mut copy, is_alone(&effects));
+        self.load_own(access, &mut copy, effects.is_alone());
         PlainStep::Done {
             value: self.value_of(access),
-            hurt: hurt_of(&effects),
+            hurt: effects.hurt,
         }
     }
 
@@ -381,11 +391,11 @@ impl PlainBus {
         let mut copy = self.core(access.core as usize).line(addr);
         let owned = copy.is_owned();
         let effects = if owned {
-            [Effect::none(); CORES]
+            Effects::none()
         } else {
             self.effects(access.core as usize, Told::Store, addr)
         };
-        let enters = !owned && !is_alone(&effects);
+        let enters = !owned && !effects.is_alone();
         if let Some(cause) = self.store_wait(access.core as usize, addr, enters, &effects) {
             return PlainStep::Wait(cause);
         }
@@ -416,7 +426,7 @@ impl PlainBus {
         self.put(access.core as usize, &copy);
         PlainStep::Done {
             value: 0,
-            hurt: hurt_of(&effects),
+            hurt: effects.hurt,
         }
     }
 
@@ -426,13 +436,13 @@ impl PlainBus {
         core: usize,
         addr: u32,
         enters: bool,
-        effects: &[Effect; CORES],
+        effects: &Effects,
     ) -> Option<WaitCause> {
         if self.has_no_way(core, addr) {
             Some(WaitCause::NoWay)
         } else if enters && self.core(core).is_full(self.limit) {
             Some(WaitCause::OrbFull)
-        } else if is_busy(effects) {
+        } else if effects.is_busy() {
             Some(WaitCause::OrbBusy)
         } else {
             None
@@ -464,8 +474,8 @@ impl PlainBus {
         let effects = self.effects(core, Told::Publish, addr);
         let cells = self.seen_line(core, addr);
         self.tell(core, Told::Publish, addr, &effects, &cells);
-        self.hold_unmarked(core, addr, &cells, is_alone(&effects));
-        hurt_of(&effects)
+        self.hold_unmarked(core, addr, &cells, effects.is_alone());
+        effects.hurt
     }
 
     /// The core holds the line as M where it is alone, else as S with memory written.
@@ -494,7 +504,7 @@ impl PlainBus {
             let mut copy = PlainLine::none();
             copy.addr = addr;
             copy.cells = self.committed_line(addr);
-            copy.state = if is_alone(&effects) {
+            copy.state = if effects.is_alone() {
                 LineState::E
             } else {
                 LineState::S
@@ -507,7 +517,7 @@ impl PlainBus {
                 &copy.cells,
             );
             self.put(access.core as usize, &copy);
-            hurt = hurt_of(&effects);
+            hurt = effects.hurt;
         }
         (self.value_of(access), hurt)
     }
@@ -517,13 +527,13 @@ impl PlainBus {
         let addr = self.line_of(access.addr);
         let state = self.core(access.core as usize).line(addr).state;
         let cells = self.with_value(&self.committed_line(addr), access, value);
-        let mut effects = [Effect::none(); CORES];
+        let mut effects = Effects::none();
         if state != LineState::E && state != LineState::M {
             effects = self.effects(access.core as usize, Told::Publish, addr);
             self.tell(access.core as usize, Told::Publish, addr, &effects, &cells);
         }
-        self.hold_unmarked(access.core as usize, addr, &cells, is_alone(&effects));
-        hurt_of(&effects)
+        self.hold_unmarked(access.core as usize, addr, &cells, effects.is_alone());
+        effects.hurt
     }
 
     // ---- attempts
@@ -553,21 +563,27 @@ impl PlainBus {
 
     /// No core runs this epoch or, straight, a later one.
     pub fn may_begin(&self, epoch: u32) -> bool {
-        !self.cores.iter().any(|core| match core.attempt {
-            Some(attempt) => attempt.epoch == epoch || attempt.straight && epoch < attempt.epoch,
-            None => false,
-        })
+        for core in &self.cores {
+            if let Some(attempt) = core.attempt {
+                if attempt.epoch == epoch || attempt.straight && epoch < attempt.epoch {
+                    return false;
+                }
+            }
+        }
+        true
     }
 
     /// No attempt is of an earlier epoch than that of this core.
     pub fn is_first(&self, core: usize) -> bool {
-        match self.core(core).attempt {
-            Some(attempt) => !self
-                .cores
-                .iter()
-                .any(|other| other.is_earlier_than(attempt.epoch)),
-            None => false,
+        let Some(attempt) = self.core(core).attempt else {
+            return false;
+        };
+        for other in &self.cores {
+            if other.is_earlier_than(attempt.epoch) {
+                return false;
+            }
         }
+        true
     }
 
     // ---- what it shows

@@ -12,8 +12,13 @@ use std::process::Abort;
 use std::test::Fail;
 use violations::{Attempt, CoreSet, Step, WaitCause};
 
+/// Some core is violated.
+fn is_any(hurt: &[bool; CORES]) -> bool {
+    *hurt != [false; CORES]
+}
+
 /// How often what has happened.
-#[derive(Drop, Debug)]
+#[derive(Drop)]
 struct Tally {
     done: u32,
     no_way: u32,
@@ -42,7 +47,7 @@ impl Tally {
     fn count(&mut self, step: &PlainStep) {
         let count = match step {
             PlainStep::Done { hurt, .. } => {
-                if hurt.iter().any(|one| *one) {
+                if is_any(hurt) {
                     &mut self.hurt
                 } else {
                     &mut self.done
@@ -258,8 +263,10 @@ fn try_publish(
     plain: &mut PlainBus,
     core: u32,
 ) -> [bool; CORES] {
-    let attempt = plain.attempt(core as usize);
-    let epoch = attempt.map_or(0, |attempt| attempt.epoch);
+    let epoch = match plain.attempt(core as usize) {
+        Some(attempt) => attempt.epoch,
+        None => 0,
+    };
     check_publish(rt, bus, core, epoch);
     let hurt = bus.publish(core);
     let want = plain.publish(core as usize);
@@ -349,7 +356,7 @@ fn call_speculative(
         1..=2 if plain.is_first(core as usize) => {
             let hurt = try_publish(rt, bus, plain, core);
             tally.publishes = tally.publishes.wrapping_add(1);
-            if hurt.iter().any(|one| *one) {
+            if is_any(&hurt) {
                 tally.hurting_publishes = tally.hurting_publishes.wrapping_add(1);
             }
         }
@@ -392,7 +399,28 @@ fn image(alloc: Global, second: bool, lines: u32) -> Result<Image, Fail> {
     Ok(image_of(alloc, text.as_bytes())?)
 }
 
-/// A random sequence of calls, with everything compared after each.
+/// Random calls on the caches of so many cores, with everything compared after each.
+fn call_often(
+    rt: &impl Abort,
+    alloc: Global,
+    image: &Image,
+    second: bool,
+    cores: u32,
+    random: &mut Random,
+    tally: &mut Tally,
+) -> Result<(), Fail> {
+    assert!(rt; 1 <= cores && cores <= image.version().limits().most_cores);
+    let mut bus = CachedBus::fresh(alloc, image, cores)?;
+    let mut plain = PlainBus::new(second);
+    plain.fill(image.bytes());
+    for _ in 0..10 + random.below(60) {
+        call(rt, &mut bus, &mut plain, random, tally);
+        assert!(rt; is_same(&bus, &plain));
+    }
+    Ok(())
+}
+
+/// A random sequence of calls.
 fn walk(
     rt: &impl Abort,
     alloc: Global,
@@ -403,15 +431,7 @@ fn walk(
     let most = random.below(if second { 15 } else { 7 });
     let cores = 2 + random.below(most + 1);
     let image = image(alloc, second, 3 + random.below(10))?;
-    assert!(rt; 1 <= cores && cores <= image.version().limits().most_cores);
-    let mut bus = CachedBus::fresh(alloc, &image, cores)?;
-    let mut plain = PlainBus::new(second);
-    plain.fill(image.bytes());
-    for _ in 0..10 + random.below(60) {
-        call(rt, &mut bus, &mut plain, random, tally);
-        assert!(rt; is_same(&bus, &plain));
-    }
-    Ok(())
+    call_often(rt, alloc, &image, second, cores, random, tally)
 }
 
 /// So many random sequences, in which everything that can happen does.

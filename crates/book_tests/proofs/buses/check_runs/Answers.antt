@@ -1,7 +1,7 @@
 use Rattle.std.proofs.Common.{rules, sym, ◌∙◌}
 use Rattle.spec_bus.specs.Cached as spec
-use Rattle.bus_tests.proofs.Running.{runs_of}
-use Rattle.bus_tests.proofs.walk.check_runs.Goals as goal
+use Rattle.book_tests.proofs.Running.{runs_of}
+use Rattle.book_tests.proofs.buses.check_runs.Goals as goal
 
 pub returns-in-Some : goal.returns-in-Some
 returns-in-Some g c =

@@ -121,7 +121,12 @@ impl PlainCore {
 
     /// The place of the line at this address.
     pub fn place_of(&self, addr: u32) -> Option<usize> {
-        self.lines.iter().position(|line| line.is_copy_of(addr))
+        for place in 0..PLACES {
+            if self.lines[place].is_copy_of(addr) {
+                return Some(place);
+            }
+        }
+        None
     }
 
     /// The core's copy of the line at this address.

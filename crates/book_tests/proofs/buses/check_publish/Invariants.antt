@@ -1,7 +1,7 @@
 use Rattle.std.proofs.Common.{◌≡◌, ◌≤◌, ◌<◌, ℕ, Some}
 use Rattle.violations.specs.declared.attempt.Attempt.{Attempt}
 use Rattle.spec_bus.specs.Cached.{store_view}
-use Rattle.bus_tests.proofs.walk.check_publish.Given as goal
+use Rattle.book_tests.proofs.buses.check_publish.Given as goal
 
 abbrev pub invariant-loop-k : goal.invariant-loop-k
 invariant-loop-k g l = record {
