@@ -5,7 +5,7 @@ use spec_bus::CachedBus;
 use spec_states::LineState;
 use std::process::Abort;
 use std::test::Fail;
-use violations::{CoreSet, Step, WaitCause};
+use violations::{CoreSet, EpochStore, Step, WaitCause};
 
 /// A call, and what it answers or shows. `hurt` names the cores that are violated.
 #[derive(Clone, Copy)]

@@ -11,6 +11,7 @@ use spec_states::LineState::{E, I, M, S, SpE, SpS};
 use std::alloc::Global;
 use std::process::Abort;
 use std::test::Fail;
+use violations::EpochStore;
 use violations::WaitCause::{NoWay, OrbBusy, OrbFull};
 
 /// Four epochs and 256 bytes of memory.
