@@ -9,7 +9,7 @@ use Rattle.spec_history.specs.declared.entry.Entry.{Entry}
 use Rattle.spec_history.specs.declared.entry.What.{What}
 use Rattle.spec_history.specs.FlatState.{FlatState, end_at}
 use Rattle.spec_history.specs.Replay.{replay}
-use Rattle.violations.specs.View.{StoreView}
+use Rattle.violations.specs.View.{StoreView, Waits}
 use Rattle.homefree.specs.declared.answer.Answer.{Answer}
 use Rattle.homefree.specs.declared.answer.Answer.TheVariants.{Go, Again, Left, Over, Stopped}
 use Rattle.homefree.specs.declared.answer.StopCause.{StopCause}
@@ -19,7 +19,7 @@ use Rattle.homefree.specs.LockView.{loop_of, past_of}
 use Rattle.homefree.specs.Turned.{Turn, Outcome}
 use Rattle.homefree.specs.Turned as turn
 use Rattle.core_threads.specs.declared.turns.After.{After}
-use Rattle.core_threads.specs.declared.turns.After.TheVariants.{Goes, Waits, Leaves, Ends}
+use Rattle.core_threads.specs.declared.turns.After.TheVariants.{Ends}
 use Rattle.core_threads.specs.declared.turns.LoopEnd.TheVariants as loop
 use Rattle.core_threads.specs.Answered.{Takes, after_answer, hart_after, cause_for}
 use Rattle.core_threads.specs.Passes.{IsGoing}
@@ -112,43 +112,43 @@ module _ {S : Type 0} where
       → replay new.image new.cores new.history ≡ Some s
   replays_so old new s image cores history replays = (λ i. replay (image i) (cores i) (history i)) ∙ replays
 
-  module _ (view : S → StoreView) (old turned : BookView S) (s : FlatState) (core : ℕ) (next : Option Arrival) (shares shares' : Counts) (result : Result Answer TurnFault)
-      (t : turn.Turned view old s shares core next result turned shares') where
+  module _ (view : S → StoreView) (waits : S → Waits) (old turned : BookView S) (s : FlatState) (core : ℕ) (next : Option Arrival) (shares shares' : Counts) (result : Result Answer TurnFault)
+      (t : turn.Turned view waits old s shares core next result turned shares') where
     pub takes_answer : (hart hart' : HartState) (after : After) (answer : Answer) → result ≡ Ok answer → after ≡ after_answer answer → hart' ≡ hart_after answer hart
-        → Takes view old turned s core next shares shares' hart hart' after
+        → Takes view waits old turned s core next shares shares' hart hart' after
     takes_answer hart hart' after answer is after_is hart_is = record {
       turned = turned;
       answer = Ok answer;
-      turns = subst (λ (r : Result Answer TurnFault). turn.Turned view old s shares core next r turned shares') is t;
+      turns = subst (λ (r : Result Answer TurnFault). turn.Turned view waits old s shares core next r turned shares') is t;
       follows = (refl, after_is, hart_is);
     }
 
-  pub failed : (view : S → StoreView) (old turned : BookView S) (s : FlatState) (core : ℕ) (next : Option Arrival) (shares shares' : Counts) (result : Result Answer TurnFault) (fault : TurnFault)
-      → replay old.image old.cores old.history ≡ Some s → turn.Turned view old s shares core next result turned shares' → result ≡ Err fault → Fails turned s
-  failed view old turned s core next shares shares' result fault replays (turn.over o same held) is = absurd (err_isnt (Over o.end) fault (sym o.answer_is ∙ is))
-  failed view old turned s core next shares shares' result fault replays (turn.stopped o same held) is = absurd (err_isnt (Stopped o.cause) fault (sym o.answer_is ∙ is))
-  failed view old turned s core next shares shares' result fault replays (turn.full o same held) is = record {
+  pub failed : (view : S → StoreView) (waits : S → Waits) (old turned : BookView S) (s : FlatState) (core : ℕ) (next : Option Arrival) (shares shares' : Counts) (result : Result Answer TurnFault) (fault : TurnFault)
+      → replay old.image old.cores old.history ≡ Some s → turn.Turned view waits old s shares core next result turned shares' → result ≡ Err fault → Fails turned s
+  failed view waits old turned s core next shares shares' result fault replays (turn.over o same held) is = absurd (err_isnt (Over o.end) fault (sym o.answer_is ∙ is))
+  failed view waits old turned s core next shares shares' result fault replays (turn.stopped o same held) is = absurd (err_isnt (Stopped o.cause) fault (sym o.answer_is ∙ is))
+  failed view waits old turned s core next shares shares' result fault replays (turn.full o same held) is = record {
     replays = replays_so old turned s (ap (λ (b : BookView S). b.image) same) (ap (λ (b : BookView S). b.cores) same) (ap (λ (b : BookView S). b.history) same) replays;
     going = o.going;
     unstopped = ap (λ (b : BookView S). b.stopped) same ∙ o.unstopped;
   }
-  failed view old turned s core next shares shares' result fault replays (turn.no_memory may seen grows none) is = record {
+  failed view waits old turned s core next shares shares' result fault replays (turn.no_memory may seen grows none) is = record {
     replays = replays_so old turned s grows.image grows.cores (grows.history ∙ append-nil old.history) replays;
     going = may.going;
     unstopped = grows.stopped ∙ may.unstopped;
   }
-  failed view old turned s core next shares shares' result fault replays (turn.acts a) is = absurd (err_isnt a.out.answer fault (sym a.answer_is ∙ is))
+  failed view waits old turned s core next shares shares' result fault replays (turn.acts a) is = absurd (err_isnt a.out.answer fault (sym a.answer_is ∙ is))
 
   -- where the answer is that the book was stopped, the loop isn't over
-  pub stopped_going : (view : S → StoreView) (old turned : BookView S) (s : FlatState) (core : ℕ) (next : Option Arrival) (shares shares' : Counts) (result : Result Answer TurnFault) (cause : StopCause)
-      → replay old.image old.cores old.history ≡ Some s → turn.Turned view old s shares core next result turned shares' → result ≡ Ok (Stopped cause) → IsGoing (loop_of turned) (past_of turned.history)
-  stopped_going view old turned s core next shares shares' result cause replays (turn.over o same held) is = absurd (over_isnt o.end cause (same_answer result (Over o.end) (Stopped cause) o.answer_is is))
-  stopped_going view old turned s core next shares shares' result cause replays (turn.stopped o same held) is =
+  pub stopped_going : (view : S → StoreView) (waits : S → Waits) (old turned : BookView S) (s : FlatState) (core : ℕ) (next : Option Arrival) (shares shares' : Counts) (result : Result Answer TurnFault) (cause : StopCause)
+      → replay old.image old.cores old.history ≡ Some s → turn.Turned view waits old s shares core next result turned shares' → result ≡ Ok (Stopped cause) → IsGoing (loop_of turned) (past_of turned.history)
+  stopped_going view waits old turned s core next shares shares' result cause replays (turn.over o same held) is = absurd (over_isnt o.end cause (same_answer result (Over o.end) (Stopped cause) o.answer_is is))
+  stopped_going view waits old turned s core next shares shares' result cause replays (turn.stopped o same held) is =
       going_past turned s (replays_so old turned s (ap (λ (b : BookView S). b.image) same) (ap (λ (b : BookView S). b.cores) same) (ap (λ (b : BookView S). b.history) same) replays) o.going
-  stopped_going view old turned s core next shares shares' result cause replays (turn.full o same held) is = absurd (err_isnt (Stopped cause) _ (sym is ∙ o.answer_is))
-  stopped_going view old turned s core next shares shares' result cause replays (turn.no_memory may seen grows none) is = absurd (err_isnt (Stopped cause) _ (sym is ∙ none))
-  stopped_going view old turned s core next shares shares' result cause replays (turn.acts a) is =
-      absurd (acts_isnt (turn.turn_at old s core next) a.reserved (view turned.store) a.out cause a.acts (same_answer result a.out.answer (Stopped cause) a.answer_is is))
+  stopped_going view waits old turned s core next shares shares' result cause replays (turn.full o same held) is = absurd (err_isnt (Stopped cause) _ (sym is ∙ o.answer_is))
+  stopped_going view waits old turned s core next shares shares' result cause replays (turn.no_memory may seen grows none) is = absurd (err_isnt (Stopped cause) _ (sym is ∙ none))
+  stopped_going view waits old turned s core next shares shares' result cause replays (turn.acts a) is =
+      absurd (acts_isnt (turn.turn_at waits old s core next) a.reserved (view turned.store) a.out cause a.acts (same_answer result a.out.answer (Stopped cause) a.answer_is is))
 
   -- ---- a book that is stopped for a turn that failed
 
@@ -161,12 +161,12 @@ module _ {S : Type 0} where
   pub going_stopped : (turned new : BookView S) (s : FlatState) (cause : StopCause) → Fails turned s → new ≡ record turned { stopped = Some cause } → IsGoing (loop_of new) (past_of new.history)
   going_stopped turned new s cause f is = subst (λ (b : BookView S). IsGoing (loop_of b) (past_of b.history)) (sym is) (going_past turned s f.replays f.going)
 
-  pub takes_fault : (view : S → StoreView) (old turned new : BookView S) (s : FlatState) (core : ℕ) (next : Option Arrival) (shares shares' : Counts) (hart hart' : HartState) (after : After)
-      (result : Result Answer TurnFault) (fault : TurnFault) → turn.Turned view old s shares core next result turned shares' → result ≡ Err fault → new ≡ record turned { stopped = Some (cause_for fault) }
-      → after ≡ Ends loop.Stopped → hart' ≡ hart → Takes view old new s core next shares shares' hart hart' after
-  takes_fault view old turned new s core next shares shares' hart hart' after result fault t is new_is after_is hart_is = record {
+  pub takes_fault : (view : S → StoreView) (waits : S → Waits) (old turned new : BookView S) (s : FlatState) (core : ℕ) (next : Option Arrival) (shares shares' : Counts) (hart hart' : HartState) (after : After)
+      (result : Result Answer TurnFault) (fault : TurnFault) → turn.Turned view waits old s shares core next result turned shares' → result ≡ Err fault → new ≡ record turned { stopped = Some (cause_for fault) }
+      → after ≡ Ends loop.Stopped → hart' ≡ hart → Takes view waits old new s core next shares shares' hart hart' after
+  takes_fault view waits old turned new s core next shares shares' hart hart' after result fault t is new_is after_is hart_is = record {
     turned = turned;
     answer = Err fault;
-    turns = subst (λ (r : Result Answer TurnFault). turn.Turned view old s shares core next r turned shares') is t;
+    turns = subst (λ (r : Result Answer TurnFault). turn.Turned view waits old s shares core next r turned shares') is t;
     follows = (new_is, after_is, hart_is);
   }

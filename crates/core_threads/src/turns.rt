@@ -140,7 +140,7 @@ fn take_turn<S: EpochStore>(
     ensures adds { Adds core book.old book.new shares.old shares.new }
     ensures few { length book.new.history ≤ 1048576 }
     ensures takes { (s : FlatState) → replay book.old.image book.old.cores book.old.history ≡ Some s
-        → Takes S.view book.old book.new s core (option_copied next.entry) shares.old shares.new hart.old hart.new result }
+        → Takes S.view S.waits book.old book.new s core (option_copied next.entry) shares.old shares.new hart.old hart.new result }
     ensures over { result ≡ After.Ends LoopEnd.Over → IsOver (loop_of book.new) (past_of book.new.history) }
     ensures stopped { result ≡ After.Ends LoopEnd.Stopped → IsGoing (loop_of book.new) (past_of book.new.history) }
     ensures spent { result ≢ After.Ends LoopEnd.Spent }
