@@ -94,7 +94,7 @@ def checks(command):
         words = command[:-1] + ["x"]
         yield "failed write of usage", outcome(words, COUNTER, stderr=full), (b"", None, 2)
     yield "all of a text is read", taken_from_file(command, COUNTER), (REPORT, b"", 0, len(COUNTER))
-    for name, more in ("no command reads", words), ("a word too many reads", command + ["x"]):
+    for name, more in ("no command reads", command[:-1] + ["x"]), ("a word too many reads", command + ["x"]):
         yield f"{name} nothing", taken_from_file(more, COUNTER), (b"", b"usage\n", 2, 0)
 
 
