@@ -1,13 +1,16 @@
 //! The command `run`: what no contract can say, which is that a run with room and memory comes to its end, and which failures stop it.
 
-ghost use Rattle.std.specs.Prelude.{◌≡◌};
-
+use crate::words::{cell, is_row, number};
 use core_threads::{Gate, Open, Shut};
 use run_command::{RunOptions, do_run};
 use rv32_exec::Arrived;
+use std::alloc::Global;
 use std::io;
 use std::io::{Error, ErrorKind, Read, Write};
+use std::process::Abort;
+use std::sync::Wait;
 use std::test::Fail;
+use std::thread::Threads;
 
 /// The image whose epochs add their numbers to one word.
 const COUNTER: &str = "size 256\nepochs 4\nlimit 100\ncode 83220004b382a2002320500467800000\n";
@@ -20,45 +23,106 @@ const ONE: &str = "size 256\nepochs 1\nlimit 100\ncode 83220004b382a200232050046
 const TRACED: &str =
     "end done 1\ncounts 1 1 0 1\ntrace 1\n0 start 0\n0 load 00000040 4 00000000\n0 store 00000040 4 00000000\n0 commit\n";
 
-fn options(cores: u32, room: u32, trace: bool) -> RunOptions
-    ensures { result ≡ record { cores = cores; room = room; trace = trace } }
-{
-    RunOptions { cores, room, trace }
-}
-
 /// Each run with its cores, its room, whether it is traced, its image, its status, and the texts on standard output and standard error. A turn asks for 16 free entries, and the
 /// four epochs make 16 entries on one core.
-const RUNS: [(u32, u32, bool, &str, u8, &str, &str); 8] = [
-    (4, 4096, false, COUNTER, 0, COUNTED, ""),
-    (1, 31, false, COUNTER, 0, COUNTED, ""),
-    (1, 30, false, COUNTER, 3, "", "stopped HistoryFull\n"),
-    (1, 16, true, COUNTER, 3, "", "stopped HistoryFull\n"),
-    (1, 64, true, ONE, 0, TRACED, ""),
-    (9, 64, false, COUNTER, 2, "", "usage\n"),
-    (9, 64, false, "size 24\n", 2, "", "image 1 Range\n"),
-    (1, 64, false, "", 2, "", "image 0 MissingOrRepeated\n"),
-];
+const RUNS: &str = "
+4 | 4096 | not traced | COUNTER | 0 | COUNTED |
+1 | 31 | not traced | COUNTER | 0 | COUNTED |
+1 | 30 | not traced | COUNTER | 3 | | stopped HistoryFull
+1 | 16 | traced | COUNTER | 3 | | stopped HistoryFull
+1 | 64 | traced | ONE | 0 | TRACED |
+9 | 64 | not traced | COUNTER | 2 | | usage
+9 | 64 | not traced | SIZE | 2 | | image 1 Range
+1 | 64 | not traced | | 2 | | image 0 MissingOrRepeated
+";
+
+/// The text that has this name in a row; an empty cell is no text.
+fn text_of(name: &str) -> &'static str {
+    match name {
+        "COUNTER" => COUNTER,
+        "ONE" => ONE,
+        "SIZE" => "size 24\n",
+        "COUNTED" => COUNTED,
+        "TRACED" => TRACED,
+        _ => "",
+    }
+}
+
+/// These bytes are the line, or there are none where it is empty.
+fn is_line(bytes: &[u8], line: &str) -> bool {
+    match bytes.split_last() {
+        Some((last, rest)) => *last == b'\n' && rest == line.as_bytes() && !line.is_empty(),
+        None => line.is_empty(),
+    }
+}
+
+/// A run, with its status.
+fn ran<G: Gate, T: Abort + Threads + Wait + Sync, R: Read, W: Write>(
+    rt: &T,
+    alloc: Global,
+    options: RunOptions,
+    gate: &G,
+    reader: &mut R,
+    writer: &mut W,
+    errors: &mut Vec<u8>,
+) -> u8 {
+    assert!(rt; 1 <= options.cores && 16 <= options.room && options.room <= 1_048_576);
+    do_run(rt, alloc, options, gate, reader, writer, errors)
+}
+
+/// The run of a row answers as the row says.
+fn answers<T: Abort + Threads + Wait + Sync>(rt: &T, alloc: Global, line: &str) {
+    let options = RunOptions {
+        cores: number(cell(line, 0), 0),
+        room: number(cell(line, 1), 0),
+        trace: cell(line, 2) == "traced",
+    };
+    let mut reader = text_of(cell(line, 3)).as_bytes();
+    let mut printed = Vec::new(alloc);
+    let mut told = Vec::new(alloc);
+    let status = ran(
+        rt,
+        alloc,
+        options,
+        &Open,
+        &mut reader,
+        &mut printed,
+        &mut told,
+    );
+    assert!(rt; u32::from(status) == number(cell(line, 4), 0), "{line}");
+    assert!(rt;
+        printed.as_slice() == text_of(cell(line, 5)).as_bytes(),
+        "{line}"
+    );
+    assert!(rt; is_line(told.as_slice(), cell(line, 6)), "{line}");
+}
 
 #[test]
 fn a_run_answers(rt: HostRuntime) {
-    for (cores, room, trace, text, status, output, errors) in RUNS {
-        assert!(rt; 1 <= cores && 16 <= room && room <= 1_048_576);
-        let mut reader = text.as_bytes();
-        let mut printed = Vec::new(rt.alloc());
-        let mut told = Vec::new(rt.alloc());
-        let ran = do_run(
-            &rt,
-            rt.alloc(),
-            options(cores, room, trace),
-            &Open,
-            &mut reader,
-            &mut printed,
-            &mut told,
-        );
-        assert_eq!(rt; ran, status);
-        assert_eq!(rt; printed.as_slice(), output.as_bytes());
-        assert_eq!(rt; told.as_slice(), errors.as_bytes());
+    for line in RUNS.split('\n').filter(|line| is_row(line)) {
+        answers(&rt, rt.alloc(), line);
     }
+}
+
+/// A run that a gate, a reader or a writer stops, with the only line on standard error.
+fn stops<G: Gate, T: Abort + Threads + Wait + Sync, R: Read, W: Write>(
+    rt: &T,
+    alloc: Global,
+    cores: u32,
+    gate: &G,
+    reader: &mut R,
+    writer: &mut W,
+    line: &str,
+) -> u8 {
+    let options = RunOptions {
+        cores,
+        room: 64,
+        trace: true,
+    };
+    let mut told = Vec::new(alloc);
+    let status = ran(rt, alloc, options, gate, reader, writer, &mut told);
+    assert!(rt; is_line(told.as_slice(), line));
+    status
 }
 
 /// A gate that is always shut.
@@ -75,19 +139,16 @@ impl Gate for Closed {
 fn a_shut_gate_stops_a_run(rt: HostRuntime) {
     let mut reader = COUNTER.as_bytes();
     let mut printed = Vec::new(rt.alloc());
-    let mut told = Vec::new(rt.alloc());
-    let ran = do_run(
+    let status = stops(
         &rt,
         rt.alloc(),
-        options(2, 64, true),
+        2,
         &Closed,
         &mut reader,
         &mut printed,
-        &mut told,
+        "stopped Shut",
     );
-    assert_eq!(rt; ran, 3);
-    assert_eq!(rt; printed.as_slice(), b"".as_slice());
-    assert_eq!(rt; told.as_slice(), b"stopped Shut\n".as_slice());
+    assert!(rt; status == 3 && printed.is_empty());
 }
 
 /// A writer that takes so many bytes, at most 7 a call, and fails then.
@@ -113,30 +174,33 @@ impl Write for FailingWriter {
     }
 }
 
+/// The writer takes a beginning of the trace, and fails then.
+fn fails_to_write<T: Abort + Threads + Wait + Sync>(rt: &T, alloc: Global, room: usize) {
+    let mut reader = ONE.as_bytes();
+    let mut writer = FailingWriter {
+        taken: Vec::new(alloc),
+        room,
+    };
+    let status = stops(
+        rt,
+        alloc,
+        1,
+        &Open,
+        &mut reader,
+        &mut writer,
+        "stopped Write",
+    );
+    assert!(rt; status == 3);
+    assert!(rt;
+        Some(writer.taken.as_slice()) == TRACED.as_bytes().get(..room),
+        "{room}"
+    );
+}
+
 #[test]
 fn a_failed_write_stops_a_run(rt: HostRuntime) -> Result<(), Fail> {
     for room in 0..TRACED.len() {
-        let mut reader = ONE.as_bytes();
-        let mut writer = FailingWriter {
-            taken: Vec::new(rt.alloc()),
-            room,
-        };
-        let mut told = Vec::new(rt.alloc());
-        let ran = do_run(
-            &rt,
-            rt.alloc(),
-            options(1, 64, true),
-            &Open,
-            &mut reader,
-            &mut writer,
-            &mut told,
-        );
-        assert_eq!(rt; ran, 3);
-        assert!(rt;
-            writer.taken.as_slice() == &TRACED.as_bytes()[..room],
-            "{room}"
-        );
-        assert_eq!(rt; told.as_slice(), b"stopped Write\n".as_slice());
+        fails_to_write(&rt, rt.alloc(), room);
     }
     Ok(())
 }
@@ -160,25 +224,25 @@ impl Read for FailingReader<'_> {
     }
 }
 
+/// The reader gives these bytes, and fails then.
+fn fails_to_read<T: Abort + Threads + Wait + Sync>(rt: &T, alloc: Global, rest: &[u8]) {
+    let mut reader = FailingReader { rest };
+    let mut printed = Vec::new(alloc);
+    let status = stops(
+        rt,
+        alloc,
+        1,
+        &Open,
+        &mut reader,
+        &mut printed,
+        "image 0 Read",
+    );
+    assert!(rt; status == 2 && printed.is_empty());
+}
+
 #[test]
 fn a_failed_read_stops_a_run(rt: HostRuntime) {
     for given in 0..=ONE.len() {
-        let mut reader = FailingReader {
-            rest: &ONE.as_bytes()[..given],
-        };
-        let mut printed = Vec::new(rt.alloc());
-        let mut told = Vec::new(rt.alloc());
-        let ran = do_run(
-            &rt,
-            rt.alloc(),
-            options(1, 64, true),
-            &Open,
-            &mut reader,
-            &mut printed,
-            &mut told,
-        );
-        assert_eq!(rt; ran, 2);
-        assert_eq!(rt; printed.as_slice(), b"".as_slice());
-        assert_eq!(rt; told.as_slice(), b"image 0 Read\n".as_slice());
+        fails_to_read(&rt, rt.alloc(), &ONE.as_bytes()[..given]);
     }
 }

@@ -20,33 +20,30 @@ fn a_count_in_either_share_is_found_once_they_are_gathered(rt: HostRuntime) -> R
     let (mut totals, shares) = open();
     let (first, mut second) = shares.split();
     count_load(&mut totals, &mut second);
-    assert_eq!(rt; agree(&totals, &first), Err(Unequal));
+    assert!(rt; agree(&totals, &first) == Err(Unequal));
     let all = gather(first, second);
-    assert_eq!(rt; agree(&totals, &all), Ok(counts(1, 0, 0, 0)));
+    assert!(rt; agree(&totals, &all) == Ok(counts(1, 0, 0, 0)));
     Ok(())
 }
 
 #[test]
 fn each_quantity_is_counted_on_both_sides(rt: HostRuntime) -> Result<(), Fail> {
     let (mut totals, shares) = open();
-    assert_eq!(rt; totals.counts(), counts(0, 0, 0, 0));
-    assert_eq!(rt; shares.counts(), counts(0, 0, 0, 0));
+    assert!(rt; totals.counts() == counts(0, 0, 0, 0));
+    assert!(rt; shares.counts() == counts(0, 0, 0, 0));
     let (mut first, mut second) = shares.split();
     count_load(&mut totals, &mut first);
     count_store(&mut totals, &mut first);
     count_store(&mut totals, &mut second);
     count_restart(&mut totals, &mut second);
     count_commit(&mut totals, &mut first);
-    assert_eq!(rt; first.counts(), counts(1, 1, 0, 1));
-    assert_eq!(rt; second.counts(), counts(0, 1, 1, 0));
-    assert_eq!(rt;
-        agree(&totals, &gather(first, second)),
-        Ok(counts(1, 2, 1, 1))
-    );
+    assert!(rt; first.counts() == counts(1, 1, 0, 1));
+    assert!(rt; second.counts() == counts(0, 1, 1, 0));
+    assert!(rt; agree(&totals, &gather(first, second)) == Ok(counts(1, 2, 1, 1)));
     Ok(())
 }
 
 #[test]
 fn the_error_prints_its_name(rt: HostRuntime) {
-    assert_eq!(rt; Unequal.name(), "Unequal");
+    assert!(rt; Unequal.name() == "Unequal");
 }

@@ -19,3 +19,5 @@ mod programs;
 mod runs;
 #[cfg(test)]
 mod stops;
+#[cfg(test)]
+mod words;

@@ -2,6 +2,8 @@
 ghost use Rattle.std.specs.Prelude.{◌≡◌, Some, IfOk};
 ghost use Rattle.ticket_lock.specs.Past.{GrowsBy};
 
+use std::alloc::Global;
+use std::process::Abort;
 use std::sync::Wait;
 use std::test::Fail;
 use ticket_lock::{Kept, NoMemory, Pass, Spent, TicketLock};
@@ -51,6 +53,29 @@ fn add<R: Wait>(
     }
 }
 
+// The list has an entry of each of two passes.
+fn has_both(list: &List) -> bool {
+    list.entries.as_slice() == [(0, 'a'), (1, 'b')].as_slice()
+}
+
+// One turn, in which the pass finds the entries of both.
+fn find<R: Abort + Wait>(
+    rt: &R,
+    lock: &TicketLock<List>,
+    pass: Pass<List>,
+) -> Result<Pass<List>, Spent>
+    requires { pass.lock ≡ Some lock.now }
+    ensures { IfOk result (λ p. (p.lock ≡ pass.lock) × (p.lo ≡ pass.lo) × (p.hi ≡ pass.hi)) }
+{
+    match lock.lock(rt, pass) {
+        Ok(mut held) => {
+            assert!(rt; has_both(held.value()));
+            Ok(held.release())
+        }
+        Err((spent, _pass)) => Err(spent),
+    }
+}
+
 #[test]
 fn a_pass_finds_the_entries_of_both(rt: HostRuntime) -> Result<(), Fail> {
     let list = List {
@@ -58,55 +83,64 @@ fn a_pass_finds_the_entries_of_both(rt: HostRuntime) -> Result<(), Fail> {
     };
     let (lock, pass) = TicketLock::open(rt.alloc(), list, 2)?;
     let (first, second) = lock.split(pass, 1);
-    assert_eq!(rt; (first.who(), second.who()), (0, 1));
+    assert!(rt; first.who() == 0 && second.who() == 1);
     let first = add(&rt, &lock, first, 'a')?;
     let second = add(&rt, &lock, second, 'b')?;
-    let first = match lock.lock(&rt, first) {
-        Ok(mut held) => {
-            assert_eq!(rt;
-                held.value().entries.as_slice(),
-                [(0, 'a'), (1, 'b')].as_slice()
-            );
-            held.release()
-        }
-        Err((spent, _pass)) => return Err(spent.into()),
-    };
+    let first = find(&rt, &lock, first)?;
     let pass = lock.join(first, second);
     let (list, whole) = lock.close(pass);
-    assert_eq!(rt; list.entries.as_slice(), [(0, 'a'), (1, 'b')].as_slice());
-    assert_eq!(rt; whole.who(), 0);
+    assert!(rt; has_both(&list) && whole.who() == 0);
     Ok(())
 }
 
-// How many turns a lock has left whose first ticket is `first`.
+// So many turns of a pass.
+fn add_often<R: Wait>(
+    rt: &R,
+    lock: &TicketLock<List>,
+    first: Pass<List>,
+    turns: usize,
+) -> Result<Pass<List>, Spent>
+    requires { first.lock ≡ Some lock.now }
+    ensures { IfOk result (λ p. (p.lock ≡ first.lock) × (p.lo ≡ first.lo) × (p.hi ≡ first.hi)) }
+{
+    let mut pass = first;
+    for _ in 0..turns {
+        pass = add(rt, lock, pass, 'a')?;
+    }
+    Ok(pass)
+}
+
+// A lock whose first ticket is `first` has so many turns left.
+fn has_turns<R: Abort + Wait>(rt: &R, alloc: Global, first: u64, turns: usize) -> Result<(), Fail> {
+    assert!(rt; first <= 1 << 63);
+    let list = List {
+        entries: Vec::new(alloc),
+    };
+    let (lock, pass) = TicketLock::open_at(alloc, list, 1, first)?;
+    let pass = add_often(rt, &lock, pass, turns)?;
+    let pass = match lock.lock(rt, pass) {
+        Ok(held) => {
+            held.release();
+            panic!(rt; "a ticket past the last, from {first}")
+        }
+        Err((spent, pass)) => {
+            assert!(rt; spent == Spent);
+            pass
+        }
+    };
+    let (list, _pass) = lock.close(pass);
+    assert!(rt; list.entries.len() == turns);
+    Ok(())
+}
+
 #[test]
 fn no_ticket_is_drawn_past_the_last(rt: HostRuntime) -> Result<(), Fail> {
-    for (first, turns) in [(1 << 63, 0), ((1 << 63) - 1, 1), ((1 << 63) - 3, 3)] {
-        let list = List {
-            entries: Vec::new(rt.alloc()),
-        };
-        let (lock, mut pass) = TicketLock::open_at(rt.alloc(), list, 1, first)?;
-        for _ in 0..turns {
-            pass = add(&rt, &lock, pass, 'a')?;
-        }
-        let pass = match lock.lock(&rt, pass) {
-            Ok(held) => {
-                held.release();
-                panic!(rt; "a ticket past the last, from {first}")
-            }
-            Err((spent, pass)) => {
-                assert_eq!(rt; spent, Spent);
-                pass
-            }
-        };
-        let (list, _pass) = lock.close(pass);
-        assert_eq!(rt; list.entries.len(), turns);
-    }
-    Ok(())
+    has_turns(&rt, rt.alloc(), 1 << 63, 0)?;
+    has_turns(&rt, rt.alloc(), (1 << 63) - 1, 1)?;
+    has_turns(&rt, rt.alloc(), (1 << 63) - 3, 3)
 }
 
 #[test]
 fn errors_print_their_names(rt: HostRuntime) {
-    assert_eq!(rt; NoMemory.name(), "NoMemory");
-    assert_eq!(rt; Spent.name(), "Spent");
+    assert!(rt; NoMemory.name() == "NoMemory" && Spent.name() == "Spent");
 }

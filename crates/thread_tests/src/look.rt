@@ -3,7 +3,7 @@
 use core_threads::{Finished, Gate, Halted, run_cores};
 use homefree::Book;
 use rv32_exec::{End, Image, run_in_order};
-use spec_history::{Entry, audit};
+use spec_history::{Flat, audit};
 use std::alloc::Global;
 use std::process::Abort;
 use std::sync::Wait;
@@ -35,6 +35,16 @@ pub fn word_at<S: EpochStore>(book: &Book<S>, addr: u32) -> Option<u32> {
     Some(u32::from_le_bytes(bytes))
 }
 
+/// A book and a machine have the same committed memory of so many bytes.
+fn is_same_memory<S: EpochStore>(book: &Book<S>, flat: &Flat, size: u32) -> bool {
+    for addr in 0..size {
+        if book.committed(addr) != flat.committed(addr) {
+            return false;
+        }
+    }
+    true
+}
+
 /// The history is legal, and the one-thread machine after it has the book's homefree epoch, end and committed memory.
 pub fn look<S: EpochStore>(
     rt: &impl Abort,
@@ -43,20 +53,26 @@ pub fn look<S: EpochStore>(
     image: &Image,
     cores: u32,
 ) -> Result<(), &'static str> {
-    let mut entries: Vec<Entry> = Vec::new(alloc);
-    for place in 0..book.len() {
-        let entry = book.entry(place).ok_or("no entry")?;
-        entries.push(entry).ok().ok_or("no memory")?;
+    match audit(alloc, image, cores, book.history()) {
+        Ok(flat) => {
+            assert!(rt; book.homefree() == flat.homefree() && book.ended() == flat.ended());
+            assert!(rt; is_same_memory(book, &flat, image.size()));
+            Ok(())
+        }
+        Err(_) => Err("no memory, or an entry is illegal"),
     }
-    let flat = audit(alloc, image, cores, entries.as_slice())
-        .ok()
-        .ok_or("no memory, or an entry is illegal")?;
-    assert_eq!(rt; book.homefree(), flat.homefree());
-    assert_eq!(rt; book.ended(), flat.ended());
-    for addr in 0..image.size() {
-        assert!(rt; book.committed(addr) == flat.committed(addr), "{addr}");
+}
+
+/// Committed memory is these bytes.
+fn holds<S: EpochStore>(book: &Book<S>, bytes: &[u8]) -> bool {
+    let mut addr = 0_u32;
+    for byte in bytes {
+        if book.committed(addr) != Some(*byte) {
+            return false;
+        }
+        addr = addr.wrapping_add(1);
     }
-    Ok(())
+    true
 }
 
 /// The book's loop has ended so, as the sequential loop does, with its memory.
@@ -68,10 +84,7 @@ pub fn is_in_order<S: EpochStore>(
     end: End,
 ) -> Result<(), Fail> {
     let whole = run_in_order(alloc, image)?;
-    assert_eq!(rt; whole.end(), end);
-    assert_eq!(rt; book.ended(), Some(end));
-    for (addr, byte) in (0..1 << 20).zip(whole.bytes()) {
-        assert!(rt; book.committed(addr) == Some(*byte), "{addr}");
-    }
+    assert!(rt; whole.end() == end && book.ended() == Some(end));
+    assert!(rt; holds(book, whole.bytes()));
     Ok(())
 }

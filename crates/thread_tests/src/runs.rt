@@ -2,11 +2,10 @@
 
 use crate::gates::Meeting;
 use crate::look::{is_in_order, look, run, word_at};
-use crate::programs::{
-    EXIT, FAULT, SIGNAL, SUM_IN_VERSION_2, SUM_OF_FOUR, SUM_OF_NONE, SUM_OF_THREE, WORDS_OF_EIGHT,
-    WORDS_OF_FOUR, WORDS_OF_TWO,
-};
+use crate::programs::{WORDS_OF_EIGHT, WORDS_OF_TWO, text_named};
+use crate::words::{cell, end_of, is_row, number};
 use core_threads::{Finished, Gate, Open};
+use homefree::Book;
 use rv32_exec::{End, Image, image_of};
 use std::alloc::Global;
 use std::process::Abort;
@@ -24,13 +23,25 @@ fn ends<S: EpochStore, G: Gate, R: Abort + Threads + Wait + Sync>(
     cores: u32,
     gate: &G,
     end: End,
-    words: &[u32],
+    words: &str,
 ) -> Result<(), Fail> {
     let image = image_of(alloc, text.as_bytes())?;
     match run::<S, G, R>(rt, alloc, &image, cores, 4096, gate) {
         Ok(run) => has_ended(rt, alloc, &run, &image, cores, end, words),
         Err(run) => Err(run.fault.name().into()),
     }
+}
+
+/// The book has these words from 64 on.
+fn has_words<S: EpochStore>(book: &Book<S>, words: &str) -> bool {
+    let mut addr = 64_u32;
+    for word in words.split_whitespace() {
+        if word_at(book, addr) != Some(number(word, 0)) {
+            return false;
+        }
+        addr = addr.wrapping_add(4);
+    }
+    true
 }
 
 /// The run has ended so, as the sequential loop does, with these words from 64 on and a legal history.
@@ -41,67 +52,74 @@ fn has_ended<S: EpochStore>(
     image: &Image,
     cores: u32,
     end: End,
-    words: &[u32],
+    words: &str,
 ) -> Result<(), Fail> {
-    assert_eq!(rt; run.end, end);
-    assert_eq!(rt; run.totals, run.counted);
-    assert_eq!(rt; run.totals, run.book.totals());
-    for (addr, word) in [64, 68, 72, 76].into_iter().zip(words) {
-        assert!(rt; word_at(&run.book, addr) == Some(*word), "{addr}");
-    }
+    assert!(rt; run.end == end);
+    assert!(rt; run.totals == run.counted && run.totals == run.book.totals());
+    assert!(rt; has_words(&run.book, words), "{words}");
     look(rt, alloc, &run.book, image, cores)?;
     is_in_order(rt, alloc, &run.book, image, end)
 }
 
-/// The same on both stores.
-fn ends_on_both<R: Abort + Threads + Wait + Sync>(
+/// Each loop with its image, how many cores there are, how it ends, and the words from 64 on then.
+const LOOPS: &str = "
+SUM_OF_FOUR | 4 | done 4 | 6 0
+SUM_OF_FOUR | 1 | done 4 | 6 0
+SUM_OF_THREE | 8 | done 3 | 3 0
+SUM_OF_NONE | 2 | done 0 | 0 0
+WORDS_OF_FOUR | 4 | done 4 | 0 1 2 3
+SIGNAL | 2 | done 2 | 1 0
+EXIT | 4 | exit 2 | 0 1 2 0
+SUM_IN_VERSION_2 | 16 | done 4 | 6 0
+FAULT | 2 | fault 0 7 4 | 4294967292 0
+";
+
+/// The loop of a row ends as the row says.
+fn ends_as<S: EpochStore, R: Abort + Threads + Wait + Sync>(
     rt: &R,
     alloc: Global,
-    text: &str,
-    cores: u32,
-    end: End,
-    words: &[u32],
+    line: &str,
 ) -> Result<(), Fail> {
-    ends::<PlainStore, Open, R>(rt, alloc, text, cores, &Open, end, words)?;
-    ends::<Waiting<PlainStore>, Open, R>(rt, alloc, text, cores, &Open, end, words)
+    let text = text_named(cell(line, 0));
+    let end = end_of(cell(line, 2));
+    ends::<S, Open, R>(
+        rt,
+        alloc,
+        text,
+        number(cell(line, 1), 0),
+        &Open,
+        end,
+        cell(line, 3),
+    )
 }
 
 #[test]
 fn loops_end_as_the_sequential_loop_does(rt: HostRuntime) -> Result<(), Fail> {
-    let alloc = rt.alloc();
-    ends_on_both(&rt, alloc, SUM_OF_FOUR, 4, End::Done(4), &[6, 0])?;
-    ends_on_both(&rt, alloc, SUM_OF_FOUR, 1, End::Done(4), &[6, 0])?;
-    ends_on_both(&rt, alloc, SUM_OF_THREE, 8, End::Done(3), &[3, 0])?;
-    ends_on_both(&rt, alloc, SUM_OF_NONE, 2, End::Done(0), &[0, 0])?;
-    ends_on_both(&rt, alloc, WORDS_OF_FOUR, 4, End::Done(4), &[0, 1, 2, 3])?;
-    ends_on_both(&rt, alloc, SIGNAL, 2, End::Done(2), &[1, 0])?;
-    ends_on_both(&rt, alloc, EXIT, 4, End::Exit(2), &[0, 1, 2, 0])?;
-    ends_on_both(&rt, alloc, SUM_IN_VERSION_2, 16, End::Done(4), &[6, 0])?;
-    let fault = End::Fault {
-        epoch: 0,
-        cause: 7,
-        pc: 4,
-    };
-    ends_on_both(&rt, alloc, FAULT, 2, fault, &[0xffff_fffc, 0])
+    for line in LOOPS.split('\n').filter(|line| is_row(line)) {
+        ends_as::<PlainStore, HostRuntime>(&rt, rt.alloc(), line)?;
+        ends_as::<Waiting<PlainStore>, HostRuntime>(&rt, rt.alloc(), line)?;
+    }
+    Ok(())
+}
+
+/// So many cores meet in the gate, each with a store at turn 1.
+fn meet<R: Abort + Threads + Wait + Sync>(
+    rt: &R,
+    alloc: Global,
+    text: &str,
+    cores: u32,
+) -> Result<(), Fail> {
+    let gate = Meeting::new(cores);
+    let end = End::Done(cores);
+    ends::<PlainStore, Meeting, R>(rt, alloc, text, cores, &gate, end, "0 1")?;
+    assert!(rt; gate.stores.load(Ordering::SeqCst) == cores as u64);
+    Ok(())
 }
 
 /// All cores meet in the gate at their turns 0, 1 and 2, so each has a thread and the lock is free there; at turn 1 each hands in a
 /// store, which it has come to before the gate.
 #[test]
 fn all_cores_meet_in_the_gate(rt: HostRuntime) -> Result<(), Fail> {
-    let alloc = rt.alloc();
-    for (text, cores) in [(WORDS_OF_TWO, 2), (WORDS_OF_EIGHT, 8)] {
-        let gate = Meeting::new(cores);
-        ends::<PlainStore, Meeting, HostRuntime>(
-            &rt,
-            alloc,
-            text,
-            cores,
-            &gate,
-            End::Done(cores),
-            &[0, 1],
-        )?;
-        assert_eq!(rt; gate.stores.load(Ordering::SeqCst), cores as u64);
-    }
-    Ok(())
+    meet(&rt, rt.alloc(), WORDS_OF_TWO, 2)?;
+    meet(&rt, rt.alloc(), WORDS_OF_EIGHT, 8)
 }

@@ -27,7 +27,7 @@ fn halted<G: Gate, R: Abort + Threads + Wait + Sync>(
     match run::<PlainStore, G, R>(rt, alloc, image, cores, room, gate) {
         Ok(_) => Err("it is over".into()),
         Err(run) => {
-            assert_eq!(rt; run.fault, fault);
+            assert!(rt; run.fault == fault);
             look_at(rt, alloc, &run, image, cores)?;
             Ok(run)
         }
@@ -43,7 +43,7 @@ fn look_at(
     cores: u32,
 ) -> Result<(), &'static str> {
     let book = run.book.as_ref().ok_or("no book")?;
-    assert_eq!(rt; run.counted, book.totals());
+    assert!(rt; run.counted == book.totals());
     look(rt, alloc, book, image, cores)
 }
 
@@ -147,21 +147,29 @@ fn a_full_history_stops_the_run(rt: HostRuntime) -> Result<(), Fail> {
     Ok(())
 }
 
+/// The book that the core leaves when it finds no ticket.
+fn leaves<R: Abort + Threads + Wait + Sync>(
+    rt: &R,
+    alloc: Global,
+    image: &Image,
+) -> Result<Book<PlainStore>, Fail> {
+    assert!(rt; image.version().limits().most_cores > 0);
+    let (book, shares) = Book::<PlainStore>::new(alloc, image, 1, 64)?;
+    let (lock, pass) = TicketLock::open_at(alloc, book, 1, (1 << 63) - 5)?;
+    let (pass, shares, end) = core_loop(rt, &lock, pass, shares, image, &Open);
+    assert!(rt; end == LoopEnd::Spent);
+    let (book, _pass) = lock.close(pass);
+    assert!(rt; shares.counts() == book.totals());
+    Ok(book)
+}
+
 /// Five tickets are left, and then the core finds none.
 #[test]
 fn the_last_ticket_ends_the_turns(rt: HostRuntime) -> Result<(), Fail> {
-    let alloc = rt.alloc();
-    let image = image_of(alloc, SUM_OF_FOUR.as_bytes())?;
-    assert!(rt; image.version().limits().most_cores > 0);
-    let (book, shares) = Book::<PlainStore>::new(alloc, &image, 1, 64)?;
-    let (lock, pass) = TicketLock::open_at(alloc, book, 1, (1 << 63) - 5)?;
-    let (pass, shares, end) = core_loop(&rt, &lock, pass, shares, &image, &Open);
-    assert_eq!(rt; end, LoopEnd::Spent);
-    let (book, _pass) = lock.close(pass);
-    assert_eq!(rt; book.len(), 5);
-    assert_eq!(rt; book.homefree(), 1);
-    assert_eq!(rt; shares.counts(), book.totals());
-    look(&rt, alloc, &book, &image, 1)?;
+    let image = image_of(rt.alloc(), SUM_OF_FOUR.as_bytes())?;
+    let book = leaves(&rt, rt.alloc(), &image)?;
+    assert!(rt; book.len() == 5 && book.homefree() == 1);
+    look(&rt, rt.alloc(), &book, &image, 1)?;
     Ok(())
 }
 
@@ -211,18 +219,21 @@ fn want_of_memory_halts_a_run(rt: HostRuntime) -> Result<(), Fail> {
     Ok(())
 }
 
+/// The fault has this name, and prints it.
+fn is_named(rt: &impl Abort, alloc: Global, fault: RunFault, name: &str) -> Result<(), Fail> {
+    assert!(rt; fault.name() == name);
+    assert!(rt; format!(in alloc; "{fault}")?.as_str() == name);
+    Ok(())
+}
+
 #[test]
 fn names_are_printed(rt: HostRuntime) -> Result<(), Fail> {
-    for (fault, name) in [
-        (RunFault::HistoryFull, "HistoryFull"),
-        (RunFault::NoMemory, "NoMemory"),
-        (RunFault::NoThread, "NoThread"),
-        (RunFault::Spent, "Spent"),
-        (RunFault::Shut, "Shut"),
-    ] {
-        assert_eq!(rt; fault.name(), name);
-        assert_eq!(rt; format!(in rt.alloc(); "{fault}")?.as_str(), name);
-    }
-    assert_eq!(rt; Shut.name(), "Shut");
+    let alloc = rt.alloc();
+    is_named(&rt, alloc, RunFault::HistoryFull, "HistoryFull")?;
+    is_named(&rt, alloc, RunFault::NoMemory, "NoMemory")?;
+    is_named(&rt, alloc, RunFault::NoThread, "NoThread")?;
+    is_named(&rt, alloc, RunFault::Spent, "Spent")?;
+    is_named(&rt, alloc, RunFault::Shut, "Shut")?;
+    assert!(rt; Shut.name() == "Shut");
     Ok(())
 }

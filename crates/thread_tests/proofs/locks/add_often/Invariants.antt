@@ -1,5 +1,5 @@
 use Rattle.std.proofs.Common.{◌≡◌}
-use Rattle.thread_tests.proofs.locks.no_ticket_is_drawn_past_the_last.Given as goal
+use Rattle.thread_tests.proofs.locks.add_often.Given as goal
 
 -- the pass stays one of its lock, and covers what it did
 abbrev pub invariant-loop : goal.invariant-loop
