@@ -13,6 +13,7 @@ where an outcome differs.
 import os
 import subprocess
 import sys
+import tempfile
 import time
 from pathlib import Path
 
@@ -55,6 +56,15 @@ def failing_read(command):
     return done.stdout, done.stderr, done.returncode
 
 
+def taken_from_file(command, text):
+    """The outcome where the input is a file, and how many of its bytes were read."""
+    with tempfile.TemporaryFile(buffering=0) as given:
+        given.write(text)
+        given.seek(0)
+        done = subprocess.run(command, stdin=given, capture_output=True, check=False)
+        return done.stdout, done.stderr, done.returncode, given.tell()
+
+
 def checks(command):
     """(what it shows, outcome, expected outcome)"""
     yield "text byte by byte", piecewise(command, COUNTER, 1), (REPORT, b"", 0)
@@ -83,6 +93,9 @@ def checks(command):
         yield "failed write of a refused trace", outcome(audit, COUNTER, stderr=full), (b"", None, 2)
         words = command[:-1] + ["x"]
         yield "failed write of usage", outcome(words, COUNTER, stderr=full), (b"", None, 2)
+    yield "all of a text is read", taken_from_file(command, COUNTER), (REPORT, b"", 0, len(COUNTER))
+    for name, more in ("no command reads", command[:-1] + ["x"]), ("a word too many reads", command + ["x"]):
+        yield f"{name} nothing", taken_from_file(more, COUNTER), (b"", b"usage\n", 2, 0)
 
 
 def main():

@@ -4,7 +4,7 @@ use Rattle.rv32_image.specs.Image.{LoadedImage}
 use Rattle.rv32_exec.specs.declared.sequential.End.{End}
 use Rattle.run_ledger.specs.declared.counts.Counts.{Counts}
 use Rattle.run_ledger.specs.Counts.{no_counts}
-use Rattle.violations.specs.View.{StoreView}
+use Rattle.violations.specs.View.{StoreView, Waits}
 use Rattle.violations.specs.Rule.{IsFresh}
 use Rattle.homefree.specs.declared.fault.TurnFault.{TurnFault}
 use Rattle.homefree.specs.declared.fault.TurnFault.TheVariants.{HistoryFull, NoMemory}
@@ -12,11 +12,12 @@ use Rattle.homefree.specs.BookView.{BookView}
 use Rattle.homefree.specs.Driven.{Driven, driver}
 use Rattle.all_schedules.specs.Made.{IsFault, Makes, loop_on}
 
-pub makes : {S : Type 0} (view : S → StoreView) (image : LoadedImage) (cores room : ℕ) (schedule : List ℕ) (first last : BookView S) (shares shares' : Counts)
+pub makes : {S : Type 0} (view : S → StoreView) (waits : S → Waits) (image : LoadedImage) (cores room : ℕ) (schedule : List ℕ) (first last : BookView S) (shares shares' : Counts)
     (result : Result (Option End) TurnFault) → first.image ≡ image → first.cores ≡ cores → first.room ≡ room → first.history ≡ [] → first.totals ≡ no_counts
     → IsFresh image cores (view first.store) → first.stopped ≡ None → shares ≡ no_counts
-    → Driven view (λ _. None) (driver first shares) schedule result (driver last shares') → Makes view (loop_on image cores room) schedule result last.history
-makes view image cores room schedule first last shares shares' result image_is cores_are room_is history totals fresh stopped none driven = record {
+    → Driven view waits (λ _. None) (driver first shares) schedule result (driver last shares') → Makes view (loop_on image cores room) schedule result last.history
+makes view waits image cores room schedule first last shares shares' result image_is cores_are room_is history totals fresh stopped none driven = record {
+  waits = waits;
   first = first;
   last = driver last shares';
   is_new = record {
@@ -26,7 +27,7 @@ makes view image cores room schedule first last shares shares' result image_is c
     store = fresh;
     stopped = stopped;
   };
-  driven = subst (λ (c : Counts). Driven view (λ _. None) (driver first c) schedule result (driver last shares')) none driven;
+  driven = subst (λ (c : Counts). Driven view waits (λ _. None) (driver first c) schedule result (driver last shares')) none driven;
   history_is = refl;
 }
 

@@ -5,7 +5,7 @@ use Rattle.rv32_image.specs.Image.{LoadedImage}
 use Rattle.rv32_exec.specs.declared.sequential.End.{End}
 use Rattle.run_ledger.specs.Counts.{no_counts}
 use Rattle.spec_history.specs.declared.entry.Entry.{Entry}
-use Rattle.violations.specs.View.{StoreView}
+use Rattle.violations.specs.View.{StoreView, Waits}
 use Rattle.violations.specs.Rule.{IsFresh}
 use Rattle.homefree.specs.declared.book.Loop.{Loop}
 use Rattle.homefree.specs.declared.fault.TurnFault.{TurnFault}
@@ -25,12 +25,14 @@ pub record IsNew {S : Type 0} (view : S → StoreView) (l : Loop) (b : BookView 
   pub store : IsFresh l.image l.cores (view b.store)
   pub stopped : b.stopped ≡ None
 
--- the schedule's turns, one for each of its cores, in order, make this history and come to this
+-- the schedule's turns, one for each of its cores, in order, make this history and come to this. Which accesses the store
+-- makes wait is left open
 pub record Makes {S : Type 0} (view : S → StoreView) (l : Loop) (schedule : List ℕ) (result : Result (Option End) TurnFault) (history : List Entry) : Type 0 where
+  pub waits : S → Waits
   pub first : BookView S
   pub last : Driver S
   pub is_new : IsNew view l first
-  pub driven : Driven view (λ _. None) (driver first no_counts) schedule result last
+  pub driven : Driven view waits (λ _. None) (driver first no_counts) schedule result last
   pub history_is : last.book.history ≡ history
 
 -- a turn of the schedule finds too few free entries

@@ -10,7 +10,7 @@ use spec_bus::CachedBus;
 use std::alloc::Global;
 use std::process::Abort;
 use std::test::Fail;
-use violations::{Attempt, CoreSet, Step, WaitCause};
+use violations::{Attempt, CoreSet, EpochStore, Step, WaitCause};
 
 /// Some core is violated.
 fn is_any(hurt: &[bool; CORES]) -> bool {

@@ -17,6 +17,8 @@ pub struct Refusing<S: EpochStore> {
 impl<S: EpochStore> EpochStore for Refusing<S> {
     ghost view = { λ r. S.view r.store };
 
+    ghost waits = { λ r. S.waits r.store };
+
     ghost budget = { λ r. S.budget r.store };
 
     fn fresh(alloc: Global, image: &Image, cores: u32) -> Result<Refusing<S>, NoMemory> {

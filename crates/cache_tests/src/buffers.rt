@@ -4,8 +4,6 @@ ghost use Rattle.std.specs.Prelude.{◌≡◌, true};
 ghost use Rattle.orb.specs.Lines.{IsLimit};
 
 use orb::{Orb, OrbFull};
-use std::process::Abort;
-use std::test::Fail;
 
 /// A limit of version 1 and of version 2 of the images.
 fn is_limit(limit: usize) -> bool
@@ -14,10 +12,14 @@ fn is_limit(limit: usize) -> bool
     limit == 4 || limit == 8
 }
 
-/// Enters a line that is not there.
-fn enter(rt: &impl Abort, orb: &mut Orb, addr: u32) -> Result<(), OrbFull> {
-    assert!(rt; !orb.holds(addr));
-    orb.enter(addr)
+/// Enters a line, where it is not there and there is room.
+fn is_entered(orb: &mut Orb, addr: u32) -> bool {
+    !orb.holds(addr) && orb.enter(addr).is_ok()
+}
+
+/// Whether a full buffer refuses a line that is not there.
+fn is_refused(orb: &mut Orb, addr: u32) -> bool {
+    !orb.holds(addr) && orb.enter(addr) == Err(OrbFull)
 }
 
 /// The addresses in order, with 0 past the end.
@@ -31,53 +33,76 @@ fn lines(orb: &Orb) -> [u32; 9] {
 
 const ADDRS: [u32; 8] = [0x40, 0x50, 0x60, 0x70, 0x80, 0x90, 0xa0, 0xb0];
 
-#[test]
-fn as_many_lines_fit_as_the_limit_says(rt: HostRuntime) -> Result<(), Fail> {
-    let rows = [
-        (4, [0x40, 0x50, 0x60, 0x70, 0, 0, 0, 0, 0]),
-        (8, [0x40, 0x50, 0x60, 0x70, 0x80, 0x90, 0xa0, 0xb0, 0]),
-    ];
-    for (limit, want) in rows {
-        assert!(rt; is_limit(limit));
-        let mut orb = Orb::new(limit);
-        assert!(rt; orb.is_empty());
-        for addr in ADDRS.iter().take(limit) {
-            assert!(rt; !orb.is_full());
-            enter(&rt, &mut orb, *addr)?;
+/// Enters so many lines, before each of which the buffer is not full.
+fn are_entered(orb: &mut Orb, count: usize) -> bool {
+    for addr in ADDRS.iter().take(count) {
+        if orb.is_full() || !is_entered(orb, *addr) {
+            return false;
         }
-        assert!(rt; orb.is_full());
-        assert!(rt; !orb.is_empty());
-        assert_eq!(rt; enter(&rt, &mut orb, 0x100), Err(OrbFull));
-        assert_eq!(rt; orb.len(), limit);
-        assert_eq!(rt; lines(&orb), want);
-        assert_eq!(rt; orb.at(limit), None);
     }
-    Ok(())
+    true
+}
+
+/// Whether a buffer is full, and has these lines.
+fn is_full_of(orb: &Orb, limit: usize, want: [u32; 9]) -> bool {
+    orb.is_full()
+        && !orb.is_empty()
+        && orb.len() == limit
+        && lines(orb) == want
+        && orb.at(limit).is_none()
+}
+
+/// Whether these are all lines that fit.
+fn fit(limit: usize, want: [u32; 9]) -> bool {
+    if !is_limit(limit) {
+        return false;
+    }
+    let mut orb = Orb::new(limit);
+    orb.is_empty()
+        && are_entered(&mut orb, limit)
+        && is_full_of(&orb, limit, want)
+        && is_refused(&mut orb, 0x100)
+        && is_full_of(&orb, limit, want)
 }
 
 #[test]
-fn lines_leave_in_any_order(rt: HostRuntime) -> Result<(), Fail> {
-    for limit in [4, 8] {
-        assert!(rt; is_limit(limit));
-        let mut orb = Orb::new(limit);
-        for addr in [0x40, 0x50, 0x60] {
-            enter(&rt, &mut orb, addr)?;
-        }
-        assert!(rt; orb.remove(0x50));
-        assert!(rt; !orb.remove(0x50));
-        assert!(rt; !orb.holds(0x50));
-        assert!(rt; orb.holds(0x60));
-        enter(&rt, &mut orb, 0x50)?;
-        assert_eq!(rt; lines(&orb), [0x40, 0x60, 0x50, 0, 0, 0, 0, 0, 0]);
-        orb.clear();
-        assert_eq!(rt; orb.len(), 0);
-        assert!(rt; !orb.holds(0x40));
-        assert_eq!(rt; orb.at(0), None);
+fn as_many_lines_fit_as_the_limit_says(rt: HostRuntime) {
+    assert!(rt; fit(4, [0x40, 0x50, 0x60, 0x70, 0, 0, 0, 0, 0]));
+    assert!(rt; fit(8, [0x40, 0x50, 0x60, 0x70, 0x80, 0x90, 0xa0, 0xb0, 0]));
+}
+
+/// Whether the second of three lines leaves, and enters last.
+fn is_last_again(orb: &mut Orb) -> bool {
+    orb.remove(0x50)
+        && !orb.remove(0x50)
+        && !orb.holds(0x50)
+        && orb.holds(0x60)
+        && is_entered(orb, 0x50)
+        && lines(orb) == [0x40, 0x60, 0x50, 0, 0, 0, 0, 0, 0]
+}
+
+/// Whether all lines leave.
+fn is_cleared(orb: &mut Orb) -> bool {
+    orb.clear();
+    orb.len() == 0 && !orb.holds(0x40) && orb.at(0).is_none()
+}
+
+/// Whether the lines of a buffer leave it.
+fn leave(limit: usize) -> bool {
+    if !is_limit(limit) {
+        return false;
     }
-    Ok(())
+    let mut orb = Orb::new(limit);
+    are_entered(&mut orb, 3) && is_last_again(&mut orb) && is_cleared(&mut orb)
+}
+
+#[test]
+fn lines_leave_in_any_order(rt: HostRuntime) {
+    assert!(rt; leave(4));
+    assert!(rt; leave(8));
 }
 
 #[test]
 fn error_name(rt: HostRuntime) {
-    assert_eq!(rt; OrbFull.name(), "OrbFull");
+    assert!(rt; OrbFull.name() == "OrbFull");
 }

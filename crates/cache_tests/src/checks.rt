@@ -5,6 +5,7 @@ ghost use Rattle.spec_bus.specs.Cached as spec;
 ghost use Rattle.cache_tests.specs.Checked.{IfSo, IsApart, IsNotBefore};
 
 use spec_bus::CachedBus;
+use violations::EpochStore;
 
 /// Whether a core runs an attempt that is straight, or one that isn't.
 pub fn runs(bus: &CachedBus, core: u32, straight: bool) -> bool

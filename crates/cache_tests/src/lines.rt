@@ -166,13 +166,22 @@ E E 0
 SpS SpE -
 ";
 
+/// The way that a word names, if it names one.
+fn way(word: &str) -> Option<usize> {
+    match word {
+        "0" => Some(0),
+        "1" => Some(1),
+        _ => None,
+    }
+}
+
 /// Whether a row of `VICTIMS` holds.
 fn is_victim(rt: &impl Abort, row: &str, length: usize) -> Option<bool> {
     let (first, second) = (state(word(row, 0))?, state(word(row, 1))?);
     assert!(rt; length == 16 || length == 32);
     let unit = length as u32;
     let cache = pair(rt, length, (first, LOADED), (second, LOADED));
-    let want = index(row, 2);
+    let want = way(word(row, 2));
     Some(
         cache.victim(4 * unit) == want
             && cache.victim(12 * unit) == want
@@ -185,67 +194,86 @@ fn victims(rt: HostRuntime) {
     are_rows(&rt, Rows::Victims);
 }
 
-#[test]
-fn a_new_cache_is_empty(rt: HostRuntime) {
-    for length in [16, 32] {
-        assert!(rt; length == 16 || length == 32);
-        let cache = Cache::new(length);
-        assert_eq!(rt; cache.line_length(), length);
-        for addr in [0, 16, 32, 48, 64, 96] {
-            for way in 0..WAYS {
-                assert_eq!(rt; cache.line(addr, way).state, I);
-            }
-            assert_eq!(rt; cache.find(addr), None);
+/// Whether no line is found at an address, in whose set all ways are invalid.
+fn is_empty_at(cache: &Cache, addr: u32) -> bool {
+    for way in 0..WAYS {
+        if cache.line(addr, way).state != I {
+            return false;
         }
     }
+    cache.find(addr).is_none()
+}
+
+/// Whether a new cache has lines of this length, and none.
+fn is_new(length: usize) -> bool {
+    if length != 16 && length != 32 {
+        return false;
+    }
+    let cache = Cache::new(length);
+    for addr in [0, 16, 32, 48, 64, 96] {
+        if !is_empty_at(&cache, addr) {
+            return false;
+        }
+    }
+    cache.line_length() == length
+}
+
+#[test]
+fn a_new_cache_is_empty(rt: HostRuntime) {
+    assert!(rt; is_new(16));
+    assert!(rt; is_new(32));
+}
+
+/// Whether lines are found at these two addresses, in this way or in none.
+fn are_found(cache: &Cache, first: (u32, Option<usize>), second: (u32, Option<usize>)) -> bool {
+    cache.find(first.0) == first.1 && cache.find(second.0) == second.1
+}
+
+/// Whether lines are found at 4, 8 and 5 times the unit, and at no other address.
+fn are_three_found(cache: &Cache, unit: u32) -> bool {
+    if unit > 32 {
+        return false;
+    }
+    are_found(cache, (4 * unit, Some(0)), (8 * unit, Some(1)))
+        && are_found(cache, (5 * unit, Some(1)), (12 * unit, None))
+        && are_found(cache, (0, None), (4 * unit + 4, None))
+}
+
+/// Lines of this length, which is the unit, are found by their addresses.
+fn find_lines(rt: &impl Abort, length: usize, unit: u32) {
+    assert!(rt; unit == 16 || unit == 32);
+    let mut cache = pair(rt, length, (S, NONE), (M, NONE));
+    put(rt, &mut cache, 1, (5 * unit, E, NONE));
+    assert!(rt; are_three_found(&cache, unit));
+    // An invalid line takes the place of a copy, which is gone then.
+    put(rt, &mut cache, 0, (4 * unit, I, NONE));
+    assert!(rt; are_found(&cache, (4 * unit, None), (8 * unit, Some(1))));
+    // A line of another address takes its place too.
+    put(rt, &mut cache, 1, (12 * unit, E, NONE));
+    assert!(rt; are_found(&cache, (8 * unit, None), (12 * unit, Some(1))));
 }
 
 #[test]
 fn lines_are_found_by_their_addresses(rt: HostRuntime) {
-    for length in [16, 32] {
-        let unit = length as u32;
-        let mut cache = pair(&rt, length, (S, NONE), (M, NONE));
-        put(&rt, &mut cache, 1, (5 * unit, E, NONE));
-        let found = [4 * unit, 8 * unit, 5 * unit, 12 * unit, 0, 4 * unit + 4].map(
-            |addr| cache.find(addr),
-        );
-        assert_eq!(rt;
-            found,
-            [Some(0), Some(1), Some(1), None, None, None],
-            "{length}"
-        );
-        // An invalid line takes the place of a copy, which is gone then.
-        put(&rt, &mut cache, 0, (4 * unit, I, NONE));
-        assert_eq!(rt;
-            [cache.find(4 * unit), cache.find(8 * unit)],
-            [None, Some(1)],
-            "{length}"
-        );
-        // A line of another address takes its place too.
-        put(&rt, &mut cache, 1, (12 * unit, E, NONE));
-        assert_eq!(rt;
-            [cache.find(8 * unit), cache.find(12 * unit)],
-            [None, Some(1)],
-            "{length}"
-        );
-    }
+    find_lines(&rt, 16, 16);
+    find_lines(&rt, 32, 32);
+}
+
+/// Whether the lines at 64 and 128, put into way 0 one after the other, are of one set: only the second is there then.
+fn share_a_set(rt: &impl Abort, length: usize) -> bool {
+    assert!(rt; length == 16 || length == 32);
+    let mut cache = Cache::new(length);
+    put(rt, &mut cache, 0, (64, S, NONE));
+    put(rt, &mut cache, 0, (128, S, NONE));
+    assert!(rt; cache.find(128) == Some(0));
+    cache.find(64).is_none()
 }
 
 #[test]
 fn sets_go_by_the_line_length(rt: HostRuntime) {
     // Lines of 32 bytes at 64 and 128 stand in sets 2 and 0, lines of 16 bytes both in set 0.
-    for (length, want) in [(16, [false, true]), (32, [false, false])] {
-        assert!(rt; length == 16 || length == 32);
-        let mut cache = Cache::new(length);
-        put(&rt, &mut cache, 0, (64, S, NONE));
-        put(&rt, &mut cache, 0, (128, S, NONE));
-        assert_eq!(rt; cache.find(128), Some(0));
-        assert_eq!(rt;
-            [cache.find(128).is_none(), cache.find(64).is_none()],
-            want,
-            "{length}"
-        );
-    }
+    assert!(rt; share_a_set(&rt, 16));
+    assert!(rt; !share_a_set(&rt, 32));
 }
 
 const NUMBERS: &str = "
@@ -260,7 +288,7 @@ const NUMBERS: &str = "
 
 /// Whether a row of `NUMBERS` holds, of a line of 32 bytes that counts its cells.
 fn is_number(rt: &impl Abort, row: &str) -> Option<bool> {
-    let (offset, width, want) = (number(row, 0)?, number(row, 1)?, hex(row, 2)?);
+    let (offset, width, want) = (number(row, 0), number(row, 1), hex(row, 2)?);
     assert!(rt;
         offset < 29 && width == 4 || offset < 31 && width == 2 || offset < 32 && width == 1
     );
@@ -305,8 +333,8 @@ const STORES: &str = "
 
 /// Whether a row of `STORES` holds.
 fn is_store(rt: &impl Abort, row: &str) -> Option<bool> {
-    let (length, offset) = (index(row, 0)?, number(row, 1)?);
-    let (width, value) = (number(row, 2)?, hex(row, 3)?);
+    let (length, offset) = (index(row, 0), number(row, 1));
+    let (width, value) = (number(row, 2), hex(row, 3)?);
     assert!(rt; length == 16 || length == 32);
     let addr = 4 * length as u32;
     let mut cache = pair(rt, length, (SpE, stored(0xf0)), (S, NONE));
@@ -353,8 +381,8 @@ fn counted_but_for(length: usize, first: usize, count: usize) -> [u8; 32]
 
 /// Whether a row of `REFRESHES` holds: the bytes of the mask stay, among those that are given from 100 on.
 fn is_refresh(rt: &impl Abort, row: &str) -> Option<bool> {
-    let (length, mask) = (index(row, 0)?, hex(row, 1)?);
-    let (first, count) = (index(row, 2)?, index(row, 3)?);
+    let (length, mask) = (index(row, 0), hex(row, 1)?);
+    let (first, count) = (index(row, 2), index(row, 3));
     assert!(rt; length == 16 || length == 32);
     let addr = 8 * length as u32;
     let mut cache = pair(rt, length, (S, NONE), (SpS, stored(mask)));
@@ -381,29 +409,47 @@ fn states(cache: &Cache, addr: u32) -> ([LineState; 2], bool) {
     )
 }
 
-#[test]
-#[rattlefmt::skip]
-fn rollbacks_and_publishes_of_one_line(rt: HostRuntime) {
-    for length in [16, 32] {
-        let (low, high) = (4 * length as u32, 8 * length as u32);
-        let own = loaded(1 << (length as u32 - 1));
-        let mut cache = pair(&rt, length, (SpS, LOADED), (SpE, own));
-        cache.roll_back(low, 0);
-        assert!(rt; is_line(&cache, low, 0, S, NONE, counted(0, cache.line_length())), "{length}");
-        assert!(rt; is_line(&cache, high, 1, SpE, own, counted(0, cache.line_length())), "{length}");
-        cache.roll_back(high, 1);
-        assert_eq!(rt; [cache.find(low), cache.find(high)], [Some(0), None], "{length}");
+/// Whether the line at an address stands so in its way, with the bytes that it came with.
+fn is_whole(cache: &Cache, addr: u32, way: usize, state: LineState, marks: Marks) -> bool {
+    is_line(
+        cache,
+        addr,
+        way,
+        state,
+        marks,
+        counted(0, cache.line_length()),
+    )
+}
 
-        let mut cache = pair(&rt, length, (SpS, own), (SpE, LOADED));
-        cache.settle(low, 0, false);
-        assert!(rt; is_line(&cache, low, 0, S, NONE, counted(0, cache.line_length())), "{length}");
-        assert!(rt; is_line(&cache, high, 1, SpE, LOADED, counted(0, cache.line_length())), "{length}");
-        cache.settle(high, 1, true);
-        assert_eq!(rt; states(&cache, low), ([S, E], false), "{length}");
-        put(&rt, &mut cache, 0, (low, SpS, own));
-        cache.settle(low, 0, true);
-        assert_eq!(rt; states(&cache, low), ([M, E], false), "{length}");
-    }
+/// Of two lines each is rolled back alone: at `low` one that was loaded, and at `high` one with own bytes.
+fn roll_back_each(rt: &impl Abort, length: usize, low: u32, high: u32, own: Marks) {
+    let mut cache = pair(rt, length, (SpS, LOADED), (SpE, own));
+    cache.roll_back(low, 0);
+    assert!(rt; is_whole(&cache, low, 0, S, NONE));
+    assert!(rt; is_whole(&cache, high, 1, SpE, own));
+    cache.roll_back(high, 1);
+    assert!(rt; are_found(&cache, (low, Some(0)), (high, None)));
+}
+
+/// Of two lines each is published alone: at `low` one with own bytes, and at `high` one that was loaded.
+fn publish_each(rt: &impl Abort, length: usize, low: u32, high: u32, own: Marks) {
+    let mut cache = pair(rt, length, (SpS, own), (SpE, LOADED));
+    cache.settle(low, 0, false);
+    assert!(rt; is_whole(&cache, low, 0, S, NONE));
+    assert!(rt; is_whole(&cache, high, 1, SpE, LOADED));
+    cache.settle(high, 1, true);
+    assert!(rt; states(&cache, low) == ([S, E], false));
+    put(rt, &mut cache, 0, (low, SpS, own));
+    cache.settle(low, 0, true);
+    assert!(rt; states(&cache, low) == ([M, E], false));
+}
+
+#[test]
+fn rollbacks_and_publishes_of_one_line(rt: HostRuntime) {
+    roll_back_each(&rt, 16, 64, 128, loaded(0x8000));
+    publish_each(&rt, 16, 64, 128, loaded(0x8000));
+    roll_back_each(&rt, 32, 128, 256, loaded(0x8000_0000));
+    publish_each(&rt, 32, 128, 256, loaded(0x8000_0000));
 }
 
 const ROLL_BACKS: &str = "

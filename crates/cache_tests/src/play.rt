@@ -1,212 +1,220 @@
-//! Calls of a bus, one after the other, each with what it answers.
+//! Calls of a bus, one after the other, each with what it answers or shows, as a line of words. `|` stands between two calls.
+//!
+//! | Call | Says |
+//! |---|---|
+//! | `begin 0 1` | core 0 begins epoch 1 |
+//! | `load 0 64 4 7 1` | core 0 loads the 4 bytes at 64, which are 7, and violates core 1; `straight_load` of a straight core |
+//! | `store 0 64 4 7` | core 0 stores 7 to the 4 bytes at 64, and violates nobody; `straight_store` of a straight core |
+//! | `load_waits 0 64 4 NoWay` | such a load waits, and why |
+//! | `store_waits 0 64 4 7 OrbFull` | such a store waits, and why |
+//! | `publish 0 1` | core 0 publishes, and violates core 1 |
+//! | `leave 0`, `cancel 0` | the straight attempt of core 0 ends, or the one that isn't straight is given up |
+//! | `line 0 64 SpS r f` | core 0's copy of the line at 64 is in this state, loaded, with these modified bytes |
+//! | `orb 0 64 80` | core 0's buffer has these lines, in this order |
+//! | `byte 64 7` | the committed byte at 64 is 7 |
 
 use crate::checks::{lies, may_begin, may_publish, runs};
+use crate::words::{hex, number, state, word};
 use spec_bus::CachedBus;
-use spec_states::LineState;
 use std::process::Abort;
-use std::test::Fail;
-use violations::{CoreSet, Step, WaitCause};
+use violations::WaitCause::{NoWay, OrbBusy, OrbFull};
+use violations::{CoreSet, EpochStore, Step, WaitCause};
 
-/// A call, and what it answers or shows. `hurt` names the cores that are violated.
-#[derive(Clone, Copy)]
-pub enum Call<'a> {
-    Begin(u32, u32),
-    /// Core, address, bytes; the value.
-    Load(u32, u32, u32, u32, &'a [u32]),
-    LoadWaits(u32, u32, u32, WaitCause),
-    /// Core, address, bytes, value.
-    Store(u32, u32, u32, u32, &'a [u32]),
-    StoreWaits(u32, u32, u32, u32, WaitCause),
-    Publish(u32, &'a [u32]),
-    StraightLoad(u32, u32, u32, u32, &'a [u32]),
-    StraightStore(u32, u32, u32, u32, &'a [u32]),
-    Leave(u32),
-    Cancel(u32),
-    /// Core, address; the state, loaded, the modified bytes.
-    Line(u32, u32, LineState, bool, u32),
-    Orb(u32, &'a [u32]),
-    Byte(u32, u8),
-}
-
-/// The cores of the list, and no others.
-fn are(rt: &impl Abort, hurt: CoreSet, cores: &[u32]) {
-    assert!(rt; hurt.len() == cores.len());
-    for core in cores {
-        assert!(rt; hurt.has(*core));
+/// Makes the calls of a row, and compares what they answer.
+pub fn play(rt: &impl Abort, bus: &mut CachedBus, row: &str) {
+    for call in row.split('|') {
+        assert!(rt; is_played(bus, call), "{call} in {row}");
     }
 }
 
-/// A core begins an epoch.
-fn begin(rt: &impl Abort, bus: &mut CachedBus, core: u32, epoch: u32) {
-    let may = may_begin(bus, core, epoch);
-    assert!(rt; may);
+/// Makes a call. Whether it may be made, and answers so.
+fn is_played(bus: &mut CachedBus, call: &str) -> bool {
+    match word(call, 0) {
+        "begin" => is_begun(bus, call),
+        "publish" => is_published(bus, call),
+        "leave" => is_left(bus, call),
+        "cancel" => is_cancelled(bus, call),
+        "line" => is_line(bus, call),
+        "orb" => is_orb(bus, call),
+        "byte" => is_byte(bus, call),
+        _ => is_access(bus, call),
+    }
+}
+
+/// The same of an access.
+fn is_access(bus: &mut CachedBus, call: &str) -> bool {
+    match word(call, 0) {
+        "load" => is_done(load(bus, call), number(call, 4), call),
+        "store" => is_done(store(bus, call), 0, call),
+        "load_waits" => is_waiting(load(bus, call), word(call, 4)),
+        "store_waits" => is_waiting(store(bus, call), word(call, 5)),
+        "straight_load" => is_straight_load(bus, call),
+        "straight_store" => is_straight_store(bus, call),
+        _ => false,
+    }
+}
+
+/// Whether these are the cores that a call names from a place on, and no others.
+fn are(hurt: CoreSet, call: &str, from: usize) -> bool {
+    let mut count = 0usize;
+    for place in from..from.saturating_add(16) {
+        if !word(call, place).is_empty() {
+            if !hurt.has(number(call, place)) {
+                return false;
+            }
+            count = count.wrapping_add(1);
+        }
+    }
+    hurt.len() == count
+}
+
+fn is_begun(bus: &mut CachedBus, call: &str) -> bool {
+    let (core, epoch) = (number(call, 1), number(call, 2));
+    if !may_begin(bus, core, epoch) {
+        return false;
+    }
     bus.begin(core, epoch);
+    true
 }
 
-/// A core publishes, and violates these.
-fn publish(rt: &impl Abort, bus: &mut CachedBus, core: u32, hurt: &[u32]) {
-    let may = may_publish(bus, core);
-    assert!(rt; may);
-    let violated = bus.publish(core);
-    are(rt, violated, hurt);
+fn is_published(bus: &mut CachedBus, call: &str) -> bool {
+    let core = number(call, 1);
+    if !may_publish(bus, core) {
+        return false;
+    }
+    are(bus.publish(core), call, 2)
 }
 
-/// A core that runs an attempt which isn't straight, and may access so many bytes, loads them.
-fn load(rt: &impl Abort, bus: &mut CachedBus, core: u32, addr: u32, width: u32) -> Step {
-    let runs = runs(bus, core, false);
-    assert!(rt; runs);
-    let lies = lies(bus, addr, width);
-    assert!(rt; lies);
-    bus.load(core, addr, width)
-}
-
-/// It stores them.
-fn store(
-    rt: &impl Abort,
-    bus: &mut CachedBus,
-    core: u32,
-    addr: u32,
-    width: u32,
-    value: u32,
-) -> Step {
-    let runs = runs(bus, core, false);
-    assert!(rt; runs);
-    let lies = lies(bus, addr, width);
-    assert!(rt; lies);
-    bus.store(core, addr, width, value)
-}
-
-/// A straight core loads so many bytes, and violates these.
-fn straight_load(
-    rt: &impl Abort,
-    bus: &mut CachedBus,
-    core: u32,
-    addr: u32,
-    width: u32,
-    value: u32,
-    hurt: &[u32],
-) {
-    let runs = runs(bus, core, true);
-    assert!(rt; runs);
-    let lies = lies(bus, addr, width);
-    assert!(rt; lies);
-    let (loaded, violated) = bus.straight_load(core, addr, width);
-    assert!(rt; loaded == value);
-    are(rt, violated, hurt);
-}
-
-/// A straight core stores so many bytes, and violates these.
-fn straight_store(
-    rt: &impl Abort,
-    bus: &mut CachedBus,
-    core: u32,
-    addr: u32,
-    width: u32,
-    value: u32,
-    hurt: &[u32],
-) {
-    let runs = runs(bus, core, true);
-    assert!(rt; runs);
-    let lies = lies(bus, addr, width);
-    assert!(rt; lies);
-    let violated = bus.straight_store(core, addr, width, value);
-    are(rt, violated, hurt);
-}
-
-/// A straight attempt ends.
-fn leave(rt: &impl Abort, bus: &mut CachedBus, core: u32) {
-    let runs = runs(bus, core, true);
-    assert!(rt; runs);
+fn is_left(bus: &mut CachedBus, call: &str) -> bool {
+    let core = number(call, 1);
+    if !runs(bus, core, true) {
+        return false;
+    }
     bus.leave(core);
+    true
 }
 
-/// An attempt that isn't straight is given up.
-fn cancel(rt: &impl Abort, bus: &mut CachedBus, core: u32) {
-    let runs = runs(bus, core, false);
-    assert!(rt; runs);
+fn is_cancelled(bus: &mut CachedBus, call: &str) -> bool {
+    let core = number(call, 1);
+    if !runs(bus, core, false) {
+        return false;
+    }
     bus.cancel(core);
+    true
 }
 
-/// A core's buffer has these lines, in this order.
-fn orb(rt: &impl Abort, bus: &CachedBus, core: u32, lines: &[u32]) {
-    assert!(rt; core < bus.cores());
+/// Whether the copy of a line is so.
+fn is_line(bus: &CachedBus, call: &str) -> bool {
+    let core = number(call, 1);
+    if core >= bus.cores() {
+        return false;
+    }
+    let line = bus.line_at(core, number(call, 2));
+    Some(line.state) == state(word(call, 3))
+        && line.loaded == (word(call, 4) == "r")
+        && Some(line.bytes) == hex(call, 5)
+}
+
+/// Whether a buffer has these lines.
+fn is_orb(bus: &CachedBus, call: &str) -> bool {
+    let core = number(call, 1);
+    if core >= bus.cores() {
+        return false;
+    }
     let orb = bus.orb_at(core);
-    assert!(rt; orb.len() == lines.len());
-    for (i, line) in lines.iter().enumerate() {
-        assert!(rt; orb.at(i) == Some(*line));
+    let mut count = 0usize;
+    for i in 0..9 {
+        if orb.at(i).unwrap_or(u32::MAX) != number(call, i + 2) {
+            return false;
+        }
+        if orb.at(i).is_some() {
+            count = count.wrapping_add(1);
+        }
     }
+    orb.len() == count
 }
 
-/// A core's copy of a line is in this state, loaded or not, with these modified bytes.
-fn line(
-    rt: &impl Abort,
-    bus: &CachedBus,
-    core: u32,
-    addr: u32,
-    state: LineState,
-    loaded: bool,
-    bytes: u32,
-) {
-    assert!(rt; core < bus.cores());
-    let line = bus.line_at(core, addr);
-    assert!(rt; line.state == state);
-    assert!(rt; line.loaded == loaded);
-    assert!(rt; line.bytes == bytes);
+/// Whether a committed byte is so.
+fn is_byte(bus: &CachedBus, call: &str) -> bool {
+    let addr = number(call, 1);
+    if addr >= bus.size() {
+        return false;
+    }
+    u32::from(bus.committed_byte(addr)) == number(call, 2)
 }
 
-/// The committed byte at an address.
-fn byte(rt: &impl Abort, bus: &CachedBus, addr: u32, value: u8) {
-    assert!(rt; addr < bus.size());
-    assert!(rt; bus.committed_byte(addr) == value);
+/// What a load answers. None: the core may not make it.
+fn load(bus: &mut CachedBus, call: &str) -> Option<Step> {
+    let (core, addr, width) = (number(call, 1), number(call, 2), number(call, 3));
+    if !runs(bus, core, false) {
+        return None;
+    }
+    if !lies(bus, addr, width) {
+        return None;
+    }
+    Some(bus.load(core, addr, width))
 }
 
-/// The access was done, gave this value, and violated these.
-fn done(rt: &impl Abort, step: Step, want: u32, hurt: &[u32]) {
+/// What a store answers. None: the core may not make it.
+fn store(bus: &mut CachedBus, call: &str) -> Option<Step> {
+    let (core, addr, width) = (number(call, 1), number(call, 2), number(call, 3));
+    if !runs(bus, core, false) {
+        return None;
+    }
+    if !lies(bus, addr, width) {
+        return None;
+    }
+    Some(bus.store(core, addr, width, number(call, 4)))
+}
+
+/// Whether an access was done, gave this value, and violated the cores that the call names.
+fn is_done(step: Option<Step>, want: u32, call: &str) -> bool {
     match step {
-        Step::Done {
-            value,
-            hurt: violated,
-        } => {
-            assert!(rt; value == want);
-            are(rt, violated, hurt);
-        }
-        Step::Wait(_) => assert!(rt; false),
+        Some(Step::Done { value, hurt }) => value == want && are(hurt, call, 5),
+        _ => false,
     }
 }
 
-/// Makes a call and compares what it answers.
-pub fn play(rt: &impl Abort, bus: &mut CachedBus, call: Call<'_>) {
-    match call {
-        Call::Begin(core, epoch) => begin(rt, bus, core, epoch),
-        Call::Load(core, addr, width, value, hurt) => {
-            let step = load(rt, bus, core, addr, width);
-            done(rt, step, value, hurt);
-        }
-        Call::LoadWaits(core, addr, width, cause) => {
-            let step = load(rt, bus, core, addr, width);
-            assert!(rt; step == Step::Wait(cause));
-        }
-        Call::Store(core, addr, width, value, hurt) => {
-            let step = store(rt, bus, core, addr, width, value);
-            done(rt, step, 0, hurt);
-        }
-        Call::StoreWaits(core, addr, width, value, cause) => {
-            let step = store(rt, bus, core, addr, width, value);
-            assert!(rt; step == Step::Wait(cause));
-        }
-        Call::Publish(core, hurt) => publish(rt, bus, core, hurt),
-        Call::StraightLoad(core, addr, width, value, hurt) => straight_load(
-            rt, bus, core, addr, width, value, hurt,
-        ),
-        Call::StraightStore(core, addr, width, value, hurt) => straight_store(
-            rt, bus, core, addr, width, value, hurt,
-        ),
-        Call::Leave(core) => leave(rt, bus, core),
-        Call::Cancel(core) => cancel(rt, bus, core),
-        Call::Line(core, addr, state, loaded, bytes) => line(
-            rt, bus, core, addr, state, loaded, bytes,
-        ),
-        Call::Orb(core, lines) => orb(rt, bus, core, lines),
-        Call::Byte(addr, value) => byte(rt, bus, addr, value),
+/// Whether an access waits, for a cause of this name.
+fn is_waiting(step: Option<Step>, name: &str) -> bool {
+    match step {
+        Some(Step::Wait(cause)) => Some(cause) == cause_of(name),
+        _ => false,
     }
+}
+
+fn cause_of(name: &str) -> Option<WaitCause> {
+    match name {
+        "NoWay" => Some(NoWay),
+        "OrbFull" => Some(OrbFull),
+        "OrbBusy" => Some(OrbBusy),
+        _ => None,
+    }
+}
+
+fn is_straight_load(bus: &mut CachedBus, call: &str) -> bool {
+    let (core, addr, width) = (number(call, 1), number(call, 2), number(call, 3));
+    if !runs(bus, core, true) {
+        return false;
+    }
+    if !lies(bus, addr, width) {
+        return false;
+    }
+    let (loaded, hurt) = bus.straight_load(core, addr, width);
+    loaded == number(call, 4) && are(hurt, call, 5)
+}
+
+fn is_straight_store(bus: &mut CachedBus, call: &str) -> bool {
+    let (core, addr, width) = (number(call, 1), number(call, 2), number(call, 3));
+    if !runs(bus, core, true) {
+        return false;
+    }
+    if !lies(bus, addr, width) {
+        return false;
+    }
+    are(
+        bus.straight_store(core, addr, width, number(call, 4)),
+        call,
+        5,
+    )
 }

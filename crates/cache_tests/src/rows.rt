@@ -1,17 +1,13 @@
 //! Worked rows of calls, and what comes of them.
 
-use crate::play::Call::{
-    Begin, Byte, Cancel, Leave, Line, Load, LoadWaits, Orb, Publish, Store, StoreWaits,
-    StraightLoad, StraightStore,
-};
-use crate::play::{Call, play};
-use rv32_image::{NoMemory, image_of};
+use crate::play::play;
+use crate::words::is_row;
+use rv32_image::{Image, NoMemory, image_of};
 use spec_bus::CachedBus;
-use spec_states::LineState::{E, I, M, S, SpE, SpS};
 use std::alloc::Global;
 use std::process::Abort;
 use std::test::Fail;
-use violations::WaitCause::{NoWay, OrbBusy, OrbFull};
+use violations::EpochStore;
 
 /// Four epochs and 256 bytes of memory.
 const ONE: &str = "size 256\nepochs 4\nlimit 100\ncode 83220004b382a2002320500467800000\n";
@@ -24,56 +20,67 @@ const TWO: &str =
 const TWO_OF_512: &str =
     "version 2\nsize 512\nepochs 4\nlimit 100\ncode 83220004b382a2002320500467800000\n";
 
-/// Cores 0 and 1 run epochs 0 and 1, and these calls come.
-fn run(rt: &impl Abort, alloc: Global, image: &str, calls: &[Call<'_>]) -> Result<(), Fail> {
+/// Cores 0 and 1 begin epochs 0 and 1.
+const BEGUN: &str = "begin 0 0 | begin 1 1";
+
+/// On a fresh bus of two cores come these calls, and then those of a row.
+fn run_row(
+    rt: &impl Abort,
+    alloc: Global,
+    image: &Image,
+    first: &str,
+    row: &str,
+) -> Result<(), NoMemory> {
+    assert!(rt; image.version().limits().most_cores >= 2);
+    let mut bus = CachedBus::fresh(alloc, image, 2)?;
+    play(rt, &mut bus, first);
+    play(rt, &mut bus, row);
+    Ok(())
+}
+
+/// The same for each row of a table.
+fn run(rt: &impl Abort, alloc: Global, image: &str, first: &str, rows: &str) -> Result<(), Fail> {
     let image = image_of(alloc, image.as_bytes())?;
-    let mut bus = CachedBus::fresh(alloc, &image, 2)?;
-    play(rt, &mut bus, Begin(0, 0));
-    play(rt, &mut bus, Begin(1, 1));
-    for call in calls {
-        play(rt, &mut bus, *call);
+    for row in rows.split('\n') {
+        if is_row(row) {
+            run_row(rt, alloc, &image, first, row)?;
+        }
     }
     Ok(())
 }
+
+const LOADS_AND_STORES: &str = "
+load 0 64 4 0 | store 1 64 4 1 | line 0 64 SpS r 0 | line 1 64 SpS . f | orb 1 64
+load 1 64 4 0 | store 0 64 4 7 1 | line 1 64 I . 0 | line 0 64 SpE . f
+store 0 64 1 255 | store 1 65 1 255 | line 0 64 SpS . 1 | line 1 64 SpS . 2 | orb 0 64 | orb 1 64
+load 1 128 4 0 | store 1 80 4 5 | load 1 64 4 0 | store 0 64 4 7 1 | line 1 128 E . 0 | line 1 80 I . 0 | orb 1 | byte 80 0
+load 0 64 4 0 | load 0 128 4 0 | load_waits 0 192 4 NoWay
+store 0 64 1 255 | line 0 64 SpE . 1 | load 0 64 4 255 | line 0 64 SpE r 1
+";
 
 #[test]
 fn loads_and_stores(rt: HostRuntime) -> Result<(), Fail> {
-    #[rattlefmt::skip]
-    let rows: [&[Call<'_>]; 6] = [
-        &[Load(0, 64, 4, 0, &[]), Store(1, 64, 4, 1, &[]), Line(0, 64, SpS, true, 0), Line(1, 64, SpS, false, 0xf), Orb(1, &[64])],
-        &[Load(1, 64, 4, 0, &[]), Store(0, 64, 4, 7, &[1]), Line(1, 64, I, false, 0), Line(0, 64, SpE, false, 0xf)],
-        &[Store(0, 64, 1, 255, &[]), Store(1, 65, 1, 255, &[]), Line(0, 64, SpS, false, 1), Line(1, 64, SpS, false, 2), Orb(0, &[64]), Orb(1, &[64])],
-        &[Load(1, 128, 4, 0, &[]), Store(1, 80, 4, 5, &[]), Load(1, 64, 4, 0, &[]), Store(0, 64, 4, 7, &[1]), Line(1, 128, E, false, 0), Line(1, 80, I, false, 0), Orb(1, &[]), Byte(80, 0)],
-        &[Load(0, 64, 4, 0, &[]), Load(0, 128, 4, 0, &[]), LoadWaits(0, 192, 4, NoWay)],
-        &[Store(0, 64, 1, 255, &[]), Line(0, 64, SpE, false, 1), Load(0, 64, 4, 255, &[]), Line(0, 64, SpE, true, 1)],
-    ];
-    for calls in rows {
-        run(&rt, rt.alloc(), ONE, calls)?;
-    }
-    Ok(())
+    run(&rt, rt.alloc(), ONE, BEGUN, LOADS_AND_STORES)
 }
+
+const PUBLISH_AND_STRAIGHT_ACCESSES: &str = "
+store 0 64 4 7 | publish 0 | line 0 64 M . 0 | byte 64 7
+# The line is stored alone, and written back when the third line of its set comes: the lower way gives way, both times.
+publish 0 | straight_store 0 64 4 5 | line 0 64 M . 0 | byte 64 5 | straight_load 0 128 4 0 | straight_load 0 192 4 0 | \
+    line 0 64 I . 0 | byte 64 5 | straight_load 0 64 4 5 | line 0 64 E . 0 | line 0 128 E . 0 | line 0 192 I . 0
+# The loop exits at epoch 0: epoch 1 is cancelled.
+store 0 64 4 0 | store 1 64 4 1 | publish 0 | cancel 1 | leave 0 | line 0 64 S . 0 | line 1 64 I . 0 | byte 64 0
+store 1 64 4 9 | store 1 80 4 9 | store 1 96 4 9 | store 1 112 4 9 | store 1 128 4 9 | publish 0 | \
+    straight_load 0 64 4 0 | straight_load 0 80 4 0 | straight_load 0 96 4 0 | straight_load 0 112 4 0 | orb 1 64 80 96 112 | \
+    straight_load 0 128 4 0 1 | line 1 64 I . 0 | line 0 64 S . 0 | line 0 128 E . 0
+store 0 64 4 7 | store 0 80 4 7 | store 1 68 4 9 | load 1 80 4 0 | publish 0 1 | \
+    line 0 64 S . 0 | line 0 80 M . 0 | line 1 64 I . 0 | line 1 80 I . 0
+store 1 64 4 9 | publish 0 | straight_store 0 64 4 5 | byte 64 5 | cancel 1 | line 1 64 I . 0 | leave 0
+";
 
 #[test]
 fn publish_and_straight_accesses(rt: HostRuntime) -> Result<(), Fail> {
-    #[rattlefmt::skip]
-    let rows: [&[Call<'_>]; 6] = [
-        &[Store(0, 64, 4, 7, &[]), Publish(0, &[]), Line(0, 64, M, false, 0), Byte(64, 7)],
-        // The line is stored alone, and written back when the third line of its set comes: the lower way gives way, both times.
-        &[Publish(0, &[]), StraightStore(0, 64, 4, 5, &[]), Line(0, 64, M, false, 0), Byte(64, 5), StraightLoad(0, 128, 4, 0, &[]), StraightLoad(0, 192, 4, 0, &[]),
-          Line(0, 64, I, false, 0), Byte(64, 5), StraightLoad(0, 64, 4, 5, &[]), Line(0, 64, E, false, 0), Line(0, 128, E, false, 0), Line(0, 192, I, false, 0)],
-        // The loop exits at epoch 0: epoch 1 is cancelled.
-        &[Store(0, 64, 4, 0, &[]), Store(1, 64, 4, 1, &[]), Publish(0, &[]), Cancel(1), Leave(0), Line(0, 64, S, false, 0), Line(1, 64, I, false, 0), Byte(64, 0)],
-        &[Store(1, 64, 4, 9, &[]), Store(1, 80, 4, 9, &[]), Store(1, 96, 4, 9, &[]), Store(1, 112, 4, 9, &[]), Store(1, 128, 4, 9, &[]), Publish(0, &[]),
-          StraightLoad(0, 64, 4, 0, &[]), StraightLoad(0, 80, 4, 0, &[]), StraightLoad(0, 96, 4, 0, &[]), StraightLoad(0, 112, 4, 0, &[]), Orb(1, &[64, 80, 96, 112]),
-          StraightLoad(0, 128, 4, 0, &[1]), Line(1, 64, I, false, 0), Line(0, 64, S, false, 0), Line(0, 128, E, false, 0)],
-        &[Store(0, 64, 4, 7, &[]), Store(0, 80, 4, 7, &[]), Store(1, 68, 4, 9, &[]), Load(1, 80, 4, 0, &[]), Publish(0, &[1]),
-          Line(0, 64, S, false, 0), Line(0, 80, M, false, 0), Line(1, 64, I, false, 0), Line(1, 80, I, false, 0)],
-        &[Store(1, 64, 4, 9, &[]), Publish(0, &[]), StraightStore(0, 64, 4, 5, &[]), Byte(64, 5), Cancel(1), Line(1, 64, I, false, 0), Leave(0)],
-    ];
-    for calls in rows {
-        run(&rt, rt.alloc(), ONE, calls)?;
-    }
-    Ok(())
+    run(&rt, rt.alloc(), ONE, BEGUN, PUBLISH_AND_STRAIGHT_ACCESSES)
 }
 
 #[test]
@@ -82,95 +89,73 @@ fn a_longer_line_is_violated_as_a_whole(rt: HostRuntime) -> Result<(), Fail> {
         &rt,
         rt.alloc(),
         TWO,
-        &[Load(1, 80, 4, 0, &[]), Store(0, 64, 4, 7, &[1])],
+        BEGUN,
+        "load 1 80 4 0 | store 0 64 4 7 1",
     )?;
     run(
         &rt,
         rt.alloc(),
         ONE,
-        &[Load(1, 80, 4, 0, &[]), Store(0, 64, 4, 7, &[])],
+        BEGUN,
+        "load 1 80 4 0 | store 0 64 4 7",
     )
 }
 
+/// The words at 64 and 80, and those at 96 and 112, are of one line.
+const WORDS_OF_A_LINE: &str = "
+load 0 64 4 0 | load 0 80 4 0 | load 0 96 4 0 | load 0 112 4 0 | load 0 128 4 0 | \
+    store 1 64 4 1 | store 1 80 4 1 | store 1 96 4 1 | store 1 112 4 1 | store 1 128 4 1 | \
+    orb 1 64 96 128 | line 1 64 SpS . f000f | line 1 128 SpS . f
+";
+
+/// A cache of 8 lines is full when its buffer is: there is no way for a ninth line. All 8 are published in their order.
+const BUFFERS_OF_8_LINES: &str = "
+load 0 256 4 0 | load 0 288 4 0 | load 0 320 4 0 | load 0 352 4 0 | load 0 384 4 0 | load 0 416 4 0 | load 0 448 4 0 | load 0 480 4 0 | \
+    store 1 480 4 9 | store 1 448 4 9 | store 1 416 4 9 | store 1 384 4 9 | \
+    store 1 352 4 9 | store 1 320 4 9 | store 1 288 4 9 | store 1 256 4 9 | \
+    orb 1 480 448 416 384 352 320 288 256 | store_waits 1 64 4 9 NoWay | load_waits 1 64 4 NoWay | \
+    store 0 256 4 7 | orb 0 256 | publish 0 | line 0 256 S . 0 | line 0 288 S . 0 | byte 256 7 | leave 0 | \
+    publish 1 | line 1 256 M . 0 | line 1 480 M . 0 | line 0 256 I . 0 | orb 1 | byte 256 9
+";
+
 #[test]
 fn buffers_of_8_lines_of_32_bytes(rt: HostRuntime) -> Result<(), Fail> {
-    #[rattlefmt::skip]
-    let rows: [(&str, &[Call<'_>]); 2] = [
-        // The words at 64 and 80, and those at 96 and 112, are of one line.
-        (TWO, &[Load(0, 64, 4, 0, &[]), Load(0, 80, 4, 0, &[]), Load(0, 96, 4, 0, &[]), Load(0, 112, 4, 0, &[]), Load(0, 128, 4, 0, &[]),
-                Store(1, 64, 4, 1, &[]), Store(1, 80, 4, 1, &[]), Store(1, 96, 4, 1, &[]), Store(1, 112, 4, 1, &[]), Store(1, 128, 4, 1, &[]),
-                Orb(1, &[64, 96, 128]), Line(1, 64, SpS, false, 0x000f_000f), Line(1, 128, SpS, false, 0xf)]),
-        // A cache of 8 lines is full when its buffer is: there is no way for a ninth line. All 8 are published in their order.
-        (TWO_OF_512, &[
-                Load(0, 256, 4, 0, &[]), Load(0, 288, 4, 0, &[]), Load(0, 320, 4, 0, &[]), Load(0, 352, 4, 0, &[]),
-                Load(0, 384, 4, 0, &[]), Load(0, 416, 4, 0, &[]), Load(0, 448, 4, 0, &[]), Load(0, 480, 4, 0, &[]),
-                Store(1, 480, 4, 9, &[]), Store(1, 448, 4, 9, &[]), Store(1, 416, 4, 9, &[]), Store(1, 384, 4, 9, &[]),
-                Store(1, 352, 4, 9, &[]), Store(1, 320, 4, 9, &[]), Store(1, 288, 4, 9, &[]), Store(1, 256, 4, 9, &[]),
-                Orb(1, &[480, 448, 416, 384, 352, 320, 288, 256]), StoreWaits(1, 64, 4, 9, NoWay), LoadWaits(1, 64, 4, NoWay),
-                Store(0, 256, 4, 7, &[]), Orb(0, &[256]), Publish(0, &[]), Line(0, 256, S, false, 0), Line(0, 288, S, false, 0), Byte(256, 7), Leave(0),
-                Publish(1, &[]), Line(1, 256, M, false, 0), Line(1, 480, M, false, 0), Line(0, 256, I, false, 0), Orb(1, &[]), Byte(256, 9)]),
-    ];
-    for (image, calls) in rows {
-        run(&rt, rt.alloc(), image, calls)?;
-    }
-    Ok(())
+    run(&rt, rt.alloc(), TWO, BEGUN, WORDS_OF_A_LINE)?;
+    run(&rt, rt.alloc(), TWO_OF_512, BEGUN, BUFFERS_OF_8_LINES)
 }
 
 /// Lines 64, 80, 96 and 112, stored by both cores: each buffer is full.
-#[rattlefmt::skip]
-const FULL: [Call<'static>; 10] = [
-    Store(1, 64, 4, 9, &[]), Store(1, 80, 4, 9, &[]), Store(1, 96, 4, 9, &[]), Store(1, 112, 4, 9, &[]),
-    Store(0, 64, 4, 7, &[]), Store(0, 80, 4, 7, &[]), Store(0, 96, 4, 7, &[]), Store(0, 112, 4, 7, &[]),
-    Orb(0, &[64, 80, 96, 112]), Orb(1, &[64, 80, 96, 112]),
-];
+const FULL: &str = "begin 0 0 | begin 1 1 | \
+    store 1 64 4 9 | store 1 80 4 9 | store 1 96 4 9 | store 1 112 4 9 | \
+    store 0 64 4 7 | store 0 80 4 7 | store 0 96 4 7 | store 0 112 4 7 | \
+    orb 0 64 80 96 112 | orb 1 64 80 96 112";
 
-/// With both buffers full these calls come.
-fn run_full(rt: &impl Abort, alloc: Global, calls: &[Call<'_>]) -> Result<(), Fail> {
-    let image = image_of(alloc, ONE.as_bytes())?;
-    let mut bus = CachedBus::fresh(alloc, &image, 2)?;
-    play(rt, &mut bus, Begin(0, 0));
-    play(rt, &mut bus, Begin(1, 1));
-    for call in FULL {
-        play(rt, &mut bus, call);
-    }
-    for call in calls {
-        play(rt, &mut bus, *call);
-    }
-    Ok(())
-}
+const FULL_BUFFERS: &str = "
+# The line would have to enter the full buffer of the earlier core; a full buffer of the caller's own comes first.
+store 0 128 4 7 | load_waits 1 128 4 OrbBusy | store_waits 1 128 4 9 OrbFull | line 0 128 SpE . f
+# A later core with a full buffer gives way, and the core that stores is alone: it enters nothing.
+store 1 128 4 9 | store 0 128 4 7 1 | line 0 128 SpE . f | orb 0 64 80 96 112 | orb 1
+store 1 128 4 9 | load 0 128 4 0 1 | line 0 128 SpE r 0 | line 1 64 I . 0
+";
 
 #[test]
 fn full_buffers(rt: HostRuntime) -> Result<(), Fail> {
-    #[rattlefmt::skip]
-    let rows: [&[Call<'_>]; 3] = [
-        // The line would have to enter the full buffer of the earlier core; a full buffer of the caller's own comes first.
-        &[Store(0, 128, 4, 7, &[]), LoadWaits(1, 128, 4, OrbBusy), StoreWaits(1, 128, 4, 9, OrbFull), Line(0, 128, SpE, false, 0xf)],
-        // A later core with a full buffer gives way, and the core that stores is alone: it enters nothing.
-        &[Store(1, 128, 4, 9, &[]), Store(0, 128, 4, 7, &[1]), Line(0, 128, SpE, false, 0xf), Orb(0, &[64, 80, 96, 112]), Orb(1, &[])],
-        &[Store(1, 128, 4, 9, &[]), Load(0, 128, 4, 0, &[1]), Line(0, 128, SpE, true, 0), Line(1, 64, I, false, 0)],
-    ];
-    for calls in rows {
-        run_full(&rt, rt.alloc(), calls)?;
-    }
-    Ok(())
+    run(&rt, rt.alloc(), ONE, FULL, FULL_BUFFERS)
 }
+
+const ORDER_OF_ENTRY: &str = "
+# The line that was loaded entered first: its publish violates core 1, and both lines are M.
+store 0 64 4 7 | store 0 80 4 7 | load 1 80 4 0 | store 1 68 4 9 | orb 0 80 64 | publish 0 1 | \
+    line 0 64 M . 0 | line 0 80 M . 0 | line 1 64 I . 0
+# The other copy goes, and the line stays SpS and in its buffer until the publish.
+store 0 64 4 7 | store 1 64 4 9 | cancel 1 | line 0 64 SpS . f | orb 0 64 | publish 0 | line 0 64 M . 0 | byte 64 7
+# The store removes the only other copy of a line that was just loaded.
+load 0 64 4 0 | load 1 64 4 0 | line 0 64 SpS r 0 | store 0 64 4 7 1 | line 0 64 SpE r f | orb 0
+";
 
 #[test]
 fn order_of_entry_and_copies_that_go(rt: HostRuntime) -> Result<(), Fail> {
-    #[rattlefmt::skip]
-    let rows: [&[Call<'_>]; 3] = [
-        // The line that was loaded entered first: its publish violates core 1, and both lines are M.
-        &[Store(0, 64, 4, 7, &[]), Store(0, 80, 4, 7, &[]), Load(1, 80, 4, 0, &[]), Store(1, 68, 4, 9, &[]), Orb(0, &[80, 64]), Publish(0, &[1]),
-          Line(0, 64, M, false, 0), Line(0, 80, M, false, 0), Line(1, 64, I, false, 0)],
-        // The other copy goes, and the line stays SpS and in its buffer until the publish.
-        &[Store(0, 64, 4, 7, &[]), Store(1, 64, 4, 9, &[]), Cancel(1), Line(0, 64, SpS, false, 0xf), Orb(0, &[64]), Publish(0, &[]), Line(0, 64, M, false, 0), Byte(64, 7)],
-        // The store removes the only other copy of a line that was just loaded.
-        &[Load(0, 64, 4, 0, &[]), Load(1, 64, 4, 0, &[]), Line(0, 64, SpS, true, 0), Store(0, 64, 4, 7, &[1]), Line(0, 64, SpE, true, 0xf), Orb(0, &[])],
-    ];
-    for calls in rows {
-        run(&rt, rt.alloc(), ONE, calls)?;
-    }
-    Ok(())
+    run(&rt, rt.alloc(), ONE, BEGUN, ORDER_OF_ENTRY)
 }
 
 /// It passes too where any one of its allocations fails, as by `rt try --test --fail-alloc N`.
@@ -188,8 +173,6 @@ fn want_of_memory_makes_no_bus(rt: HostRuntime) -> Result<(), Fail> {
         Err(NoMemory) => CachedBus::fresh(rt.alloc(), &image, cores)?,
     };
     assert!(rt; bus.cores() == 16 && bus.size() == 256);
-    for call in [Begin(15, 0), Store(15, 64, 4, 7, &[]), Publish(15, &[])] {
-        play(&rt, &mut bus, call);
-    }
+    play(&rt, &mut bus, "begin 15 0 | store 15 64 4 7 | publish 15");
     Ok(())
 }

@@ -153,8 +153,8 @@ fn access_of(line: &str) -> Option<Access> {
     Some(Access {
         state,
         marks,
-        offset: number(cell(line, 1), 0)?,
-        width: number(cell(line, 1), 1)?,
+        offset: number(cell(line, 1), 0),
+        width: number(cell(line, 1), 1),
         alone: cell(line, 2) == "alone",
     })
 }
@@ -338,7 +338,7 @@ const BYTES: &str = "
 
 /// Whether a row of `BYTES` holds.
 fn is_byte(rt: &impl Abort, line: &str) -> Option<bool> {
-    let (bytes, offset) = (hex(line, 0)?, number(line, 1)?);
+    let (bytes, offset) = (hex(line, 0)?, number(line, 1));
     assert!(rt; offset < 32);
     let marks = Marks {
         loaded: true,

@@ -11,9 +11,9 @@ const IMAGE: &str = "size 256\nepochs 2\nlimit 50\ncode 67800000\nat 00000040 05
 fn a_fresh_store_has_the_image_s_memory(rt: HostRuntime) -> Result<(), Fail> {
     let image = image_of(rt.alloc(), IMAGE.as_bytes())?;
     let mut store = PlainStore::fresh(rt.alloc(), &image, 2)?;
-    assert_eq!(rt; store.reserve(), Ok(()));
+    assert!(rt; store.reserve().is_ok());
     assert!(rt; image.size() > 64);
-    assert_eq!(rt; store.committed_byte(64), 5);
+    assert!(rt; store.committed_byte(64) == 5);
     Ok(())
 }
 
@@ -21,30 +21,31 @@ fn a_fresh_store_has_the_image_s_memory(rt: HostRuntime) -> Result<(), Fail> {
 fn a_store_that_waits_has_the_memory_of_the_one_in_it(rt: HostRuntime) -> Result<(), Fail> {
     let image = image_of(rt.alloc(), IMAGE.as_bytes())?;
     let mut store: Waiting<PlainStore> = Waiting::fresh(rt.alloc(), &image, 8)?;
-    assert_eq!(rt; store.reserve(), Ok(()));
+    assert!(rt; store.reserve().is_ok());
     assert!(rt; image.size() > 64);
-    assert_eq!(rt; store.committed_byte(64), 5);
+    assert!(rt; store.committed_byte(64) == 5);
     Ok(())
+}
+
+/// Whether a set has the cores whose bits are set in a mask, and no others.
+fn has_just(set: CoreSet, mask: u32) -> bool {
+    for core in 0..17u32 {
+        if set.has(core) != (mask.wrapping_shr(core) % 2 == 1) {
+            return false;
+        }
+    }
+    true
 }
 
 #[test]
 fn sets_of_cores(rt: HostRuntime) {
     let mut set = CoreSet::none();
-    assert!(rt; set.is_empty());
-    for core in [0, 3, 15] {
-        assert!(rt; !set.has(core));
-        set.insert(core);
-        assert!(rt; set.has(core));
-    }
+    assert!(rt; set.is_empty() && has_just(set, 0));
+    set.insert(0);
+    assert!(rt; has_just(set, 0x1));
     set.insert(3);
-    assert_eq!(rt; set.len(), 3);
-    assert!(rt; !set.is_empty());
-    let low = [0, 1, 2, 3, 4, 5, 6, 7].map(|core| set.has(core));
-    assert_eq!(rt; low, [true, false, false, true, false, false, false, false]);
-    let high = [8, 9, 10, 11, 12, 13, 14, 15].map(|core| set.has(core));
-    assert_eq!(rt;
-        high,
-        [false, false, false, false, false, false, false, true]
-    );
-    assert!(rt; !set.has(16));
+    assert!(rt; has_just(set, 0x9));
+    set.insert(15);
+    set.insert(3);
+    assert!(rt; set.len() == 3 && !set.is_empty() && has_just(set, 0x8009));
 }

@@ -28,45 +28,47 @@ pub fn has_word(text: &str, wanted: &str) -> bool {
     false
 }
 
-/// The number at a place of a text.
-pub fn number(text: &str, place: usize) -> Option<u32> {
-    word(text, place).parse().ok()
+/// The number at a place of a text. Where there is none, one that no row has.
+pub fn number(text: &str, place: usize) -> u32 {
+    word(text, place).parse().unwrap_or(u32::MAX)
 }
 
 /// The same as a place, a length or a count.
-pub fn index(text: &str, place: usize) -> Option<usize> {
-    word(text, place).parse().ok()
+pub fn index(text: &str, place: usize) -> usize {
+    number(text, place) as usize
 }
 
-/// The number at a place of a text, in hexadecimal.
+/// The number at a place of a text, in hexadecimal. None: there is none.
 pub fn hex(text: &str, place: usize) -> Option<u32> {
     u32::from_str_radix(word(text, place), 16).ok()
 }
 
 /// The state of this name.
 pub fn state(word: &str) -> Option<LineState> {
-    for (name, state) in [
-        ("I", I),
-        ("S", S),
-        ("E", E),
-        ("M", M),
-        ("SpS", SpS),
-        ("SpE", SpE),
-    ] {
-        if name == word {
-            return Some(state);
-        }
+    match word {
+        "I" => Some(I),
+        "S" => Some(S),
+        "E" => Some(E),
+        "M" => Some(M),
+        "SpS" => Some(SpS),
+        "SpE" => Some(SpE),
+        _ => None,
     }
-    None
 }
 
 /// The marks at a place of a text: `r` where the line was loaded, and which of its bytes are modified. `*` is `mask`.
 pub fn marks(text: &str, place: usize, mask: u32) -> Option<Marks> {
-    let loaded = word(text, place) == "r";
-    let bytes = if word(text, place.wrapping_add(1)) == "*" {
-        mask
+    Some(Marks {
+        loaded: word(text, place) == "r",
+        bytes: bytes_of(word(text, place.wrapping_add(1)), mask)?,
+    })
+}
+
+/// Which bytes a word names.
+fn bytes_of(word: &str, mask: u32) -> Option<u32> {
+    if word == "*" {
+        Some(mask)
     } else {
-        hex(text, place.wrapping_add(1))?
-    };
-    Some(Marks { loaded, bytes })
+        hex(word, 0)
+    }
 }

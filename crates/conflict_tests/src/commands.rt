@@ -3,6 +3,7 @@
 use std::alloc::Global;
 use std::io;
 use std::io::{Error, ErrorKind, Read, Write};
+use std::process::Abort;
 use std::test::Fail;
 use trace_commands::{do_audit, do_seq};
 
@@ -76,20 +77,24 @@ impl Ran {
     }
 }
 
+/// Whether a command answers its input.
+fn is_answered(alloc: Global, which: Which) -> bool {
+    let mut reader = which.input().as_bytes();
+    let mut output = Vec::new(alloc);
+    let mut errors = Vec::new(alloc);
+    let status = which.run(alloc, &mut reader, &mut output, &mut errors);
+    let ran = Ran {
+        status,
+        output,
+        errors,
+    };
+    ran.is(0, which.answer().as_bytes(), "")
+}
+
 #[test]
 fn each_command_answers(rt: HostRuntime) {
-    for which in [Which::Seq, Which::Audit] {
-        let mut reader = which.input().as_bytes();
-        let mut output = Vec::new(rt.alloc());
-        let mut errors = Vec::new(rt.alloc());
-        let status = which.run(rt.alloc(), &mut reader, &mut output, &mut errors);
-        let ran = Ran {
-            status,
-            output,
-            errors,
-        };
-        assert!(rt; ran.is(0, which.answer().as_bytes(), ""));
-    }
+    assert!(rt; is_answered(rt.alloc(), Which::Seq));
+    assert!(rt; is_answered(rt.alloc(), Which::Audit));
 }
 
 /// How often a stream fails where it does.
@@ -175,17 +180,21 @@ impl Write for FailingWriter {
     }
 }
 
+/// A read that fails ends the command, after each number of bytes.
+fn stops_reading(rt: &impl Abort, alloc: Global, which: Which, kind: ErrorKind, fails: Fails) {
+    for good in 0..=which.input().len() {
+        let ran = run_from(alloc, which, good, kind, fails);
+        assert!(rt; ran.is(2, b"", which.read_failed()), "{good}");
+    }
+}
+
 /// A read that fails ends the command, also where a second one would give the rest of a good text.
 #[test]
 fn stops_at_a_failed_read(rt: HostRuntime) {
     for which in [Which::Seq, Which::Audit] {
-        for kind in [ErrorKind::BrokenPipe, ErrorKind::Interrupted] {
-            for fails in [Fails::Once, Fails::Always] {
-                for good in 0..=which.input().len() {
-                    let ran = run_from(rt.alloc(), which, good, kind, fails);
-                    assert!(rt; ran.is(2, b"", which.read_failed()));
-                }
-            }
+        for fails in [Fails::Once, Fails::Always] {
+            stops_reading(&rt, rt.alloc(), which, ErrorKind::BrokenPipe, fails);
+            stops_reading(&rt, rt.alloc(), which, ErrorKind::Interrupted, fails);
         }
     }
 }
@@ -210,49 +219,51 @@ fn run_from(alloc: Global, which: Which, good: usize, kind: ErrorKind, fails: Fa
     }
 }
 
+/// A write that fails ends the command, after each number of bytes.
+fn stops_writing(rt: &impl Abort, alloc: Global, which: Which, stops: Stops, fails: Fails) {
+    let answer = which.answer().as_bytes();
+    for room in 0..answer.len() {
+        let ran = run_into(alloc, which, room, stops, fails);
+        assert!(rt; ran.is(3, &answer[..room], "stopped Write\n"), "{room}");
+    }
+}
+
+/// Whether a command ends well where there is just room.
+fn has_room(alloc: Global, which: Which, stops: Stops) -> bool {
+    let answer = which.answer().as_bytes();
+    run_into(alloc, which, answer.len(), stops, Fails::Always).is(0, answer, "")
+}
+
 /// A write that fails ends the command, also where a second one would take the rest.
 #[test]
-fn stops_at_a_failed_write(rt: HostRuntime) -> Result<(), Fail> {
+fn stops_at_a_failed_write(rt: HostRuntime) {
     for which in [Which::Seq, Which::Audit] {
-        let answer = which.answer().as_bytes();
         for stops in [Stops::Errs, Stops::Interrupted, Stops::TakesNone] {
-            for fails in [Fails::Once, Fails::Always] {
-                for room in 0..answer.len() {
-                    let ran = run_into(rt.alloc(), which, room, stops, fails)?;
-                    assert!(rt; ran.is(3, &answer[..room], "stopped Write\n"));
-                }
-            }
-            let ran = run_into(rt.alloc(), which, answer.len(), stops, Fails::Always)?;
-            assert!(rt; ran.is(0, answer, ""));
+            stops_writing(&rt, rt.alloc(), which, stops, Fails::Once);
+            stops_writing(&rt, rt.alloc(), which, stops, Fails::Always);
+            assert!(rt; has_room(rt.alloc(), which, stops));
         }
     }
-    Ok(())
+}
+
+/// Whether a flush that fails ends the command.
+fn is_unflushed(alloc: Global, which: Which) -> bool {
+    let answer = which.answer().as_bytes();
+    run_into(alloc, which, answer.len(), Stops::Unflushed, Fails::Always).is(
+        3,
+        answer,
+        "stopped Write\n",
+    )
 }
 
 #[test]
-fn stops_at_a_failed_flush(rt: HostRuntime) -> Result<(), Fail> {
-    for which in [Which::Seq, Which::Audit] {
-        let answer = which.answer().as_bytes();
-        let ran = run_into(
-            rt.alloc(),
-            which,
-            answer.len(),
-            Stops::Unflushed,
-            Fails::Always,
-        )?;
-        assert!(rt; ran.is(3, answer, "stopped Write\n"));
-    }
-    Ok(())
+fn stops_at_a_failed_flush(rt: HostRuntime) {
+    assert!(rt; is_unflushed(rt.alloc(), Which::Seq));
+    assert!(rt; is_unflushed(rt.alloc(), Which::Audit));
 }
 
 /// A command's input into a writer with so much room.
-fn run_into(
-    alloc: Global,
-    which: Which,
-    room: usize,
-    stops: Stops,
-    fails: Fails,
-) -> Result<Ran, Fail> {
+fn run_into(alloc: Global, which: Which, room: usize, stops: Stops, fails: Fails) -> Ran {
     let mut reader = which.input().as_bytes();
     let mut writer = FailingWriter {
         taken: Vec::new(alloc),
@@ -262,30 +273,34 @@ fn run_into(
     };
     let mut errors = Vec::new(alloc);
     let status = which.run(alloc, &mut reader, &mut writer, &mut errors);
-    Ok(Ran {
+    Ran {
         status,
         output: writer.taken,
         errors,
-    })
+    }
+}
+
+/// An input is refused, and an error stream with each room takes the beginning of the line.
+fn keeps_its_status(rt: &impl Abort, alloc: Global, which: Which, refused: &str, line: &str) {
+    let line = line.as_bytes();
+    for room in 0..line.len() {
+        let ran = refuse_into(alloc, which, refused, room);
+        assert!(rt;
+            ran.status == 2 && ran.output.is_empty() && ran.errors.as_slice() == &line[..room],
+            "{room}"
+        );
+    }
 }
 
 /// A failed write of the line on the error stream changes no status, and no output.
 #[test]
-fn keeps_its_status_without_an_error_stream(rt: HostRuntime) -> Result<(), Fail> {
-    for (which, refused, line) in [
-        (Which::Seq, "size 24\n", "image 1 Range\n"),
-        (Which::Audit, COUNTER, "trace 0 Head\n"),
-    ] {
-        for room in 0..line.len() {
-            let ran = refuse_into(rt.alloc(), which, refused, room)?;
-            assert!(rt; ran.is(2, b"", &line[..room]));
-        }
-    }
-    Ok(())
+fn keeps_its_status_without_an_error_stream(rt: HostRuntime) {
+    keeps_its_status(&rt, rt.alloc(), Which::Seq, "size 24\n", "image 1 Range\n");
+    keeps_its_status(&rt, rt.alloc(), Which::Audit, COUNTER, "trace 0 Head\n");
 }
 
 /// An input into an error stream with so much room.
-fn refuse_into(alloc: Global, which: Which, input: &str, room: usize) -> Result<Ran, Fail> {
+fn refuse_into(alloc: Global, which: Which, input: &str, room: usize) -> Ran {
     let mut reader = input.as_bytes();
     let mut output = Vec::new(alloc);
     let mut errors = FailingWriter {
@@ -295,30 +310,37 @@ fn refuse_into(alloc: Global, which: Which, input: &str, room: usize) -> Result<
         fails: Fails::Once,
     };
     let status = which.run(alloc, &mut reader, &mut output, &mut errors);
-    Ok(Ran {
+    Ran {
         status,
         output,
         errors: errors.taken,
-    })
+    }
 }
+
+/// A text of so many bytes is refused with this line, and at most one byte past the limit is read.
+fn is_read_so_far(rt: &impl Abort, alloc: Global, length: usize, line: &str) -> Result<(), Fail> {
+    let text = vec![in alloc; b'x'; length]?;
+    let mut reader = text.as_slice();
+    let mut output = Vec::new(alloc);
+    let mut errors = Vec::new(alloc);
+    let status = do_seq(alloc, &mut reader, &mut output, &mut errors);
+    assert!(rt;
+        status == 2 && errors.as_slice() == line.as_bytes(),
+        "{length}"
+    );
+    assert!(rt;
+        reader.len() == length - length.min(LONGEST + 1),
+        "{length}"
+    );
+    Ok(())
+}
+
+const LONGEST: usize = 1_048_576;
 
 /// At most one byte past the limit is read.
 #[test]
 fn reads_no_further_than_it_must(rt: HostRuntime) -> Result<(), Fail> {
-    let longest = 1_048_576usize;
-    for (length, line) in [
-        (longest, "image 1 Line\n"),
-        (longest + 1, "image 0 TooLong\n"),
-        (longest + 5000, "image 0 TooLong\n"),
-    ] {
-        let text = vec![in rt.alloc(); b'x'; length]?;
-        let mut reader = text.as_slice();
-        let mut output = Vec::new(rt.alloc());
-        let mut errors = Vec::new(rt.alloc());
-        let status = do_seq(rt.alloc(), &mut reader, &mut output, &mut errors);
-        assert_eq!(rt; status, 2, "{length}");
-        assert_eq!(rt; errors.as_slice(), line.as_bytes(), "{length}");
-        assert_eq!(rt; reader.len(), length - length.min(longest + 1), "{length}");
-    }
-    Ok(())
+    is_read_so_far(&rt, rt.alloc(), LONGEST, "image 1 Line\n")?;
+    is_read_so_far(&rt, rt.alloc(), LONGEST + 1, "image 0 TooLong\n")?;
+    is_read_so_far(&rt, rt.alloc(), LONGEST + 5000, "image 0 TooLong\n")
 }

@@ -6,68 +6,113 @@ use crate::rows::{
     HISTOGRAM_SUMS, HISTOGRAM_VIOLATIONS, LATER_BYTES, LATER_BYTES_VIOLATIONS, STORED_BYTES,
     STORED_BYTES_VIOLATIONS,
 };
+use crate::words::{count_of, index, number, place_in, word};
 use conflict_sums::{
-    Bounds, Fates, Key, Pair, PairSum, Part, Sum, heaviest_pairs, pairs_of, rollbacks, sum_of,
-    sums_by,
+    Bounds, Fates, Key, Pair, PairSum, Part, Rollback, Sum, heaviest_pairs, pairs_of, rollbacks,
+    sum_of, sums_by,
 };
 use conflicts::{Blame, ByteRange, Explanation, Kind, Runner, Site, explain, sites};
-use rv32_exec::image_of;
-use std::test::*;
+use rv32_exec::{Image, image_of};
+use spec_history::Entry;
+use std::alloc::{AllocError, Global};
+use std::process::Abort;
+use std::test::Fail;
 use trace_text::{image_part, read_trace};
 
-/// The number at a place of a row. Where there is none, one that no row has.
-fn number(row: &str, place: usize) -> u32 {
-    row.split(' ')
-        .nth(place)
-        .and_then(|word| word.parse().ok())
-        .unwrap_or(u32::MAX)
+/// A worked history.
+#[derive(Drop)]
+struct Worked {
+    image: Image,
+    cores: u32,
+    entries: Vec<Entry>,
+}
+
+impl Worked {
+    /// The history of this text.
+    fn of(alloc: Global, text: &str) -> Result<Worked, Fail> {
+        let image = image_of(alloc, image_part(text.as_bytes()))?;
+        match read_trace(alloc, text.as_bytes(), image.version()) {
+            Ok((cores, entries)) => Ok(Worked {
+                image,
+                cores,
+                entries,
+            }),
+            Err(_) => Err(Fail::from("a trace")),
+        }
+    }
+
+    fn explained(&self, alloc: Global) -> Result<Vec<Explanation>, Fail> {
+        match explain(alloc, &self.image, self.cores, self.entries.as_slice()) {
+            Ok(found) => Ok(found),
+            Err(_) => Err(Fail::from("a legal history")),
+        }
+    }
+
+    fn sites(&self, alloc: Global) -> Result<Vec<Option<Site>>, Fail> {
+        match sites(alloc, &self.image, self.cores, self.entries.as_slice()) {
+            Ok(found) => Ok(found),
+            Err(_) => Err(Fail::from("a legal history")),
+        }
+    }
+
+    fn summed(&self, alloc: Global) -> Result<Vec<Rollback>, Fail> {
+        let found = self.explained(alloc)?;
+        let stood = self.sites(alloc)?;
+        match rollbacks(
+            alloc,
+            &self.image,
+            self.entries.as_slice(),
+            stood.as_slice(),
+            found.as_slice(),
+        ) {
+            Ok(summed) => Ok(summed),
+            Err(AllocError) => Err(Fail::from("memory")),
+        }
+    }
 }
 
 fn kind_of(word: &str) -> Option<Kind> {
-    for (name, kind) in [
-        ("true", Kind::TrueSharing),
-        ("silent", Kind::SilentStore),
-        ("false", Kind::FalseSharing),
-        ("buffer", Kind::FullBuffer),
-        ("other", Kind::Unexplained),
-    ] {
-        if name == word {
-            return Some(kind);
-        }
+    match word {
+        "true" => Some(Kind::TrueSharing),
+        "silent" => Some(Kind::SilentStore),
+        "false" => Some(Kind::FalseSharing),
+        "buffer" => Some(Kind::FullBuffer),
+        "other" => Some(Kind::Unexplained),
+        _ => None,
     }
-    None
 }
 
 /// What the row says at the places of the blamed load, the store, the byte and those that met alike, if it blames any.
 fn blame_of(row: &str) -> Option<Blame> {
-    let load = row.split(' ').nth(14)?.parse().ok()?;
-    let store = row.split(' ').nth(16)?.parse().ok()?;
-    let byte = row.split(' ').nth(18)?.parse().ok()?;
-    let bytes = ByteRange {
-        first: row.split(' ').nth(25)?.parse().ok()?,
-        length: row.split(' ').nth(26)?.parse().ok()?,
-    };
+    if word(row, 14) == "-" {
+        return None;
+    }
     Some(Blame {
-        load,
-        store,
-        byte,
-        bytes,
+        load: index(row, 14),
+        store: index(row, 16),
+        byte: number(row, 18),
+        bytes: ByteRange {
+            first: number(row, 25),
+            length: number(row, 26),
+        },
     })
 }
 
+fn runner_of(row: &str, place: usize) -> Runner {
+    Runner {
+        core: number(row, place),
+        epoch: number(row, place.wrapping_add(1)),
+    }
+}
+
 fn explanation_of(row: &str) -> Option<Explanation> {
+    let kind = kind_of(word(row, 1))?;
     Some(Explanation {
-        place: number(row, 0) as usize,
-        kind: kind_of(row.split(' ').nth(1)?)?,
-        causer: Runner {
-            core: number(row, 3),
-            epoch: number(row, 4),
-        },
-        victim: Runner {
-            core: number(row, 6),
-            epoch: number(row, 7),
-        },
-        cause: Some(number(row, 9) as usize),
+        place: index(row, 0),
+        kind,
+        causer: runner_of(row, 3),
+        victim: runner_of(row, 6),
+        cause: Some(index(row, 9)),
         blame: blame_of(row),
         later: place_in(row, 28),
         lost: u64::from(number(row, 11)),
@@ -75,159 +120,171 @@ fn explanation_of(row: &str) -> Option<Explanation> {
     })
 }
 
-#[test]
-fn explains_worked_histories(rt: HostRuntime) -> Result<(), Fail> {
-    for (text, rows) in [
-        (HISTOGRAM, HISTOGRAM_VIOLATIONS),
-        (BUFFER_FULL, BUFFER_FULL_VIOLATIONS),
-        (STORED_BYTES, STORED_BYTES_VIOLATIONS),
-        (COMMITTED_BYTES, COMMITTED_BYTES_VIOLATIONS),
-        (LATER_BYTES, LATER_BYTES_VIOLATIONS),
-    ] {
-        let text = text.as_bytes();
-        let image = image_of(rt.alloc(), image_part(text))?;
-        let (cores, entries) = read_trace(rt.alloc(), text, image.version())
-            .ok()
-            .ok_or("trace")?;
-        let found = explain(rt.alloc(), &image, cores, entries.as_slice())
-            .ok()
-            .ok_or("history")?;
-        let wanted = rows.split('\n').filter(|row| !row.is_empty());
-        assert_eq!(rt;
-            found.len(),
-            rows.split('\n').filter(|row| !row.is_empty()).count()
-        );
-        for (explanation, row) in found.iter().zip(wanted) {
-            assert!(rt; Some(*explanation) == explanation_of(row), "{row}");
-        }
+/// The violations of a worked history are explained as its rows say.
+fn is_explained(rt: &impl Abort, alloc: Global, text: &str, rows: &str) -> Result<(), Fail> {
+    let found = Worked::of(alloc, text)?.explained(alloc)?;
+    assert!(rt; found.len() == count_of(rows));
+    for (explanation, row) in found.iter().zip(rows.split('\n')) {
+        assert!(rt; Some(*explanation) == explanation_of(row), "{row}");
     }
     Ok(())
 }
 
-/// The addresses of the two instructions, and how many the attempt executed from the load on.
-fn since_of(blame: Blame, lost: u64, sites: &[Option<Site>]) -> Option<(u32, u32, u64)> {
-    let load = (*sites.get(blame.load)?)?;
-    let store = (*sites.get(blame.store)?)?;
-    Some((load.pc, store.pc, lost.checked_sub(load.done)?))
+#[test]
+fn explains_worked_histories(rt: HostRuntime) -> Result<(), Fail> {
+    let alloc = rt.alloc();
+    is_explained(&rt, alloc, HISTOGRAM, HISTOGRAM_VIOLATIONS)?;
+    is_explained(&rt, alloc, BUFFER_FULL, BUFFER_FULL_VIOLATIONS)?;
+    is_explained(&rt, alloc, STORED_BYTES, STORED_BYTES_VIOLATIONS)?;
+    is_explained(&rt, alloc, COMMITTED_BYTES, COMMITTED_BYTES_VIOLATIONS)?;
+    is_explained(&rt, alloc, LATER_BYTES, LATER_BYTES_VIOLATIONS)
+}
+
+/// The site at a place of a history.
+fn site_at(sites: &[Option<Site>], place: usize) -> Option<Site> {
+    match sites.get(place) {
+        Some(site) => *site,
+        None => None,
+    }
+}
+
+/// Whether the row names the addresses of the two instructions of its pair, and how many the attempt executed from the load on.
+fn is_pair_told(row: &str, sites: &[Option<Site>]) -> bool {
+    let Some(load) = site_at(sites, index(row, 14)) else {
+        return false;
+    };
+    let Some(store) = site_at(sites, index(row, 16)) else {
+        return false;
+    };
+    load.pc == number(row, 20)
+        && store.pc == number(row, 21)
+        && u64::from(number(row, 11)).checked_sub(load.done) == Some(u64::from(number(row, 23)))
 }
 
 #[test]
 fn tells_the_instructions_of_a_pair(rt: HostRuntime) -> Result<(), Fail> {
-    let text = HISTOGRAM.as_bytes();
-    let image = image_of(rt.alloc(), image_part(text))?;
-    let (cores, entries) = read_trace(rt.alloc(), text, image.version())
-        .ok()
-        .ok_or("trace")?;
-    let stood = sites(rt.alloc(), &image, cores, entries.as_slice())
-        .ok()
-        .ok_or("history")?;
-    assert_eq!(rt; stood.len(), entries.len());
-    for row in HISTOGRAM_VIOLATIONS
-        .split('\n')
-        .filter(|row| !row.is_empty())
-    {
-        let wanted = (number(row, 20), number(row, 21), u64::from(number(row, 23)));
-        let blame = blame_of(row).ok_or("blame")?;
-        let told = since_of(blame, u64::from(number(row, 11)), stood.as_slice());
-        assert!(rt; told == Some(wanted), "{row}");
+    let worked = Worked::of(rt.alloc(), HISTOGRAM)?;
+    let stood = worked.sites(rt.alloc())?;
+    assert!(rt; stood.len() == worked.entries.len());
+    for row in HISTOGRAM_VIOLATIONS.split('\n') {
+        assert!(rt;
+            row.is_empty() || is_pair_told(row, stood.as_slice()),
+            "{row}"
+        );
     }
     Ok(())
 }
 
-/// The place in the history that a row names, if it names one.
-fn place_in(row: &str, place: usize) -> Option<usize> {
-    row.split(' ').nth(place)?.parse().ok()
+/// Whether a row tells the place and the attempt of a violation, and at which places the causer's attempt was undone and the victim's epoch was
+/// cancelled.
+fn has_ends(explanation: &Explanation, entries: &[Entry], row: &str) -> bool {
+    explanation.place == index(row, 0)
+        && explanation.attempt(entries) == index(row, 2)
+        && explanation.undone_at(entries) == place_in(row, 4)
+        && explanation.moot_at(entries) == place_in(row, 6)
+}
+
+/// Whether it tells too if the pair is stale, and the store that held the line.
+fn has_fate(explanation: &Explanation, image: &Image, entries: &[Entry], row: &str) -> bool {
+    has_ends(explanation, entries, row)
+        && explanation.is_stale() == (word(row, 8) == "yes")
+        && explanation.held_at(image, entries) == place_in(row, 10)
+}
+
+/// The rows tell what became of the violations of a worked history.
+fn has_fates(rt: &impl Abort, alloc: Global, text: &str, rows: &str) -> Result<(), Fail> {
+    let worked = Worked::of(alloc, text)?;
+    let found = worked.explained(alloc)?;
+    assert!(rt; found.len() == count_of(rows));
+    for (explanation, row) in found.iter().zip(rows.split('\n')) {
+        assert!(rt;
+            has_fate(explanation, &worked.image, worked.entries.as_slice(), row),
+            "{row}"
+        );
+    }
+    Ok(())
 }
 
 #[test]
 fn tells_what_became_of_violations(rt: HostRuntime) -> Result<(), Fail> {
-    for (text, rows) in [
-        (HISTOGRAM, HISTOGRAM_FATES),
-        (BUFFER_FULL, BUFFER_FULL_FATES),
-    ] {
-        let text = text.as_bytes();
-        let image = image_of(rt.alloc(), image_part(text))?;
-        let (cores, entries) = read_trace(rt.alloc(), text, image.version())
-            .ok()
-            .ok_or("trace")?;
-        let entries = entries.as_slice();
-        let found = explain(rt.alloc(), &image, cores, entries)
-            .ok()
-            .ok_or("history")?;
-        for (explanation, row) in found.iter().zip(rows.split('\n')) {
-            assert!(rt; Some(explanation.place) == place_in(row, 0), "{row}");
-            assert!(rt;
-                Some(explanation.attempt(entries)) == place_in(row, 2),
-                "{row}"
-            );
-            assert!(rt; explanation.undone_at(entries) == place_in(row, 4), "{row}");
-            assert!(rt; explanation.moot_at(entries) == place_in(row, 6), "{row}");
-            assert!(rt;
-                explanation.is_stale() == (row.split(' ').nth(8) == Some("yes")),
-                "{row}"
-            );
-            assert!(rt;
-                explanation.held_at(&image, entries) == place_in(row, 10),
-                "{row}"
-            );
-        }
-    }
-    Ok(())
+    has_fates(&rt, rt.alloc(), HISTOGRAM, HISTOGRAM_FATES)?;
+    has_fates(&rt, rt.alloc(), BUFFER_FULL, BUFFER_FULL_FATES)
 }
 
-/// The part that a row of sums names.
+/// The part that a row of sums names. None: it names none.
 fn part_of(row: &str) -> Option<Part> {
-    let word = row.split(' ').nth(2)?;
-    if word == "whole" {
-        Some(Part::Whole)
-    } else if word == "kind" {
-        Some(Part::OfKind(kind_of(row.split(' ').nth(3)?)?))
-    } else if word == "pair" {
-        Some(Part::OfPair(Pair {
+    match word(row, 2) {
+        "whole" => Some(Part::Whole),
+        "kind" => Some(Part::OfKind(kind_of(word(row, 3))?)),
+        "pair" => Some(Part::OfPair(Pair {
             store: number(row, 3),
             load: number(row, 4),
-        }))
-    } else if word == "unpaired" {
-        Some(Part::Unpaired)
-    } else if word == "stored" {
-        Some(Part::StoredAt(number(row, 3)))
-    } else if word == "loaded" {
-        Some(Part::LoadedAt(number(row, 3)))
-    } else if word == "line" {
-        Some(Part::OfLine(number(row, 3)))
-    } else {
-        Some(Part::OfEpoch(number(row, 3)))
+        })),
+        "unpaired" => Some(Part::Unpaired),
+        "stored" => Some(Part::StoredAt(number(row, 3))),
+        "loaded" => Some(Part::LoadedAt(number(row, 3))),
+        "line" => Some(Part::OfLine(number(row, 3))),
+        "epoch" => Some(Part::OfEpoch(number(row, 3))),
+        _ => None,
     }
 }
 
-/// The number that tells the violations of a row of sums apart, where one does.
-fn key_of(row: &str) -> Option<(Key, u32)> {
-    let word = row.split(' ').nth(2)?;
-    let at = row.split(' ').nth(3)?.parse().ok()?;
-    for (name, key) in [
-        ("stored", Key::Store),
-        ("loaded", Key::Load),
-        ("line", Key::Line),
-        ("epoch", Key::Epoch),
-    ] {
-        if name == word {
-            return Some((key, at));
-        }
+/// What tells the violations of a row of sums apart, where a number does.
+fn key_of(row: &str) -> Option<Key> {
+    match word(row, 2) {
+        "stored" => Some(Key::Store),
+        "loaded" => Some(Key::Load),
+        "line" => Some(Key::Line),
+        "epoch" => Some(Key::Epoch),
+        _ => None,
     }
-    None
+}
+
+/// The sum of a row of sums.
+fn wanted_of(row: &str) -> Sum {
+    Sum {
+        count: index(row, 0),
+        lost: u128::from(number(row, 1)),
+    }
+}
+
+/// Whether the part of a row has its sum.
+fn has_sum(summed: &[Rollback], row: &str) -> bool {
+    match part_of(row) {
+        Some(part) => sum_of(summed, part) == wanted_of(row),
+        None => false,
+    }
+}
+
+/// Whether the sums that go by the row's key have its sum too, or none where it is none.
+fn has_keyed(alloc: Global, summed: &[Rollback], row: &str) -> Result<bool, AllocError> {
+    let Some(key) = key_of(row) else {
+        return Ok(true);
+    };
+    let sums = sums_by(alloc, summed, key)?;
+    let wanted = wanted_of(row);
+    match sums.get(&number(row, 3)) {
+        Some(told) => Ok(wanted.count > 0 && *told == wanted),
+        None => Ok(wanted.count == 0),
+    }
 }
 
 /// The pair is the one of a row of pairs.
-fn is_pair_of(sum: PairSum, row: &str) -> bool {
+fn is_pair_of(sum: &PairSum, row: &str) -> bool {
     let pair = Pair {
         store: number(row, 0),
         load: number(row, 1),
     };
     let fates = Fates {
-        stale: number(row, 2) as usize,
-        vain: number(row, 3) as usize,
-        later: number(row, 4) as usize,
+        stale: index(row, 2),
+        vain: index(row, 3),
+        later: index(row, 4),
     };
+    sum.pair == pair && sum.fates == fates && has_bounds(sum, row)
+}
+
+/// The distances and the bytes of a pair are between those of a row of pairs.
+fn has_bounds(sum: &PairSum, row: &str) -> bool {
     let distance = Bounds {
         least: number(row, 5),
         greatest: u64::from(number(row, 6)),
@@ -236,58 +293,38 @@ fn is_pair_of(sum: PairSum, row: &str) -> bool {
         least: number(row, 7),
         greatest: u64::from(number(row, 8)),
     };
-    sum.pair == pair
-        && sum.fates == fates
-        && sum.distance == Some(distance)
-        && sum.bytes == Some(bytes)
+    sum.distance == Some(distance) && sum.bytes == Some(bytes)
+}
+
+/// The violations of a worked history cost what the rows of sums say.
+fn has_sums(rt: &impl Abort, alloc: Global, text: &str, rows: &str) -> Result<(), Fail> {
+    let summed = Worked::of(alloc, text)?.summed(alloc)?;
+    for row in rows.split('\n') {
+        if !row.is_empty() {
+            assert!(rt; has_sum(summed.as_slice(), row), "{row}");
+            assert!(rt; has_keyed(alloc, summed.as_slice(), row)?, "{row}");
+        }
+    }
+    Ok(())
+}
+
+/// Its pairs are those of the rows, heaviest first.
+fn has_pairs(rt: &impl Abort, alloc: Global, text: &str, rows: &str) -> Result<(), Fail> {
+    let summed = Worked::of(alloc, text)?.summed(alloc)?;
+    let told = heaviest_pairs(alloc, summed.as_slice())?;
+    let pairs = pairs_of(alloc, summed.as_slice())?;
+    assert!(rt; told.len() == count_of(rows) && pairs.len() == count_of(rows));
+    for (sum, row) in told.iter().zip(rows.split('\n')) {
+        assert!(rt; is_pair_of(sum, row), "{row}");
+    }
+    Ok(())
 }
 
 #[test]
 fn sums_what_violations_cost(rt: HostRuntime) -> Result<(), Fail> {
-    for (text, rows, pairs) in [
-        (HISTOGRAM, HISTOGRAM_SUMS, HISTOGRAM_PAIRS),
-        (BUFFER_FULL, BUFFER_FULL_SUMS, BUFFER_FULL_PAIRS),
-    ] {
-        let text = text.as_bytes();
-        let image = image_of(rt.alloc(), image_part(text))?;
-        let (cores, entries) = read_trace(rt.alloc(), text, image.version())
-            .ok()
-            .ok_or("trace")?;
-        let entries = entries.as_slice();
-        let found = explain(rt.alloc(), &image, cores, entries)
-            .ok()
-            .ok_or("history")?;
-        let stood = sites(rt.alloc(), &image, cores, entries)
-            .ok()
-            .ok_or("sites")?;
-        let summed = rollbacks(
-            rt.alloc(),
-            &image,
-            entries,
-            stood.as_slice(),
-            found.as_slice(),
-        )?;
-        for row in rows.split('\n').filter(|row| !row.is_empty()) {
-            let wanted = Sum {
-                count: number(row, 0) as usize,
-                lost: u128::from(number(row, 1)),
-            };
-            let part = part_of(row).ok_or("part")?;
-            assert!(rt; sum_of(summed.as_slice(), part) == wanted, "{row}");
-            if let Some((key, at)) = key_of(row) {
-                let sums = sums_by(rt.alloc(), summed.as_slice(), key)?;
-                let told = sums.get(&at).copied();
-                assert!(rt; told.is_some() == (wanted.count > 0), "{row}");
-                assert!(rt; told.is_none() || told == Some(wanted), "{row}");
-            }
-        }
-        let told = heaviest_pairs(rt.alloc(), summed.as_slice())?;
-        let count = pairs.split('\n').filter(|row| !row.is_empty()).count();
-        assert_eq!(rt; told.len(), count);
-        assert_eq!(rt; pairs_of(rt.alloc(), summed.as_slice())?.len(), count);
-        for (sum, row) in told.iter().zip(pairs.split('\n')) {
-            assert!(rt; is_pair_of(*sum, row), "{row}");
-        }
-    }
-    Ok(())
+    let alloc = rt.alloc();
+    has_sums(&rt, alloc, HISTOGRAM, HISTOGRAM_SUMS)?;
+    has_pairs(&rt, alloc, HISTOGRAM, HISTOGRAM_PAIRS)?;
+    has_sums(&rt, alloc, BUFFER_FULL, BUFFER_FULL_SUMS)?;
+    has_pairs(&rt, alloc, BUFFER_FULL, BUFFER_FULL_PAIRS)
 }

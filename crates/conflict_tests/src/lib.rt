@@ -9,3 +9,5 @@ mod explained;
 mod rows;
 #[cfg(test)]
 mod texts;
+#[cfg(test)]
+mod words;

@@ -29,9 +29,9 @@ const TEXT: &str =
 #[test]
 fn prints_a_history(rt: HostRuntime) -> Result<(), Fail> {
     let text = print_trace(rt.alloc(), 8, &ENTRIES)?;
-    assert_eq!(rt; text.as_slice(), TEXT.as_bytes());
+    assert!(rt; text.as_slice() == TEXT.as_bytes());
     let none = print_trace(rt.alloc(), 16, &[])?;
-    assert_eq!(rt; none.as_slice(), b"trace 16\n".as_slice());
+    assert!(rt; none.as_slice() == b"trace 16\n".as_slice());
     Ok(())
 }
 
@@ -39,10 +39,9 @@ fn prints_a_history(rt: HostRuntime) -> Result<(), Fail> {
 fn reads_a_history(rt: HostRuntime) -> Result<(), Fail> {
     let mut text = Vec::from_slice(rt.alloc(), IMAGE.as_bytes())?;
     text.extend_from_slice(TEXT.as_bytes())?;
-    assert_eq!(rt; image_part(text.as_slice()), IMAGE.as_bytes());
+    assert!(rt; image_part(text.as_slice()) == IMAGE.as_bytes());
     let (cores, entries) = read_trace(rt.alloc(), text.as_slice(), Version::One)?;
-    assert_eq!(rt; cores, 8);
-    assert_eq!(rt; entries.as_slice(), ENTRIES.as_slice());
+    assert!(rt; cores == 8 && entries.as_slice() == ENTRIES.as_slice());
     Ok(())
 }
 
@@ -50,20 +49,17 @@ fn reads_a_history(rt: HostRuntime) -> Result<(), Fail> {
 #[test]
 fn tells_want_of_memory(rt: HostRuntime) {
     match print_trace(rt.alloc(), 8, &ENTRIES) {
-        Ok(text) => assert_eq!(rt; text.as_slice(), TEXT.as_bytes()),
+        Ok(text) => assert!(rt; text.as_slice() == TEXT.as_bytes()),
         Err(NoMemory) => {}
     }
     match read_trace(rt.alloc(), TEXT.as_bytes(), Version::Two) {
-        Ok((_, entries)) => assert_eq!(rt; entries.as_slice(), ENTRIES.as_slice()),
+        Ok((_, entries)) => assert!(rt; entries.as_slice() == ENTRIES.as_slice()),
         Err(fault) => {
-            assert_eq!(rt;
-                fault,
-                TraceFault {
-                    line: 0,
-                    kind: TraceFaultKind::NoMemory
-                }
-            );
-            assert_eq!(rt; fault.name(), "NoMemory");
+            let wanted = TraceFault {
+                line: 0,
+                kind: TraceFaultKind::NoMemory,
+            };
+            assert!(rt; fault == wanted && fault.name() == "NoMemory");
         }
     }
 }

@@ -1,4 +1,5 @@
 pub mod Counting
 pub mod Passing
 pub mod Turning
+pub mod Taking
 pub mod Results

@@ -4,5 +4,6 @@ pub mod Sentence
 pub mod Passes
 -- Words of contracts: Faults (which fault, and its printed name).
 pub mod Faults
--- What the code keeps.
+-- What the code keeps: Adds (what a core does to the book while it holds it) and Answered (what it does after its turn).
 pub mod Adds
+pub mod Answered

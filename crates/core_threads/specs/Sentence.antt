@@ -1,7 +1,7 @@
 -- The sentence: what holds of a book whenever its lock is free, and of the book that a run gives back.
 -- Source: this project; ordered epochs, one of them homefree, are of Steffan, Colohan, Zhai and Mowry, "A Scalable Approach to
 -- Thread-Level Speculation", ISCA 2000.
-use Rattle.std.specs.Prelude.{◌≡◌, ℕ, List, Option, Some, None}
+use Rattle.std.specs.Prelude.{◌≡◌, ◌≤◌, ℕ, List, length, Option, Some, None}
 use Rattle.rv32_exec.specs.declared.sequential.End.{End}
 use Rattle.rv32_exec.specs.Sequential.{published_memory}
 use Rattle.run_ledger.specs.declared.counts.Counts.{Counts}
@@ -64,9 +64,10 @@ HaltsWith view l None fault counted = (fault ≡ NoMemory) × (counted ≡ no_co
 
 -- ---- beside the sentence
 
--- each violation in the history has its cause and is of a kind, and over caches no entry passes over a later epoch that has read in a
--- line which it writes
+-- each violation in the history has its cause and is of a kind, over caches no entry passes over a later epoch that has read in a
+-- line which it writes, and the history is within the room
 pub record Explains {S : Type 0} (view : S → StoreView) (b : BookView S) : Type 0 where
   pub caused : HasCauses b.history
   pub known : AreKnown b.image b.cores b.history
   pub passes : IsOfCaches view → PassesOverNone b.image b.cores b.history
+  pub within : length b.history ≤ b.room

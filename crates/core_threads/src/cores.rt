@@ -1,9 +1,8 @@
 //! One thread for each core, by a recursion over the pass and the shares.
 ghost use Rattle.std.specs.Prelude.{◌≡◌, ◌+◌, ◌<◌, ◌≤◌, Some, [], length};
 ghost use denote.Param.Send.{IsSync, IsSend};
-ghost use Rattle.run_ledger.specs.Counts.{no_counts};
 ghost use Rattle.ticket_lock.specs.Known.{mine};
-ghost use Rattle.core_threads.specs.Passes.{IsLater, IsCounted};
+ghost use Rattle.core_threads.specs.Passes.{IsLater, IsCounted, IsNew};
 
 use crate::gate::Gate;
 use crate::turns::{LoopEnd, core_loop, halt};
@@ -51,7 +50,7 @@ pub(crate) fn run_threads<'x, S: EpochStore, G: Gate, R: Threads + Wait + Sync>(
     requires own { pass.lock ≡ Some lock.now }
     requires image { lock.now.fixed.image ≡ image.now }
     requires cores { (pass.lo < pass.hi) × (pass.hi ≡ cores + 1) × (cores ≡ lock.now.fixed.cores) × (cores ≤ 16) }
-    requires new { (mine pass ≡ []) × (length pass.seen ≤ 1048576) × (shares ≡ no_counts) }
+    requires new { IsNew pass shares }
     ensures later { IsLater pass result.0 }
     ensures counted { IsCounted result.0 result.1 }
 {
@@ -68,7 +67,7 @@ pub(crate) fn run_threads<'x, S: EpochStore, G: Gate, R: Threads + Wait + Sync>(
         rt,
         move |scope| -> (Pass<Book<S>>, Shares)
             requires own { (pass.lock ≡ Some run.now.lock.now) × (pass.lo < pass.hi) × (pass.hi ≡ run.now.cores + 1) }
-            requires new { (mine pass ≡ []) × (length pass.seen ≤ 1048576) × (shares ≡ no_counts) }
+            requires new { IsNew pass shares }
             requires sync { IsSync R.row × IsSync G.row × IsSend S.row }
             ensures later { IsLater pass result.0 }
             ensures counted { IsCounted result.0 result.1 }
@@ -85,13 +84,14 @@ fn start<'s, E, S: EpochStore + 's, G: Gate + 's, R: Threads + Wait + Sync>(
     shares: Shares,
 ) -> (Pass<Book<S>>, Shares)
     requires own { (pass.lock ≡ Some run.now.lock.now) × (pass.lo < pass.hi) × (pass.hi ≡ run.now.cores + 1) }
-    requires new { (mine pass ≡ []) × (length pass.seen ≤ 1048576) × (shares ≡ no_counts) }
+    requires new { IsNew pass shares }
     ensures later { IsLater pass result.0 }
     ensures counted { IsCounted result.0 result.1 }
 {
     if pass.who() >= run.cores as u64 {
         return (pass, shares);
     }
+    let whole = Snapshot::of(&pass);
     let (first, ours, rest, theirs) = split_off(run.lock, pass, shares);
     let promise = Counted(Snapshot::of(&first));
     let job = move || -> (Pass<Book<S>>, Shares, LoopEnd)
@@ -102,13 +102,13 @@ fn start<'s, E, S: EpochStore + 's, G: Gate + 's, R: Threads + Wait + Sync>(
         Ok(thread) => {
             let (rest, theirs) = start(scope, run, rest, theirs);
             let (first, ours, _) = thread.join(run.rt);
-            (run.lock.join(first, rest), gather(ours, theirs))
+            rejoin(run.lock, whole, (first, ours), (rest, theirs))
         }
         Err(refused) => {
             let (rest, _) = halt(run.rt, run.lock, rest, StopCause::NoThread);
             let (first, ours, _) = (refused.value)();
             let (rest, theirs) = start(scope, run, rest, theirs);
-            (run.lock.join(first, rest), gather(ours, theirs))
+            rejoin(run.lock, whole, (first, ours), (rest, theirs))
         }
     }
 }
@@ -121,14 +121,33 @@ fn split_off<S: EpochStore>(
 ) -> (Pass<Book<S>>, Shares, Pass<Book<S>>, Shares)
     requires own { pass.lock ≡ Some lock.now }
     requires more { (pass.lo + 1 < pass.hi) × (pass.hi ≤ 17) }
-    requires new { (mine pass ≡ []) × (length pass.seen ≤ 1048576) × (shares ≡ no_counts) }
+    requires new { IsNew pass shares }
     ensures first { result.0 ≡ record pass { hi = pass.lo + 1 } }
     ensures counted { IsCounted result.0 result.1 }
     ensures rest { result.2 ≡ record pass { lo = pass.lo + 1 } }
-    ensures new { (mine result.2 ≡ []) × (length result.2.seen ≤ 1048576) × (result.3 ≡ no_counts) }
+    ensures new { IsNew result.2 result.3 }
 {
     let at = pass.who() + 1;
     let (first, rest) = lock.split(pass, at);
     let (ours, theirs) = shares.split();
     (first, ours, rest, theirs)
+}
+
+/// What a pass was split into, each part later and with what it has counted, together again.
+fn rejoin<S: EpochStore>(
+    lock: &TicketLock<Book<S>>,
+    whole: Snapshot<Pass<Book<S>>>,
+    first: (Pass<Book<S>>, Shares),
+    rest: (Pass<Book<S>>, Shares),
+) -> (Pass<Book<S>>, Shares)
+    requires own { (whole.value.lock ≡ Some lock.now) × (whole.value.lo + 1 ≤ whole.value.hi) }
+    requires first { IsLater (record whole.value { hi = whole.value.lo + 1 }) first.0 × IsCounted first.0 first.1 }
+    requires rest { IsLater (record whole.value { lo = whole.value.lo + 1 }) rest.0 × IsCounted rest.0 rest.1 }
+    ensures later { IsLater whole.value result.0 }
+    ensures counted { IsCounted result.0 result.1 }
+{
+    let (first, ours) = first;
+    let (rest, theirs) = rest;
+    let pass = lock.join(first, rest);
+    (pass, gather(ours, theirs))
 }

@@ -1,12 +1,15 @@
 //! The turns of one core.
-ghost use Rattle.std.specs.Prelude.{◌≡◌, ◌≢◌, ◌<◌, ◌≤◌, Some, true, length, option_copied};
+ghost use Rattle.std.specs.Prelude.{◌≡◌, ◌≢◌, ◌<◌, ◌≤◌, Some, true, length, option_copied, is_none, ◌&&◌, if◌then◌else◌};
+ghost use Rattle.spec_history.specs.FlatState.{FlatState};
+ghost use Rattle.spec_history.specs.Replay.{replay};
 ghost use Rattle.ticket_lock.specs.Known.{mine};
 ghost use Rattle.homefree.specs.Acted.{IfArrived};
 ghost use Rattle.homefree.specs.BookView.{IsFull, IsOfSameLoop};
 ghost use Rattle.homefree.specs.Counted.{IsNoMore, counted_in};
 ghost use Rattle.homefree.specs.LockView.{loop_of, past_of};
 ghost use Rattle.core_threads.specs.Adds.{Adds};
-ghost use Rattle.core_threads.specs.Passes.{IsLater, IsCounted, IsOver};
+ghost use Rattle.core_threads.specs.Answered.{Takes, after_answer, cause_for, hart_after};
+ghost use Rattle.core_threads.specs.Passes.{IsLater, IsCounted, IsOver, IsGoing};
 
 use crate::gate::Gate;
 use crossbeam_utils::Backoff;
@@ -60,6 +63,7 @@ pub fn core_loop<S: EpochStore, G: Gate, R: Wait>(
     ensures later { IsLater pass result.0 }
     ensures counted { IsCounted result.0 result.1 }
     ensures over { result.2 ≡ LoopEnd.Over → IsOver lock.now.fixed result.0.seen }
+    ensures stopped { result.2 ≡ LoopEnd.Stopped → IsGoing lock.now.fixed result.0.seen }
     ensures spent { result.2 ≡ LoopEnd.Spent → result.0.out ≡ true }
 {
     let core = pass.who() as u32;
@@ -108,6 +112,7 @@ fn one_turn<S: EpochStore, R: Wait>(
     ensures later { IsLater pass result.0 }
     ensures counted { IsCounted result.0 result.1 }
     ensures over { result.2 ≡ After.Ends LoopEnd.Over → IsOver lock.now.fixed result.0.seen }
+    ensures stopped { result.2 ≡ After.Ends LoopEnd.Stopped → IsGoing lock.now.fixed result.0.seen }
     ensures spent { result.2 ≡ After.Ends LoopEnd.Spent → result.0.out ≡ true }
 {
     let core = pass.who() as u32;
@@ -134,7 +139,10 @@ fn take_turn<S: EpochStore>(
     requires shares { IsNoMore shares.old (counted_in book.old.history) }
     ensures adds { Adds core book.old book.new shares.old shares.new }
     ensures few { length book.new.history ≤ 1048576 }
+    ensures takes { (s : FlatState) → replay book.old.image book.old.cores book.old.history ≡ Some s
+        → Takes S.view S.waits book.old book.new s core (option_copied next.entry) shares.old shares.new hart.old hart.new result }
     ensures over { result ≡ After.Ends LoopEnd.Over → IsOver (loop_of book.new) (past_of book.new.history) }
+    ensures stopped { result ≡ After.Ends LoopEnd.Stopped → IsGoing (loop_of book.new) (past_of book.new.history) }
     ensures spent { result ≢ After.Ends LoopEnd.Spent }
 {
     book.look();
@@ -151,8 +159,8 @@ fn take_turn<S: EpochStore>(
 
 /// What comes of an answer. Sets the hart where the core goes on.
 fn goes_on(answer: &Answer, hart: &mut Hart) -> After
-    ensures over { result ≡ After.Ends LoopEnd.Over → (end : End) × (answer.now ≡ Answer.Over end) }
-    ensures spent { result ≢ After.Ends LoopEnd.Spent }
+    ensures after { result ≡ after_answer answer.now }
+    ensures hart { hart.new ≡ hart_after answer.now hart.old }
 {
     match answer {
         Answer::Go(reached) => {
@@ -166,11 +174,13 @@ fn goes_on(answer: &Answer, hart: &mut Hart) -> After
     }
 }
 
-/// Stops a book at which a turn failed.
+/// Stops a book at which a turn failed, for that, unless its loop is over or it is stopped already.
 fn stop_for<S: EpochStore>(book: &mut Book<S>, fault: TurnFault)
     requires { fault ≡ TurnFault.HistoryFull → IsFull book.old }
     ensures same { IsOfSameLoop book.old book.new }
     ensures history { book.new.history ≡ book.old.history }
+    ensures book { (s : FlatState) → replay book.old.image book.old.cores book.old.history ≡ Some s
+        → book.new ≡ (if is_none s.end && is_none book.old.stopped then record book.old { stopped = Some (cause_for fault) } else book.old) }
 {
     match fault {
         TurnFault::HistoryFull => book.stop(StopCause::HistoryFull),
@@ -192,6 +202,7 @@ pub(crate) fn halt<S: EpochStore, R: Wait>(
     ensures same { mine result.0 ≡ mine pass }
     ensures few { length result.0.seen ≤ 1048576 }
     ensures over { result.1 ≡ LoopEnd.Over → IsOver lock.now.fixed result.0.seen }
+    ensures stopped { result.1 ≡ LoopEnd.Stopped → IsGoing lock.now.fixed result.0.seen }
     ensures spent { result.1 ≡ LoopEnd.Spent → result.0.out ≡ true }
 {
     match lock.lock(rt, pass) {
@@ -210,12 +221,13 @@ fn stop<S: EpochStore>(book: &mut Book<S>, cause: StopCause) -> LoopEnd
     ensures history { book.new.history ≡ book.old.history }
     ensures few { length book.new.history ≤ 1048576 }
     ensures over { result ≡ LoopEnd.Over → IsOver (loop_of book.new) (past_of book.new.history) }
+    ensures stopped { result ≡ LoopEnd.Stopped → IsGoing (loop_of book.new) (past_of book.new.history) }
     ensures spent { result ≢ LoopEnd.Spent }
 {
     book.look();
-    if !book.stop(cause) && book.ended().is_some() {
-        LoopEnd::Over
-    } else {
-        LoopEnd::Stopped
+    book.stop(cause);
+    match book.ended() {
+        Some(_) => LoopEnd::Over,
+        None => LoopEnd::Stopped,
     }
 }

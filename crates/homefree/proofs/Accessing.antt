@@ -1,5 +1,5 @@
 -- From what the register noted of an access and what the store did to a case of the turn.
-use Rattle.std.proofs.Common.{◌≡◌, ◌≢◌, ◌≤◌, ◌<◌, ◌*◌, ℕ, Bool, false, List, ◌++◌, length, Some, refl, sym, ap, subst, ◌∙◌, arith}
+use Rattle.std.proofs.Common.{◌≡◌, ◌≢◌, ◌≤◌, ◌<◌, ◌*◌, ℕ, Bool, false, List, ◌++◌, length, Some, None, refl, sym, ap, subst, ◌∙◌, arith}
 use Rattle.std.proofs.lemmas.List.{length-append}
 use Rattle.rv32_exec.specs.declared.stop.Stop.{Stop}
 use Rattle.rv32_exec.specs.declared.stop.Stop.TheVariants as stop
@@ -10,7 +10,7 @@ use Rattle.spec_history.specs.declared.entry.Entry.{Entry}
 use Rattle.spec_history.specs.declared.entry.What.{What}
 use Rattle.spec_history.specs.declared.entry.What.TheVariants.{Load, Store}
 use Rattle.violations.specs.declared.step.WaitCause.{WaitCause}
-use Rattle.violations.specs.View.{StoreView}
+use Rattle.violations.specs.View.{StoreView, Waits}
 use Rattle.violations.specs.Rule.{Loads, Stores}
 use Rattle.homefree.specs.declared.answer.Answer.TheVariants.{Go, Again}
 use Rattle.homefree.specs.declared.register.Register.{Register}
@@ -42,12 +42,12 @@ twice m n less = omega (arith, less)
 
 -- ---- of a core that isn't straight
 
-pub loaded : (old new : Register) (v w : StoreView) (shares shares' : Counts) (core : ℕ) (now : Running) (arrived : Arrival) (address width value : ℕ) (signed : Bool) (rd : ℕ) (hurt : ℕ → Bool) (hart : HartState)
-    → Arrives old v shares core now arrived arrived.at → arrived.at ≡ stop.Load address width signed rd → now.straight ≡ false → Loads v w core address width value hurt
+pub loaded : {waits : Waits} (old new : Register) (v w : StoreView) (shares shares' : Counts) (core : ℕ) (now : Running) (arrived : Arrival) (address width value : ℕ) (signed : Bool) (rd : ℕ) (hurt : ℕ → Bool) (hart : HartState)
+    → Arrives old v shares core now arrived arrived.at → arrived.at ≡ stop.Load address width signed rd → now.straight ≡ false → waits.load core address width ≡ None → Loads v w core address width value hurt
     → hart ≡ after_loading arrived value
     → Steps old new shares shares' (hurts_noted core hurt old.running.items (length old.running.items) ++ entry core (Load address width value))
-    → Acted old new v w shares shares' core (Some arrived) (Go hart)
-loaded old new v w shares shares' core now arrived address width value signed rd hurt hart a load speculates l hart_at steps =
+    → Acted old new waits v w shares shares' core (Some arrived) (Go hart)
+loaded old new v w shares shares' core now arrived address width value signed rd hurt hart a load speculates goes_on l hart_at steps =
     let runs = a.running in
     let f = runs.fits in
     let s = f.state in
@@ -71,16 +71,17 @@ loaded old new v w shares shares' core now arrived address width value signed rd
       signed = signed;
       hurt = hurt;
       comes = record { is_at = is; speculates = free };
+      goes_on = goes_on;
       store = l;
       out_is = ap (λ h. does (hurts count s core hurt ++ entry core (Load address width value)) (Go h)) (hart_at ∙ hart_is old core now arrived (stop.Load address width signed rd) st.c value at st.is);
     })))
 
-pub stored : (old new : Register) (v w : StoreView) (shares shares' : Counts) (core : ℕ) (now : Running) (arrived : Arrival) (address width value : ℕ) (hurt : ℕ → Bool) (hart : HartState)
-    → Arrives old v shares core now arrived arrived.at → arrived.at ≡ stop.Store address width value → now.straight ≡ false → Stores v w core address width value hurt
+pub stored : {waits : Waits} (old new : Register) (v w : StoreView) (shares shares' : Counts) (core : ℕ) (now : Running) (arrived : Arrival) (address width value : ℕ) (hurt : ℕ → Bool) (hart : HartState)
+    → Arrives old v shares core now arrived arrived.at → arrived.at ≡ stop.Store address width value → now.straight ≡ false → waits.store core address width ≡ None → Stores v w core address width value hurt
     → hart ≡ stepped arrived.now
     → Steps old new shares shares' (hurts_noted core hurt old.running.items (length old.running.items) ++ entry core (Store address width value))
-    → Acted old new v w shares shares' core (Some arrived) (Go hart)
-stored old new v w shares shares' core now arrived address width value hurt hart a store speculates l hart_at steps =
+    → Acted old new waits v w shares shares' core (Some arrived) (Go hart)
+stored old new v w shares shares' core now arrived address width value hurt hart a store speculates goes_on l hart_at steps =
     let runs = a.running in
     let f = runs.fits in
     let s = f.state in
@@ -102,15 +103,16 @@ stored old new v w shares shares' core now arrived address width value hurt hart
       value = value;
       hurt = hurt;
       comes = record { is_at = is; speculates = free };
+      goes_on = goes_on;
       store = l;
       out_is = ap (λ h. does (hurts count s core hurt ++ entry core (Store address width value)) (Go h)) (hart_at ∙ stored_is old core now arrived (stop.Store address width value) st.c at st.is);
     })))
 
 -- the store waits, and the epoch isn't the homefree one
-pub waited : (old : Register) (v : StoreView) (shares : Counts) (core : ℕ) (now : Running) (arrived : Arrival) (at : Stop) (cause : WaitCause)
-    → Arrives old v shares core now arrived arrived.at → arrived.at ≡ at → turn.IsAccess at → now.straight ≡ false → now.epoch ≢ old.homefree
-    → Acted old old v v shares shares core (Some arrived) (Again (cause_of cause))
-waited old v shares core now arrived at cause a this access speculates later =
+pub waited : {waits : Waits} (old : Register) (v : StoreView) (shares : Counts) (core : ℕ) (now : Running) (arrived : Arrival) (at : Stop) (cause : WaitCause)
+    → Arrives old v shares core now arrived arrived.at → arrived.at ≡ at → turn.wait_at waits core at ≡ Some cause → now.straight ≡ false → now.epoch ≢ old.homefree
+    → Acted old old waits v v shares shares core (Some arrived) (Again (cause_of cause))
+waited old v shares core now arrived at cause a this waiting speculates later =
     let runs = a.running in
     let f = runs.fits in
     let st = stands old v core now runs in
@@ -123,7 +125,7 @@ waited old v shares core now arrived at cause a this access speculates later =
         is_at = is_at old v core now arrived at f st (at_this old core now arrived at a.is_at this);
         speculates = ap (λ (x : Running). x.straight) st.is ∙ speculates;
       };
-      access = access;
+      waits = waiting;
       later = λ same. later (ap (λ (x : Running). x.epoch) (sym st.is) ∙ (same ∙ sym f.shows.homefree));
       store = refl;
       out_is = refl;

@@ -17,7 +17,7 @@ use Rattle.spec_history.specs.Laws.{IsKept}
 use Rattle.spec_history.proofs.Joining.{history_goes_on, no_entry}
 use Rattle.spec_history.proofs.Replays.{replayed}
 use Rattle.violations.specs.declared.attempt.Attempt.{Attempt}
-use Rattle.violations.specs.View.{StoreView, IsSettled, MayBegin, attempt_of}
+use Rattle.violations.specs.View.{StoreView, Waits, IsSettled, MayBegin, attempt_of}
 use Rattle.violations.specs.Rule.{Begins}
 use Rattle.homefree.specs.declared.answer.Answer.{Answer}
 use Rattle.homefree.specs.declared.answer.Answer.TheVariants.{Go, Again}
@@ -54,36 +54,36 @@ fits_then old new v w shares shares' entries t f steps comes shape = record {
   core_count = rw (steps.image, steps.cores) f.core_count;
 }
 
-pub acted_by : (old new : Register) (v w : StoreView) (shares shares' : Counts) (core : ℕ) (next : Option Arrival) (answer : Answer) (entries : List Entry) (f : Fits old v)
-    → Steps old new shares shares' entries → length entries ≤ 2 * length old.running.items → Fits new w → Acts (turn_of old f.state core next) v w (does entries answer)
-    → Acted old new v w shares shares' core next answer
-acted_by old new v w shares shares' core next answer entries f steps short fits acts = record {
+pub acted_by : {waits : Waits} (old new : Register) (v w : StoreView) (shares shares' : Counts) (core : ℕ) (next : Option Arrival) (answer : Answer) (entries : List Entry) (f : Fits old v)
+    → Steps old new shares shares' entries → length entries ≤ 2 * length old.running.items → Fits new w → Acts (turn_of old waits f.state core next) v w (does entries answer)
+    → Acted old new waits v w shares shares' core next answer
+acted_by {waits} old new v w shares shares' core next answer entries f steps short fits acts = record {
   entries = entries;
   steps = steps;
   short = short;
-  acts = λ s replays. subst (λ x. Acts (turn_of old x core next) v w (does entries answer))
+  acts = λ s replays. subst (λ x. Acts (turn_of old waits x core next) v w (does entries answer))
       (one_state (replay old.image (length old.running.items) old.history.items) f.state s f.replays replays) acts;
   fits = fits;
 }
 
-pub acted : (old new : Register) (v w : StoreView) (shares shares' : Counts) (core : ℕ) (next : Option Arrival) (answer : Answer) (entries : List Entry) (t : FlatState) (f : Fits old v)
+pub acted : {waits : Waits} (old new : Register) (v w : StoreView) (shares shares' : Counts) (core : ℕ) (next : Option Arrival) (answer : Answer) (entries : List Entry) (t : FlatState) (f : Fits old v)
     → Steps old new shares shares' entries → length entries ≤ 2 * length old.running.items → arm.Comes old.image (length old.running.items) f.state entries t w
-    → w.shape ≡ v.shape → Acts (turn_of old f.state core next) v w (does entries answer)
-    → Acted old new v w shares shares' core next answer
+    → w.shape ≡ v.shape → Acts (turn_of old waits f.state core next) v w (does entries answer)
+    → Acted old new waits v w shares shares' core next answer
 acted old new v w shares shares' core next answer entries t f steps short comes shape acts =
     acted_by old new v w shares shares' core next answer entries f steps short (fits_then old new v w shares shares' entries t f steps comes shape) acts
 
 -- a turn that changes nothing
-pub acted_nothing : (old : Register) (v : StoreView) (shares : Counts) (core : ℕ) (next : Option Arrival) (answer : Answer) (f : Fits old v)
-    → Acts (turn_of old f.state core next) v v (does [] answer) → Acted old old v v shares shares core next answer
+pub acted_nothing : {waits : Waits} (old : Register) (v : StoreView) (shares : Counts) (core : ℕ) (next : Option Arrival) (answer : Answer) (f : Fits old v)
+    → Acts (turn_of old waits f.state core next) v v (does [] answer) → Acted old old waits v v shares shares core next answer
 acted_nothing old v shares core next answer f acts =
     acted old old v v shares shares core next answer [] f.state f (steps_none old shares) (omega arith)
     (record { replays = no_entry old.image (length old.running.items) f.state; agrees = f.agrees }) refl acts
 
 -- ---- idle cores
 
-pub found_none : (old : Register) (v : StoreView) (shares : Counts) (core : ℕ) (next : Option Arrival) → Fits old v → running_at old.running.items core ≡ None → old.image.epochs ≤ old.next_epoch
-    → Acted old old v v shares shares core next (Again NoEpoch)
+pub found_none : {waits : Waits} (old : Register) (v : StoreView) (shares : Counts) (core : ℕ) (next : Option Arrival) → Fits old v → running_at old.running.items core ≡ None → old.image.epochs ≤ old.next_epoch
+    → Acted old old waits v v shares shares core next (Again NoEpoch)
 found_none old v shares core next f idle left =
     acted_nothing old v shares core next (Again NoEpoch) f
     (turn.finds_none (record {
@@ -93,10 +93,10 @@ found_none old v shares core next f idle left =
       out_is = refl;
     }))
 
-pub started : (old new : Register) (v w : StoreView) (shares shares' : Counts) (core : ℕ) (next : Option Arrival) → (f : Fits old v) → IsSettled v → old.end ≡ None → core < length old.running.items
+pub started : {waits : Waits} (old new : Register) (v w : StoreView) (shares shares' : Counts) (core : ℕ) (next : Option Arrival) → (f : Fits old v) → IsSettled v → old.end ≡ None → core < length old.running.items
     → running_at old.running.items core ≡ None → old.next_epoch < old.image.epochs → Begins v w core old.next_epoch
     → Steps old new shares shares' (entry core (Start old.next_epoch))
-    → Acted old new v w shares shares' core next (Go (start_of old.image old.next_epoch))
+    → Acted old new waits v w shares shares' core next (Go (start_of old.image old.next_epoch))
 started old new v w shares shares' core next f settled going there idle left begins steps =
     let s = f.state in
     let epoch = f.shows.next_epoch in
@@ -115,10 +115,10 @@ started old new v w shares shares' core next f settled going there idle left beg
 
 -- ---- a core that was hurt
 
-pub restarted : (old new : Register) (v w : StoreView) (shares shares' : Counts) (core : ℕ) (next : Option Arrival) (now : Running) → (f : Fits old v) → IsSettled v → old.end ≡ None → core < length old.running.items
+pub restarted : {waits : Waits} (old new : Register) (v w : StoreView) (shares shares' : Counts) (core : ℕ) (next : Option Arrival) (now : Running) → (f : Fits old v) → IsSettled v → old.end ≡ None → core < length old.running.items
     → running_at old.running.items core ≡ Some now → now.hurt ≡ true → Begins v w core now.epoch
     → Steps old new shares shares' (entry core Restart)
-    → Acted old new v w shares shares' core next (Go (start_of old.image now.epoch))
+    → Acted old new waits v w shares shares' core next (Go (start_of old.image now.epoch))
 restarted old new v w shares shares' core next now f settled going there runs hurt begins steps =
     let s = f.state in
     let found = core_of old s core now f.shows runs in
@@ -196,8 +196,8 @@ may_restart r v core now f going there runs hurt =
 
 -- ---- a core that is told its hart
 
-pub told : (old : Register) (v : StoreView) (shares : Counts) (core : ℕ) (next : Option Arrival) (now : Running) (f : Fits old v) → running_at old.running.items core ≡ Some now → now.hurt ≡ false
-    → turn.IsStale next now.hart → Acted old old v v shares shares core next (Go now.hart)
+pub told : {waits : Waits} (old : Register) (v : StoreView) (shares : Counts) (core : ℕ) (next : Option Arrival) (now : Running) (f : Fits old v) → running_at old.running.items core ≡ Some now → now.hurt ≡ false
+    → turn.IsStale next now.hart → Acted old old waits v v shares shares core next (Go now.hart)
 told old v shares core next now f runs unhurt stale =
     let found = core_of old f.state core now f.shows runs in
     let hart : now.hart ≡ (found.0).hart = ap (λ (r : Running). r.hart) (sym found.2) in

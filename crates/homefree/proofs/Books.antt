@@ -16,7 +16,7 @@ use Rattle.spec_history.specs.Replay.{replay_from}
 use Rattle.spec_history.proofs.Joining.{splits}
 use Rattle.spec_history.proofs.Reaching.{no_entries}
 use Rattle.spec_history.proofs.Replays.{replayed}
-use Rattle.violations.specs.View.{StoreView, IsSettled}
+use Rattle.violations.specs.View.{StoreView, Waits, IsSettled}
 use Rattle.violations.specs.Rule.{IsSameView, IsCoreCount, IsFresh}
 use Rattle.homefree.specs.declared.answer.Answer.{Answer}
 use Rattle.homefree.specs.declared.answer.Answer.TheVariants.{Over, Stopped}
@@ -118,18 +118,18 @@ one_state o s t one two = cc
 pub end_of : (r : Register) (v : StoreView) (s : FlatState) → Fits r v → replay r.image (length r.running.items) r.history.items ≡ Some s → s.end ≡ r.end
 end_of r v s f replays = ap (λ (x : FlatState). x.end) (one_state (replay r.image (length r.running.items) r.history.items) s f.state replays f.replays) ∙ sym f.shows.end
 
-module _ {S : Type 0} (view : S → StoreView) (r : Register) (store : S) (room core : ℕ) (shares : Counts) (next : Option Arrival) (f : Fits r (view store)) where
+module _ {S : Type 0} (view : S → StoreView) (waits : S → Waits) (r : Register) (store : S) (room core : ℕ) (shares : Counts) (next : Option Arrival) (f : Fits r (view store)) where
   pub turned_over : (cause : Option StopCause) (end : End) → r.end ≡ Some end → (s : FlatState) → replay r.image (length r.running.items) r.history.items ≡ Some s
-      → Turned view (book_of r store room cause) s shares core next (Ok (Over end)) (book_of r store room cause) shares
+      → Turned view waits (book_of r store room cause) s shares core next (Ok (Over end)) (book_of r store room cause) shares
   turned_over cause end is s replays = turn.over (record { end = end; over = end_of r (view store) s f replays ∙ is; answer_is = refl }) refl refl
 
   pub turned_stopped : (cause : StopCause) → r.end ≡ None → (s : FlatState) → replay r.image (length r.running.items) r.history.items ≡ Some s
-      → Turned view (book_of r store room (Some cause)) s shares core next (Ok (Stopped cause)) (book_of r store room (Some cause)) shares
+      → Turned view waits (book_of r store room (Some cause)) s shares core next (Ok (Stopped cause)) (book_of r store room (Some cause)) shares
   turned_stopped cause going s replays = turn.stopped (record { going = end_of r (view store) s f replays ∙ going; cause = cause; stopped = refl; answer_is = refl }) refl refl
 
   pub turned_full : r.end ≡ None → room < length r.history.items + (limits_of r.image.version).free_entries
       → (s : FlatState) → replay r.image (length r.running.items) r.history.items ≡ Some s
-      → Turned view (book_of r store room None) s shares core next (Err HistoryFull) (book_of r store room None) shares
+      → Turned view waits (book_of r store room None) s shares core next (Err HistoryFull) (book_of r store room None) shares
   turned_full going full s replays = turn.full (record { going = end_of r (view store) s f replays ∙ going; unstopped = refl; full = full; answer_is = refl }) refl refl
 
 -- ---- room for a turn
@@ -175,13 +175,13 @@ unfolding counts_of
 sum_nothing a = let same : (l s r c : ℕ) → l ≡ l + 0 → s ≡ s + 0 → r ≡ r + 0 → c ≡ c + 0 → (let x : Counts = record { loads = l; stores = s; restarts = r; commits = c } in x ≡ sum_of x no_counts) = λ l s r c e f g h. λ i. record { loads = e i; stores = f i; restarts = g i; commits = h i } in
     same a.loads a.stores a.restarts a.commits (omega arith) (omega arith) (omega arith) (omega arith)
 
-module _ {S : Type 0} (view : S → StoreView) (r q : Register) (store reserved : S) (room core : ℕ) (cause : Option StopCause) (shares : Counts) (next : Option Arrival) (f : Fits r (view store))
-    (going : r.end ≡ None) (unstopped : cause ≡ None) (free : length r.history.items + (limits_of r.image.version).free_entries ≤ room) (same : IsAsBefore r q) (same_view : IsSameView (view store) (view reserved)) where
+module _ {S : Type 0} (view : S → StoreView) (waits : S → Waits) (r q : Register) (store reserved : S) (room core : ℕ) (cause : Option StopCause) (shares : Counts) (next : Option Arrival) (f : Fits r (view store))
+    (going : r.end ≡ None) (unstopped : cause ≡ None) (free : length r.history.items + (limits_of r.image.version).free_entries ≤ room) (same : IsAsBefore r q) (same_view : IsSameView (view store) (view reserved)) (same_waits : waits reserved ≡ waits store) where
   may_act : (s : FlatState) → replay r.image (length r.running.items) r.history.items ≡ Some s → turn.MayAct (book_of r store room cause) s
   may_act s replays = record { going = end_of r (view store) s f replays ∙ going; unstopped = unstopped; free = free }
 
   pub turned_refused : (s : FlatState) → replay r.image (length r.running.items) r.history.items ≡ Some s
-      → Turned view (book_of r store room cause) s shares core next (Err NoMemory) (book_of q reserved room cause) shares
+      → Turned view waits (book_of r store room cause) s shares core next (Err NoMemory) (book_of q reserved room cause) shares
   turned_refused s replays = turn.no_memory (may_act s replays) same_view
       (record {
         image = same.image;
@@ -193,9 +193,9 @@ module _ {S : Type 0} (view : S → StoreView) (r q : Register) (store reserved 
         stopped = refl;
       }) refl
 
-  pub turned_acts : (new : Register) (after : S) (shares' : Counts) (answer : Answer) → Acted q new (view reserved) (view after) shares shares' core next answer
+  pub turned_acts : (new : Register) (after : S) (shares' : Counts) (answer : Answer) → Acted q new (waits reserved) (view reserved) (view after) shares shares' core next answer
       → (s : FlatState) → replay r.image (length r.running.items) r.history.items ≡ Some s
-      → Turned view (book_of r store room cause) s shares core next (Ok answer) (book_of new after room cause) shares'
+      → Turned view waits (book_of r store room cause) s shares core next (Ok answer) (book_of new after room cause) shares'
   turned_acts new after shares' answer a s replays =
       let cores : length q.running.items ≡ length r.running.items = ap (λ v. length v.items) same.running in
       turn.acts (record {
@@ -203,7 +203,9 @@ module _ {S : Type 0} (view : S → StoreView) (r q : Register) (store reserved 
         reserved = view reserved;
         same = same_view;
         out = does a.entries answer;
-        acts = rw (← same.image, ← cores) (a.acts s (rw (same.image, cores, same.history) replays));
+        acts = rw (← same.image, ← cores)
+            (subst (λ (k : Waits). turn.Acts (turn_of q k s core next) (view reserved) (view after) (does a.entries answer)) same_waits
+            (a.acts s (rw (same.image, cores, same.history) replays)));
         grows = record {
           image = a.steps.image ∙ same.image;
           cores = a.steps.cores ∙ cores;
@@ -257,11 +259,11 @@ goes_on_from image count first later s u replays all =
 still_none : (cause : Option StopCause) → cause ≡ None → cause ≡ Some stop.HistoryFull → ⊥
 still_none cause none some = cc
 
-pub book_acts : {S : Type 0} (view : S → StoreView) (r q new : Register) (store reserved after : S) (room core : ℕ) (cause : Option StopCause) (shares shares' : Counts) (next : Option Arrival) (answer : Answer) → IsBook view r store room cause → r.end ≡ None → cause ≡ None → IsAsBefore r q
+pub book_acts : {S : Type 0} {waits : Waits} (view : S → StoreView) (r q new : Register) (store reserved after : S) (room core : ℕ) (cause : Option StopCause) (shares shares' : Counts) (next : Option Arrival) (answer : Answer) → IsBook view r store room cause → r.end ≡ None → cause ≡ None → IsAsBefore r q
     → core < length r.running.items → length r.history.items + (limits_of r.image.version).free_entries ≤ room → IsSettled (view reserved) → Fits q (view reserved)
-    → Acted q new (view reserved) (view after) shares shares' core next answer
+    → Acted q new waits (view reserved) (view after) shares shares' core next answer
     → IsBook view new after room cause
-book_acts view r q new store reserved after room core cause shares shares' next answer b going unstopped same there free settled f a =
+book_acts {S} {waits} view r q new store reserved after room core cause shares shares' next answer b going unstopped same there free settled f a =
     let cores : length q.running.items ≡ length r.running.items = ap (λ v. length v.items) same.running in
     let enough = most_entries r.image.version (length r.running.items) b.fits.core_count.most in
     let short : length a.entries ≤ 2 * length r.running.items = subst (λ n. length a.entries ≤ 2 * n) cores a.short in
@@ -278,7 +280,7 @@ book_acts view r q new store reserved after room core cause shares shares' next 
     let goes = goes_on_from q.image count q.history.items a.entries f.state a.fits.state f.replays later in
     let still : f.state.end ≡ None = sym f.shows.end ∙ (same.end ∙ going) in
     let kept = ((replayed q.image count q.history.items f.state f.is_image f.replays).going still).kept in
-    let known = acts_known (IsOfCaches view) (turn_of q f.state core next) (view reserved) (view after) (does a.entries answer) still kept f.agrees f.is_image.size_allowed.lines f.shape settled (λ caches. caches reserved) acted in record {
+    let known = acts_known (IsOfCaches view) (turn_of q waits f.state core next) (view reserved) (view after) (does a.entries answer) still kept f.agrees f.is_image.size_allowed.lines f.shape settled (λ caches. caches reserved) acted in record {
       fits = a.fits;
       by_cores = rw (a.steps.cores, cores, a.steps.history, same.history) all_cores;
       caused = rw (a.steps.history, same.history) (grown r.history.items a.entries b.caused (acts _ (view reserved) (view after) _ acted));
@@ -293,8 +295,8 @@ book_acts view r q new store reserved after room core cause shares shares' next 
 -- ---- what the code's numbers say
 
 -- the history has at most so many entries more as a turn asks for
-pub acts_most : {S : Type 0} (view : S → StoreView) (r q new : Register) (store reserved after : S) (room core : ℕ) (cause : Option StopCause) (shares shares' : Counts) (next : Option Arrival) (answer : Answer) → IsBook view r store room cause → IsAsBefore r q
-    → Acted q new (view reserved) (view after) shares shares' core next answer → length new.history.items ≤ length r.history.items + (limits_of r.image.version).free_entries
+pub acts_most : {S : Type 0} {waits : Waits} (view : S → StoreView) (r q new : Register) (store reserved after : S) (room core : ℕ) (cause : Option StopCause) (shares shares' : Counts) (next : Option Arrival) (answer : Answer) → IsBook view r store room cause → IsAsBefore r q
+    → Acted q new waits (view reserved) (view after) shares shares' core next answer → length new.history.items ≤ length r.history.items + (limits_of r.image.version).free_entries
 acts_most view r q new store reserved after room core cause shares shares' next answer b same a =
     let cores : length q.running.items ≡ length r.running.items = ap (λ v. length v.items) same.running in
     let enough = most_entries r.image.version (length r.running.items) b.fits.core_count.most in

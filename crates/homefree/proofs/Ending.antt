@@ -14,7 +14,7 @@ use Rattle.spec_history.specs.declared.entry.Entry.{Entry}
 use Rattle.spec_history.specs.declared.entry.What.TheVariants.{Hurt, Commit, Fault}
 use Rattle.spec_history.specs.FlatState.{FlatState, end_at, end_after}
 use Rattle.spec_history.specs.Effect.{effect_on}
-use Rattle.violations.specs.View.{StoreView, Runs, epoch_of}
+use Rattle.violations.specs.View.{StoreView, Waits, Runs, epoch_of}
 use Rattle.violations.specs.Rule.{Publishes, Ends}
 use Rattle.homefree.specs.declared.answer.Answer.{Answer}
 use Rattle.homefree.specs.declared.answer.Answer.TheVariants.{Again, Over}
@@ -43,9 +43,9 @@ use Rattle.homefree.proofs.Accessing.{at_this, one_more_entry}
 
 -- ---- an epoch that isn't the homefree one
 
-pub too_early : (old : Register) (v : StoreView) (shares : Counts) (core : ℕ) (now : Running) (arrived : Arrival) (at : Stop)
+pub too_early : {waits : Waits} (old : Register) (v : StoreView) (shares : Counts) (core : ℕ) (now : Running) (arrived : Arrival) (at : Stop)
     → Arrives old v shares core now arrived arrived.at → arrived.at ≡ at → turn.IsEnd at → now.epoch ≢ old.homefree
-    → Acted old old v v shares shares core (Some arrived) (Again NotHomefree)
+    → Acted old old waits v v shares shares core (Some arrived) (Again NotHomefree)
 too_early old v shares core now arrived at a this ends later =
     let f = a.running.fits in
     let st = stands old v core now a.running in
@@ -146,7 +146,7 @@ module _ (old mid : Register) (v x : StoreView) (core : ℕ) (now : Running) (ru
   pub homefree_c : st.c.epoch ≡ s.homefree
   homefree_c = homefree_is old v core now runs.fits st homefree
 
-  pub publishing : (arrived : Arrival) (at : Stop) → IsAtStop old core now arrived at → turn.Publishing (turn_of old s core (Some arrived)) st.c at v x g.hurt
+  pub publishing : {waits : Waits} (arrived : Arrival) (at : Stop) → IsAtStop old core now arrived at → turn.Publishing (turn_of old waits s core (Some arrived)) st.c at v x g.hurt
   publishing arrived at at_stop = record { is_at = is_at old v core now arrived at runs.fits st at_stop; homefree = homefree_c; publishes = publishes }
 
   -- ---- what the register's next notes ask
@@ -182,13 +182,13 @@ module _ (old mid : Register) (v x : StoreView) (core : ℕ) (now : Running) (ru
 
   -- ---- the cases
 
-  pub committed : (new : Register) (w : StoreView) (shares shares' : Counts) (arrived : Arrival) (answer : Answer)
+  pub committed : {waits : Waits} (new : Register) (w : StoreView) (shares shares' : Counts) (arrived : Arrival) (answer : Answer)
       → IsAtStop old core now arrived stop.Ended → exits old.image arrived.now ≡ false → Ends x w core → answer ≡ left_or_over new.end → new.end ≡ end_after mid.image arrived.now mid.homefree
-      → Steps mid new shares shares' (entry core Commit) → Acted old new v w shares shares' core (Some arrived) answer
-  committed new w shares shares' arrived answer at stays l answer_is end_is steps =
+      → Steps mid new shares shares' (entry core Commit) → Acted old new waits v w shares shares' core (Some arrived) answer
+  committed {waits} new w shares shares' arrived answer at stays l answer_is end_is steps =
       let hart = event_hart arrived stop.Ended at in
       let stays_c : exits old.image (next_event old.image st.c.hart).now ≡ false = subst (λ h. exits old.image h ≡ false) hart stays in
-      let is = is_at old v core now arrived stop.Ended runs.fits st at in
+      let is = is_at {waits = waits} old v core now arrived stop.Ended runs.fits st at in
       let comes = ends.commits old.image count s v core st.c st.going st.kept runs.fits.agrees st.at st.unhurt x g.hurt published homefree_c w is.event stays_c l in
       let image = (g.steps no_counts).image in
       let home : mid.homefree ≡ s.homefree = shows.homefree in
@@ -208,11 +208,11 @@ module _ (old mid : Register) (v x : StoreView) (core : ℕ) (now : Running) (ru
         out_is = ap (λ a. does (hurts count s core g.hurt ++ entry core Commit) a) (answer_is ∙ ap left_or_over end_at_s);
       })))
 
-  pub faulted : (new : Register) (shares : Counts) (arrived : Arrival) (cause pc : ℕ)
+  pub faulted : {waits : Waits} (new : Register) (shares : Counts) (arrived : Arrival) (cause pc : ℕ)
       → IsAtStop old core now arrived (stop.Fault cause pc) → Steps mid new shares shares (entry core (Fault cause pc))
-      → Acted old new v x shares shares core (Some arrived) (Over (end.Fault now.epoch cause pc))
-  faulted new shares arrived cause pc at steps =
-      let is = is_at old v core now arrived (stop.Fault cause pc) runs.fits st at in
+      → Acted old new waits v x shares shares core (Some arrived) (Over (end.Fault now.epoch cause pc))
+  faulted {waits} new shares arrived cause pc at steps =
+      let is = is_at {waits = waits} old v core now arrived (stop.Fault cause pc) runs.fits st at in
       let comes = ends.faults old.image count s v core st.c st.going st.kept runs.fits.agrees st.at st.unhurt x g.hurt published homefree_c cause pc is.event in
       acted old new v x shares shares core (Some arrived) (Over (end.Fault now.epoch cause pc)) (hurts count s core g.hurt ++ entry core (Fault cause pc))
       (effect_on old.image (with_hurts g.hurt s) core st.c (Fault cause pc)) runs.fits

@@ -15,7 +15,7 @@ use Rattle.spec_history.specs.Effect.{effect_on}
 use Rattle.spec_history.specs.Replay.{replay_from}
 use Rattle.spec_history.specs.View.{IsReached}
 use Rattle.spec_history.proofs.Joining.{history_goes_on}
-use Rattle.violations.specs.View.{StoreView, attempt_of}
+use Rattle.violations.specs.View.{StoreView, Waits, attempt_of}
 use Rattle.violations.specs.Rule.{Ends}
 use Rattle.homefree.specs.declared.answer.Answer.{Answer}
 use Rattle.homefree.specs.declared.register.Register.{Register}
@@ -36,7 +36,7 @@ use Rattle.homefree.proofs.CancelsReplay.{cancels_replay, not_other}
 use Rattle.homefree.proofs.Steps.{steps_then}
 use Rattle.homefree.proofs.Batches.{batch_fewer, cancels_same}
 use Rattle.homefree.proofs.Hurting.{totals_same, at_stop_after}
-use Rattle.homefree.proofs.Standing.{Stands, stands, is_at}
+use Rattle.homefree.proofs.Standing.{Stands, stands, event_is}
 use Rattle.homefree.proofs.Acting.{acted}
 use Rattle.homefree.proofs.Accessing.{one_more_entry}
 use Rattle.homefree.proofs.Ending.{published, noted, shows, same_shape, publishing, homefree_c, event_hart, fewer, small_homefree, exit_answer, at_mid}
@@ -92,7 +92,7 @@ module _ (old mid : Register) (v x : StoreView) (core : ℕ) (now : Running) (ru
   module _ (arrived : Arrival) (at : IsAtStop old core now arrived stop.Ended) (leaves_loop : exits old.image arrived.now ≡ true) (last : Register)
       (steps : (shares : Counts) → Steps mid last shares shares (cancels_noted core mid.running.items (length mid.running.items))) where
     next : (next_event old.image st.c.hart).at ≡ stop.Ended
-    next = (is_at old v core now arrived stop.Ended runs.fits st at).event
+    next = event_is old core now arrived stop.Ended st.c at st.is
 
     exit_c : exits old.image (next_event old.image st.c.hart).now ≡ true
     exit_c = subst (λ h. exits old.image h ≡ true) (event_hart old mid v x core now runs homefree g arrived stop.Ended at) leaves_loop
@@ -149,8 +149,8 @@ module _ (old mid : Register) (v x : StoreView) (core : ℕ) (now : Running) (ru
 
     -- ---- the case
 
-    pub exited : (new : Register) (y w : StoreView) (shares shares' : Counts) (answer : Answer) → CancelsOthers x y core → Ends y w core → answer ≡ left_or_over new.end
-        → new.end ≡ end_after last.image arrived.now last.homefree → Steps last new shares shares' (entry core Commit) → Acted old new v w shares shares' core (Some arrived) answer
+    pub exited : {waits : Waits} (new : Register) (y w : StoreView) (shares shares' : Counts) (answer : Answer) → CancelsOthers x y core → Ends y w core → answer ≡ left_or_over new.end
+        → new.end ≡ end_after last.image arrived.now last.homefree → Steps last new shares shares' (entry core Commit) → Acted old new waits v w shares shares' core (Some arrived) answer
     exited new y w shares shares' answer cancelled l answer_is end_is commit =
         let home_c = homefree_c old mid v x core now runs homefree g in
         let was = published old mid v x core now runs homefree g in

@@ -13,7 +13,7 @@ use Rattle.spec_history.specs.Replay.{replay, replay_from}
 use Rattle.spec_history.specs.Laws.{IsKept}
 use Rattle.spec_history.proofs.Joining.{history_goes_on}
 use Rattle.spec_history.proofs.Replays.{replayed}
-use Rattle.violations.specs.View.{StoreView}
+use Rattle.violations.specs.View.{StoreView, Waits}
 use Rattle.violations.specs.declared.step.WaitCause.{WaitCause}
 use Rattle.violations.specs.declared.step.WaitCause.TheVariants as wait
 use Rattle.homefree.specs.declared.answer.Answer.{Answer}
@@ -22,13 +22,13 @@ use Rattle.homefree.specs.declared.answer.Cause.{Cause}
 use Rattle.homefree.specs.declared.answer.StopCause.{StopCause}
 use Rattle.homefree.specs.declared.fault.TurnFault.{TurnFault}
 use Rattle.homefree.specs.declared.fault.TurnFault.TheVariants.{HistoryFull}
-use Rattle.homefree.specs.Again.{IsWhy, IfAgain, IsLaterAt}
+use Rattle.homefree.specs.Again.{IsWhy, IfAgain, IsWaitFor}
 use Rattle.homefree.specs.Agrees.{Agrees}
 use Rattle.homefree.specs.BookView.{BookView, IsFull}
 use Rattle.homefree.specs.Grown.{GrowsBy}
 use Rattle.homefree.specs.InStep.{InStep}
 use Rattle.homefree.specs.Turned as turn
-use Rattle.homefree.specs.Turned.{Turn, Outcome, Turned, turn_at, does, IsAccess, cause_of, left_or_over}
+use Rattle.homefree.specs.Turned.{Turn, Outcome, Turned, turn_at, does, wait_at, cause_of, left_or_over}
 use Rattle.homefree.proofs.Arms.{Comes}
 use Rattle.homefree.proofs.Books.{agrees_same, sum_nothing}
 use Rattle.homefree.proofs.Entries.{AllBy, acts_by}
@@ -62,7 +62,7 @@ left_never P (Some end) = tt
 later_by : (homefree epoch : ℕ) → homefree ≤ epoch → epoch ≢ homefree → homefree < epoch
 later_by homefree epoch from isnt = omega (arith, from, isnt)
 
-waits_for : (t : Turn) (cause : WaitCause) → IsLaterAt t IsAccess → IfAgain (Ok (Again (cause_of cause))) (IsWhy t)
+waits_for : (t : Turn) (cause : WaitCause) → IsWaitFor t cause → IfAgain (Ok (Again (cause_of cause))) (IsWhy t)
 waits_for t wait.NoWay l = l
 waits_for t wait.OrbFull l = l
 waits_for t wait.OrbBusy l = l
@@ -76,7 +76,7 @@ module _ (t : Turn) (v w : StoreView) (out : Outcome) (kept : IsKept t.image t.c
     runs = l.comes.is_at.runs;
     unhurt = l.comes.is_at.unhurt;
     later = later_by t.state.homefree l.core.epoch (kept.core t.core l.core l.comes.is_at.runs).from l.later;
-    event = subst (λ a. IsAccess a) (sym l.comes.is_at.event) l.access;
+    event = subst (λ a. wait_at t.waits t.core a ≡ Some l.cause) (sym l.comes.is_at.event) l.waits;
   }))
   follows_why (turn.loads_straight l) = why_does (IsWhy t) out _ _ l.out_is tt
   follows_why (turn.stores_straight l) = why_does (IsWhy t) out _ _ l.out_is tt
@@ -189,10 +189,10 @@ ok_stopped answer cause end is over = cc
 err_over : (answer : Result Answer TurnFault) (fault : TurnFault) (end : End) → answer ≡ Err fault → answer ≡ Ok (Over end) → ⊥
 err_over answer fault end is over = cc
 
-module _ {S : Type 0} (view : S → StoreView) (old new : BookView S) (s : FlatState) (shares shares' : Counts) (core : ℕ) (next : Option Arrival) (answer : Result Answer TurnFault)
+module _ {S : Type 0} (view : S → StoreView) (waits : S → Waits) (old new : BookView S) (s : FlatState) (shares shares' : Counts) (core : ℕ) (next : Option Arrival) (answer : Result Answer TurnFault)
     (replays : replay old.image old.cores old.history ≡ Some s) where
   abbrev here : Turn
-  here = turn_at old s core next
+  here = turn_at waits old s core next
 
   same_grows : new ≡ old → shares' ≡ shares → GrowsBy core old new shares shares'
   same_grows same held = subst (λ b. GrowsBy core old b shares shares') (sym same) (subst (λ c. GrowsBy core old old shares c) (sym held) (record {
@@ -220,14 +220,14 @@ module _ {S : Type 0} (view : S → StoreView) (old new : BookView S) (s : FlatS
     held = g.held;
   }
 
-  pub turn_grows : Turned view old s shares core next answer new shares' → GrowsBy core old new shares shares'
+  pub turn_grows : Turned view waits old s shares core next answer new shares' → GrowsBy core old new shares shares'
   turn_grows (turn.over o same held) = same_grows same held
   turn_grows (turn.stopped o same held) = same_grows same held
   turn_grows (turn.full o same held) = same_grows same held
   turn_grows (turn.no_memory may same grows is) = grown [] grows (All-nil (λ (e : Entry). e.by ≡ core))
   turn_grows (turn.acts a) = grown a.out.entries a.grows (acts_by here a.reserved (view new.store) a.out a.acts)
 
-  pub turn_why : InStep view old → Turned view old s shares core next answer new shares' → IfAgain answer (IsWhy here)
+  pub turn_why : InStep view old → Turned view waits old s shares core next answer new shares' → IfAgain answer (IsWhy here)
   turn_why i (turn.over o same held) = why_by (IsWhy here) answer _ o.answer_is tt
   turn_why i (turn.stopped o same held) = why_by (IsWhy here) answer _ o.answer_is tt
   turn_why i (turn.full o same held) = why_by (IsWhy here) answer _ o.answer_is tt
@@ -235,7 +235,7 @@ module _ {S : Type 0} (view : S → StoreView) (old new : BookView S) (s : FlatS
   turn_why i (turn.acts a) = why_by (IsWhy here) answer _ a.answer_is
       (acts_why here a.reserved (view new.store) a.out (kept_in view old i s replays a.may.going) a.acts)
 
-  pub turn_never_again : (c : CoreState) (cause : Cause) → s.cores core ≡ Some c → c.epoch ≡ s.homefree → Turned view old s shares core next answer new shares' → answer ≢ Ok (Again cause)
+  pub turn_never_again : (c : CoreState) (cause : Cause) → s.cores core ≡ Some c → c.epoch ≡ s.homefree → Turned view waits old s shares core next answer new shares' → answer ≢ Ok (Again cause)
   turn_never_again c cause at home (turn.over o same held) is = let e = o.answer_is in cc
   turn_never_again c cause at home (turn.stopped o same held) is = let e = o.answer_is in cc
   turn_never_again c cause at home (turn.full o same held) is = let e = o.answer_is in cc
@@ -251,7 +251,7 @@ module _ {S : Type 0} (view : S → StoreView) (old new : BookView S) (s : FlatS
   same_end end same is = subst (λ b. (u : FlatState) → replay b.image b.cores b.history ≡ Some u → u.end ≡ Some end) (sym same)
       (λ u leads. ap (λ (x : FlatState). x.end) (one_state (replay old.image old.cores old.history) u s leads replays) ∙ is)
 
-  pub turn_ends : InStep view old → Turned view old s shares core next answer new shares' → (end : End) → answer ≡ Ok (Over end)
+  pub turn_ends : InStep view old → Turned view waits old s shares core next answer new shares' → (end : End) → answer ≡ Ok (Over end)
       → (u : FlatState) → replay new.image new.cores new.history ≡ Some u → u.end ≡ Some end
   turn_ends i (turn.over o same held) end is u leads = same_end o.end same o.over u leads ∙ ap Some (over_same o.end end (ok_over answer (Over o.end) end o.answer_is is))
   turn_ends i (turn.stopped o same held) end is u leads = absurd (ok_stopped answer o.cause end o.answer_is is)
@@ -266,7 +266,7 @@ module _ {S : Type 0} (view : S → StoreView) (old new : BookView S) (s : FlatS
       ap (λ (x : FlatState). x.end) (one_state (replay new.image new.cores new.history) u ended.0 leads goes) ∙ ended.2
 
   -- a history that is said to be full is
-  pub turn_full : Turned view old s shares core next answer new shares' → answer ≡ Err HistoryFull → IsFull new
+  pub turn_full : Turned view waits old s shares core next answer new shares' → answer ≡ Err HistoryFull → IsFull new
   turn_full (turn.over o same held) is = let e = o.answer_is in absurd cc
   turn_full (turn.stopped o same held) is = let e = o.answer_is in absurd cc
   turn_full (turn.full o same held) is = subst (λ b. IsFull b) (sym same) o.full

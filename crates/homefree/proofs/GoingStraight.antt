@@ -1,6 +1,6 @@
 -- The homefree core publishes unless it is straight, and accesses memory straight: two batches of hurts, in one case of the
 -- turn.
-use Rattle.std.proofs.Common.{◌≡◌, ◌≤◌, ◌<◌, ◌+◌, ◌*◌, ℕ, Bool, true, false, cond, List, [], ◌++◌, length, Option, Some, vec_len, vec_capacity, refl, sym, ap, subst, ◌∙◌, inl, inr, arith, eq-eqb, ne_eqb}
+use Rattle.std.proofs.Common.{◌≡◌, ◌≤◌, ◌<◌, ◌+◌, ◌*◌, ℕ, Bool, true, false, cond, List, [], ◌++◌, length, Option, Some, IsSome, vec_len, vec_capacity, refl, sym, ap, subst, ◌∙◌, inl, inr, arith, eq-eqb, ne_eqb}
 use Rattle.std.proofs.Math.Path.{fun_ext}
 use Rattle.std.proofs.lemmas.Bool.{cases_eq}
 use Rattle.std.proofs.lemmas.List.{length-append}
@@ -16,7 +16,7 @@ use Rattle.spec_history.specs.declared.entry.What.{What}
 use Rattle.spec_history.specs.declared.entry.What.TheVariants.{Load, Store, Hurt, Publish}
 use Rattle.spec_history.specs.FlatState.{CoreState, FlatState}
 use Rattle.spec_history.specs.Effect.{by_core, effect_on, with_core}
-use Rattle.violations.specs.View.{StoreView, IsSettled}
+use Rattle.violations.specs.View.{StoreView, Waits, IsSettled}
 use Rattle.violations.specs.Rule.{Publishes, LoadsStraight, StoresStraight}
 use Rattle.homefree.specs.declared.answer.Answer.TheVariants.{Go}
 use Rattle.homefree.specs.declared.register.Register.{Register}
@@ -122,7 +122,7 @@ room_of_other old mid v x core now after g room =
     let cores = steps.cores in
     rw cores (omega (arith, used, grown, short, room))
 
-module _ (old mid : Register) (v x : StoreView) (core : ℕ) (now after : Running) (runs : RunsEpoch old v core now) (homefree : now.epoch ≡ old.homefree) (g : WentStraight old mid v x core now after) where
+module _ (waits : Waits) (old mid : Register) (v x : StoreView) (core : ℕ) (now after : Running) (runs : RunsEpoch old v core now) (homefree : now.epoch ≡ old.homefree) (g : WentStraight old mid v x core now after) where
   abbrev s : FlatState
   s = runs.fits.state
 
@@ -141,13 +141,13 @@ module _ (old mid : Register) (v x : StoreView) (core : ℕ) (now after : Runnin
   same_straight : now.straight ≡ st.c.straight
   same_straight = ap (λ (y : Running). y.straight) (sym st.is)
 
-  first_hurts : (next : Option Arrival) → publish_noted old core now g.hurt ≡ turn.publish_of (turn_of old s core next) st.c g.hurt
+  first_hurts : (next : Option Arrival) → publish_noted old core now g.hurt ≡ turn.publish_of (turn_of old waits s core next) st.c g.hurt
   first_hurts next =
       ap (λ b. cond b [] (hurts_noted core g.hurt old.running.items count ++ entry core Publish)) same_straight
       ∙ ap (λ (xs : List Entry). cond st.c.straight [] (xs ++ entry core Publish)) (hurts_same old s core g.hurt runs.fits.shows)
 
   abbrev entries : Option Arrival → (ℕ → Bool) → What → List Entry
-  entries next hurt what = turn.publish_of (turn_of old s core next) st.c g.hurt ++ (hurts count s core hurt ++ entry core what)
+  entries next hurt what = turn.publish_of (turn_of old waits s core next) st.c g.hurt ++ (hurts count s core hurt ++ entry core what)
 
   steps_both : (new : Register) (shares shares' : Counts) (next : Option Arrival) (hurt : ℕ → Bool) (what : What)
       → Steps mid new shares shares' (hurts_noted core hurt mid.running.items (length mid.running.items) ++ entry core what) → Steps old new shares shares' (entries next hurt what)
@@ -158,12 +158,12 @@ module _ (old mid : Register) (v x : StoreView) (core : ℕ) (now after : Runnin
 
   short_both : (next : Option Arrival) (hurt : ℕ → Bool) (what : What) → hurt core ≡ false → length (entries next hurt what) ≤ 2 * count
   short_both next hurt what spared =
-      let first : length (turn.publish_of (turn_of old s core next) st.c g.hurt) ≤ count = subst (λ (xs : List Entry). length xs ≤ count) (first_hurts next) g.short in
+      let first : length (turn.publish_of (turn_of old waits s core next) st.c g.hurt) ≤ count = subst (λ (xs : List Entry). length xs ≤ count) (first_hurts next) g.short in
       let fewer = subst (λ (xs : List Entry). length xs < count) (hurts_same old s core hurt runs.fits.shows) (hurts_fewer old core hurt spared runs.there) in
       let later = one_more_entry (hurts count s core hurt) core what count fewer in
-      rw (length-append (turn.publish_of (turn_of old s core next) st.c g.hurt) (hurts count s core hurt ++ entry core what)) (omega (arith, first, later))
+      rw (length-append (turn.publish_of (turn_of old waits s core next) st.c g.hurt) (hurts count s core hurt ++ entry core what)) (omega (arith, first, later))
 
-  publishing : (arrived : Arrival) (at : Stop) → IsAtStop old core now arrived at → turn.Publishing (turn_of old s core (Some arrived)) st.c at v x g.hurt
+  publishing : (arrived : Arrival) (at : Stop) → IsAtStop old core now arrived at → turn.Publishing (turn_of old waits s core (Some arrived)) st.c at v x g.hurt
   publishing arrived at at_stop = record {
     is_at = is_at old v core now arrived at runs.fits st at_stop;
     homefree = homefree_is old v core now runs.fits st homefree;
@@ -181,10 +181,10 @@ module _ (old mid : Register) (v x : StoreView) (core : ℕ) (now after : Runnin
   later_noted new shares shares' hurt what steps = subst (λ xs. Steps mid new shares shares' (xs ++ entry core what)) (hurts_same mid g.running.fits.state core hurt g.running.fits.shows) steps
 
   pub loaded_straight : (new : Register) (w : StoreView) (shares shares' : Counts) (arrived : Arrival) (address width value : ℕ) (signed : Bool) (rd : ℕ) (hurt : ℕ → Bool) (hart : HartState)
-      → IsAtStop old core now arrived (stop.Load address width signed rd) → IsSettled w → LoadsStraight x w core address width value hurt → hart ≡ after_loading arrived value
+      → IsAtStop old core now arrived (stop.Load address width signed rd) → (now.straight ≡ false → IsSome (waits.load core address width)) → IsSettled w → LoadsStraight x w core address width value hurt → hart ≡ after_loading arrived value
       → Steps mid new shares shares' (hurts_noted core hurt mid.running.items (length mid.running.items) ++ entry core (Load address width value))
-      → Acted old new v w shares shares' core (Some arrived) (Go hart)
-  loaded_straight new w shares shares' arrived address width value signed rd hurt hart at settled l hart_at steps =
+      → Acted old new waits v w shares shares' core (Some arrived) (Go hart)
+  loaded_straight new w shares shares' arrived address width value signed rd hurt hart at waiting settled l hart_at steps =
       let at_mid = at_after old mid v x core now after arrived (stop.Load address width signed rd) g at in
       let event = event_is mid core after arrived (stop.Load address width signed rd) then_at.c at_mid then_at.is in
       let comes = arm.loads_straight mid.image (length mid.running.items) g.running.fits.state x core then_at.c then_at.going then_at.kept g.running.fits.agrees then_at.at then_at.unhurt
@@ -203,15 +203,16 @@ module _ (old mid : Register) (v x : StoreView) (core : ℕ) (now after : Runnin
         first = g.hurt;
         hurt = hurt;
         comes = publishing arrived (stop.Load address width signed rd) at;
+        waits = λ is. waiting (same_straight ∙ is);
         store = l;
         out_is = ap (λ h. does (entries (Some arrived) hurt (Load address width value)) (Go h)) (hart_at ∙ hart_is old core now arrived (stop.Load address width signed rd) st.c value at st.is);
       })))
 
   pub stored_straight : (new : Register) (w : StoreView) (shares shares' : Counts) (arrived : Arrival) (address width value : ℕ) (hurt : ℕ → Bool) (hart : HartState)
-      → IsAtStop old core now arrived (stop.Store address width value) → IsSettled w → StoresStraight x w core address width value hurt → hart ≡ stepped arrived.now
+      → IsAtStop old core now arrived (stop.Store address width value) → (now.straight ≡ false → IsSome (waits.store core address width)) → IsSettled w → StoresStraight x w core address width value hurt → hart ≡ stepped arrived.now
       → Steps mid new shares shares' (hurts_noted core hurt mid.running.items (length mid.running.items) ++ entry core (Store address width value))
-      → Acted old new v w shares shares' core (Some arrived) (Go hart)
-  stored_straight new w shares shares' arrived address width value hurt hart at settled l hart_at steps =
+      → Acted old new waits v w shares shares' core (Some arrived) (Go hart)
+  stored_straight new w shares shares' arrived address width value hurt hart at waiting settled l hart_at steps =
       let at_mid = at_after old mid v x core now after arrived (stop.Store address width value) g at in
       let event = event_is mid core after arrived (stop.Store address width value) then_at.c at_mid then_at.is in
       let comes = arm.stores_straight mid.image (length mid.running.items) g.running.fits.state x core then_at.c then_at.going then_at.kept g.running.fits.agrees then_at.at then_at.unhurt
@@ -228,6 +229,7 @@ module _ (old mid : Register) (v x : StoreView) (core : ℕ) (now after : Runnin
         first = g.hurt;
         hurt = hurt;
         comes = publishing arrived (stop.Store address width value) at;
+        waits = λ is. waiting (same_straight ∙ is);
         store = l;
         out_is = ap (λ h. does (entries (Some arrived) hurt (Store address width value)) (Go h)) (hart_at ∙ stored_is old core now arrived (stop.Store address width value) st.c at st.is);
       })))

@@ -13,7 +13,7 @@ use Rattle.run_ledger.specs.declared.counts.Counts.{Counts}
 use Rattle.spec_history.specs.FlatState.{CoreState}
 use Rattle.spec_history.specs.Laws.{IsKept}
 use Rattle.violations.specs.View as view
-use Rattle.violations.specs.View.{StoreView, Runs, MayPublish, attempt_of}
+use Rattle.violations.specs.View.{StoreView, Waits, Runs, MayPublish, attempt_of}
 use Rattle.violations.specs.Rule.{HurtsLater}
 use Rattle.homefree.specs.declared.register.Register.{Register}
 use Rattle.homefree.specs.declared.register.Running.{Running}
@@ -139,8 +139,8 @@ pub event_is : (r : Register) (core : ℕ) (now : Running) (arrived : Arrival) (
 event_is r core now arrived at c is_at is =
     ap (λ h. (next_event r.image h).at) (ap (λ (x : Running). x.hart) is ∙ sym is_at.base) ∙ (sym is_at.event ∙ is_at.is)
 
-pub is_at : (r : Register) (v : StoreView) (core : ℕ) (now : Running) (arrived : Arrival) (at : Stop) (f : Fits r v) (st : Stands r v core now f) → IsAtStop r core now arrived at
-    → turn.IsAt (turn_of r f.state core (Some arrived)) st.c at
+pub is_at : {waits : Waits} (r : Register) (v : StoreView) (core : ℕ) (now : Running) (arrived : Arrival) (at : Stop) (f : Fits r v) (st : Stands r v core now f) → IsAtStop r core now arrived at
+    → turn.IsAt (turn_of r waits f.state core (Some arrived)) st.c at
 is_at r v core now arrived at f st at_stop = record {
   runs = st.at;
   unhurt = st.unhurt;

@@ -7,22 +7,23 @@ use Rattle.run_ledger.specs.declared.counts.Counts.{Counts}
 use Rattle.spec_history.specs.declared.entry.Entry.{Entry}
 use Rattle.spec_history.specs.FlatState.{FlatState}
 use Rattle.spec_history.specs.Replay.{replay}
-use Rattle.violations.specs.View.{StoreView}
+use Rattle.violations.specs.View.{StoreView, Waits}
 use Rattle.homefree.specs.declared.answer.Answer.{Answer}
 use Rattle.homefree.specs.declared.register.Register.{Register}
 use Rattle.homefree.specs.Kept.{Fits}
 use Rattle.homefree.specs.Steps.{Steps}
 use Rattle.homefree.specs.Turned.{Acts, Turn, does}
 
-abbrev pub turn_of : Register → FlatState → ℕ → Option Arrival → Turn
-turn_of r s core next = record { image = r.image; cores = length r.running.items; state = s; core = core; next = next }
+abbrev pub turn_of : Register → Waits → FlatState → ℕ → Option Arrival → Turn
+turn_of r waits s core next =
+    record { image = r.image; cores = length r.running.items; waits = waits; state = s; core = core; next = next }
 
-pub record Acted (old new : Register) (v w : StoreView) (shares shares' : Counts) (core : ℕ) (next : Option Arrival) (answer : Answer) : Type 0 where
+pub record Acted (old new : Register) (waits : Waits) (v w : StoreView) (shares shares' : Counts) (core : ℕ) (next : Option Arrival) (answer : Answer) : Type 0 where
   pub entries : List Entry
   pub steps : Steps old new shares shares' entries
   -- a batch of hurts or cancels has fewer entries than there are cores, and there are at most two batches
   pub short : length entries ≤ 2 * length old.running.items
-  pub acts : (s : FlatState) → replay old.image (length old.running.items) old.history.items ≡ Some s → Acts (turn_of old s core next) v w (does entries answer)
+  pub acts : (s : FlatState) → replay old.image (length old.running.items) old.history.items ≡ Some s → Acts (turn_of old waits s core next) v w (does entries answer)
   pub fits : Fits new w
 
 -- there is room for the entries of a turn, and the counts can grow

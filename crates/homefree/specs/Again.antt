@@ -8,7 +8,9 @@ use Rattle.homefree.specs.declared.answer.Answer.TheVariants.{Go, Again, Left, O
 use Rattle.homefree.specs.declared.answer.Cause.{Cause}
 use Rattle.homefree.specs.declared.answer.Cause.TheVariants.{NoEpoch, NotHomefree, NoWay, OrbFull, OrbBusy}
 use Rattle.homefree.specs.declared.fault.TurnFault.{TurnFault}
-use Rattle.homefree.specs.Turned.{Turn, IsAccess, IsEnd}
+use Rattle.violations.specs.declared.step.WaitCause.{WaitCause}
+use Rattle.violations.specs.declared.step.WaitCause.TheVariants as wait
+use Rattle.homefree.specs.Turned.{Turn, wait_at, IsEnd}
 
 -- the core is idle, and no epoch is left
 pub record HasNoEpoch (t : Turn) : Type 0 where
@@ -23,13 +25,17 @@ pub record IsLaterAt (t : Turn) (IsSuch : Stop → Type 0) : Type 0 where
   pub later : t.state.homefree < core.epoch
   pub event : IsSuch (next_event t.image core.hart).at
 
+-- it is at an access at which the store waits, for this cause
+abbrev pub IsWaitFor : Turn → WaitCause → Type 0
+IsWaitFor t cause = IsLaterAt t (λ at. wait_at t.waits t.core at ≡ Some cause)
+
 -- the cause is true: at an access it is the store's
 abbrev pub IsWhy : Turn → Cause → Type 0
 IsWhy t NoEpoch = HasNoEpoch t
 IsWhy t NotHomefree = IsLaterAt t IsEnd
-IsWhy t NoWay = IsLaterAt t IsAccess
-IsWhy t OrbFull = IsLaterAt t IsAccess
-IsWhy t OrbBusy = IsLaterAt t IsAccess
+IsWhy t NoWay = IsWaitFor t wait.NoWay
+IsWhy t OrbFull = IsWaitFor t wait.OrbFull
+IsWhy t OrbBusy = IsWaitFor t wait.OrbBusy
 
 abbrev pub IfAgain : Result Answer TurnFault → (Cause → Type 0) → Type 0
 IfAgain (Ok (Again cause)) P = P cause

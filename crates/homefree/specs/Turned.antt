@@ -1,7 +1,7 @@
 -- What a turn does, case by case, in the order in which the cases are tried.
 -- Source: this project; that the homefree epoch alone commits, and what a violation is, are of Steffan, Colohan, Zhai and
 -- Mowry, "A Scalable Approach to Thread-Level Speculation", ISCA 2000.
-use Rattle.std.specs.Prelude.{◌≡◌, ◌≢◌, ℕ, ◌+◌, ◌<◌, ◌≤◌, Bool, true, false, List, [], ◌++◌, length, Option, Some, None, Result, Ok, Err, if◌then◌else◌}
+use Rattle.std.specs.Prelude.{◌≡◌, ◌≢◌, ℕ, ◌+◌, ◌<◌, ◌≤◌, Bool, true, false, List, [], ◌++◌, length, Option, Some, None, IsSome, Result, Ok, Err, if◌then◌else◌}
 use Rattle.rv32_image.specs.Image.{LoadedImage}
 use Rattle.rv32_exec.specs.declared.stop.Stop.{Stop}
 use Rattle.rv32_exec.specs.declared.stop.Stop.TheVariants as stop
@@ -19,7 +19,7 @@ use Rattle.spec_history.specs.declared.entry.What.TheVariants.{Start, Load, Stor
 use Rattle.spec_history.specs.FlatState.{CoreState, FlatState, end_at}
 use Rattle.violations.specs.declared.step.WaitCause.{WaitCause}
 use Rattle.violations.specs.declared.step.WaitCause.TheVariants as wait
-use Rattle.violations.specs.View.{StoreView}
+use Rattle.violations.specs.View.{StoreView, Waits}
 use Rattle.violations.specs.Rule.{IsSameView, IsSameCore, Begins, Loads, Stores, Publishes, LoadsStraight, StoresStraight, Ends}
 use Rattle.homefree.specs.declared.answer.Answer.{Answer}
 use Rattle.homefree.specs.declared.answer.Answer.TheVariants.{Go, Again, Left, Over, Stopped}
@@ -34,10 +34,12 @@ use Rattle.homefree.specs.BookView.{BookView, free_entries, IsFull}
 
 -- ---- a turn that has room
 
--- where it is taken: the image, how many cores there are, the state that the history leads to, the core, and what it hands in
+-- where it is taken: the image, how many cores there are, why the store makes an access wait, the state that the history leads
+-- to, the core, and what it hands in
 pub record Turn : Type 0 where
   pub image : LoadedImage
   pub cores : ℕ
+  pub waits : Waits
   pub state : FlatState
   pub core : ℕ
   pub next : Option Arrival
@@ -142,6 +144,7 @@ pub record IsLoad (t : Turn) (v w : StoreView) (out : Outcome) : Type 0 where
   pub signed : Bool
   pub hurt : ℕ → Bool
   pub comes : Speculates t core (stop.Load address width signed rd)
+  pub goes_on : t.waits.load t.core address width ≡ None
   pub store : Loads v w t.core address width value hurt
   pub out_is : out ≡ does (hurts_of t hurt ++ entry_of t (Load address width value)) (Go (loaded_hart t.image core value))
 
@@ -153,6 +156,7 @@ pub record IsStore (t : Turn) (v w : StoreView) (out : Outcome) : Type 0 where
   pub value : ℕ
   pub hurt : ℕ → Bool
   pub comes : Speculates t core (stop.Store address width value)
+  pub goes_on : t.waits.store t.core address width ≡ None
   pub store : Stores v w t.core address width value hurt
   pub out_is : out ≡ does (hurts_of t hurt ++ entry_of t (Store address width value)) (Go (stored_hart t.image core))
 
@@ -161,19 +165,20 @@ cause_of wait.NoWay = NoWay
 cause_of wait.OrbFull = OrbFull
 cause_of wait.OrbBusy = OrbBusy
 
-abbrev pub IsAccess : Stop → Type 0
-IsAccess (stop.Load address width signed rd) = Unit {0}
-IsAccess (stop.Store address width value) = Unit {0}
-IsAccess stop.Ended = ⊥
-IsAccess (stop.Fault cause pc) = ⊥
+-- why a core's access at this stop waits, where it does
+abbrev pub wait_at : Waits → ℕ → Stop → Option WaitCause
+wait_at waits core (stop.Load address width signed rd) = waits.load core address width
+wait_at waits core (stop.Store address width value) = waits.store core address width
+wait_at waits core stop.Ended = None
+wait_at waits core (stop.Fault cause pc) = None
 
--- the store waits at a speculative access, and the epoch isn't the homefree one
+-- the store waits at a speculative access, and the epoch isn't the homefree one: the core is told the store's cause
 pub record IsWait (t : Turn) (v w : StoreView) (out : Outcome) : Type 0 where
   pub core : CoreState
   pub at : Stop
   pub cause : WaitCause
   pub comes : Speculates t core at
-  pub access : IsAccess at
+  pub waits : wait_at t.waits t.core at ≡ Some cause
   pub later : core.epoch ≢ t.state.homefree
   pub store : w ≡ v
   pub out_is : out ≡ does [] (Again (cause_of cause))
@@ -182,7 +187,7 @@ pub record IsWait (t : Turn) (v w : StoreView) (out : Outcome) : Type 0 where
 abbrev pub publish_of : Turn → CoreState → (ℕ → Bool) → List Entry
 publish_of t core hurt = if core.straight then [] else hurts_of t hurt ++ entry_of t Publish
 
--- a load of the homefree core, which is straight or publishes since the store waits
+-- a load of the homefree core, which is straight, or else publishes first, since the store waits
 pub record IsStraightLoad (t : Turn) (v w : StoreView) (out : Outcome) : Type 0 where
   pub core : CoreState
   pub address : ℕ
@@ -194,6 +199,7 @@ pub record IsStraightLoad (t : Turn) (v w : StoreView) (out : Outcome) : Type 0 
   pub first : ℕ → Bool
   pub hurt : ℕ → Bool
   pub comes : Publishing t core (stop.Load address width signed rd) v between first
+  pub waits : core.straight ≡ false → IsSome (t.waits.load t.core address width)
   pub store : LoadsStraight between w t.core address width value hurt
   pub out_is : out ≡ does (publish_of t core first ++ (hurts_of t hurt ++ entry_of t (Load address width value))) (Go (loaded_hart t.image core value))
 
@@ -207,6 +213,7 @@ pub record IsStraightStore (t : Turn) (v w : StoreView) (out : Outcome) : Type 0
   pub first : ℕ → Bool
   pub hurt : ℕ → Bool
   pub comes : Publishing t core (stop.Store address width value) v between first
+  pub waits : core.straight ≡ false → IsSome (t.waits.store t.core address width)
   pub store : StoresStraight between w t.core address width value hurt
   pub out_is : out ≡ does (publish_of t core first ++ (hurts_of t hurt ++ entry_of t (Store address width value))) (Go (stored_hart t.image core))
 
@@ -327,26 +334,27 @@ pub record HasNoRoom {S : Type 0} (old : BookView S) (s : FlatState) (answer : R
   pub answer_is : answer ≡ Err HistoryFull
 
 -- the turn of a core that hands this in, of a book whose history leads to the state s
-abbrev pub turn_at : {S : Type 0} → BookView S → FlatState → ℕ → Option Arrival → Turn
-turn_at b s core next = record { image = b.image; cores = b.cores; state = s; core = core; next = next }
+abbrev pub turn_at : {S : Type 0} → (S → Waits) → BookView S → FlatState → ℕ → Option Arrival → Turn
+turn_at waits_of b s core next =
+    record { image = b.image; cores = b.cores; waits = waits_of b.store; state = s; core = core; next = next }
 
 -- the turn is taken, over a store that has room for it
-pub record Acting {S : Type 0} (view : S → StoreView) (old new : BookView S) (s : FlatState) (shares shares' : Counts) (core : ℕ) (next : Option Arrival) (answer : Result Answer TurnFault) : Type 0 where
+pub record Acting {S : Type 0} (view : S → StoreView) (waits : S → Waits) (old new : BookView S) (s : FlatState) (shares shares' : Counts) (core : ℕ) (next : Option Arrival) (answer : Result Answer TurnFault) : Type 0 where
   pub may : MayAct old s
   pub reserved : StoreView
   pub same : IsSameView (view old.store) reserved
   pub out : Outcome
-  pub acts : Acts (turn_at old s core next) reserved (view new.store) out
+  pub acts : Acts (turn_at waits old s core next) reserved (view new.store) out
   pub grows : Grows old new shares shares' out.entries
   pub answer_is : answer ≡ Ok out.answer
 
 -- a turn of a core that hands this in, from a book whose history leads to the state s, and from these shares
-pub data Turned {S : Type 0} (view : S → StoreView) (old : BookView S) (s : FlatState) (shares : Counts) (core : ℕ) (next : Option Arrival)
+pub data Turned {S : Type 0} (view : S → StoreView) (waits : S → Waits) (old : BookView S) (s : FlatState) (shares : Counts) (core : ℕ) (next : Option Arrival)
     (answer : Result Answer TurnFault) (new : BookView S) (shares' : Counts) : Type 0 where
-  over : IsOver old s answer → new ≡ old → shares' ≡ shares → Turned view old s shares core next answer new shares'
-  stopped : IsStopped old s answer → new ≡ old → shares' ≡ shares → Turned view old s shares core next answer new shares'
-  full : HasNoRoom old s answer → new ≡ old → shares' ≡ shares → Turned view old s shares core next answer new shares'
+  over : IsOver old s answer → new ≡ old → shares' ≡ shares → Turned view waits old s shares core next answer new shares'
+  stopped : IsStopped old s answer → new ≡ old → shares' ≡ shares → Turned view waits old s shares core next answer new shares'
+  full : HasNoRoom old s answer → new ≡ old → shares' ≡ shares → Turned view waits old s shares core next answer new shares'
   -- memory was refused: nothing has changed but what the store can do without asking for it
   no_memory : MayAct old s → IsSameView (view old.store) (view new.store) → Grows old new shares shares' [] → answer ≡ Err NoMemory
-      → Turned view old s shares core next answer new shares'
-  acts : Acting view old new s shares shares' core next answer → Turned view old s shares core next answer new shares'
+      → Turned view waits old s shares core next answer new shares'
+  acts : Acting view waits old new s shares shares' core next answer → Turned view waits old s shares core next answer new shares'

@@ -151,11 +151,11 @@ impl<S: EpochStore> Book<S> {
         requires next { IfArrived self.old.image (option_copied next) }
         requires shares { IsNoMore shares.old self.old.totals }
         ensures turned { (s : FlatState) → replay self.old.image self.old.cores self.old.history ≡ Some s
-            → Turned S.view self.old s shares.old core (option_copied next.entry) result self.new shares.new }
+            → Turned S.view S.waits self.old s shares.old core (option_copied next.entry) result self.new shares.new }
         ensures grows { GrowsBy core self.old self.new shares.old shares.new }
         ensures shares { IsNoMore shares.new self.new.totals }
         ensures again { (s : FlatState) → replay self.old.image self.old.cores self.old.history ≡ Some s
-            → IfAgain result (IsWhy (turn_at self.old s core (option_copied next.entry))) }
+            → IfAgain result (IsWhy (turn_at S.waits self.old s core (option_copied next.entry))) }
         ensures homefree { (s : FlatState) (c : CoreState) (cause : Cause) → replay self.old.image self.old.cores self.old.history ≡ Some s
             → s.cores core ≡ Some c → c.epoch ≡ s.homefree → result ≢ Ok (Answer.Again cause) }
         ensures over { (end : End) (s : FlatState) → result ≡ Ok (Answer.Over end) → replay self.new.image self.new.cores self.new.history ≡ Some s
@@ -178,7 +178,7 @@ impl<S: EpochStore> Book<S> {
         requires next { IfArrived self.old.image (option_copied next) }
         requires shares { IsNoMore shares.old self.old.totals }
         ensures turned { (s : FlatState) → replay self.old.image self.old.cores self.old.history ≡ Some s
-            → Turned S.view self.old s shares.old core (option_copied next.entry) result self.new shares.new }
+            → Turned S.view S.waits self.old s shares.old core (option_copied next.entry) result self.new shares.new }
         ensures most { length self.new.history ≤ length self.old.history + (limits_of self.old.image.version).free_entries }
     {
         let inside = &mut *self.inside;
@@ -223,7 +223,7 @@ fn turn_within<S: EpochStore>(
     requires shares { IsNoMore shares.old parts.old.register.totals }
     ensures book { IsBook S.view parts.new.register parts.new.store room stopped }
     ensures turned { (s : FlatState) → replay parts.old.register.image (length parts.old.register.running.items) parts.old.register.history.items ≡ Some s
-        → Turned S.view (book_of parts.old.register parts.old.store room stopped) s shares.old core (option_copied next.entry) result
+        → Turned S.view S.waits (book_of parts.old.register parts.old.store room stopped) s shares.old core (option_copied next.entry) result
         (book_of parts.new.register parts.new.store room stopped) shares.new }
     ensures most { length parts.new.register.history.items ≤ length parts.old.register.history.items + (limits_of parts.old.register.image.version).free_entries }
 {
@@ -272,6 +272,7 @@ fn free_entries(image: &Image) -> u32
 fn make_room<S: EpochStore>(parts: &mut Parts<S>, entries: u32) -> Result<(), NoMemory>
     ensures register { IsAsBefore parts.old.register parts.new.register }
     ensures store { IsSameView (S.view parts.old.store) (S.view parts.new.store) }
+    ensures waits { S.waits parts.new.store ≡ S.waits parts.old.store }
     ensures room { OnOk result (vec_len parts.new.register.history + entries ≤ vec_capacity parts.new.register.history) }
     ensures budget { OnOk result (4 ≤ S.budget parts.new.store) }
 {

@@ -27,7 +27,7 @@ impl<S: EpochStore> Parts<S> {
         requires budget { 2 ≤ S.budget self.old.store }
         requires arrives { Arrives self.old.register (S.view self.old.store) shares.old core now.now arrived.now arrived.now.at }
         requires ended { arrived.now.at ≡ Stop.Ended }
-        ensures { Acted self.old.register self.new.register (S.view self.old.store) (S.view self.new.store) shares.old shares.new core (Some arrived.entry.now) (answer_of self.new.register.running.items core result) }
+        ensures { Acted self.old.register self.new.register (S.waits self.old.store) (S.view self.old.store) (S.view self.new.store) shares.old shares.new core (Some arrived.entry.now) (answer_of self.new.register.running.items core result) }
     {
         if now.epoch != self.register.homefree {
             return Came::Again(Cause::NotHomefree);
@@ -62,7 +62,7 @@ impl<S: EpochStore> Parts<S> {
         requires ended { arrived.now.at ≡ Stop.Ended }
         requires homefree { now.now.epoch ≡ self.old.register.homefree }
         requires stays { spec.exits self.old.register.image arrived.now.now ≡ false }
-        ensures { Acted self.old.register self.new.register (S.view self.old.store) (S.view self.new.store) shares.old shares.new core (Some arrived.entry.now) (answer_of self.new.register.running.items core result) }
+        ensures { Acted self.old.register self.new.register (S.waits self.old.store) (S.view self.old.store) (S.view self.new.store) shares.old shares.new core (Some arrived.entry.now) (answer_of self.new.register.running.items core result) }
     {
         self.settle(core, now);
         self.register.commit(shares, core, now, arrived);
@@ -77,7 +77,7 @@ impl<S: EpochStore> Parts<S> {
         requires ended { arrived.now.at ≡ Stop.Ended }
         requires homefree { now.now.epoch ≡ self.old.register.homefree }
         requires exits { spec.exits self.old.register.image arrived.now.now ≡ true }
-        ensures { Acted self.old.register self.new.register (S.view self.old.store) (S.view self.new.store) shares.old shares.new core (Some arrived.entry.now) (answer_of self.new.register.running.items core result) }
+        ensures { Acted self.old.register self.new.register (S.waits self.old.store) (S.view self.old.store) (S.view self.new.store) shares.old shares.new core (Some arrived.entry.now) (answer_of self.new.register.running.items core result) }
     {
         self.settle(core, now);
         cancel_attempts(&mut self.store, &self.register.running, core);
@@ -100,7 +100,7 @@ impl<S: EpochStore> Parts<S> {
         requires budget { 2 ≤ S.budget self.old.store }
         requires arrives { Arrives self.old.register (S.view self.old.store) shares.old core now.now arrived.now arrived.now.at }
         requires faulted { arrived.now.at ≡ Stop.Fault cause pc }
-        ensures { Acted self.old.register self.new.register (S.view self.old.store) (S.view self.new.store) shares.old shares.new core (Some arrived.entry.now) (answer_of self.new.register.running.items core result) }
+        ensures { Acted self.old.register self.new.register (S.waits self.old.store) (S.view self.old.store) (S.view self.new.store) shares.old shares.new core (Some arrived.entry.now) (answer_of self.new.register.running.items core result) }
     {
         let _ = shares;
         let _ = arrived;

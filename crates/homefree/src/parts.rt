@@ -29,7 +29,7 @@ impl<S: EpochStore> Parts<S> {
         requires fits { Fits self.old.register (S.view self.old.store) }
         requires going { self.old.register.end ≡ None }
         requires next { IfArrived self.old.register.image (option_copied next) }
-        ensures { Acted self.old.register self.new.register (S.view self.old.store) (S.view self.new.store) shares.old shares.new core (option_copied next.entry) (answer_of self.new.register.running.items core result) }
+        ensures { Acted self.old.register self.new.register (S.waits self.old.store) (S.view self.old.store) (S.view self.new.store) shares.old shares.new core (option_copied next.entry) (answer_of self.new.register.running.items core result) }
     {
         match self.register.running[core as usize] {
             None => self.start(shares, core, next),
@@ -56,7 +56,7 @@ impl<S: EpochStore> Parts<S> {
     fn run(&mut self, shares: &mut Shares, core: u32, now: &Running, arrived: &Arrived) -> Came
         requires budget { 2 ≤ S.budget self.old.store }
         requires arrives { Arrives self.old.register (S.view self.old.store) shares.old core now.now arrived.now arrived.now.at }
-        ensures { Acted self.old.register self.new.register (S.view self.old.store) (S.view self.new.store) shares.old shares.new core (Some arrived.entry.now) (answer_of self.new.register.running.items core result) }
+        ensures { Acted self.old.register self.new.register (S.waits self.old.store) (S.view self.old.store) (S.view self.new.store) shares.old shares.new core (Some arrived.entry.now) (answer_of self.new.register.running.items core result) }
     {
         let at = arrived.at();
         match at {
@@ -92,7 +92,7 @@ impl<S: EpochStore> Parts<S> {
         requires fits { Fits self.old.register (S.view self.old.store) }
         requires going { self.old.register.end ≡ None }
         requires idle { running_at self.old.register.running.items core ≡ None }
-        ensures { Acted self.old.register self.new.register (S.view self.old.store) (S.view self.new.store) shares.old shares.new core (option_copied next.entry) (answer_of self.new.register.running.items core result) }
+        ensures { Acted self.old.register self.new.register (S.waits self.old.store) (S.view self.old.store) (S.view self.new.store) shares.old shares.new core (option_copied next.entry) (answer_of self.new.register.running.items core result) }
     {
         let _ = shares;
         let _ = next;
@@ -121,7 +121,7 @@ impl<S: EpochStore> Parts<S> {
         requires going { self.old.register.end ≡ None }
         requires runs { running_at self.old.register.running.items core ≡ Some now.now }
         requires hurt { now.now.hurt ≡ true }
-        ensures { Acted self.old.register self.new.register (S.view self.old.store) (S.view self.new.store) shares.old shares.new core (option_copied next.entry) (answer_of self.new.register.running.items core result) }
+        ensures { Acted self.old.register self.new.register (S.waits self.old.store) (S.view self.old.store) (S.view self.new.store) shares.old shares.new core (option_copied next.entry) (answer_of self.new.register.running.items core result) }
     {
         let _ = next;
         self.store.look();

@@ -26,7 +26,7 @@ pub fn drive<S: EpochStore>(
 ) -> Result<Option<End>, TurnFault>
     requires cores { All (λ core. core < book.old.cores) schedule.now }
     requires shares { IsNoMore shares.old book.old.totals }
-    ensures driven { Driven S.view (λ _. None) (driver book.old shares.old) schedule.now result (driver book.new shares.new) }
+    ensures driven { Driven S.view S.waits (λ _. None) (driver book.old shares.old) schedule.now result (driver book.new shares.new) }
     ensures same { IsOfSameLoop book.old book.new }
     ensures shares { IsNoMore shares.new book.new.totals }
     ensures end { IfEnded result (λ end. IsInOrder book.new.image end (S.view book.new.store).committed) }
@@ -55,7 +55,7 @@ fn step<S: EpochStore>(
     requires core { core < book.old.cores }
     requires held { HaveArrived book.old.image held.old }
     requires shares { IsNoMore shares.old book.old.totals }
-    ensures turned { TurnedWith S.view (driver book.old shares.old) core (harts_of held.old core) result (driver book.new shares.new) }
+    ensures turned { TurnedWith S.view S.waits (driver book.old shares.old) core (harts_of held.old core) result (driver book.new shares.new) }
     ensures same { IsOfSameLoop book.old book.new }
     ensures shares { IsNoMore shares.new book.new.totals }
     ensures over { (end : End) (s : FlatState) → result ≡ Ok (Answer.Over end) → replay book.new.image book.new.cores book.new.history ≡ Some s → s.end ≡ Some end }

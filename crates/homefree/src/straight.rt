@@ -1,5 +1,5 @@
 //! Accesses of the homefree core once it has published.
-ghost use Rattle.std.specs.Prelude.{◌≡◌, ◌+◌, ◌*◌, ◌≤◌, ℕ, Bool, length, vec_len, vec_capacity, Some};
+ghost use Rattle.std.specs.Prelude.{◌≡◌, ◌+◌, ◌*◌, ◌≤◌, ℕ, Bool, false, length, vec_len, vec_capacity, Some, IsSome};
 ghost use Rattle.homefree.specs.Came.{answer_of};
 ghost use Rattle.homefree.specs.Acted.{Acted};
 ghost use Rattle.homefree.specs.Arms.{Arrives, RunsEpoch, WentStraight};
@@ -31,7 +31,7 @@ impl<S: EpochStore> Parts<S> {
         straight
     }
 
-    /// A load of the homefree core, which publishes first unless it is straight.
+    /// A load of the homefree core, which publishes first unless it is straight: it isn't only where the store waits.
     pub(crate) fn straight_load(
         &mut self,
         shares: &mut Shares,
@@ -44,8 +44,9 @@ impl<S: EpochStore> Parts<S> {
         requires budget { 2 ≤ S.budget self.old.store }
         requires arrives { Arrives self.old.register (S.view self.old.store) shares.old core now.now arrived.now arrived.now.at }
         requires homefree { now.now.epoch ≡ self.old.register.homefree }
+        requires waits { now.now.straight ≡ false → IsSome ((S.waits self.old.store).load core addr width) }
         requires load { (signed : Bool) × (rd : ℕ) × (arrived.now.at ≡ Stop.Load addr width signed rd) }
-        ensures { Acted self.old.register self.new.register (S.view self.old.store) (S.view self.new.store) shares.old shares.new core (Some arrived.entry.now) (answer_of self.new.register.running.items core result) }
+        ensures { Acted self.old.register self.new.register (S.waits self.old.store) (S.view self.old.store) (S.view self.new.store) shares.old shares.new core (Some arrived.entry.now) (answer_of self.new.register.running.items core result) }
     {
         let straight = self.go_straight(core, now);
         let (value, hurt) = self.store.straight_load(core, addr, width);
@@ -55,7 +56,7 @@ impl<S: EpochStore> Parts<S> {
         Came::Goes
     }
 
-    /// A store of the homefree core, which publishes first unless it is straight.
+    /// A store of the homefree core, which publishes first unless it is straight: it isn't only where the store waits.
     pub(crate) fn straight_store(
         &mut self,
         shares: &mut Shares,
@@ -69,8 +70,9 @@ impl<S: EpochStore> Parts<S> {
         requires budget { 2 ≤ S.budget self.old.store }
         requires arrives { Arrives self.old.register (S.view self.old.store) shares.old core now.now arrived.now arrived.now.at }
         requires homefree { now.now.epoch ≡ self.old.register.homefree }
+        requires waits { now.now.straight ≡ false → IsSome ((S.waits self.old.store).store core addr width) }
         requires store { arrived.now.at ≡ Stop.Store addr width value }
-        ensures { Acted self.old.register self.new.register (S.view self.old.store) (S.view self.new.store) shares.old shares.new core (Some arrived.entry.now) (answer_of self.new.register.running.items core result) }
+        ensures { Acted self.old.register self.new.register (S.waits self.old.store) (S.view self.old.store) (S.view self.new.store) shares.old shares.new core (Some arrived.entry.now) (answer_of self.new.register.running.items core result) }
     {
         let straight = self.go_straight(core, now);
         let hurt = self.store.straight_store(core, addr, width, value);

@@ -9,7 +9,7 @@ use std::process::Abort;
 
 /// The number of a register.
 fn x(register: Register) -> u32 {
-    register.number() as u32
+    u32::from(register.number())
 }
 
 /// The name of an instruction, and its fields in order, with 0 in the place of those that it lacks.
@@ -115,6 +115,5 @@ fn decodes_a_fence(rt: HostRuntime) {
 
 #[test]
 fn names_the_reasons(rt: HostRuntime) {
-    assert_eq!(rt; Refused::Illegal.name(), "Illegal");
-    assert_eq!(rt; Refused::System.name(), "System");
+    assert!(rt; Refused::Illegal.name() == "Illegal" && Refused::System.name() == "System");
 }

@@ -11,8 +11,6 @@ use work::work;
 mod all;
 mod print;
 mod schedule;
-#[cfg(test)]
-mod tests;
 mod turns;
 mod words;
 mod work;

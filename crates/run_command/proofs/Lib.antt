@@ -1,3 +1,4 @@
 pub mod Committing
 pub mod Printing
+pub mod Stopping
 pub mod Outcomes

@@ -9,12 +9,15 @@ use Rattle.violations.specs.View.{StoreView}
 use Rattle.homefree.specs.BookView.{BookView}
 use Rattle.homefree.specs.Counted.{counted_in}
 use Rattle.homefree.specs.Driven.{IsInOrder}
-use Rattle.core_threads.specs.Sentence.{Finishes}
+use Rattle.homefree.specs.Missed.{IsOfCaches}
+use Rattle.homefree.specs.declared.book.Loop.{Loop}
+use Rattle.homefree.specs.LockView.{loop_of}
+use Rattle.core_threads.specs.Sentence.{Explains, Finishes}
 use Rattle.trace_commands.specs.Report.{report_of}
 use Rattle.trace_text.specs.Printing.{printed_trace}
 use Rattle.run_command.specs.declared.options.RunOptions.{RunOptions}
 use Rattle.run_command.specs.Committed.{IsCommitted}
-use Rattle.run_command.specs.Run.{IsBelow, IsPrinted, IsWholeHistory, counts_line, loop_asked}
+use Rattle.run_command.specs.Run.{IsBelow, IsMade, IsPrinted, IsWholeHistory, counts_line, loop_asked}
 use Rattle.run_command.proofs.Committing.{committed_is_memory}
 
 -- what follows for a value
@@ -33,16 +36,23 @@ result_is image end f bytes in_order so =
     let same : bytes ≡ (sequential_result image).bytes = committed_is_memory image f bytes (sequential_result image).bytes so in_order.holds in
     (λ i. report_of image (record { end = in_order.end_is i; bytes = same i }))
 
+-- what is beside the sentence holds of the book's history
+pub made : {S : Type 0} (view : S → StoreView) (b : BookView S) (l : Loop) → loop_of b ≡ l → Explains view b → IsOfCaches view → IsMade l b.history
+made view b l is so caches =
+    let of_book : IsMade (loop_of b) b.history = record { caused = so.caused; known = so.known; passes = so.passes caches; within = so.within } in
+    subst (λ (it : Loop). IsMade it b.history) is of_book
+
 module _ {S : Type 0} (view : S → StoreView) (image : LoadedImage) (options : RunOptions) (b : BookView S) (end : End) (totals counted : Counts)
-    (run : Finishes view (loop_asked image options) b end totals counted) where
+    (run : Finishes view (loop_asked image options) b end totals counted) (so : Explains view b) (caches : IsOfCaches view) where
   pub image_is : b.image ≡ image
   image_is = ap (λ l. l.image) run.loop
 
   cores_are : b.cores ≡ options.cores
   cores_are = ap (λ l. l.cores) run.loop
 
-  whole : IsWholeHistory image options.cores b.history
+  whole : IsWholeHistory (loop_asked image options) b.history
   whole = record {
+    made = made view b (loop_asked image options) run.loop so caches;
     state = run.state;
     replays = (λ i. replay (sym image_is i) (sym cores_are i) b.history) ∙ run.stands.replays;
     over = run.over ∙ ap (λ e. Some e) run.in_order.end_is;
@@ -54,7 +64,7 @@ module _ {S : Type 0} (view : S → StoreView) (image : LoadedImage) (options : 
   -- without a trace
   pub printed_alone : (text : List ℕ) → options.trace ≡ false → text ≡ report_of image (sequential_result image) → IsPrinted image options text
   printed_alone text off is =
-      ([], subst (λ (t : Bool). IsBelow t image options.cores []) (sym off) refl, is ∙ sym (append-nil (report_of image (sequential_result image))))
+      ([], subst (λ (t : Bool). IsBelow t (loop_asked image options) []) (sym off) refl, is ∙ sym (append-nil (report_of image (sequential_result image))))
 
   -- with a trace
   pub printed_traced : (report text : List ℕ) → options.trace ≡ true → report ≡ report_of image (sequential_result image)
@@ -62,6 +72,6 @@ module _ {S : Type 0} (view : S → StoreView) (image : LoadedImage) (options : 
   printed_traced report text on first is =
       let below : List ℕ = counts_line counted ++ printed_trace options.cores b.history in (
         below,
-        subst (λ (t : Bool). IsBelow t image options.cores below) (sym on) (b.history, whole, ap (λ c. counts_line c ++ printed_trace options.cores b.history) counted_is),
+        subst (λ (t : Bool). IsBelow t (loop_asked image options) below) (sym on) (b.history, whole, ap (λ c. counts_line c ++ printed_trace options.cores b.history) counted_is),
         is ∙ (append_assoc report (counts_line counted) (printed_trace options.cores b.history) ∙ ap (λ r. r ++ below) first),
       )

@@ -1,6 +1,6 @@
 -- What `run` comes to, and what it wrote.
 -- Source: this project.
-use Rattle.std.specs.Prelude.{◌≡◌, ℕ, ◌+◌, ◌<◌, ◌++◌, Bool, true, false, List, [], length, codes, Option, Some, None, MatchResult}
+use Rattle.std.specs.Prelude.{◌≡◌, ℕ, ◌+◌, ◌<◌, ◌≤◌, ◌++◌, Bool, true, false, List, [], length, codes, Option, Some, None, MatchResult}
 use Rattle.std.specs.Fmt.{decimal}
 use Rattle.std.specs.Io.KnownBytes.{Appends, Keeps}
 use Rattle.rv32_image.specs.Image.{LoadedImage}
@@ -9,11 +9,14 @@ use Rattle.rv32_image.specs.Version.{limits_of}
 use Rattle.rv32_exec.specs.Sequential.{sequential_result}
 use Rattle.run_ledger.specs.declared.counts.Counts.{Counts}
 use Rattle.spec_history.specs.declared.entry.Entry.{Entry}
+use Rattle.spec_history.specs.Conflict.{AreKnown}
 use Rattle.spec_history.specs.FlatState.{FlatState}
 use Rattle.spec_history.specs.Replay.{replay}
 use Rattle.violations.specs.Rule.{IsCoreCount}
 use Rattle.homefree.specs.declared.book.Loop.{Loop}
+use Rattle.homefree.specs.Caused.{HasCauses}
 use Rattle.homefree.specs.Counted.{counted_in}
+use Rattle.homefree.specs.Missed.{PassesOverNone}
 use Rattle.core_threads.specs.declared.fault.RunFault.{RunFault}
 use Rattle.core_threads.specs.declared.fault.RunFault.TheVariants as fault
 use Rattle.trace_text.specs.Printing.{printed_trace}
@@ -38,21 +41,29 @@ counted n = codes " " ++ decimal n
 abbrev pub counts_line : Counts → List ℕ
 counts_line c = codes "counts" ++ counted c.loads ++ counted c.stores ++ counted c.restarts ++ counted c.commits ++ codes "\n"
 
+-- a history that turns over caches make: each violation has its cause and is of a kind, no entry passes over a later epoch that has
+-- read in a line which it writes, further stores aside, and the entries are within the room
+pub record IsMade (l : Loop) (history : List Entry) : Type 0 where
+  pub caused : HasCauses history
+  pub known : AreKnown l.image l.cores history
+  pub passes : PassesOverNone l.image l.cores history
+  pub within : length history ≤ l.room
+
 -- a history of the loop that ends as the sequential loop does: it replays on the one-thread machine to that end
-pub record IsWholeHistory (image : LoadedImage) (cores : ℕ) (history : List Entry) : Type 0 where
+pub record IsWholeHistory (l : Loop) (history : List Entry) : Type 0 where
+  pub made : IsMade l history
   pub state : FlatState
-  pub replays : replay image cores history ≡ Some state
-  pub over : state.end ≡ Some (sequential_result image).end
+  pub replays : replay l.image l.cores history ≡ Some state
+  pub over : state.end ≡ Some (sequential_result l.image).end
 
 -- below the report: nothing, or with a trace the counts and the text of a whole history
-abbrev pub IsBelow : Bool → LoadedImage → ℕ → List ℕ → Type 0
-IsBelow false image cores text = text ≡ []
-IsBelow true image cores text = (history : List Entry) × IsWholeHistory image cores history
-    × (text ≡ counts_line (counted_in history) ++ printed_trace cores history)
+abbrev pub IsBelow : Bool → Loop → List ℕ → Type 0
+IsBelow false l text = text ≡ []
+IsBelow true l text = (history : List Entry) × IsWholeHistory l history × (text ≡ counts_line (counted_in history) ++ printed_trace l.cores history)
 
 -- all that a run prints: the report of the sequential loop, which `seq` prints too, and what is below it
 abbrev pub IsPrinted : LoadedImage → RunOptions → List ℕ → Type 0
-IsPrinted image options text = (below : List ℕ) × IsBelow options.trace image options.cores below
+IsPrinted image options text = (below : List ℕ) × IsBelow options.trace (loop_asked image options) below
     × (text ≡ report_of image (sequential_result image) ++ below)
 
 -- ---- why a run stops
@@ -66,16 +77,17 @@ cause_of fault.Spent = Spent
 cause_of fault.Shut = Shut
 
 -- a history of the loop that isn't over, and has fewer free entries than a turn asks for
-pub record IsFullHistory (options : RunOptions) (image : LoadedImage) (history : List Entry) : Type 0 where
+pub record IsFullHistory (l : Loop) (history : List Entry) : Type 0 where
+  pub made : IsMade l history
   pub state : FlatState
-  pub replays : replay image options.cores history ≡ Some state
+  pub replays : replay l.image l.cores history ≡ Some state
   pub going : state.end ≡ None
-  pub full : options.room < length history + (limits_of image.version).free_entries
+  pub full : l.room < length history + (limits_of l.image.version).free_entries
 
 -- a run may stop so before its loop is over
 abbrev pub IsStop : RunOptions → LoadedImage → StopCause → Type 0
 IsStop options image Write = ⊥
-IsStop options image HistoryFull = (history : List Entry) × IsFullHistory options image history
+IsStop options image HistoryFull = (history : List Entry) × IsFullHistory (loop_asked image options) history
 IsStop options image other = Unit {0}
 
 -- ---- outcomes

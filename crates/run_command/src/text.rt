@@ -1,7 +1,8 @@
 ghost use Rattle.std.specs.Prelude.{◌≡◌, ◌++◌, IfOk, OnOk, decimal};
 ghost use Rattle.rv32_exec.specs.Sequential.{sequential_result};
 ghost use Rattle.homefree.specs.Driven.{IsInOrder};
-ghost use Rattle.core_threads.specs.Sentence.{Finishes};
+ghost use Rattle.homefree.specs.Missed.{IsOfCaches};
+ghost use Rattle.core_threads.specs.Sentence.{Explains, Finishes};
 ghost use Rattle.trace_text.specs.Printing.{printed_trace};
 ghost use Rattle.trace_commands.specs.Report as report_spec;
 ghost use Rattle.run_command.specs.Run as spec;
@@ -27,7 +28,9 @@ pub(crate) fn printed<S: EpochStore>(
     options: RunOptions,
     run: &Finished<S>,
 ) -> Result<Vec<u8>, AllocError>
-    requires { Finishes S.view (spec.loop_asked image.now options) run.now.book run.now.end run.now.totals run.now.counted }
+    requires finishes { Finishes S.view (spec.loop_asked image.now options) run.now.book run.now.end run.now.totals run.now.counted }
+    requires explained { Explains S.view run.now.book }
+    requires caches { IsOfCaches S.view }
     ensures { IfOk result (λ text. spec.IsPrinted image.now options text.items) }
 {
     let report = report_of(alloc, image, run)?;

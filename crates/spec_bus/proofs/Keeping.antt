@@ -4,7 +4,7 @@ use Rattle.memory_bytes.specs.Bytes.{number_at}
 use Rattle.cache_lines.specs.declared.line.Line.{Line}
 use Rattle.violations.specs.declared.step.Step.{Step}
 use Rattle.violations.specs.declared.step.Step.TheVariants.{Done, Wait}
-use Rattle.violations.specs.Answers.{MatchStep}
+use Rattle.violations.specs.Answers.{MatchStep, wait_of}
 use Rattle.violations.specs.CoreSet.{is_in}
 use Rattle.violations.specs.Rule.{Begins, Ends, Loads, Stores, Publishes, LoadsStraight, StoresStraight}
 use Rattle.violations.specs.View.{Shape, IsLoad, MayBegin, MayPublish, Runs, attempt_of}
@@ -155,6 +155,14 @@ loaded (Done value hurt) old new core address width line room t done =
 loaded (Wait cause) old new core address width line room t waits =
     subst (λ (parts : Parts). IsCached (record { parts = parts })) (sym waits.1) t.keeps
 
+-- it waits just where the load has to
+pub load_waits : (step : Step) (old new : Parts) (core offset width line : ℕ) (room : Option Line)
+    → MatchAnswer step (λ value hurt. IsLoaded (bus_in old) (bus_in new) core line offset width room value hurt)
+    (λ cause. (load_wait (bus_in old) core line room ≡ Some cause) × (new ≡ old))
+    → wait_of step ≡ load_wait (bus_in old) core line room
+load_waits (Done value hurt) old new core offset width line room done = sym done.goes_on
+load_waits (Wait cause) old new core offset width line room waits = sym waits.0
+
 store-rule : (old : Parts) (core address width value line : ℕ) (room : Option Line) (hurt : ℕ → Bool) (new : Bus)
     → Accesses old core address width false line room
     → IsStored (bus_in old) new core (line_of old.limits.line_length address) (offset_of old.limits.line_length address) width value room hurt
@@ -193,6 +201,13 @@ stored (Done answer hurt) old new core address width value line room t done =
     (ordered-hurts (bus_in old) after core (is_in hurt) t.keeps.ordered rule.others rule.attempt) rule.shape
 stored (Wait cause) old new core address width value line room t waits =
     subst (λ (parts : Parts). IsCached (record { parts = parts })) (sym waits.1) t.keeps
+
+pub store_waits : (step : Step) (old new : Parts) (core offset width value line : ℕ) (room : Option Line)
+    → MatchAnswer step (λ answer hurt. (answer ≡ 0) × IsStored (bus_in old) (bus_in new) core line offset width value room hurt)
+    (λ cause. (store_wait (bus_in old) core line offset width room ≡ Some cause) × (new ≡ old))
+    → wait_of step ≡ store_wait (bus_in old) core line offset width room
+store_waits (Done answer hurt) old new core offset width value line room done = sym (done.1).goes_on
+store_waits (Wait cause) old new core offset width value line room waits = sym waits.0
 
 -- ---- publish
 

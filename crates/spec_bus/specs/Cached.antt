@@ -2,8 +2,9 @@
 use Rattle.std.specs.Prelude.{ℕ, List, Option}
 use Rattle.rv32_image.specs.declared.version.Limits.{Limits}
 use Rattle.cache_lines.specs.declared.line.Line.{Line}
-use Rattle.violations.specs.View.{StoreView}
-use Rattle.bus_states.specs.Bus.{Bus}
+use Rattle.violations.specs.View.{StoreView, Waits}
+use Rattle.bus_states.specs.Bus.{Bus, line_of, offset_of}
+use Rattle.bus_states.specs.Speculative.{load_wait, store_wait}
 use Rattle.bus_states.specs.Views.{view_of}
 use Rattle.spec_bus.specs.declared.bus_core.Core.{Core}
 use Rattle.spec_bus.specs.Parts.{bus_of, room_at}
@@ -26,3 +27,11 @@ room v = room_at v.cores
 -- what they show as a store of speculative epochs
 abbrev pub store_view : CachedView → StoreView
 store_view v = view_of (bus v)
+
+-- why a load or a store of a core waits, by its address and width
+abbrev pub waits : CachedView → Waits
+waits v = record {
+  load = λ core address width. let line = line_of (bus v).line_length address in load_wait (bus v) core line (room v core line);
+  store = λ core address width. let line = line_of (bus v).line_length address in
+      store_wait (bus v) core line (offset_of (bus v).line_length address) width (room v core line);
+}

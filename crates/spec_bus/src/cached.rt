@@ -1,7 +1,7 @@
-ghost use Rattle.std.specs.Prelude.{◌≡◌, ℕ, ◌<◌, ◌%◌, true, false, Some, IfOk};
+ghost use Rattle.std.specs.Prelude.{◌≡◌, ℕ, ◌<◌, ◌%◌, true, false, Some, IfOk, IsOk};
 ghost use Rattle.violations.specs.View as view_spec;
 ghost use Rattle.violations.specs.Rule as rule;
-ghost use Rattle.violations.specs.Answers.{MatchStep};
+ghost use Rattle.violations.specs.Answers.{MatchStep, wait_of};
 ghost use Rattle.violations.specs.CoreSet.{is_in};
 ghost use Rattle.bus_states.specs.Bus as bus_spec;
 ghost use Rattle.bus_states.specs.Attempts as attempts;
@@ -18,7 +18,7 @@ use rv32_image::{Image, NoMemory};
 use spec_states::LineState;
 use std::alloc::Global;
 use std::marker::Model;
-use violations::{Attempt, CoreSet, Step};
+use violations::{Attempt, CoreSet, EpochStore, Step};
 
 /// A copy of a line, without its bytes.
 #[derive(Clone, Copy, Debug, PartialEq, Eq)]
@@ -50,33 +50,6 @@ impl Model for CachedBus {
 }
 
 impl CachedBus {
-    /// A bus with the image's memory, and so many cores that hold nothing and run nothing. The cores are 1 to the most that the
-    /// image's version allows.
-    ///
-    /// `NoMemory`: there was no memory for it, and nothing was made.
-    pub fn fresh(alloc: Global, image: &Image, cores: u32) -> Result<CachedBus, NoMemory>
-        requires cores { rule.IsCoreCount image.now cores }
-        ensures bus { IfOk result (λ made. (spec.bus made) ≡ fresh_bus image.now cores) }
-        ensures fresh { IfOk result (λ made. rule.IsFresh image.now cores (spec.store_view made)) }
-    {
-        let limits = image.version().limits();
-        let memory = Vec::from_slice(alloc, image.bytes()).map_err(|_| NoMemory)?;
-        let cores = idle_cores(
-            alloc,
-            cores,
-            limits.line_length as usize,
-            limits.buffer_lines as usize,
-        )?;
-        Ok(CachedBus {
-            parts: Parts {
-                cores,
-                memory,
-                code: image.code(),
-                limits,
-            },
-        })
-    }
-
     /// How many cores there are.
     pub fn cores(&self) -> u32
         ensures { result ≡ (spec.bus self.now).shape.cores }
@@ -107,128 +80,6 @@ impl CachedBus {
         addr - addr % self.parts.limits.line_length
     }
 
-    /// A core that runs nothing begins an attempt of an epoch.
-    pub fn begin(&mut self, core: u32, epoch: u32)
-        requires may { view_spec.MayBegin (spec.store_view self.old) core epoch }
-        ensures bus { (spec.bus self.new) ≡ attempts.after_begin (spec.bus self.old) core epoch }
-        ensures begins { rule.Begins (spec.store_view self.old) (spec.store_view self.new) core epoch }
-    {
-        self.parts.begin(core as usize, epoch);
-    }
-
-    /// A speculative load of `width` bytes, by a core whose attempt isn't straight.
-    pub fn load(&mut self, core: u32, addr: u32, width: u32) -> Step
-        requires runs { view_spec.Runs (spec.store_view self.old) core false }
-        requires access { view_spec.IsLoad (spec.store_view self.old).shape addr width }
-        ensures bus { MatchAnswer result
-            (λ value hurt. IsLoaded (spec.bus self.old) (spec.bus self.new) core (bus_spec.line_of (spec.bus self.old).line_length addr)
-            (bus_spec.offset_of (spec.bus self.old).line_length addr) width
-            (spec.room self.old core (bus_spec.line_of (spec.bus self.old).line_length addr)) value hurt)
-            (λ cause. (speculative.load_wait (spec.bus self.old) core (bus_spec.line_of (spec.bus self.old).line_length addr)
-            (spec.room self.old core (bus_spec.line_of (spec.bus self.old).line_length addr)) ≡ Some cause) × (self.new ≡ self.old)) }
-        ensures loads { MatchStep result (λ value hurt. rule.Loads (spec.store_view self.old) (spec.store_view self.new) core addr width value hurt)
-            (self.new ≡ self.old) }
-    {
-        let line = self.line_of(addr);
-        self.parts.look_room(core as usize, line);
-        let offset = addr % self.parts.limits.line_length;
-        self.parts.load(core as usize, line, offset, width)
-    }
-
-    /// A speculative store of the low `width` bytes of `value`, by a core whose attempt isn't straight. It gives 0.
-    pub fn store(&mut self, core: u32, addr: u32, width: u32, value: u32) -> Step
-        requires runs { view_spec.Runs (spec.store_view self.old) core false }
-        requires access { view_spec.IsLoad (spec.store_view self.old).shape addr width }
-        ensures bus { MatchAnswer result
-            (λ answer hurt. (answer ≡ 0) × IsStored (spec.bus self.old) (spec.bus self.new) core
-            (bus_spec.line_of (spec.bus self.old).line_length addr) (bus_spec.offset_of (spec.bus self.old).line_length addr) width value
-            (spec.room self.old core (bus_spec.line_of (spec.bus self.old).line_length addr)) hurt)
-            (λ cause. (speculative.store_wait (spec.bus self.old) core (bus_spec.line_of (spec.bus self.old).line_length addr)
-            (bus_spec.offset_of (spec.bus self.old).line_length addr) width
-            (spec.room self.old core (bus_spec.line_of (spec.bus self.old).line_length addr)) ≡ Some cause) × (self.new ≡ self.old)) }
-        ensures stores { MatchStep result
-            (λ answer hurt. (answer ≡ 0) × rule.Stores (spec.store_view self.old) (spec.store_view self.new) core addr width value hurt) (self.new ≡ self.old) }
-    {
-        let line = self.line_of(addr);
-        self.parts.look_room(core as usize, line);
-        let offset = addr % self.parts.limits.line_length;
-        self.parts.store(core as usize, line, offset, width, value)
-    }
-
-    /// The attempt, whose epoch is the first of all attempts, commits what it sees and is straight. Answers the cores that it
-    /// violates.
-    pub fn publish(&mut self, core: u32) -> CoreSet
-        requires may { view_spec.MayPublish (spec.store_view self.old) core }
-        ensures bus { (spec.bus self.new) ≡ straight.after_publish (spec.bus self.old) core }
-        ensures hurt { (k : ℕ) → is_in result k ≡ straight.publish_violates (spec.bus self.old) core k }
-        ensures publishes { rule.Publishes (spec.store_view self.old) (spec.store_view self.new) core (is_in result) }
-    {
-        self.parts.publish(core as usize)
-    }
-
-    /// A load of a straight attempt, with the cores that it violates.
-    pub fn straight_load(&mut self, core: u32, addr: u32, width: u32) -> (u32, CoreSet)
-        requires runs { view_spec.Runs (spec.store_view self.old) core true }
-        requires access { view_spec.IsLoad (spec.store_view self.old).shape addr width }
-        ensures bus { (spec.bus self.new) ≡ straight.after_straight_load (spec.bus self.old) core
-            (bus_spec.line_of (spec.bus self.old).line_length addr) (spec.room self.old core (bus_spec.line_of (spec.bus self.old).line_length addr)) }
-        ensures hurt { (k : ℕ) → is_in result.1 k ≡ straight.straight_load_violates (spec.bus self.old) core
-            (bus_spec.line_of (spec.bus self.old).line_length addr) k }
-        ensures loads { rule.LoadsStraight (spec.store_view self.old) (spec.store_view self.new) core addr width result.0 (is_in result.1) }
-    {
-        let line = self.line_of(addr);
-        self.parts.look_room(core as usize, line);
-        let offset = addr % self.parts.limits.line_length;
-        self.parts.straight_load(core as usize, line, offset, width)
-    }
-
-    /// A store of the low `width` bytes of `value` by a straight attempt: they are committed. Answers the cores that it violates.
-    pub fn straight_store(&mut self, core: u32, addr: u32, width: u32, value: u32) -> CoreSet
-        requires runs { view_spec.Runs (spec.store_view self.old) core true }
-        requires access { view_spec.IsLoad (spec.store_view self.old).shape addr width }
-        ensures bus { (spec.bus self.new) ≡ straight.after_straight_store (spec.bus self.old) core
-            (bus_spec.line_of (spec.bus self.old).line_length addr) (bus_spec.offset_of (spec.bus self.old).line_length addr) width value
-            (spec.room self.old core (bus_spec.line_of (spec.bus self.old).line_length addr)) }
-        ensures hurt { (k : ℕ) → is_in result k ≡ straight.straight_store_violates (spec.bus self.old) core
-            (bus_spec.line_of (spec.bus self.old).line_length addr) (bus_spec.offset_of (spec.bus self.old).line_length addr) width value k }
-        ensures stores { rule.StoresStraight (spec.store_view self.old) (spec.store_view self.new) core addr width value (is_in result) }
-    {
-        let line = self.line_of(addr);
-        self.parts.look_room(core as usize, line);
-        let offset = addr % self.parts.limits.line_length;
-        self.parts
-            .straight_store(core as usize, line, offset, width, value)
-    }
-
-    /// A straight attempt ends.
-    pub fn leave(&mut self, core: u32)
-        requires runs { view_spec.Runs (spec.store_view self.old) core true }
-        ensures bus { (spec.bus self.new) ≡ attempts.after_leave (spec.bus self.old) core }
-        ensures leaves { rule.Ends (spec.store_view self.old) (spec.store_view self.new) core }
-    {
-        self.parts.leave(core as usize);
-    }
-
-    /// An attempt that isn't straight ends, and what it stored is forgotten.
-    pub fn cancel(&mut self, core: u32)
-        requires runs { view_spec.Runs (spec.store_view self.old) core false }
-        ensures bus { (spec.bus self.new) ≡ attempts.after_cancel (spec.bus self.old) core }
-        ensures cancels { rule.Ends (spec.store_view self.old) (spec.store_view self.new) core }
-    {
-        self.parts.cancel(core as usize);
-    }
-
-    /// The committed byte at an address of memory.
-    pub fn committed_byte(&self, addr: u32) -> u8
-        requires { addr < (spec.bus self.now).shape.size }
-        ensures { result ≡ bus_spec.committed (spec.bus self.now) (bus_spec.line_of (spec.bus self.now).line_length addr)
-            (bus_spec.offset_of (spec.bus self.now).line_length addr) }
-    {
-        let line = self.line_of(addr);
-        let offset = addr % self.parts.limits.line_length;
-        self.parts.committed_line(line)[offset as usize]
-    }
-
     /// The copy that a core has of the line in which this address lies.
     pub fn line_at(&self, core: u32, addr: u32) -> LineView
         requires { core < (spec.bus self.now).shape.cores }
@@ -254,11 +105,172 @@ impl CachedBus {
     {
         &self.parts.core(core as usize).orb
     }
+}
 
-    /// What every bus of caches keeps: this call does nothing, and its contract is the law.
-    pub fn look(&self)
-        ensures { view_spec.IsSettled (spec.store_view self.now) }
+impl EpochStore for CachedBus {
+    ghost use Rattle.spec_bus.specs.Cached.{store_view, waits};
+
+    ghost view = { store_view };
+
+    ghost waits = { waits };
+
+    ghost budget = { λ _. 4 };
+
+    /// A bus with the image's memory, and so many cores that hold nothing and run nothing. The cores are 1 to the most that the
+    /// image's version allows.
+    ///
+    /// `NoMemory`: there was no memory for it, and nothing was made.
+    fn fresh(alloc: Global, image: &Image, cores: u32) -> Result<CachedBus, NoMemory>
+        requires cores { rule.IsCoreCount image.now cores }
+        ensures bus { IfOk result (λ made. (spec.bus made) ≡ fresh_bus image.now cores) }
+        ensures fresh { IfOk result (λ made. rule.IsFresh image.now cores (spec.store_view made)) }
     {
+        let limits = image.version().limits();
+        let memory = Vec::from_slice(alloc, image.bytes()).map_err(|_| NoMemory)?;
+        let cores = idle_cores(
+            alloc,
+            cores,
+            limits.line_length as usize,
+            limits.buffer_lines as usize,
+        )?;
+        Ok(CachedBus {
+            parts: Parts {
+                cores,
+                memory,
+                code: image.code(),
+                limits,
+            },
+        })
+    }
+
+    fn look(&self) {
         let _ = &self.parts;
+    }
+
+    /// There is always room.
+    fn reserve(&mut self) -> Result<(), NoMemory>
+        ensures ok { IsOk result }
+        ensures same { self.new ≡ self.old }
+    {
+        Ok(())
+    }
+
+    /// A core that runs nothing begins an attempt of an epoch.
+    fn begin(&mut self, core: u32, epoch: u32)
+        requires may { view_spec.MayBegin (spec.store_view self.old) core epoch }
+        ensures bus { (spec.bus self.new) ≡ attempts.after_begin (spec.bus self.old) core epoch }
+        ensures begins { rule.Begins (spec.store_view self.old) (spec.store_view self.new) core epoch }
+    {
+        self.parts.begin(core as usize, epoch);
+    }
+
+    /// A speculative load of `width` bytes, by a core whose attempt isn't straight.
+    fn load(&mut self, core: u32, addr: u32, width: u32) -> Step
+        requires runs { view_spec.Runs (spec.store_view self.old) core false }
+        requires access { view_spec.IsLoad (spec.store_view self.old).shape addr width }
+        ensures waits { wait_of result ≡ (spec.waits self.old).load core addr width }
+        ensures bus { MatchAnswer result
+            (λ value hurt. IsLoaded (spec.bus self.old) (spec.bus self.new) core (bus_spec.line_of (spec.bus self.old).line_length addr)
+            (bus_spec.offset_of (spec.bus self.old).line_length addr) width
+            (spec.room self.old core (bus_spec.line_of (spec.bus self.old).line_length addr)) value hurt)
+            (λ cause. (speculative.load_wait (spec.bus self.old) core (bus_spec.line_of (spec.bus self.old).line_length addr)
+            (spec.room self.old core (bus_spec.line_of (spec.bus self.old).line_length addr)) ≡ Some cause) × (self.new ≡ self.old)) }
+        ensures loads { MatchStep result (λ value hurt. rule.Loads (spec.store_view self.old) (spec.store_view self.new) core addr width value hurt)
+            (self.new ≡ self.old) }
+    {
+        let line = self.line_of(addr);
+        self.parts.look_room(core as usize, line);
+        let offset = addr % self.parts.limits.line_length;
+        self.parts.load(core as usize, line, offset, width)
+    }
+
+    /// A speculative store of the low `width` bytes of `value`, by a core whose attempt isn't straight. It gives 0.
+    fn store(&mut self, core: u32, addr: u32, width: u32, value: u32) -> Step
+        requires runs { view_spec.Runs (spec.store_view self.old) core false }
+        requires access { view_spec.IsLoad (spec.store_view self.old).shape addr width }
+        ensures waits { wait_of result ≡ (spec.waits self.old).store core addr width }
+        ensures bus { MatchAnswer result
+            (λ answer hurt. (answer ≡ 0) × IsStored (spec.bus self.old) (spec.bus self.new) core
+            (bus_spec.line_of (spec.bus self.old).line_length addr) (bus_spec.offset_of (spec.bus self.old).line_length addr) width value
+            (spec.room self.old core (bus_spec.line_of (spec.bus self.old).line_length addr)) hurt)
+            (λ cause. (speculative.store_wait (spec.bus self.old) core (bus_spec.line_of (spec.bus self.old).line_length addr)
+            (bus_spec.offset_of (spec.bus self.old).line_length addr) width
+            (spec.room self.old core (bus_spec.line_of (spec.bus self.old).line_length addr)) ≡ Some cause) × (self.new ≡ self.old)) }
+        ensures stores { MatchStep result
+            (λ answer hurt. (answer ≡ 0) × rule.Stores (spec.store_view self.old) (spec.store_view self.new) core addr width value hurt) (self.new ≡ self.old) }
+    {
+        let line = self.line_of(addr);
+        self.parts.look_room(core as usize, line);
+        let offset = addr % self.parts.limits.line_length;
+        self.parts.store(core as usize, line, offset, width, value)
+    }
+
+    /// The attempt, whose epoch is the first of all attempts, commits what it sees and is straight. Answers the cores that it
+    /// violates.
+    fn publish(&mut self, core: u32) -> CoreSet
+        requires may { view_spec.MayPublish (spec.store_view self.old) core }
+        ensures bus { (spec.bus self.new) ≡ straight.after_publish (spec.bus self.old) core }
+        ensures hurt { (k : ℕ) → is_in result k ≡ straight.publish_violates (spec.bus self.old) core k }
+        ensures publishes { rule.Publishes (spec.store_view self.old) (spec.store_view self.new) core (is_in result) }
+    {
+        self.parts.publish(core as usize)
+    }
+
+    /// A load of a straight attempt, with the cores that it violates.
+    fn straight_load(&mut self, core: u32, addr: u32, width: u32) -> (u32, CoreSet)
+        requires runs { view_spec.Runs (spec.store_view self.old) core true }
+        requires access { view_spec.IsLoad (spec.store_view self.old).shape addr width }
+        ensures bus { (spec.bus self.new) ≡ straight.after_straight_load (spec.bus self.old) core
+            (bus_spec.line_of (spec.bus self.old).line_length addr) (spec.room self.old core (bus_spec.line_of (spec.bus self.old).line_length addr)) }
+        ensures hurt { (k : ℕ) → is_in result.1 k ≡ straight.straight_load_violates (spec.bus self.old) core
+            (bus_spec.line_of (spec.bus self.old).line_length addr) k }
+        ensures loads { rule.LoadsStraight (spec.store_view self.old) (spec.store_view self.new) core addr width result.0 (is_in result.1) }
+    {
+        let line = self.line_of(addr);
+        self.parts.look_room(core as usize, line);
+        let offset = addr % self.parts.limits.line_length;
+        self.parts.straight_load(core as usize, line, offset, width)
+    }
+
+    /// A store of the low `width` bytes of `value` by a straight attempt: they are committed. Answers the cores that it violates.
+    fn straight_store(&mut self, core: u32, addr: u32, width: u32, value: u32) -> CoreSet
+        requires runs { view_spec.Runs (spec.store_view self.old) core true }
+        requires access { view_spec.IsLoad (spec.store_view self.old).shape addr width }
+        ensures bus { (spec.bus self.new) ≡ straight.after_straight_store (spec.bus self.old) core
+            (bus_spec.line_of (spec.bus self.old).line_length addr) (bus_spec.offset_of (spec.bus self.old).line_length addr) width value
+            (spec.room self.old core (bus_spec.line_of (spec.bus self.old).line_length addr)) }
+        ensures hurt { (k : ℕ) → is_in result k ≡ straight.straight_store_violates (spec.bus self.old) core
+            (bus_spec.line_of (spec.bus self.old).line_length addr) (bus_spec.offset_of (spec.bus self.old).line_length addr) width value k }
+        ensures stores { rule.StoresStraight (spec.store_view self.old) (spec.store_view self.new) core addr width value (is_in result) }
+    {
+        let line = self.line_of(addr);
+        self.parts.look_room(core as usize, line);
+        let offset = addr % self.parts.limits.line_length;
+        self.parts
+            .straight_store(core as usize, line, offset, width, value)
+    }
+
+    /// A straight attempt ends.
+    fn leave(&mut self, core: u32)
+        requires runs { view_spec.Runs (spec.store_view self.old) core true }
+        ensures bus { (spec.bus self.new) ≡ attempts.after_leave (spec.bus self.old) core }
+        ensures leaves { rule.Ends (spec.store_view self.old) (spec.store_view self.new) core }
+    {
+        self.parts.leave(core as usize);
+    }
+
+    /// An attempt that isn't straight ends, and what it stored is forgotten.
+    fn cancel(&mut self, core: u32)
+        requires runs { view_spec.Runs (spec.store_view self.old) core false }
+        ensures bus { (spec.bus self.new) ≡ attempts.after_cancel (spec.bus self.old) core }
+        ensures cancels { rule.Ends (spec.store_view self.old) (spec.store_view self.new) core }
+    {
+        self.parts.cancel(core as usize);
+    }
+
+    fn committed_byte(&self, addr: u32) -> u8 {
+        let line = self.line_of(addr);
+        let offset = addr % self.parts.limits.line_length;
+        self.parts.committed_line(line)[offset as usize]
     }
 }

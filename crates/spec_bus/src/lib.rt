@@ -5,7 +5,6 @@ mod attempts;
 mod bus_core;
 mod cached;
 mod cores;
-mod epochs;
 mod memory;
 mod messages;
 mod parts;

@@ -12,6 +12,8 @@ mod locks;
 #[cfg(test)]
 mod look;
 #[cfg(test)]
+mod meetings;
+#[cfg(test)]
 mod programs;
 #[cfg(test)]
 mod runs;

@@ -9,8 +9,6 @@ use std::{env, io};
 use trace_commands::{Outcome, StopCause};
 use work::work;
 
-#[cfg(test)]
-mod tests;
 mod words;
 mod work;
 

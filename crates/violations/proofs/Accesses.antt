@@ -1,5 +1,5 @@
 -- Loads and stores of the plain store, over its view.
-use Rattle.std.proofs.Common.{◌≡◌, ℕ, ◌+◌, ◌^◌, ◌<◌, ◌-◌, ◌&&◌, ◌||◌, nat_le, nat_lt, Bool, true, false, cond, slice_get, slice_index, Option, Some, None, is_some, is_none, unwrap_or, refl, sym, ap, ◌∙◌, true≢false}
+use Rattle.std.proofs.Common.{◌≡◌, ℕ, ◌+◌, ◌^◌, ◌<◌, ◌-◌, ◌&&◌, ◌||◌, not, nat_le, nat_lt, Bool, true, false, cond, slice_get, slice_index, Option, Some, None, is_some, is_none, unwrap_or, refl, sym, ap, ◌∙◌, true≢false}
 use Rattle.memory_bytes.specs.Bytes.{byte_of, number_at}
 use Rattle.memory_bytes.specs.Maps.{first_of, joined, over, stored, read_outside}
 use Rattle.memory_bytes.specs.Shadow.{byte_in}
@@ -7,7 +7,7 @@ use Rattle.memory_bytes.proofs.Bytes.{over-joined, number_at_same}
 use Rattle.violations.specs.declared.core_state.CoreState.{CoreState}
 use Rattle.violations.specs.View.{attempt_of, IsSettled, Runs, is_accessed}
 use Rattle.violations.specs.Rule.{HurtsLater, TakesIn, Loads, Stores, LoadsStraight}
-use Rattle.violations.specs.Plain.{PlainView, attempt_in, own_in, guarded_in, store_view}
+use Rattle.violations.specs.Plain.{PlainView, GuardsLoaded, attempt_in, own_in, guarded_in, store_view}
 use Rattle.violations.proofs.Changing.{get_set_other}
 use Rattle.violations.proofs.Plains.{none_by, none_hurt, alike_state, shape_same, with_state, here}
 use Rattle.violations.proofs.Calls.{straight_bare}
@@ -18,6 +18,17 @@ committed_of p a = slice_index p.committed a
 -- the others at a speculative access
 access_others : (p : PlainView) (by budget : ℕ) (state : CoreState) (hurt : ℕ → Bool) → ((k : ℕ) → hurt k ≡ false) → HurtsLater (store_view p) (store_view (with_state p p.committed by state budget)) by hurt
 access_others p by budget state hurt none = none_hurt p (with_state p p.committed by state budget) by hurt none (λ k other. get_set_other p.states by k state other) (λ a. refl)
+
+-- is there a byte, of two
+either_some : (first second : Option ℕ) → is_some (first_of first second) ≡ (is_some second || is_some first)
+either_some None None = refl
+either_some None (Some byte) = refl
+either_some (Some byte) None = refl
+either_some (Some byte) (Some other) = refl
+
+stored_by : (b : Bool) (x : ℕ) → is_some (cond b (Some x) None) ≡ b
+stored_by true x = refl
+stored_by false x = refl
 
 -- ---- loads
 
@@ -43,6 +54,28 @@ takes_in p by address width a state there taken = record {
   accessed = taken.0;
   in_line = refl;
   outside = ap (λ x. is_some (own_in x a)) there ∙ taken.1;
+}
+
+-- the bytes that are guarded then
+none_is_not : (o : Option ℕ) → is_none o ≡ not (is_some o)
+none_is_not None = refl
+none_is_not (Some byte) = refl
+
+joined_guards : (accessed : Bool) (own before : Option ℕ) (committed : ℕ)
+    → is_some (first_of (cond (accessed && is_none own) (Some committed) None) before) ≡ (is_some before || (accessed && not (is_some own)))
+joined_guards accessed own before committed =
+    either_some (cond (accessed && is_none own) (Some committed) None) before
+    ∙ ap (λ is. is_some before || is) (stored_by (accessed && is_none own) committed ∙ ap (λ none. accessed && none) (none_is_not own))
+
+pub guards_loaded : (p : PlainView) (by address width budget : ℕ) (state state' : CoreState) → IsSettled (store_view p) → Runs (store_view p) by false
+    → slice_get p.states by ≡ Some state
+    → ((a : ℕ) → byte_in state'.guarded.cells a ≡ joined (read_outside address width (byte_in state.own.cells) (committed_of p)) (byte_in state.guarded.cells) a)
+    → GuardsLoaded (store_view p) (store_view (with_state p p.committed by state' budget)) by address width
+guards_loaded p by address width budget state state' settled runs there guards = record {
+  guarded = λ a.
+      ap (λ x. is_some (guarded_in x a)) (here p by state' (settled.there by (attempt_of runs.epoch false) runs.is)) ∙ (ap is_some (guards a)
+      ∙ (joined_guards (is_accessed address width a) (byte_in state.own.cells a) (byte_in state.guarded.cells a) (committed_of p a)
+      ∙ ap (λ x. is_some (guarded_in x a) || (is_accessed address width a && not (is_some (own_in x a)))) (sym there)));
 }
 
 pub loads : (p : PlainView) (by address width value budget : ℕ) (state state' : CoreState) (hurt : ℕ → Bool) → ((k : ℕ) → hurt k ≡ false) → IsSettled (store_view p) → Runs (store_view p) by false
@@ -77,19 +110,9 @@ loads p by address width value budget state state' hurt none settled runs there 
 -- ---- stores
 
 -- which bytes a store has
-stored_by : (b : Bool) (x : ℕ) → is_some (cond b (Some x) None) ≡ b
-stored_by true x = refl
-stored_by false x = refl
-
 pub stored_there : (address width value a : ℕ) → is_some (stored address width value a) ≡ is_accessed address width a
 unfolding stored
 stored_there address width value a = stored_by (nat_le address a && nat_lt a (address + width)) (byte_of value (a - address))
-
-either_some : (first second : Option ℕ) → is_some (first_of first second) ≡ (is_some second || is_some first)
-either_some None None = refl
-either_some None (Some byte) = refl
-either_some (Some byte) None = refl
-either_some (Some byte) (Some other) = refl
 
 pub stores : (p : PlainView) (by address width value budget : ℕ) (state state' : CoreState) (hurt : ℕ → Bool) → ((k : ℕ) → hurt k ≡ false) → IsSettled (store_view p) → Runs (store_view p) by false
     → slice_get p.states by ≡ Some state → state'.attempt ≡ state.attempt → state'.guarded ≡ state.guarded

@@ -1,11 +1,11 @@
 -- The plain store: committed memory, and for each core the bytes of its attempt.
-use Rattle.std.specs.Prelude.{◌≡◌, ◌≢◌, ℕ, true, false, ◌≤◌, Bool, List, length, Option, Some, None, is_some, slice_get, slice_index}
+use Rattle.std.specs.Prelude.{◌≡◌, ◌≢◌, ℕ, true, false, ◌≤◌, ◌&&◌, ◌||◌, not, Bool, List, length, Option, Some, None, is_some, slice_get, slice_index}
 use Rattle.memory_bytes.specs.Maps.{over}
 use Rattle.memory_bytes.specs.Shadow.{byte_in}
 use Rattle.rv32_image.specs.declared.version.Limits.{Limits}
 use Rattle.violations.specs.declared.attempt.Attempt.{Attempt}
 use Rattle.violations.specs.declared.core_state.CoreState.{CoreState}
-use Rattle.violations.specs.View.{StoreView}
+use Rattle.violations.specs.View.{StoreView, is_accessed}
 use Rattle.violations.specs.CoreState.{AreWithin, HaveRoom}
 
 -- what contracts see of it
@@ -46,6 +46,10 @@ pub record IsFit (p : PlainView) : Type 0 where
   pub count : length p.states ≤ 16
   pub within : AreWithin (length p.committed) p.states
   pub room : 1 ≤ p.budget → HaveRoom (length p.committed) p.budget p.states
+
+-- beside the bytes that it guarded, the core guards those that it loads from outside its own, and no others
+pub record GuardsLoaded (old new : StoreView) (core address width : ℕ) : Type 0 where
+  pub guarded : (a : ℕ) → new.guarded core a ≡ (old.guarded core a || (is_accessed address width a && not (old.own core a)))
 
 -- exactly the other cores that guard one of the written bytes
 pub record ViolatesReaders (by : ℕ) (written hurt : ℕ → Bool) (v : StoreView) : Type 0 where

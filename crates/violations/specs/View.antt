@@ -6,6 +6,7 @@ use Rattle.std.specs.Prelude.{◌≡◌, ◌≢◌, ℕ, ◌+◌, ◌*◌, ◌/�
 use Rattle.memory_bytes.specs.Bytes.{IsWidth}
 use Rattle.rv32_image.specs.declared.version.Limits.{Limits}
 use Rattle.violations.specs.declared.attempt.Attempt.{Attempt}
+use Rattle.violations.specs.declared.step.WaitCause.{WaitCause}
 
 -- what a store is made for, and never changes: so many cores, bytes of memory, bytes of code, which lies from address 0 on, and
 -- the limits of the image's version
@@ -35,6 +36,19 @@ pub record StoreView : Type 0 where
   -- the bytes whose change violates it: those that its attempt has loaded from outside its own, and beside them none but bytes
   -- of their lines
   pub guarded : ℕ → ℕ → Bool
+
+-- why a speculative load or store of a core waits, by its address and width; none where it is done
+pub record Waits : Type 0 where
+  pub load : ℕ → ℕ → ℕ → Option WaitCause
+  pub store : ℕ → ℕ → ℕ → Option WaitCause
+
+-- each is done
+abbrev pub never_waits : Waits
+never_waits = record { load = λ core address width. None; store = λ core address width. None }
+
+-- each waits, for this cause
+abbrev pub always_waits : WaitCause → Waits
+always_waits cause = record { load = λ core address width. Some cause; store = λ core address width. Some cause }
 
 abbrev pub attempt_of : ℕ → Bool → Attempt
 attempt_of epoch straight = record { epoch = epoch; straight = straight }

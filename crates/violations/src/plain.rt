@@ -2,7 +2,7 @@ ghost use Rattle.std.specs.Prelude.{◌≡◌, ◌<◌, ◌≤◌, ◌+◌, ◌^
 ghost use Rattle.violations.specs.Plain as spec;
 ghost use Rattle.violations.specs.View as view_spec;
 ghost use Rattle.violations.specs.Rule as rule;
-ghost use Rattle.violations.specs.Answers.{MatchStep};
+ghost use Rattle.violations.specs.Answers.{MatchStep, wait_of};
 ghost use Rattle.violations.specs.View.{is_accessed};
 ghost use Rattle.violations.specs.CoreSet.{is_in};
 
@@ -51,91 +51,6 @@ impl Model for PlainStore {
 }
 
 impl PlainStore {
-    /// A speculative load, as the trait has it. It never waits, and violates nobody.
-    pub fn load(&mut self, core: u32, addr: u32, width: u32) -> Step
-        requires budget { 1 ≤ self.old.budget }
-        requires runs { view_spec.Runs (spec.store_view self.old) core false }
-        requires access { view_spec.IsLoad (spec.store_view self.old).shape addr width }
-        ensures loads { MatchStep result (λ value hurt. rule.Loads (spec.store_view self.old) (spec.store_view self.new) core addr width value hurt) ⊥ }
-        ensures nobody { MatchStep result (λ value hurt. (k : ℕ) → hurt k ≡ false) ⊥ }
-        ensures budget { self.old.budget ≤ self.new.budget + 1 }
-    {
-        let state = &mut self.states[core as usize];
-        let value = state.load(self.committed.as_slice(), addr, width);
-        self.budget -= 1;
-        Step::Done {
-            value,
-            hurt: CoreSet::none(),
-        }
-    }
-
-    /// A speculative store, as the trait has it. It never waits, and violates nobody.
-    pub fn store(&mut self, core: u32, addr: u32, width: u32, value: u32) -> Step
-        requires budget { 1 ≤ self.old.budget }
-        requires runs { view_spec.Runs (spec.store_view self.old) core false }
-        requires access { view_spec.IsStore (spec.store_view self.old).shape addr width value }
-        ensures stores { MatchStep result (λ answer hurt. (answer ≡ 0) × rule.Stores (spec.store_view self.old) (spec.store_view self.new) core addr width value hurt) ⊥ }
-        ensures nobody { MatchStep result (λ answer hurt. (k : ℕ) → hurt k ≡ false) ⊥ }
-        ensures budget { self.old.budget ≤ self.new.budget + 1 }
-    {
-        let state = &mut self.states[core as usize];
-        state.own.keep(addr, width, value);
-        self.budget -= 1;
-        Step::Done {
-            value: 0,
-            hurt: CoreSet::none(),
-        }
-    }
-
-    /// A publish, as the trait has it. It violates exactly the other cores that guard a byte of the caller's own.
-    pub fn publish(&mut self, core: u32) -> CoreSet
-        requires budget { 1 ≤ self.old.budget }
-        requires may { view_spec.MayPublish (spec.store_view self.old) core }
-        ensures publishes { rule.Publishes (spec.store_view self.old) (spec.store_view self.new) core (is_in result) }
-        ensures violates { spec.ViolatesReaders core ((spec.store_view self.old).own core) (is_in result) (spec.store_view self.old) }
-        ensures budget { self.old.budget ≤ self.new.budget + 1 }
-    {
-        let own = &self.states[core as usize].own;
-        let hurt = readers_of(self.states.as_slice(), core, own);
-        drop_attempts(&mut self.states, hurt);
-        let state = &mut self.states[core as usize];
-        state.own.commit(&mut self.committed);
-        state.go_straight();
-        hurt
-    }
-
-    /// A straight load, as the trait has it. It violates nobody.
-    pub fn straight_load(&mut self, core: u32, addr: u32, width: u32) -> (u32, CoreSet)
-        requires budget { 1 ≤ self.old.budget }
-        requires runs { view_spec.Runs (spec.store_view self.old) core true }
-        requires access { view_spec.IsLoad (spec.store_view self.old).shape addr width }
-        ensures loads { rule.LoadsStraight (spec.store_view self.old) (spec.store_view self.new) core addr width result.0 (is_in result.1) }
-        ensures nobody { (k : ℕ) → is_in result.1 k ≡ false }
-        ensures budget { self.old.budget ≤ self.new.budget + 1 }
-    {
-        let value = self.states[core as usize]
-            .own
-            .number(self.committed.as_slice(), addr, width);
-        (value, CoreSet::none())
-    }
-
-    /// A straight store, as the trait has it. It violates exactly the other cores that guard a byte that is written.
-    pub fn straight_store(&mut self, core: u32, addr: u32, width: u32, value: u32) -> CoreSet
-        requires budget { 1 ≤ self.old.budget }
-        requires runs { view_spec.Runs (spec.store_view self.old) core true }
-        requires access { view_spec.IsStore (spec.store_view self.old).shape addr width value }
-        ensures stores { rule.StoresStraight (spec.store_view self.old) (spec.store_view self.new) core addr width value (is_in result) }
-        ensures violates { spec.ViolatesReaders core (is_accessed addr width) (is_in result) (spec.store_view self.old) }
-        ensures budget { self.old.budget ≤ self.new.budget + 1 }
-    {
-        let hurt = readers_from(self.states.as_slice(), core, addr, width);
-        drop_attempts(&mut self.states, hurt);
-        commit_number(&mut self.committed, addr, width, value);
-        hurt
-    }
-}
-
-impl PlainStore {
     /// Makes room for some more calls.
     fn grow(&mut self) -> Result<(), NoMemory>
         ensures view { rule.IsSameView (spec.store_view self.old) (spec.store_view self.new) }
@@ -151,8 +66,11 @@ impl PlainStore {
 
 impl EpochStore for PlainStore {
     ghost use Rattle.violations.specs.Plain.{store_view};
+    ghost use Rattle.violations.specs.View.{never_waits};
 
     ghost view = { store_view };
+
+    ghost waits = { λ _. never_waits };
 
     ghost budget = { λ p. p.budget };
 
@@ -188,24 +106,90 @@ impl EpochStore for PlainStore {
         });
     }
 
-    fn load(&mut self, core: u32, addr: u32, width: u32) -> Step {
-        PlainStore::load(self, core, addr, width)
+    /// A speculative load: it never waits, violates nobody, and guards just the bytes that it takes from outside.
+    fn load(&mut self, core: u32, addr: u32, width: u32) -> Step
+        requires budget { 1 ≤ self.old.budget }
+        requires runs { view_spec.Runs (spec.store_view self.old) core false }
+        requires access { view_spec.IsLoad (spec.store_view self.old).shape addr width }
+        ensures waits { wait_of result ≡ None }
+        ensures loads { MatchStep result (λ value hurt. rule.Loads (spec.store_view self.old) (spec.store_view self.new) core addr width value hurt) ⊥ }
+        ensures guards { spec.GuardsLoaded (spec.store_view self.old) (spec.store_view self.new) core addr width }
+        ensures nobody { MatchStep result (λ value hurt. (k : ℕ) → hurt k ≡ false) ⊥ }
+        ensures budget { self.old.budget ≤ self.new.budget + 1 }
+    {
+        let state = &mut self.states[core as usize];
+        let value = state.load(self.committed.as_slice(), addr, width);
+        self.budget -= 1;
+        Step::Done {
+            value,
+            hurt: CoreSet::none(),
+        }
     }
 
-    fn store(&mut self, core: u32, addr: u32, width: u32, value: u32) -> Step {
-        PlainStore::store(self, core, addr, width, value)
+    /// A speculative store: it never waits, and violates nobody.
+    fn store(&mut self, core: u32, addr: u32, width: u32, value: u32) -> Step
+        requires budget { 1 ≤ self.old.budget }
+        requires runs { view_spec.Runs (spec.store_view self.old) core false }
+        requires access { view_spec.IsStore (spec.store_view self.old).shape addr width value }
+        ensures waits { wait_of result ≡ None }
+        ensures stores { MatchStep result (λ answer hurt. (answer ≡ 0) × rule.Stores (spec.store_view self.old) (spec.store_view self.new) core addr width value hurt) ⊥ }
+        ensures nobody { MatchStep result (λ answer hurt. (k : ℕ) → hurt k ≡ false) ⊥ }
+        ensures budget { self.old.budget ≤ self.new.budget + 1 }
+    {
+        let state = &mut self.states[core as usize];
+        state.own.keep(addr, width, value);
+        self.budget -= 1;
+        Step::Done {
+            value: 0,
+            hurt: CoreSet::none(),
+        }
     }
 
-    fn publish(&mut self, core: u32) -> CoreSet {
-        PlainStore::publish(self, core)
+    /// A publish: it violates exactly the other cores that guard a byte of the caller's own.
+    fn publish(&mut self, core: u32) -> CoreSet
+        requires budget { 1 ≤ self.old.budget }
+        requires may { view_spec.MayPublish (spec.store_view self.old) core }
+        ensures publishes { rule.Publishes (spec.store_view self.old) (spec.store_view self.new) core (is_in result) }
+        ensures violates { spec.ViolatesReaders core ((spec.store_view self.old).own core) (is_in result) (spec.store_view self.old) }
+        ensures budget { self.old.budget ≤ self.new.budget + 1 }
+    {
+        let own = &self.states[core as usize].own;
+        let hurt = readers_of(self.states.as_slice(), core, own);
+        drop_attempts(&mut self.states, hurt);
+        let state = &mut self.states[core as usize];
+        state.own.commit(&mut self.committed);
+        state.go_straight();
+        hurt
     }
 
-    fn straight_load(&mut self, core: u32, addr: u32, width: u32) -> (u32, CoreSet) {
-        PlainStore::straight_load(self, core, addr, width)
+    /// A straight load: it violates nobody.
+    fn straight_load(&mut self, core: u32, addr: u32, width: u32) -> (u32, CoreSet)
+        requires budget { 1 ≤ self.old.budget }
+        requires runs { view_spec.Runs (spec.store_view self.old) core true }
+        requires access { view_spec.IsLoad (spec.store_view self.old).shape addr width }
+        ensures loads { rule.LoadsStraight (spec.store_view self.old) (spec.store_view self.new) core addr width result.0 (is_in result.1) }
+        ensures nobody { (k : ℕ) → is_in result.1 k ≡ false }
+        ensures budget { self.old.budget ≤ self.new.budget + 1 }
+    {
+        let value = self.states[core as usize]
+            .own
+            .number(self.committed.as_slice(), addr, width);
+        (value, CoreSet::none())
     }
 
-    fn straight_store(&mut self, core: u32, addr: u32, width: u32, value: u32) -> CoreSet {
-        PlainStore::straight_store(self, core, addr, width, value)
+    /// A straight store: it violates exactly the other cores that guard a byte that is written.
+    fn straight_store(&mut self, core: u32, addr: u32, width: u32, value: u32) -> CoreSet
+        requires budget { 1 ≤ self.old.budget }
+        requires runs { view_spec.Runs (spec.store_view self.old) core true }
+        requires access { view_spec.IsStore (spec.store_view self.old).shape addr width value }
+        ensures stores { rule.StoresStraight (spec.store_view self.old) (spec.store_view self.new) core addr width value (is_in result) }
+        ensures violates { spec.ViolatesReaders core (is_accessed addr width) (is_in result) (spec.store_view self.old) }
+        ensures budget { self.old.budget ≤ self.new.budget + 1 }
+    {
+        let hurt = readers_from(self.states.as_slice(), core, addr, width);
+        drop_attempts(&mut self.states, hurt);
+        commit_number(&mut self.committed, addr, width, value);
+        hurt
     }
 
     fn leave(&mut self, core: u32) {

@@ -1,9 +1,9 @@
 ghost use Rattle.std.specs.Prelude.{◌≡◌, ◌+◌, ◌<◌, ◌≤◌, ℕ, IfOk, OnOk, true, false};
-ghost use Rattle.violations.specs.View.{StoreView};
+ghost use Rattle.violations.specs.View.{StoreView, Waits};
 ghost use Rattle.violations.specs.View as view_spec;
 ghost use Rattle.violations.specs.Rule as rule;
 ghost use Rattle.violations.specs.CoreSet.{is_in};
-ghost use Rattle.violations.specs.Answers.{MatchStep};
+ghost use Rattle.violations.specs.Answers.{MatchStep, wait_of};
 
 use crate::core_set::CoreSet;
 use crate::step::Step;
@@ -18,6 +18,9 @@ use std::alloc::Global;
 pub trait EpochStore: Drop + Send {
     /// What the store holds.
     ghost view: { Self → StoreView };
+
+    /// Why a speculative access of a core waits, where it does.
+    ghost waits: { Self → Waits };
 
     /// How many changing calls there is room for.
     ghost budget: { Self → ℕ };
@@ -36,9 +39,10 @@ pub trait EpochStore: Drop + Send {
 
     /// Makes room for four changing calls.
     ///
-    /// `NoMemory`: there was no memory. The view is as it was.
+    /// `NoMemory`: there was no memory. The view is as it was, and the same accesses wait.
     fn reserve(&mut self) -> Result<(), NoMemory>
         ensures view { rule.IsSameView (view self.old) (view self.new) }
+        ensures waits { waits self.new ≡ waits self.old }
         ensures budget { OnOk result (4 ≤ budget self.new) };
 
     /// The core begins an attempt of the epoch.
@@ -53,6 +57,7 @@ pub trait EpochStore: Drop + Send {
         requires budget { 1 ≤ budget self.old }
         requires runs { view_spec.Runs (view self.old) core false }
         requires access { view_spec.IsLoad (view self.old).shape addr width }
+        ensures waits { wait_of result ≡ (waits self.old).load core addr width }
         ensures loads { MatchStep result (λ value hurt. rule.Loads (view self.old) (view self.new) core addr width value hurt) (self.new ≡ self.old) }
         ensures budget { budget self.old ≤ budget self.new + 1 };
 
@@ -62,6 +67,7 @@ pub trait EpochStore: Drop + Send {
         requires budget { 1 ≤ budget self.old }
         requires runs { view_spec.Runs (view self.old) core false }
         requires access { view_spec.IsStore (view self.old).shape addr width value }
+        ensures waits { wait_of result ≡ (waits self.old).store core addr width }
         ensures stores { MatchStep result (λ answer hurt. (answer ≡ 0) × rule.Stores (view self.old) (view self.new) core addr width value hurt) (self.new ≡ self.old) }
         ensures budget { budget self.old ≤ budget self.new + 1 };
 

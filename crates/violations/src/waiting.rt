@@ -15,7 +15,12 @@ pub struct Waiting<S: EpochStore> {
 }
 
 impl<S: EpochStore> EpochStore for Waiting<S> {
+    ghost use Rattle.violations.specs.View.{always_waits};
+    ghost use Rattle.violations.specs.declared.step.WaitCause.TheVariants.{NoWay};
+
     ghost view = { λ w. S.view w.store };
+
+    ghost waits = { λ _. always_waits NoWay };
 
     ghost budget = { λ w. S.budget w.store };
 

@@ -77,18 +77,29 @@ impl Dice {
     }
 }
 
+/// Adds a word in eight hexadecimal digits.
+fn push_hex(alloc: Global, text: &mut String, word: u32) -> Result<(), AllocError> {
+    text.push_str(format!(in alloc; "{word:08x}")?.as_str())
+}
+
+/// Adds twelve words that look random.
+fn push_words(alloc: Global, text: &mut String, dice: &mut Dice) -> Result<(), AllocError> {
+    for _ in 0..12 {
+        push_hex(alloc, text, dice.word().swap_bytes())?;
+    }
+    Ok(())
+}
+
 /// An image text of four epochs, with twelve words that end by a return.
 pub(crate) fn image_text(alloc: Global, dice: &mut Dice) -> Result<String, AllocError> {
     let mut text = String::from_str(alloc, "size 256\nepochs 4\nlimit 40\nreg 6 00000040\n")?;
     if dice.roll(3) == 0 {
         text.push_str("exit\n")?;
     }
-    let value = dice.roll(0x1000_0000).wrapping_mul(16);
-    text.push_str(format!(in alloc; "reg 5 {value:08x}\ncode ")?.as_str())?;
-    for _ in 0..12 {
-        let word = dice.word().swap_bytes();
-        text.push_str(format!(in alloc; "{word:08x}")?.as_str())?;
-    }
+    text.push_str("reg 5 ")?;
+    push_hex(alloc, &mut text, dice.roll(0x1000_0000).wrapping_mul(16))?;
+    text.push_str("\ncode ")?;
+    push_words(alloc, &mut text, dice)?;
     text.push_str("67800000\nat 00000040 80112233c4556677ff99aabb0cddeeff0102038405\n")?;
     Ok(text)
 }

@@ -14,8 +14,8 @@ returns-in_default-make_room-clause-turned g c =
     let p = c.args.parts.now in
     let q = c.make_room.new.parts in
     let free = has_free p.register c.free_entries-free.result c.args.room c.len.result c.free_entries-free.ensures c.len.ensures c.if-room-len.false c.requires.book.within in
-    turned_refused g.S.EpochStore.view p.register q.register p.store q.store c.args.room c.args.core c.args.stopped c.args.shares.now
-    (option_copied c.args.next) c.requires.book.fits c.in_default.is c.in_default-stopped.is free c.make_room.ensures.register c.make_room.ensures.store
+    turned_refused g.S.EpochStore.view g.S.EpochStore.waits p.register q.register p.store q.store c.args.room c.args.core c.args.stopped c.args.shares.now
+    (option_copied c.args.next) c.requires.book.fits c.in_default.is c.in_default-stopped.is free c.make_room.ensures.register c.make_room.ensures.store c.make_room.ensures.waits
 
 pub turn-came-requires-clause-notes : goal.turn-came-requires-clause-notes
 turn-came-requires-clause-notes g c κs lives =
@@ -45,8 +45,8 @@ returns-clause-turned g c =
     let p = c.args.parts.now in
     let q = c.make_room.new.parts in
     let free = has_free p.register c.free_entries-free.result c.args.room c.len.result c.free_entries-free.ensures c.len.ensures c.if-room-len.false c.requires.book.within in
-    rw c.answer_of.ensures (turned_acts g.S.EpochStore.view p.register q.register p.store q.store c.args.room c.args.core c.args.stopped c.args.shares.now
-    (option_copied c.args.next) c.requires.book.fits c.in_default.is c.in_default-stopped.is free c.make_room.ensures.register c.make_room.ensures.store
+    rw c.answer_of.ensures (turned_acts g.S.EpochStore.view g.S.EpochStore.waits p.register q.register p.store q.store c.args.room c.args.core c.args.stopped c.args.shares.now
+    (option_copied c.args.next) c.requires.book.fits c.in_default.is c.in_default-stopped.is free c.make_room.ensures.register c.make_room.ensures.store c.make_room.ensures.waits
     c.turn-came.new.self.register c.turn-came.new.self.store c.turn-came.new.shares _ c.turn-came.ensures)
 
 pub returns-in_default-make_room-clause-most : goal.returns-in_default-make_room-clause-most

@@ -1,4 +1,4 @@
-use Rattle.std.proofs.Common.{refl}
+use Rattle.std.proofs.Common.{refl, sym}
 use Rattle.violations.specs.CoreSet.{is_in}
 use Rattle.homefree.proofs.Standing.{may_load}
 use Rattle.homefree.proofs.Accessing.{at_this, loaded, waited}
@@ -16,7 +16,7 @@ returns-in-Done g c =
     let old = c.args.self.now in
     let at = c.requires.load in
     rw c.load-in-Done.ensures.hart (loaded old.register c.load-in-Done.new.self (g.S.EpochStore.view old.store) (g.S.EpochStore.view c.load.new.self) c.args.shares.now c.load-in-Done.new.shares c.args.core c.args.now.now c.args.arrived.now
-    c.args.addr c.args.width c.in-Done.value at.0 at.1 (is_in c.in-Done.hurt) _ c.requires.arrives at.2 c.requires.speculates c.in-Done.ensures.loads
+    c.args.addr c.args.width c.in-Done.value at.0 at.1 (is_in c.in-Done.hurt) _ c.requires.arrives at.2 c.requires.speculates (sym c.in-Done.ensures.waits) c.in-Done.ensures.loads
     refl c.load-in-Done.ensures.steps)
 
 pub returns-else-now-self : goal.returns-else-now-self
@@ -24,4 +24,4 @@ returns-else-now-self g c =
     let old = c.args.self.now in
     let at = c.requires.load in
     rw (c.in-Wait.ensures.loads, c.cause_of.ensures)
-    (waited old.register (g.S.EpochStore.view old.store) c.args.shares.now c.args.core c.args.now.now c.args.arrived.now _ c.in-Wait.cause c.requires.arrives at.2 tt c.requires.speculates c.if-now-self.false)
+    (waited old.register (g.S.EpochStore.view old.store) c.args.shares.now c.args.core c.args.now.now c.args.arrived.now _ c.in-Wait.cause c.requires.arrives at.2 (sym c.in-Wait.ensures.waits) c.requires.speculates c.if-now-self.false)

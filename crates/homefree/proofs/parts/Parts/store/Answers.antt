@@ -1,4 +1,4 @@
-use Rattle.std.proofs.Common.{refl}
+use Rattle.std.proofs.Common.{refl, sym}
 use Rattle.violations.specs.CoreSet.{is_in}
 use Rattle.homefree.proofs.Standing.{may_store}
 use Rattle.homefree.proofs.Accessing.{at_this, stored, waited}
@@ -14,11 +14,11 @@ pub returns-in-Done : goal.returns-in-Done
 returns-in-Done g c =
     let old = c.args.self.now in
     rw c.store-in-Done.ensures.hart (stored old.register c.store-in-Done.new.self (g.S.EpochStore.view old.store) (g.S.EpochStore.view c.store.new.self) c.args.shares.now c.store-in-Done.new.shares c.args.core c.args.now.now c.args.arrived.now
-    c.args.addr c.args.width c.args.value (is_in c.in-Done.hurt) _ c.requires.arrives c.requires.store c.requires.speculates c.in-Done.ensures.stores.1
+    c.args.addr c.args.width c.args.value (is_in c.in-Done.hurt) _ c.requires.arrives c.requires.store c.requires.speculates (sym c.in-Done.ensures.waits) c.in-Done.ensures.stores.1
     refl c.store-in-Done.ensures.steps)
 
 pub returns-else-now-self : goal.returns-else-now-self
 returns-else-now-self g c =
     let old = c.args.self.now in
     rw (c.in-Wait.ensures.stores, c.cause_of.ensures)
-    (waited old.register (g.S.EpochStore.view old.store) c.args.shares.now c.args.core c.args.now.now c.args.arrived.now _ c.in-Wait.cause c.requires.arrives c.requires.store tt c.requires.speculates c.if-now-self.false)
+    (waited old.register (g.S.EpochStore.view old.store) c.args.shares.now c.args.core c.args.now.now c.args.arrived.now _ c.in-Wait.cause c.requires.arrives c.requires.store (sym c.in-Wait.ensures.waits) c.requires.speculates c.if-now-self.false)

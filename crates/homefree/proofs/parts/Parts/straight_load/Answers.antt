@@ -45,6 +45,6 @@ returns g c =
     let old = c.args.self.now in
     let mid = c.go_straight-straight.new.self in
     let at = c.requires.load in
-    rw c.load.ensures.hart (loaded_straight old.register mid.register (view old.store) (view mid.store) c.args.core c.args.now.now c.go_straight-straight.result c.requires.arrives.running c.requires.homefree c.go_straight-straight.ensures.straight
+    rw c.load.ensures.hart (loaded_straight _ old.register mid.register (view old.store) (view mid.store) c.args.core c.args.now.now c.go_straight-straight.result c.requires.arrives.running c.requires.homefree c.go_straight-straight.ensures.straight
     c.load.new.self (view c.straight_load-value.new.self) c.args.shares.now c.load.new.shares c.args.arrived.now c.args.addr c.args.width c.straight_load-value.result.0 at.0 at.1 (is_in c.straight_load-value.result.1) _
-    (at_this old.register c.args.core c.args.now.now c.args.arrived.now _ c.requires.arrives.is_at at.2) c.look.ensures c.straight_load-value.ensures.loads refl c.load.ensures.steps)
+    (at_this old.register c.args.core c.args.now.now c.args.arrived.now _ c.requires.arrives.is_at at.2) c.requires.waits c.look.ensures c.straight_load-value.ensures.loads refl c.load.ensures.steps)

@@ -44,6 +44,6 @@ returns g c =
     let view = g.S.EpochStore.view in
     let old = c.args.self.now in
     let mid = c.go_straight-straight.new.self in
-    rw c.store.ensures.hart (stored_straight old.register mid.register (view old.store) (view mid.store) c.args.core c.args.now.now c.go_straight-straight.result c.requires.arrives.running c.requires.homefree c.go_straight-straight.ensures.straight
+    rw c.store.ensures.hart (stored_straight _ old.register mid.register (view old.store) (view mid.store) c.args.core c.args.now.now c.go_straight-straight.result c.requires.arrives.running c.requires.homefree c.go_straight-straight.ensures.straight
     c.store.new.self (view c.straight_store-hurt.new.self) c.args.shares.now c.store.new.shares c.args.arrived.now c.args.addr c.args.width c.args.value (is_in c.straight_store-hurt.result) _
-    (at_this old.register c.args.core c.args.now.now c.args.arrived.now _ c.requires.arrives.is_at c.requires.store) c.look.ensures c.straight_store-hurt.ensures.stores refl c.store.ensures.steps)
+    (at_this old.register c.args.core c.args.now.now c.args.arrived.now _ c.requires.arrives.is_at c.requires.store) c.requires.waits c.look.ensures c.straight_store-hurt.ensures.stores refl c.store.ensures.steps)

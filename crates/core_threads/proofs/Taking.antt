@@ -1,0 +1,172 @@
+-- A turn of a core: what follows its answer, and a book that is stopped where the turn failed.
+use Rattle.std.proofs.Common.{◌≡◌, ◌≢◌, ℕ, ◌+◌, Bool, true, cond, ◌&&◌, is_none, List, [], ◌++◌, Option, Some, None, Result, Ok, Err, refl, sym, ap, ◌∙◌, subst}
+use Rattle.std.proofs.lemmas.List.{append-nil}
+use Rattle.rv32_exec.specs.declared.sequential.End.{End}
+use Rattle.rv32_exec.specs.Arrival.{Arrival}
+use Rattle.rv32_exec.specs.Hart.{HartState}
+use Rattle.run_ledger.specs.declared.counts.Counts.{Counts}
+use Rattle.spec_history.specs.declared.entry.Entry.{Entry}
+use Rattle.spec_history.specs.declared.entry.What.{What}
+use Rattle.spec_history.specs.FlatState.{FlatState, end_at}
+use Rattle.spec_history.specs.Replay.{replay}
+use Rattle.violations.specs.View.{StoreView, Waits}
+use Rattle.homefree.specs.declared.answer.Answer.{Answer}
+use Rattle.homefree.specs.declared.answer.Answer.TheVariants.{Go, Again, Left, Over, Stopped}
+use Rattle.homefree.specs.declared.answer.StopCause.{StopCause}
+use Rattle.homefree.specs.declared.fault.TurnFault.{TurnFault}
+use Rattle.homefree.specs.BookView.{BookView}
+use Rattle.homefree.specs.LockView.{loop_of, past_of}
+use Rattle.homefree.specs.Turned.{Turn, Outcome}
+use Rattle.homefree.specs.Turned as turn
+use Rattle.core_threads.specs.declared.turns.After.{After}
+use Rattle.core_threads.specs.declared.turns.After.TheVariants.{Ends}
+use Rattle.core_threads.specs.declared.turns.LoopEnd.TheVariants as loop
+use Rattle.core_threads.specs.Answered.{Takes, after_answer, hart_after, cause_for}
+use Rattle.core_threads.specs.Passes.{IsGoing}
+use Rattle.core_threads.proofs.Counting.{history-past}
+
+-- ---- answers
+
+pub over_answer : (answer : Answer) → after_answer answer ≡ Ends loop.Over → (end : End) × (answer ≡ Over end)
+over_answer (Go reached) is = absurd cc
+over_answer (Again cause) is = absurd cc
+over_answer Left is = absurd cc
+over_answer (Over end) is = (end, refl)
+over_answer (Stopped cause) is = absurd cc
+
+pub stopped_answer : (answer : Answer) → after_answer answer ≡ Ends loop.Stopped → (cause : StopCause) × (answer ≡ Stopped cause)
+stopped_answer (Go reached) is = absurd cc
+stopped_answer (Again cause) is = absurd cc
+stopped_answer Left is = absurd cc
+stopped_answer (Over end) is = absurd cc
+stopped_answer (Stopped cause) is = (cause, refl)
+
+pub never_spent : (answer : Answer) → after_answer answer ≢ Ends loop.Spent
+never_spent (Go reached) is = cc
+never_spent (Again cause) is = cc
+never_spent Left is = cc
+never_spent (Over end) is = cc
+never_spent (Stopped cause) is = cc
+
+-- ---- no turn that is taken answers that the book was stopped
+
+isnt_stopped : (out : Outcome) (entries : List Entry) (answer : Answer) (cause : StopCause) → out ≡ turn.does entries answer → answer ≢ Stopped cause → out.answer ≢ Stopped cause
+isnt_stopped out entries answer cause same isnt is = isnt (sym (ap (λ (o : Outcome). o.answer) same) ∙ is)
+
+go_isnt : (hart : HartState) (cause : StopCause) → Go hart ≢ Stopped cause
+go_isnt hart cause is = cc
+
+again_isnt : (why : _) (cause : StopCause) → Again why ≢ Stopped cause
+again_isnt why cause is = cc
+
+over_isnt : (end : End) (cause : StopCause) → Over end ≢ Stopped cause
+over_isnt end cause is = cc
+
+left_isnt : (o : Option End) (cause : StopCause) → turn.left_or_over o ≢ Stopped cause
+left_isnt None cause is = cc
+left_isnt (Some end) cause is = cc
+
+follows_isnt : (t : Turn) (v w : StoreView) (out : Outcome) (cause : StopCause) → turn.Follows t v w out → out.answer ≢ Stopped cause
+follows_isnt t v w out cause (turn.loads l) = isnt_stopped out _ _ cause l.out_is (go_isnt _ cause)
+follows_isnt t v w out cause (turn.stores l) = isnt_stopped out _ _ cause l.out_is (go_isnt _ cause)
+follows_isnt t v w out cause (turn.waits l) = isnt_stopped out _ _ cause l.out_is (again_isnt _ cause)
+follows_isnt t v w out cause (turn.loads_straight l) = isnt_stopped out _ _ cause l.out_is (go_isnt _ cause)
+follows_isnt t v w out cause (turn.stores_straight l) = isnt_stopped out _ _ cause l.out_is (go_isnt _ cause)
+follows_isnt t v w out cause (turn.is_early l) = isnt_stopped out _ _ cause l.out_is (again_isnt _ cause)
+follows_isnt t v w out cause (turn.commits l) = isnt_stopped out _ _ cause l.out_is (left_isnt (end_at t.image (t.state.homefree + 1)) cause)
+follows_isnt t v w out cause (turn.exits_loop l) = isnt_stopped out _ _ cause l.out_is (over_isnt _ cause)
+follows_isnt t v w out cause (turn.faults l) = isnt_stopped out _ _ cause l.out_is (over_isnt _ cause)
+
+acts_isnt : (t : Turn) (v w : StoreView) (out : Outcome) (cause : StopCause) → turn.Acts t v w out → out.answer ≢ Stopped cause
+acts_isnt t v w out cause (turn.starts l) = isnt_stopped out _ _ cause l.out_is (go_isnt _ cause)
+acts_isnt t v w out cause (turn.finds_none l) = isnt_stopped out _ _ cause l.out_is (again_isnt _ cause)
+acts_isnt t v w out cause (turn.restarts l) = isnt_stopped out _ _ cause l.out_is (go_isnt _ cause)
+acts_isnt t v w out cause (turn.is_told l) = isnt_stopped out _ _ cause l.out_is (go_isnt _ cause)
+acts_isnt t v w out cause (turn.follows l) = follows_isnt t v w out cause l
+
+same_answer : (result : Result Answer TurnFault) (a b : Answer) → result ≡ Ok a → result ≡ Ok b → a ≡ b
+same_answer result a b x y = cc
+
+err_isnt : (answer : Answer) (fault : TurnFault) → Ok answer ≡ Err fault → ⊥
+err_isnt answer fault is = cc
+
+err_never : (answer : Answer) (fault : TurnFault) → Err fault ≡ Ok answer → ⊥
+err_never answer fault is = cc
+
+-- ---- books
+
+module _ {S : Type 0} where
+  pub going_past : (b : BookView S) (s : FlatState) → replay b.image b.cores b.history ≡ Some s → s.end ≡ None → IsGoing (loop_of b) (past_of b.history)
+  going_past b s replays going = record { state = s; replays = ap (λ h. replay b.image b.cores h) (history-past b.history) ∙ replays; going = going }
+
+  pub going_where : (b : BookView S) (s : FlatState) (ended : Option End) → replay b.image b.cores b.history ≡ Some s → ended ≡ s.end → ended ≡ None → IsGoing (loop_of b) (past_of b.history)
+  going_where b s ended replays same is = going_past b s replays (sym same ∙ is)
+
+  -- a turn that failed: its book leads where it did, the loop isn't over, and the book isn't stopped
+  pub record Fails (turned : BookView S) (s : FlatState) : Type 0 where
+    pub replays : replay turned.image turned.cores turned.history ≡ Some s
+    pub going : s.end ≡ None
+    pub unstopped : turned.stopped ≡ None
+
+  replays_so : (old new : BookView S) (s : FlatState) → new.image ≡ old.image → new.cores ≡ old.cores → new.history ≡ old.history → replay old.image old.cores old.history ≡ Some s
+      → replay new.image new.cores new.history ≡ Some s
+  replays_so old new s image cores history replays = (λ i. replay (image i) (cores i) (history i)) ∙ replays
+
+  module _ (view : S → StoreView) (waits : S → Waits) (old turned : BookView S) (s : FlatState) (core : ℕ) (next : Option Arrival) (shares shares' : Counts) (result : Result Answer TurnFault)
+      (t : turn.Turned view waits old s shares core next result turned shares') where
+    pub takes_answer : (hart hart' : HartState) (after : After) (answer : Answer) → result ≡ Ok answer → after ≡ after_answer answer → hart' ≡ hart_after answer hart
+        → Takes view waits old turned s core next shares shares' hart hart' after
+    takes_answer hart hart' after answer is after_is hart_is = record {
+      turned = turned;
+      answer = Ok answer;
+      turns = subst (λ (r : Result Answer TurnFault). turn.Turned view waits old s shares core next r turned shares') is t;
+      follows = (refl, after_is, hart_is);
+    }
+
+  pub failed : (view : S → StoreView) (waits : S → Waits) (old turned : BookView S) (s : FlatState) (core : ℕ) (next : Option Arrival) (shares shares' : Counts) (result : Result Answer TurnFault) (fault : TurnFault)
+      → replay old.image old.cores old.history ≡ Some s → turn.Turned view waits old s shares core next result turned shares' → result ≡ Err fault → Fails turned s
+  failed view waits old turned s core next shares shares' result fault replays (turn.over o same held) is = absurd (err_isnt (Over o.end) fault (sym o.answer_is ∙ is))
+  failed view waits old turned s core next shares shares' result fault replays (turn.stopped o same held) is = absurd (err_isnt (Stopped o.cause) fault (sym o.answer_is ∙ is))
+  failed view waits old turned s core next shares shares' result fault replays (turn.full o same held) is = record {
+    replays = replays_so old turned s (ap (λ (b : BookView S). b.image) same) (ap (λ (b : BookView S). b.cores) same) (ap (λ (b : BookView S). b.history) same) replays;
+    going = o.going;
+    unstopped = ap (λ (b : BookView S). b.stopped) same ∙ o.unstopped;
+  }
+  failed view waits old turned s core next shares shares' result fault replays (turn.no_memory may seen grows none) is = record {
+    replays = replays_so old turned s grows.image grows.cores (grows.history ∙ append-nil old.history) replays;
+    going = may.going;
+    unstopped = grows.stopped ∙ may.unstopped;
+  }
+  failed view waits old turned s core next shares shares' result fault replays (turn.acts a) is = absurd (err_isnt a.out.answer fault (sym a.answer_is ∙ is))
+
+  -- where the answer is that the book was stopped, the loop isn't over
+  pub stopped_going : (view : S → StoreView) (waits : S → Waits) (old turned : BookView S) (s : FlatState) (core : ℕ) (next : Option Arrival) (shares shares' : Counts) (result : Result Answer TurnFault) (cause : StopCause)
+      → replay old.image old.cores old.history ≡ Some s → turn.Turned view waits old s shares core next result turned shares' → result ≡ Ok (Stopped cause) → IsGoing (loop_of turned) (past_of turned.history)
+  stopped_going view waits old turned s core next shares shares' result cause replays (turn.over o same held) is = absurd (over_isnt o.end cause (same_answer result (Over o.end) (Stopped cause) o.answer_is is))
+  stopped_going view waits old turned s core next shares shares' result cause replays (turn.stopped o same held) is =
+      going_past turned s (replays_so old turned s (ap (λ (b : BookView S). b.image) same) (ap (λ (b : BookView S). b.cores) same) (ap (λ (b : BookView S). b.history) same) replays) o.going
+  stopped_going view waits old turned s core next shares shares' result cause replays (turn.full o same held) is = absurd (err_isnt (Stopped cause) _ (sym is ∙ o.answer_is))
+  stopped_going view waits old turned s core next shares shares' result cause replays (turn.no_memory may seen grows none) is = absurd (err_isnt (Stopped cause) _ (sym is ∙ none))
+  stopped_going view waits old turned s core next shares shares' result cause replays (turn.acts a) is =
+      absurd (acts_isnt (turn.turn_at waits old s core next) a.reserved (view turned.store) a.out cause a.acts (same_answer result a.out.answer (Stopped cause) a.answer_is is))
+
+  -- ---- a book that is stopped for a turn that failed
+
+  pub stopped_so : (turned new : BookView S) (s : FlatState) (cause : StopCause) → Fails turned s
+      → new ≡ cond (is_none s.end && is_none turned.stopped) (record turned { stopped = Some cause }) turned → new ≡ record turned { stopped = Some cause }
+  stopped_so turned new s cause f is =
+      let halted : BookView S = record turned { stopped = Some cause } in
+      is ∙ (λ i. cond (is_none (f.going i) && is_none (f.unstopped i)) halted turned)
+
+  pub going_stopped : (turned new : BookView S) (s : FlatState) (cause : StopCause) → Fails turned s → new ≡ record turned { stopped = Some cause } → IsGoing (loop_of new) (past_of new.history)
+  going_stopped turned new s cause f is = subst (λ (b : BookView S). IsGoing (loop_of b) (past_of b.history)) (sym is) (going_past turned s f.replays f.going)
+
+  pub takes_fault : (view : S → StoreView) (waits : S → Waits) (old turned new : BookView S) (s : FlatState) (core : ℕ) (next : Option Arrival) (shares shares' : Counts) (hart hart' : HartState) (after : After)
+      (result : Result Answer TurnFault) (fault : TurnFault) → turn.Turned view waits old s shares core next result turned shares' → result ≡ Err fault → new ≡ record turned { stopped = Some (cause_for fault) }
+      → after ≡ Ends loop.Stopped → hart' ≡ hart → Takes view waits old new s core next shares shares' hart hart' after
+  takes_fault view waits old turned new s core next shares shares' hart hart' after result fault t is new_is after_is hart_is = record {
+    turned = turned;
+    answer = Err fault;
+    turns = subst (λ (r : Result Answer TurnFault). turn.Turned view waits old s shares core next r turned shares') is t;
+    follows = (new_is, after_is, hart_is);
+  }

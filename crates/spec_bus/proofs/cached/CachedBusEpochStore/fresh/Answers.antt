@@ -1,0 +1,41 @@
+use Rattle.std.proofs.Common.{◌≡◌, length, sym, ap, subst, ◌∙◌, rules, arith}
+use Rattle.rv32_image.specs.declared.version.Limits.{Limits}
+use Rattle.rv32_image.specs.Version.{limits_of}
+use Rattle.bus_states.specs.Bus.{Bus}
+use Rattle.bus_states.specs.Coherent.{IsCoherent}
+use Rattle.bus_states.specs.Views.{view_of, AreOrdered}
+use Rattle.bus_states.proofs.AttemptRules.{opened-coherent, opened-is_fresh, opened-ordered}
+use Rattle.violations.specs.Rule.{IsFresh}
+use Rattle.spec_bus.specs.Fresh.{fresh_bus, AreIdle}
+use Rattle.spec_bus.specs.Parts.{bus_of}
+use Rattle.spec_bus.proofs.Idle.{fresh_is, fresh_opened, most_few}
+use Rattle.spec_bus.proofs.cached.CachedBusEpochStore.fresh.Goals as goal
+
+bus-is : (c : goal.After-code) → bus_of c.code.result c.limits-limits.result c.in_ok-cores.cores.items c.in_ok-memory.memory.items ≡ fresh_bus c.args.image.now c.args.cores
+bus-is c =
+    let image = c.args.image.now in
+    let items : c.in_ok-memory.memory.items ≡ image.bytes = search rules in
+    let limits : c.limits-limits.result ≡ limits_of image.version = c.limits-limits.ensures ∙ ap limits_of c.version.ensures.version in
+    fresh_is image c.args.cores c.code.result c.limits-limits.result c.in_ok-cores.cores.items c.in_ok-memory.memory.items
+    c.in_ok-cores.ensures.count (ap length items ∙ c.code.ensures.limits.byte_count) c.code.ensures.code limits items
+    (subst (λ (l : Limits). AreIdle l.line_length l.buffer_lines c.in_ok-cores.cores.items) limits c.in_ok-cores.ensures.idle)
+
+pub invariant_of-result : goal.invariant_of-result
+invariant_of-result c =
+    let image = c.args.image.now in
+    let items : c.in_ok-memory.memory.items ≡ image.bytes = search rules in
+    let opened = fresh_opened image c.args.cores c.code.ensures.limits in
+    let few = most_few image.version in record {
+      coherent = subst (λ (bus : Bus). IsCoherent bus) (sym (bus-is c)) (opened-coherent (fresh_bus image c.args.cores) image c.args.cores opened);
+      ordered = subst (λ (bus : Bus). AreOrdered bus) (sym (bus-is c)) (opened-ordered (fresh_bus image c.args.cores) image c.args.cores opened);
+      few = omega (arith, c.in_ok-cores.ensures.count, c.requires.cores.most, few);
+      small = omega (arith, ap length items, c.code.ensures.limits.byte_count, c.code.ensures.limits.size_most);
+    }
+
+pub returns-clause-bus : goal.returns-clause-bus
+returns-clause-bus c = bus-is c
+
+pub returns-clause-fresh : goal.returns-clause-fresh
+returns-clause-fresh c =
+    subst (λ (bus : Bus). IsFresh c.args.image.now c.args.cores (view_of bus)) (sym (bus-is c))
+    (opened-is_fresh (fresh_bus c.args.image.now c.args.cores) c.args.image.now c.args.cores (fresh_opened c.args.image.now c.args.cores c.code.ensures.limits))

@@ -1,0 +1,96 @@
+#!/usr/bin/env python3
+"""The commands that the pages of docs/ print: each block with lines `$ COMMAND` is run, and has to print what stands below.
+
+Usage: tests/pages.py [COMMAND ..]
+
+COMMAND is a command of `trace_cli` that ends with the word `seq`, as for the other tests; `why` and `replay` are the programs that
+were built beside it. Without it ./trace_cli, ./why and ./replay are tested. A command with nothing below it has to end well and to say
+nothing on standard error. The commands of a page are run in one new folder, in which the tree's folders are found by their names.
+What calls `why` or `replay` is left out where they aren't built, and what compiles C where no gcc for RISC-V is installed; a line
+says so. Exits with 1 where a check failed.
+"""
+import re
+import shutil
+import subprocess
+import sys
+import tempfile
+from pathlib import Path
+
+ROOT = Path(__file__).resolve().parent.parent
+COMPILER = "riscv64-unknown-elf-gcc"
+SECONDS = 120
+
+
+def blocks(page):
+    """The blocks of a page with lines `$ COMMAND`: for each the line where it begins, and its commands with what they print."""
+    text = page.read_text(encoding="utf-8")
+    for found in re.finditer(r"(?ms)^```\w*\n(.*?)^```", text):
+        commands = re.split(r"(?m)^\$ ", found[1])
+        if len(commands) > 1:
+            yield text.count("\n", 0, found.start()) + 2, [it.partition("\n")[::2] for it in commands[1:]]
+
+
+def programs(command):
+    """The built programs by their names, where they are there."""
+    if not command:
+        return {name: ROOT / name for name in ("trace_cli", "why", "replay")}
+    given = Path(command[0]).resolve()
+    crates = given.parents[2] if len(given.parents) > 2 else given.parent
+    beside = {name: crates / name / "out" / name for name in ("why", "replay")}
+    return {"trace_cli": given} | {name: path for name, path in beside.items() if path.is_file()}
+
+
+def lacks(command, found):
+    """What a command needs that isn't there, or None."""
+    for name in ("why", "replay"):
+        if f"./{name} " in command and name not in found:
+            return f"the program {name}"
+    return COMPILER if "image-of-c" in command and not shutil.which(COMPILER) else None
+
+
+def furnish(room, found):
+    """Lays out the folder in which a page's commands are run."""
+    for name in ("examples", "tools"):
+        (room / name).symlink_to(ROOT / name)
+    for name, path in found.items():
+        script = room / name
+        script.write_text(f'#!/bin/sh\nexec "{path}" "$@"\n', encoding="utf-8")
+        script.chmod(0o755)
+
+
+def failure_of(command, wanted, room):
+    """Why a command isn't what its page says, or None."""
+    try:
+        ran = subprocess.run(["bash", "-c", command], cwd=room, capture_output=True, text=True, timeout=SECONDS, stdin=subprocess.DEVNULL, check=False)
+    except subprocess.TimeoutExpired:
+        return f"is still running after {SECONDS} seconds"
+    if wanted and ran.stdout != wanted:
+        return f"prints {ran.stdout[:500]!r}"
+    if not wanted and (ran.returncode or ran.stderr):
+        return f"ends with status {ran.returncode}, and says {ran.stderr[:200]!r}"
+    return None
+
+
+def main(words):
+    found, passed, failed, lacking = programs(words[:-1] if words[-1:] == ["seq"] else words), 0, 0, set()
+    for page in sorted((ROOT / "docs").glob("*.md")):
+        with tempfile.TemporaryDirectory(prefix="pages-") as folder:
+            furnish(Path(folder), found)
+            for line, commands in blocks(page):
+                for command, wanted in commands:
+                    missing = next(filter(None, (lacks(it, found) for it, _ in commands)), None)
+                    if missing:
+                        lacking.add(missing)
+                        continue
+                    why = failure_of(command, wanted, folder)
+                    passed, failed = passed + (why is None), failed + (why is not None)
+                    if why:
+                        print(f"FAILED {page.name}, line {line}: {command}: {why}")
+    for it in sorted(lacking):
+        print(f"left out: what needs {it}, which isn't there")
+    print(f"{passed} commands passed, {failed} failed")
+    return 1 if failed or not passed else 0
+
+
+if __name__ == "__main__":
+    sys.exit(main(sys.argv[1:]))

@@ -1,0 +1,358 @@
+#!/usr/bin/env python3
+"""Worked rows of the program `replay`: words, an image and the lines below it, with the exact output for each; and streams that fail.
+
+Usage: tests/replay.py [COMMAND ..]
+
+COMMAND is a command of `trace_cli` that ends with the word `seq`, such as crates/trace_cli/out/trace_cli seq; `replay` is the program that was built beside it.
+Without it ./replay of this repository is tested. Where no such program is beside it the test is skipped, and a line says so.
+What comes of each schedule was worked out by hand from the cases of a turn. The input ends in a failed read after each number of its bytes, and the
+output after each number of bytes that are taken: once by what the kernel does of itself, and once, where the C compiler `cc` is
+installed, by calls in the place of `read` and `write` that take few bytes at a time and are interrupted. Needs Linux: pipes whose reads give what
+one write took. Exits with 1 where an outcome differs.
+"""
+
+import fcntl
+import os
+import resource
+import shutil
+import subprocess
+import sys
+import tempfile
+from pathlib import Path
+
+from memory import beside
+from run_rows import loads
+from seq_rows import ROOT, image, run
+from streams import piecewise
+
+# Epoch 0 stores 1 to 64. Epoch 1 loops until it loads it.
+SIGNAL = image("6308050083220004e38e02fe67800000930210002320500467800000", epochs=2, limit=50)
+# Epoch 0 loads the word at 64, to which epoch 1 stores 1.
+LOAD_FIRST = image("630605002320a004678000008322000467800000", epochs=2)
+# Each of two epochs stores 255 to its byte at 64, 65.
+BYTES = image("9302f00f2300550467800000", epochs=2)
+# Each epoch loads the words at 64, 128 and 192, whose lines are of one set.
+ONE_SET = image("83220004032300088323000c67800000", epochs=2)
+# Epoch 0 loads the words at 64, 80, 96, 112 and 128. Epoch 1 stores 1 to them.
+FIVE_LOADS_FIRST = image("630e05002320a0042328a0042320a0062328a0062320a00867800000832200048322000583220006832200078322000867800000", epochs=2)
+# Each of two epochs adds 1 to the word at 64, and then faults.
+CALL = image("83220004938212002320500473000000", epochs=2, limit=50)
+# Nothing is to be run.
+NOTHING = image("67800000", epochs=0, limit=50)
+
+PLAIN, CACHES = ["plain", "2"], ["caches", "2"]
+
+VIOLATED = """\
+end done 2
+at 00000040 01000000000000000000000000000000
+counts 2 1 1 2
+trace 2
+0 start 0
+1 start 1
+0 store 00000040 4 00000001
+1 load 00000040 4 00000000
+0 hurt 1
+0 commit
+1 restart
+1 load 00000040 4 00000001
+1 commit
+"""
+NOT_VIOLATED = """\
+end done 2
+at 00000040 01000000000000000000000000000000
+counts 1 1 0 2
+trace 2
+0 start 0
+1 start 1
+0 load 00000040 4 00000000
+1 store 00000040 4 00000001
+0 commit
+1 commit
+"""
+BOTH_BYTES = """\
+end done 2
+at 00000040 ffff0000000000000000000000000000
+counts 0 2 0 2
+trace 2
+0 start 0
+1 start 1
+0 store 00000040 1 000000ff
+1 store 00000041 1 000000ff
+0 commit
+1 commit
+"""
+# Both ways of the set are marked: the third load of core 1 waits, and core 0 publishes.
+PUBLISHED = """\
+open 0
+counts 5 0 0 0
+trace 2
+0 start 0
+1 start 1
+1 load 00000040 4 00000000
+1 load 00000080 4 00000000
+0 load 00000040 4 00000000
+0 load 00000080 4 00000000
+0 publish
+0 load 000000c0 4 00000000
+"""
+# The plain store never waits.
+NOT_PUBLISHED = """\
+open 0
+counts 6 0 0 0
+trace 2
+0 start 0
+1 start 1
+1 load 00000040 4 00000000
+1 load 00000080 4 00000000
+1 load 000000c0 4 00000000
+0 load 00000040 4 00000000
+0 load 00000080 4 00000000
+0 load 000000c0 4 00000000
+"""
+# The buffer of core 1 is full at its fifth store, which waits until core 0 has committed.
+WAITED = """\
+end done 2
+at 00000040 01000000000000000000000000000000
+at 00000050 01000000000000000000000000000000
+at 00000060 01000000000000000000000000000000
+at 00000070 01000000000000000000000000000000
+at 00000080 01000000000000000000000000000000
+counts 5 5 0 2
+trace 2
+0 start 0
+0 load 00000040 4 00000000
+0 load 00000050 4 00000000
+0 load 00000060 4 00000000
+0 load 00000070 4 00000000
+0 load 00000080 4 00000000
+1 start 1
+1 store 00000040 4 00000001
+1 store 00000050 4 00000001
+1 store 00000060 4 00000001
+1 store 00000070 4 00000001
+0 commit
+1 store 00000080 4 00000001
+1 commit
+"""
+NOT_WAITED = """\
+end done 2
+at 00000040 01000000000000000000000000000000
+at 00000050 01000000000000000000000000000000
+at 00000060 01000000000000000000000000000000
+at 00000070 01000000000000000000000000000000
+at 00000080 01000000000000000000000000000000
+counts 5 5 0 2
+trace 2
+0 start 0
+0 load 00000040 4 00000000
+0 load 00000050 4 00000000
+0 load 00000060 4 00000000
+0 load 00000070 4 00000000
+0 load 00000080 4 00000000
+1 start 1
+1 store 00000040 4 00000001
+1 store 00000050 4 00000001
+1 store 00000060 4 00000001
+1 store 00000070 4 00000001
+1 store 00000080 4 00000001
+0 commit
+1 commit
+"""
+# The schedule of VIOLATED up to the commit of epoch 0.
+COMMITTED = """\
+open 1
+at 00000040 01000000000000000000000000000000
+counts 1 1 0 1
+trace 2
+0 start 0
+1 start 1
+0 store 00000040 4 00000001
+1 load 00000040 4 00000000
+0 hurt 1
+0 commit
+"""
+FAULTED = """\
+end fault 0 2 0000000c
+at 00000040 01000000000000000000000000000000
+counts 1 1 0 0
+trace 1
+0 start 0
+0 load 00000040 4 00000000
+0 store 00000040 4 00000001
+0 fault 2 0000000c
+"""
+NOT_BEGUN = "open 0\ncounts 0 0 0 0\ntrace 2\n"
+# Start, store and commit of each of the two epochs.
+ONE_CORE = """\
+schedules 1
+over 1
+histories 1
+least 0
+turns 0 0 0 0 0 0
+most 0
+turns 0 0 0 0 0 0
+end done 2
+at 00000040 ffff0000000000000000000000000000
+"""
+NO_EPOCHS = "schedules 8\nover 8\nhistories 1\nleast 0\nturns 0 0 0\nmost 0\nturns 0 0 0\nend done 0\n"
+SIX_AND_SIX = "turns 0 0 0 0 0 0\nturns 1 1 1 1 1 1\n# then\n\nturns 0 1 1"
+
+# (words, image, the lines below it, status, standard output, standard error)
+ROWS = [
+    (PLAIN, SIGNAL, "turns 0 1 0 1 0 1 1 1\n", 0, VIOLATED, ""),
+    (CACHES, SIGNAL, "turns 0 1 0 1 0 1 1 1\n", 0, VIOLATED, ""),
+    (PLAIN, LOAD_FIRST, "turns 0 1 0 1 0 1\n", 0, NOT_VIOLATED, ""),
+    (CACHES, LOAD_FIRST, "turns 0 1 0 1 0 1\n", 0, NOT_VIOLATED, ""),
+    (PLAIN, BYTES, "turns 0 1 0 1 0 1\n", 0, BOTH_BYTES, ""),
+    (CACHES, BYTES, "turns 0 1 0 1 0 1\n", 0, BOTH_BYTES, ""),
+    (CACHES, ONE_SET, "turns 0 1 1 1 1 0 0 0\n", 0, PUBLISHED, ""),
+    (PLAIN, ONE_SET, "turns 0 1 1 1 1 0 0 0\n", 0, NOT_PUBLISHED, ""),
+    (CACHES, FIVE_LOADS_FIRST, SIX_AND_SIX, 0, WAITED, ""),
+    (PLAIN, FIVE_LOADS_FIRST, SIX_AND_SIX, 0, NOT_WAITED, ""),
+    (PLAIN, SIGNAL, "turns 0 1 0 1 0\n", 0, COMMITTED, ""),
+    (CACHES, SIGNAL, "turns 0 1 0 1 0\n", 0, COMMITTED, ""),
+    (["plain", "1"], CALL, "turns 0 0 0 0 0\n", 1, FAULTED, ""),
+    (PLAIN, SIGNAL, "", 0, NOT_BEGUN, ""),
+    (CACHES, NOTHING, "", 0, "end done 0\ncounts 0 0 0 0\ntrace 2\n", ""),
+    (PLAIN, SIGNAL, "turns 0 2\n", 2, "", "turns 5 Line\n"),
+    (PLAIN, SIGNAL, "turns 0\n\n# no\nturns 0  1\n", 2, "", "turns 8 Line\n"),
+    (PLAIN, SIGNAL, "turns 0\nturns\n", 2, "", "turns 6 Line\n"),
+    (PLAIN, SIGNAL, "turns 00\n", 2, "", "turns 5 Line\n"),
+    (PLAIN, SIGNAL, "turns\n", 2, "", "image 5 Line\n"),
+    (["plain", "9"], SIGNAL, "turns x\n", 2, "", "usage\n"),
+    (["plain", "17"], SIGNAL, "turns 0\n", 2, "", "usage\n"),
+    (["bus", "2"], SIGNAL, "turns 0\n", 2, "", "usage\n"),
+    (["plain"], SIGNAL, "turns 0\n", 2, "", "usage\n"),
+    (["all", "plain", "2", "2"], BYTES, "", 0, "schedules 4\nover 0\nhistories 4\n", ""),
+    (["all", "caches", "1", "6"], BYTES, "", 0, ONE_CORE, ""),
+    (["all", "caches", "2", "3"], NOTHING, "", 0, NO_EPOCHS, ""),
+    (["all", "plain", "9", "2"], BYTES, "", 2, "", "usage\n"),
+    (["all", "plain", "2", "17"], BYTES, "", 2, "", "usage\n"),
+    (["all", "plain", "2", "2"], BYTES, "turns 0\n", 2, "", "image 5 Line\n"),
+]
+
+# A turn asks for 16 free entries of 1,048,576, and core 0 makes one in each turn: 17 of an epoch with 15 loads.
+JUST_ROOM = 1_048_576 - 16 + 1
+OPEN = ["open 61680", "counts 925200 0 0 61680", "trace 2"]
+
+# A program that tries again where it is interrupted would go on for ever.
+SECONDS = 30
+
+# In the place of read and write: descriptor 0 gives so many bytes, at most 3 a call, and is interrupted then; descriptor 1 takes
+# so many, at most 7 a call, and is broken then.
+SHIM = r"""
+#define _GNU_SOURCE
+#include <errno.h>
+#include <stdlib.h>
+#include <sys/syscall.h>
+#include <unistd.h>
+static long rest[2];
+__attribute__((constructor)) static void begin(void) {
+    rest[0] = atol(getenv("GIVEN"));
+    rest[1] = atol(getenv("TAKEN"));
+}
+static ssize_t some(long call, int descriptor, const void *bytes, size_t count, size_t most, int error) {
+    if (descriptor > 1) return syscall(call, descriptor, bytes, count);
+    if (count > most) count = most;
+    if (count > (size_t)rest[descriptor]) count = rest[descriptor];
+    if (count == 0) { errno = error; return -1; }
+    ssize_t done = syscall(call, descriptor, bytes, count);
+    if (done > 0) rest[descriptor] -= done;
+    return done;
+}
+ssize_t read(int from, void *bytes, size_t count) { return some(SYS_read, from, bytes, count, 3, EINTR); }
+ssize_t write(int to, const void *bytes, size_t count) { return some(SYS_write, to, bytes, count, 7, EPIPE); }
+"""
+
+
+def program_of(command):
+    """The built program `replay` that belongs to a command of `trace_cli`, or None."""
+    if Path(command[0]).resolve() != ROOT / "trace_cli":
+        return beside(command, "replay")
+    subprocess.run([ROOT / "replay"], input=b"", capture_output=True, check=False)
+    return ROOT / "crates" / "replay" / "out" / "replay"
+
+
+def full_history(program):
+    """What is wrong with schedules that have just room for their entries, and one turn more."""
+    for count, expected in (JUST_ROOM, (OPEN, JUST_ROOM, "", 0)), (JUST_ROOM + 1, ([], 0, "stopped HistoryFull\n", 3)):
+        output, errors, status = run([str(program)], PLAIN, loads(15) + "turns" + " 0" * count + "\n")
+        lines = output.splitlines()
+        if (lines[:3], len(lines[3:]), errors, status) != expected:
+            yield f"{count} turns\n  expected {expected}\n  got      {(lines[:3], len(lines[3:]), errors, status)}"
+
+
+def read_fails(program, given):
+    """The outcome where the input gives these bytes, 3 a call, and has no more, though it hasn't ended."""
+    reader, writer = os.pipe2(os.O_DIRECT | os.O_NONBLOCK)
+    fcntl.fcntl(writer, fcntl.F_SETPIPE_SZ, 4096 * (len(given) // 3 + 1))
+    for place in range(0, len(given), 3):
+        os.write(writer, given[place:place + 3])
+    done = subprocess.run([program, *PLAIN], stdin=reader, capture_output=True, check=False)
+    os.close(reader)
+    os.close(writer)
+    return done.stdout, done.stderr, done.returncode
+
+
+def write_fails(program, text, room):
+    """The outcome where the output is a file that may have so many bytes."""
+    with tempfile.TemporaryFile() as taken:
+        done = subprocess.run([program, *CACHES], input=text, stdout=taken, stderr=subprocess.PIPE, check=False, restore_signals=False,
+                              preexec_fn=lambda: resource.setrlimit(resource.RLIMIT_FSIZE, (room, room)))
+        taken.seek(0)
+        return taken.read(), done.stderr, done.returncode
+
+
+def cut(program, shim, words, text, given, taken):
+    """The outcome where the shim cuts input and output."""
+    environment = {**os.environ, "LD_PRELOAD": str(shim), "GIVEN": str(given), "TAKEN": str(taken)}
+    try:
+        done = subprocess.run([program, *words], input=text, capture_output=True, check=False, env=environment, timeout=SECONDS)
+    except subprocess.TimeoutExpired:
+        return f"no end within {SECONDS} seconds"
+    return done.stdout, done.stderr, done.returncode
+
+
+def streams(program, shim):
+    """(what it shows, outcome, expected outcome) of streams that are slow or fail."""
+    text, output = SIGNAL.encode(), NOT_BEGUN.encode()
+    schedule = text + b"turns 0 1 0 1 0 1 1 1\n"
+    yield "text byte by byte", piecewise([program, *CACHES], schedule, 1), (VIOLATED.encode(), b"", 0)
+    for given in range(len(text) + 1):
+        failed = (b"", b"turns 0 Read\n", 2)
+        yield f"a read that fails after {given} bytes", read_fails(program, text[:given]), failed
+        if shim:
+            yield f"a read that is interrupted after {given} bytes", cut(program, shim, PLAIN, text, given, 99), failed
+    for room in range(len(output)):
+        failed = (output[:room], b"stopped Write\n", 3)
+        yield f"a write that fails after {room} bytes", write_fails(program, text, room), failed
+        if shim:
+            yield f"a pipe that breaks after {room} bytes", cut(program, shim, CACHES, text, 999, room), failed
+
+
+def main():
+    program = program_of(sys.argv[1:] or [str(ROOT / "trace_cli"), "seq"])
+    if not program or not program.is_file():
+        print("SKIPPED: replay, since no such program was built beside the one that is tested")
+        return 0
+    results = [(f"{words} on {below!r}", run([str(program)], words, text + below), (output, errors, status))
+               for words, text, below, status, output, errors in ROWS]
+    with tempfile.TemporaryDirectory() as directory:
+        shim = None
+        if shutil.which("cc"):
+            source, shim = Path(directory, "shim.c"), Path(directory, "shim.so")
+            source.write_text(SHIM)
+            subprocess.run(["cc", "-shared", "-fPIC", "-O1", "-o", shim, source], check=True)
+        else:
+            print("SKIPPED: interrupted reads of replay, since cc isn't installed")
+        results += streams(program, shim)
+    wrong = [f"{name}\n  expected {expected}\n  got      {got}" for name, got, expected in results if got != expected]
+    wrong += full_history(program)
+    for text in wrong:
+        print(f"FAILED {text}")
+    print(f"{len(results) + 2 - len(wrong)} rows passed, {len(wrong)} failed")
+    return 1 if wrong else 0
+
+
+if __name__ == "__main__":
+    sys.exit(main())
