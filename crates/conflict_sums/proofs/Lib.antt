@@ -5,3 +5,4 @@ mod Apart
 mod Parting
 mod Listing
 mod Keyed
+mod Grouping

@@ -10,3 +10,5 @@ pub mod Order
 pub mod Roles
 -- What is kept of the ends of attempts.
 pub mod Endings
+-- What is kept of pairs.
+pub mod Grouped

@@ -2,6 +2,7 @@
 #![tactic(auto)]
 
 mod endings;
+mod groups;
 mod keys;
 mod kinds;
 pub mod laws;

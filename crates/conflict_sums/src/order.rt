@@ -8,7 +8,8 @@ ghost use Rattle.conflict_sums.specs.Order as spec;
 ghost use Rattle.conflict_sums.specs.Pairs as pairs;
 ghost use Rattle.conflict_sums.specs.PairSums.{pair_sum};
 
-use crate::pair_sums::{PairSum, pair_sum};
+use crate::groups::{groups_of, sum_in};
+use crate::pair_sums::PairSum;
 use crate::pairs::pairs_of;
 use crate::rollback::{Pair, Rollback};
 use crate::sum::Sum;
@@ -24,9 +25,10 @@ fn sums_of_pairs(
 ) -> Result<Vec<PairSum>, AllocError>
     ensures { IfOk result (λ found. found.items ≡ map (pair_sum rollbacks.now) pairs.now) }
 {
+    let groups = groups_of(alloc, rollbacks)?;
     let mut found = Vec::new(alloc);
     for pair in pairs {
-        found.push(pair_sum(alloc, rollbacks, *pair)?)?;
+        found.push(sum_in(&groups, *pair))?;
     }
     Ok(found)
 }

@@ -1,14 +1,14 @@
 //! What the violations of each pair of instructions cost, and what became of them.
 
-ghost use Rattle.std.specs.Prelude.{◌≡◌, IfOk};
+ghost use Rattle.std.specs.Prelude.{◌≡◌, List};
+ghost use Rattle.conflict_sums.specs.declared.rollback.Rollback.{Rollback};
 ghost use Rattle.conflict_sums.specs.PairSums as spec;
 
-use crate::kinds::{Counts, part_of};
+use crate::kinds::Counts;
 use crate::part::Part;
 use crate::rollback::{Pair, Rollback};
 use crate::sum::{Sum, sum_of};
 use conflicts::Kind;
-use std::alloc::{AllocError, Global};
 
 /// How many violations were stale, in vain, and came true later.
 #[derive(Clone, Copy, Debug, PartialEq, Eq)]
@@ -129,22 +129,17 @@ fn counts_of(rollbacks: &[Rollback]) -> Counts
     }
 }
 
-/// What the violations of a pair cost, and what became of them.
-pub(crate) fn pair_sum(
-    alloc: Global,
-    rollbacks: &[Rollback],
-    pair: Pair,
-) -> Result<PairSum, AllocError>
-    ensures { IfOk result (λ found. found ≡ spec.pair_sum rollbacks.now pair) }
+/// What the violations of a pair, which are these, cost, and what became of them.
+pub(crate) fn pair_sum(those: &[Rollback], pair: Pair) -> PairSum
+    ensures pair { result.pair ≡ pair }
+    ensures sum { (rollbacks : List Rollback) → those.now ≡ spec.of_pair pair rollbacks → result ≡ spec.pair_sum rollbacks pair }
 {
-    let found = part_of(alloc, rollbacks, Part::OfPair(pair))?;
-    let those = found.as_slice();
-    Ok(PairSum {
+    PairSum {
         pair,
         sum: sum_of(those, Part::Whole),
         counts: counts_of(those),
         fates: fates_of(those),
         distance: bounds_of(those, Measure::Distance),
         bytes: bounds_of(those, Measure::Bytes),
-    })
+    }
 }

@@ -40,7 +40,7 @@ fn is_kind(kind: Kind, other: Kind) -> bool
 }
 
 /// They are the same instructions.
-pub(crate) fn is_pair(pair: Pair, other: Pair) -> bool
+fn is_pair(pair: Pair, other: Pair) -> bool
     ensures { result ≡ spec.is_pair pair other }
 {
     pair.store == other.store && pair.load == other.load

@@ -9,3 +9,5 @@ mod Between
 pub mod Growing
 pub mod Nearing
 pub mod Numbering
+mod Storing
+mod Signs

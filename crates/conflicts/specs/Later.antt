@@ -21,6 +21,10 @@ abbrev pub stores_one : ℕ → (ℕ → Bool) → What → Bool
 stores_one size test (Store address width value) = any_below size (λ a. covers address width a && test a)
 stores_one size test what = false
 
+-- the core stores to such a byte
+abbrev pub stores_to : ℕ → ℕ → (ℕ → Bool) → Entry → Bool
+stores_to size core test entry = (entry.by == core) && stores_one size test entry.what
+
 -- the core begins another attempt, or stores to such a byte
 abbrev pub ends_or_stores : ℕ → ℕ → (ℕ → Bool) → Entry → Bool
 ends_or_stores size core test entry = (entry.by == core) && (is_begin entry.what || stores_one size test entry.what)

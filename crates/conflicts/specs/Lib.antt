@@ -9,4 +9,5 @@ pub mod Sites
 pub mod Laws
 -- What the code asks of bytes and lines, and of a violation.
 pub mod Parties
+pub mod Ahead
 pub mod Violated

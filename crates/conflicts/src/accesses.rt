@@ -7,7 +7,7 @@ ghost use Rattle.conflicts.specs.Blame.{is_place};
 use spec_history::{Entry, What};
 
 /// A core begins an attempt at a place.
-fn begins(entries: &[Entry], core: u32, place: usize) -> bool
+pub(crate) fn begins(entries: &[Entry], core: u32, place: usize) -> bool
     ensures { result ≡ spec.core_does entries.now core place spec.is_begin }
 {
     match entries.get(place) {

@@ -1,6 +1,6 @@
 //! Who was violated, and by what.
 
-ghost use Rattle.std.specs.Prelude.{◌≡◌, ◌<◌, length, false, not, true, MatchOption};
+ghost use Rattle.std.specs.Prelude.{◌≡◌, ◌<◌, length, false, not, true, IfSome, MatchOption};
 ghost use Rattle.spec_history.specs.Refusal.{any_below, is_at};
 ghost use Rattle.spec_history.specs.View as view;
 ghost use Rattle.spec_history.specs.Conflict.{entry_is};
@@ -45,7 +45,8 @@ fn can_cause(what: What) -> bool
 /// The first entry after a place that is no notice.
 fn next_act(entries: &[Entry], place: usize) -> Option<usize>
     requires { place < length entries.now }
-    ensures { result ≡ spec.next_act entries.now place }
+    ensures next { result ≡ spec.next_act entries.now place }
+    ensures within { IfSome result (λ j. j < length entries.now) }
 {
     for j in place + 1..entries.len() {
         if is_act(entries, j) {
@@ -68,7 +69,8 @@ fn is_act(entries: &[Entry], place: usize) -> bool
 /// The cause of the violation that a core makes at a place.
 pub(crate) fn cause_of(entries: &[Entry], place: usize, core: u32) -> Option<usize>
     requires { place < length entries.now }
-    ensures { result ≡ spec.cause_of entries.now place core }
+    ensures cause { result ≡ spec.cause_of entries.now place core }
+    ensures within { IfSome result (λ j. j < length entries.now) }
 {
     let j = next_act(entries, place)?;
     let Entry { by, what } = *entries.get(j)?;

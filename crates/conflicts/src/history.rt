@@ -7,8 +7,10 @@ ghost use Rattle.spec_history.specs.Replay.{replay};
 ghost use Rattle.spec_history.specs.View.{IsAuditFault, cores_in, state_in};
 ghost use Rattle.spec_history.specs.Conflict as conflict;
 ghost use Rattle.spec_history.specs.Conflict.{entry_is};
+ghost use Rattle.conflicts.specs.Ahead.{IsAhead};
 ghost use Rattle.conflicts.specs.Explained as spec;
 
+use crate::ahead::Ahead;
 use crate::blame::Violated;
 use crate::causes::{cause_of, core_at};
 use crate::explanation::{Blame, Explanation, Runner};
@@ -38,8 +40,12 @@ pub fn explain(
         return Err((entries.len(), Illegal::NoMemory));
     };
     let mut explanations = Vec::new(alloc);
+    let mut ahead = Ahead::new(alloc);
     for (place, entry) in entries.iter().enumerate() {
-        let found = explanation_at(image, cores, &flat, entries, place);
+        let Ok(found) = explanation_at(alloc, image, cores, &flat, entries, &mut ahead, place)
+        else {
+            return Err((entries.len(), Illegal::NoMemory));
+        };
         if let Err(illegal) = flat.apply(*entry) {
             return Err((place, illegal));
         }
@@ -63,34 +69,44 @@ fn keep(explanations: &mut Vec<Explanation>, found: Option<Explanation>) -> Resu
 /// The explanation of the violation at a place, if the entry there is one; it takes the machine before it, and the whole history.
 ///
 /// It has one for each violation that the machine does not refuse. `explain` asks it at each place; who replays a history for more than
-/// that asks it there.
+/// that asks it there, in order, so that what an attempt has ahead of it is looked for once. An Err: there was no memory for that.
 pub fn explanation_at(
+    alloc: Global,
     image: &Image,
     cores: u32,
     flat: &Flat,
     entries: &[Entry],
+    ahead: &mut Ahead,
     place: usize,
-) -> Option<Explanation>
+) -> Result<Option<Explanation>, AllocError>
     requires image { flat.now.image ≡ image.now }
     requires cores { cores_in flat.now ≡ cores }
     requires place { place < length entries.now }
-    ensures explained { IfSome result (λ e. (e.place ≡ place) × spec.IsExplainedIn image.now (state_in flat.now) entries.now e) }
-    ensures found { (entry : Entry) → slice_get entries.now place ≡ Some entry → refusal_of image.now cores (state_in flat.now) entry ≡ None
-        → is_some result ≡ entry_is entries.now place (λ e. conflict.is_hurt e.what) }
+    requires known { IsAhead image.now.size entries.now ahead.old }
+    ensures explained { IfOk result (λ found. IfSome found (λ e. (e.place ≡ place) × spec.IsExplainedIn image.now (state_in flat.now) entries.now e)) }
+    ensures found { IfOk result (λ found. (entry : Entry) → slice_get entries.now place ≡ Some entry → refusal_of image.now cores (state_in flat.now) entry ≡ None
+        → is_some found ≡ entry_is entries.now place (λ e. conflict.is_hurt e.what)) }
+    ensures known { IsAhead image.now.size entries.now ahead.new }
 {
     let Entry { by, what } = entries[place];
     let What::Hurt(epoch) = what else {
-        return None;
+        return Ok(None);
     };
-    let victim = core_at(flat, cores, epoch)?;
-    let causing = flat.epoch(by)?;
-    let next = flat.next_event(victim)?;
+    let Some(victim) = core_at(flat, cores, epoch) else {
+        return Ok(None);
+    };
+    let Some(causing) = flat.epoch(by) else {
+        return Ok(None);
+    };
+    let Some(next) = flat.next_event(victim) else {
+        return Ok(None);
+    };
     let stop = next.now();
     let last = next.base();
     let cause = cause_of(entries, place, by);
     let (kind, blame) = conflict_of(image, flat, entries, place, by, victim, cause);
-    let later = later_of(image, flat, entries, by, victim, kind, cause);
-    Some(Explanation {
+    let later = later_of(alloc, image, flat, entries, ahead, by, victim, kind, cause)?;
+    Ok(Some(Explanation {
         place,
         causer: Runner {
             core: by,
@@ -106,7 +122,7 @@ pub fn explanation_at(
         later,
         lost: stop.done(),
         entered: last.done(),
-    })
+    }))
 }
 
 /// What kind a violation of one core by another is, with this cause, and whom to blame.

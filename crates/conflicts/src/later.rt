@@ -1,125 +1,99 @@
 //! False sharing that came true.
 
-ghost use Rattle.std.specs.Prelude.{◌≡◌, ◌<◌, ◌≤◌, ◌+◌, ◌&&◌, ℕ, length, nat_lt, true};
-ghost use Rattle.spec_history.specs.Refusal.{any_below};
+ghost use Rattle.std.specs.Prelude.{◌≡◌, ◌<◌, ◌≤◌, ◌+◌, ◌&&◌, ◌==◌, ℕ, IfOk, IfSome, List, length};
+ghost use Rattle.spec_history.specs.declared.entry.Entry.{Entry};
 ghost use Rattle.spec_history.specs.View.{state_in};
 ghost use Rattle.spec_history.specs.Conflict.{entry_is};
-ghost use Rattle.conflicts.specs.Attempts.{covers};
+ghost use Rattle.spec_history.specs.Searches.{IsNext};
+ghost use Rattle.conflicts.specs.Ahead.{AreAhead, IsAhead};
 ghost use Rattle.conflicts.specs.Later as spec;
-ghost use Rattle.spec_history.specs.Searches.{first_below};
 
+use crate::ahead::{Ahead, Stores};
 use rv32_exec::Image;
-use spec_history::{Entry, Flat, Kind, What};
+use spec_history::{Entry, Flat, Kind};
+use std::alloc::{AllocError, Global};
 
-/// Where an access to so many bytes ends, in memory.
-fn end_of(image: &Image, first: u32, width: u32) -> u32
-    ensures within { result ≤ image.now.size }
-    ensures inside { (a : ℕ) → a < result → a < first + width }
-    ensures covered { (a : ℕ) → covers first width a ≡ true → a < image.now.size → a < result }
+/// The place of the first of the stores after a place that is one to a byte that the victim has read; where the attempt ends, if there
+/// is none.
+fn first_sign(flat: &Flat, stores: &Stores, after: usize, victim: u32) -> usize
+    requires { after < stores.now.end }
+    ensures most { result ≤ stores.now.end }
+    ensures next { (entries : List Entry) (core : ℕ) → AreAhead flat.now.image.size entries core stores.now → stores.now.after ≤ after
+        → IsNext (λ j. entry_is entries j (spec.stores_to flat.now.image.size core (spec.was_read (state_in flat.now) victim))) (after + 1) stores.now.end result }
 {
-    image.size().min(first.saturating_add(width))
-}
-
-/// A core has read one of so many bytes.
-fn has_read(image: &Image, flat: &Flat, core: u32, first: u32, width: u32) -> bool
-    ensures { result ≡ any_below image.now.size (λ a. covers first width a && spec.was_read (state_in flat.now) core a) }
-{
-    for addr in first..end_of(image, first, width) {
-        if flat.outside(core, addr).is_some() {
-            return true;
+    let mut first = stores.end;
+    for addr in flat.read_addresses(victim) {
+        if flat.outside(victim, *addr).is_some() {
+            first = first.min(stores.next(*addr, after));
         }
     }
-    false
+    first
 }
 
-/// What stands in an entry is a store to a byte that a core has read.
-fn stores_read(image: &Image, flat: &Flat, core: u32, what: What) -> bool
-    ensures { result ≡ spec.stores_one image.now.size (spec.was_read (state_in flat.now) core) what }
+/// That place, if there is one.
+fn sign_of(flat: &Flat, stores: &Stores, after: usize, victim: u32) -> Option<usize>
+    requires { after < stores.now.end }
+    ensures came { (entries : List Entry) (core : ℕ) → AreAhead flat.now.image.size entries core stores.now → stores.now.after ≤ after
+        → result ≡ spec.came_true_at flat.now.image.size entries after core (spec.was_read (state_in flat.now) victim) }
+    ensures within { IfSome result (λ place. place < stores.now.end) }
 {
-    match what {
-        What::Store { addr, width, .. } => has_read(image, flat, core, addr, width),
-        _ => false,
-    }
-}
-
-/// The entry at a place stands after another place, and by it the causer begins another attempt or stores to a byte that the
-/// victim has read.
-fn is_sign_at(
-    image: &Image,
-    flat: &Flat,
-    entries: &[Entry],
-    after: usize,
-    causer: u32,
-    victim: u32,
-    place: usize,
-) -> bool
-    ensures { result ≡ (nat_lt after place && entry_is entries.now place (spec.ends_or_stores image.now.size causer (spec.was_read (state_in flat.now) victim))) }
-{
-    match entries.get(place) {
-        Some(entry) => {
-            after < place
-                && entry.by == causer
-                && (matches!(entry.what, What::Start(_) | What::Restart)
-                    || stores_read(image, flat, victim, entry.what))
-        }
-        None => false,
-    }
-}
-
-/// The first such entry.
-fn first_sign(
-    image: &Image,
-    flat: &Flat,
-    entries: &[Entry],
-    after: usize,
-    causer: u32,
-    victim: u32,
-) -> Option<usize>
-    ensures { result ≡ first_below (length entries.now)
-        (λ j. nat_lt after j && entry_is entries.now j (spec.ends_or_stores image.now.size causer (spec.was_read (state_in flat.now) victim))) }
-{
-    for j in after..entries.len() {
-        if is_sign_at(image, flat, entries, after, causer, victim, j) {
-            return Some(j);
-        }
-    }
-    None
-}
-
-/// The place of the store by which false sharing came true, after its cause.
-fn came_true_at(
-    image: &Image,
-    flat: &Flat,
-    entries: &[Entry],
-    cause: usize,
-    causer: u32,
-    victim: u32,
-) -> Option<usize>
-    ensures { result ≡ spec.came_true_at image.now.size entries.now cause causer (spec.was_read (state_in flat.now) victim) }
-{
-    let j = first_sign(image, flat, entries, cause, causer, victim)?;
-    let entry = entries.get(j)?;
-    if stores_read(image, flat, victim, entry.what) {
-        Some(j)
+    let place = first_sign(flat, stores, after, victim);
+    if place < stores.end {
+        Some(place)
     } else {
         None
     }
 }
 
-/// The place of the store by which a violation came true, if it is false sharing.
-pub(crate) fn later_of(
+/// The place of the store by which false sharing came true, after its cause.
+fn came_true_at(
+    alloc: Global,
     image: &Image,
     flat: &Flat,
     entries: &[Entry],
+    ahead: &mut Ahead,
+    cause: usize,
+    causer: u32,
+    victim: u32,
+) -> Result<Option<usize>, AllocError>
+    requires image { flat.now.image ≡ image.now }
+    requires within { cause < length entries.now }
+    requires known { IsAhead image.now.size entries.now ahead.old }
+    ensures came { IfOk result (λ place. place ≡ spec.came_true_at image.now.size entries.now cause causer (spec.was_read (state_in flat.now) victim)) }
+    ensures known { IsAhead image.now.size entries.now ahead.new }
+{
+    ahead.look(alloc, image, entries, causer, cause)?;
+    match ahead.found.get(&causer) {
+        Some(stores) => Ok(sign_of(flat, stores, cause, victim)),
+        None => Ok(None),
+    }
+}
+
+/// The place of the store by which a violation came true, if it is false sharing.
+pub(crate) fn later_of(
+    alloc: Global,
+    image: &Image,
+    flat: &Flat,
+    entries: &[Entry],
+    ahead: &mut Ahead,
     causer: u32,
     victim: u32,
     kind: Kind,
     cause: Option<usize>,
-) -> Option<usize>
-    ensures { result ≡ spec.later_by image.now (state_in flat.now) entries.now causer victim kind cause }
+) -> Result<Option<usize>, AllocError>
+    requires image { flat.now.image ≡ image.now }
+    requires within { IfSome cause (λ j. j < length entries.now) }
+    requires known { IsAhead image.now.size entries.now ahead.old }
+    ensures later { IfOk result (λ later. later ≡ spec.later_by image.now (state_in flat.now) entries.now causer victim kind cause) }
+    ensures known { IsAhead image.now.size entries.now ahead.new }
 {
+    let Some(cause) = cause else {
+        return Ok(None);
+    };
     match kind {
-        Kind::FalseSharing => came_true_at(image, flat, entries, cause?, causer, victim),
-        Kind::TrueSharing | Kind::SilentStore | Kind::FullBuffer | Kind::Unexplained => None,
+        Kind::FalseSharing => {
+            came_true_at(alloc, image, flat, entries, ahead, cause, causer, victim)
+        }
+        Kind::TrueSharing | Kind::SilentStore | Kind::FullBuffer | Kind::Unexplained => Ok(None),
     }
 }

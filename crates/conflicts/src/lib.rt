@@ -2,6 +2,7 @@
 #![tactic(auto)]
 
 mod accesses;
+mod ahead;
 mod alike;
 mod blame;
 mod causes;
@@ -15,6 +16,7 @@ mod meeting;
 mod standing;
 
 pub use accesses::{attempt_number, attempt_place, reads_outside};
+pub use ahead::Ahead;
 pub use alike::BlamedByte;
 pub use blame::Violated;
 pub use explanation::{Blame, ByteRange, Explanation, Runner};

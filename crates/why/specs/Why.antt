@@ -1,8 +1,10 @@
 -- What `why` comes to, and what it wrote.
-use Rattle.std.specs.Prelude.{◌≡◌, ◌⊎◌, ℕ, List, Option, length, map, All}
+use Rattle.std.specs.Prelude.{◌≡◌, ◌⊎◌, ℕ, Bool, false, List, Option, length, map, nat_lt, All}
 use Rattle.std.specs.Io.KnownBytes.{Appends, Keeps}
 use Rattle.rv32_image.specs.Image.{LoadedImage}
 use Rattle.spec_history.specs.declared.entry.Entry.{Entry}
+use Rattle.spec_history.specs.declared.entry.What.{What}
+use Rattle.spec_history.specs.declared.entry.What.TheVariants.{Store}
 use Rattle.trace_commands.specs.declared.outcome.Outcome.{Outcome}
 use Rattle.trace_commands.specs.declared.outcome.Outcome.TheVariants.{Audited, Stopped}
 use Rattle.trace_commands.specs.declared.outcome.StopCause.TheVariants.{Write, NoMemory}
@@ -66,3 +68,11 @@ IsWhyOutcome text old new outcome = IsExplainedOutcome text old new outcome ⊎ 
 -- what `why` answers for an input
 abbrev pub WhyAnswers : List ℕ → Option (List ℕ) → Option (List ℕ) → Option (List ℕ) → Option (List ℕ) → ℕ → Type 0
 WhyAnswers text old new errors errors' status = Conclusion (IsWhyOutcome text old new) errors errors' status
+
+abbrev pub wide_what : What → Bool
+wide_what (Store address width value) = nat_lt 4 width
+wide_what what = false
+
+-- a store to more bytes than a register has, which no history has that replays
+abbrev pub is_wide : Entry → Bool
+is_wide entry = wide_what entry.what

@@ -1,6 +1,7 @@
 //! What is found in a history, in one replay of it.
 
 ghost use Rattle.std.specs.Prelude.{◌≡◌, ◌++◌, ◌∷◌, [], IfOk, MatchResult, OnOk, Some, length, option_map, option_to_list};
+ghost use Rattle.std.specs.List.{list_any};
 ghost use Rattle.spec_history.specs.View.{IsAuditFault, state_in};
 ghost use Rattle.trace_commands.specs.declared.outcome.Verdict.TheVariants.{Legal};
 ghost use Rattle.trace_commands.specs.Audit.{IsVerdict};
@@ -13,12 +14,13 @@ ghost use Rattle.why.specs.Why as spec;
 use attempt_ends::{Ended, Ends, ended_by, running_in};
 use conflict_runs::further_runs;
 use conflict_text::Findings;
-use conflicts::{Explanation, explanation_at, site_of};
-use spec_history::{Entry, Flat, Illegal};
+use conflicts::{Ahead, Explanation, explanation_at, site_of};
+use spec_history::{Entry, Flat, Illegal, What, audit};
 use std::alloc::{AllocError, Global};
 use trace_commands::Traced;
 
-/// What is found in the history of a trace, and the homefree epoch after it.
+/// What is found in the history of a trace, and the homefree epoch after it. Where a store is wider than any that is legal, it has the
+/// history audited first: what comes after an entry is looked at before it is replayed, and such a store would be to very many bytes.
 ///
 /// An Err is that of an audit: the place, counted from 0, of the first entry that is refused, and its refusal. `NoMemory` has
 /// the place at which memory was refused, and the number of entries where there was none for the machine itself or for what is
@@ -29,12 +31,33 @@ pub(crate) fn find(alloc: Global, traced: &Traced) -> Result<(Findings, u32), (u
         (λ fault. IsAuditFault traced.now.image traced.now.cores traced.now.entries.items fault.0 fault.1) }
 {
     let entries = traced.entries.as_slice();
-    let Ok(mut flat) = Flat::new(alloc, &traced.image, traced.cores) else {
+    if has_wide_store(entries)
+        && let Err(fault) = audit(alloc, &traced.image, traced.cores, entries)
+    {
+        return Err(fault);
+    }
+    gather(alloc, traced)
+}
+
+/// The same, in one replay.
+fn gather(alloc: Global, traced: &Traced) -> Result<(Findings, u32), (usize, Illegal)>
+    ensures found { IfOk result (λ found. spec.AreFindings traced.now.image traced.now.cores traced.now.entries.items found.0) }
+    ensures verdict { MatchResult result (λ found. IsVerdict traced.now.image traced.now.cores traced.now.entries.items (Legal (length traced.now.entries.items) found.1))
+        (λ fault. IsAuditFault traced.now.image traced.now.cores traced.now.entries.items fault.0 fault.1) }
+{
+    let image = &traced.image;
+    let cores = traced.cores;
+    let entries = traced.entries.as_slice();
+    let Ok(mut flat) = Flat::new(alloc, image, cores) else {
         return Err((entries.len(), Illegal::NoMemory));
     };
     let mut findings = nothing(alloc);
+    let mut ahead = Ahead::new(alloc);
     for (place, entry) in entries.iter().enumerate() {
-        let explained = explanation_at(&traced.image, traced.cores, &flat, entries, place);
+        let Ok(explained) = explanation_at(alloc, image, cores, &flat, entries, &mut ahead, place)
+        else {
+            return Err((entries.len(), Illegal::NoMemory));
+        };
         let noted = note(
             alloc,
             &mut findings,
@@ -51,11 +74,28 @@ pub(crate) fn find(alloc: Global, traced: &Traced) -> Result<(Findings, u32), (u
             return Err((place, illegal));
         }
     }
-    let Ok(running) = running_in(alloc, &flat, traced.cores, entries) else {
+    let Ok(running) = running_in(alloc, &flat, cores, entries) else {
         return Err((entries.len(), Illegal::NoMemory));
     };
     findings.ends.running = running;
     Ok((findings, flat.homefree()))
+}
+
+/// The entry is a store to more bytes than a register has.
+fn is_wide(entry: &Entry) -> bool
+    ensures { result ≡ spec.is_wide entry.now }
+{
+    match entry.what {
+        What::Store { width, .. } => width > 4,
+        _ => false,
+    }
+}
+
+/// Some entry is such a store.
+fn has_wide_store(entries: &[Entry]) -> bool
+    ensures { result ≡ list_any spec.is_wide entries.now }
+{
+    entries.iter().any(|entry| is_wide(entry))
 }
 
 /// Nothing found yet.

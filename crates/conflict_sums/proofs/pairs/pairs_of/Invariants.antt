@@ -1,7 +1,11 @@
 use Rattle.std.proofs.Common.{◌≡◌, take}
+use Rattle.conflict_sums.specs.Grouped.{AreSeen}
 use Rattle.conflict_sums.specs.Pairs.{pairs_in}
 use Rattle.conflict_sums.proofs.pairs.pairs_of.Given as goal
 
--- those so far
+-- those so far, which the set has too
 abbrev pub invariant-loop-rollback : goal.invariant-loop-rollback
-invariant-loop-rollback l = l.found.items ≡ pairs_in (take l.rollback-index l.rollbacks)
+invariant-loop-rollback l = record {
+  found : l.found.items ≡ pairs_in (take l.rollback-index l.rollbacks);
+  seen : AreSeen l.found.items l.seen;
+}

@@ -4,8 +4,8 @@ use Rattle.spec_history.specs.Conflict.{entry_is, is_notice}
 use Rattle.spec_history.proofs.Searches.{first_at, first_none, and_no}
 use Rattle.conflicts.proofs.causes.next_act.Goals as goal
 
-pub returns-then-is_act : goal.returns-then-is_act
-returns-then-is_act c =
+pub returns-then-is_act-clause-next : goal.returns-then-is_act-clause-next
+returns-then-is_act-clause-next c =
     let entries = c.args.entries.now in
     let acts = λ (k : ℕ). entry_is entries k (λ entry. not (is_notice entry.what)) in
     let test = λ (k : ℕ). nat_lt c.args.place k && acts k in
@@ -20,7 +20,7 @@ loop-j-preserved c =
     let fails = ap (λ b. nat_lt c.args.place c.loop-j.j && b) (sym c.if-is_act.ensures) ∙ and_no (nat_lt c.args.place c.loop-j.j) in
     also_at (λ k. nat_lt c.args.place k && acts k) c.loop-j.j c.loop-j.invariant fails
 
-pub returns : goal.returns
-returns c =
+pub returns-clause-next : goal.returns-clause-next
+returns-clause-next c =
     sym (first_none (length c.args.entries.now) (λ k. nat_lt c.args.place k && entry_is c.args.entries.now k (λ entry. not (is_notice entry.what)))
     (λ k below. c.loop-j.invariant k (omega (arith, below, c.loop-j-test.false))))

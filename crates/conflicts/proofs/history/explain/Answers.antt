@@ -15,6 +15,7 @@ loop-place-init c =
       replays = rw c.in-Ok.ensures.state (no_entries c.args.image.now c.args.cores);
       each = ap places_of empty ∙ no_places c.args.entries.now;
       explained = λ k d below. absurd (omega (arith, below, ap length empty));
+      ahead = c.new-ahead.ensures c.args.image.now.size c.args.entries.now;
     }
 
 pub returns-in-Err-clause-legal : goal.returns-in-Err-clause-legal
@@ -35,14 +36,15 @@ loop-place-preserved c =
     let entries = c.args.entries.now in
     let place = c.loop-place.place in
     let below : place < length entries = omega (arith, c.loop-place-test.true) in
-    let found = c.explanation_at-found.ensures in
+    let found = c.in-Ok-explanation_at.ensures in
     let legal = legal_in c.args.image.now c.loop-place.flat.image c.args.cores (cores_in c.loop-place.flat) (state_in c.loop-place.flat) _ was.image was.cores applied.legal in
     let there = found.found _ (slice_get-get_or entries place _ below) legal in
     let grown = kept c.keep.result _ (sym c.is_err.ensures.value ∙ c.if-is_err.false) c.keep.ensures in record {
       image = same.image ∙ was.image;
       cores = same.cores ∙ was.cores;
       replays = audited_more c.args.image.now c.args.cores entries place _ c.loop-place.flat c.apply.new.self was.image was.cores was.replays below applied;
-      each = ap places_of grown ∙ each_more c.args.image.now (state_in c.loop-place.flat) entries place c.loop-place.explanations.items c.explanation_at-found.result there found.explained was.each;
+      each = ap places_of grown ∙ each_more c.args.image.now (state_in c.loop-place.flat) entries place c.loop-place.explanations.items c.in-Ok-explanation_at.found there found.explained was.each;
       explained = subst (All (IsExplained c.args.image.now c.args.cores entries)) (sym grown)
-          (explained_more c.args.image.now c.args.cores (state_in c.loop-place.flat) entries place c.loop-place.explanations.items c.explanation_at-found.result was.replays found.explained was.explained);
+          (explained_more c.args.image.now c.args.cores (state_in c.loop-place.flat) entries place c.loop-place.explanations.items c.in-Ok-explanation_at.found was.replays found.explained was.explained);
+      ahead = found.known;
     }

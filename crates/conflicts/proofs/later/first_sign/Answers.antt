@@ -1,31 +1,46 @@
-use Rattle.std.proofs.Common.{◌&&◌, ◌∙◌, ℕ, Bool, nat_lt, length, sym, ap, arith, le-ltb}
-use Rattle.spec_history.specs.declared.entry.Entry.{Entry}
+use Rattle.std.proofs.Common.{◌≡◌, ◌<◌, ◌+◌, ◌∙◌, true, false, is_some, min, slice_index, sym, ap, subst, arith}
 use Rattle.spec_history.specs.View.{state_in}
-use Rattle.spec_history.proofs.CoreStates.{also_at}
-use Rattle.spec_history.specs.Conflict.{entry_is}
-use Rattle.conflicts.specs.Later.{ends_or_stores, was_read}
-use Rattle.spec_history.proofs.Searches.{first_at, first_none}
+use Rattle.spec_history.specs.Conflict.{read_bytes}
+use Rattle.conflicts.specs.Later.{was_read}
+use Rattle.conflicts.proofs.Signs.{IsSoonest, listed_by, none_sooner, soonest, sooner, unread_next}
 use Rattle.conflicts.proofs.later.first_sign.Goals as goal
+use Rattle.conflicts.proofs.later.first_sign.Goals.{then-is_some, else-is_some}
 
-pub loop-j-init : goal.loop-j-init
-loop-j-init c k before =
-    let sign : Entry → Bool = ends_or_stores c.args.image.now.size c.args.causer (was_read (state_in c.args.flat.now) c.args.victim) in
-    ap (λ b. b && entry_is c.args.entries.now k sign) (le-ltb c.args.after k (omega (arith, before)))
+pub loop-addr-init : goal.loop-addr-init
+loop-addr-init c = record {
+  most = omega arith;
+  soonest = λ entries core ahead past. none_sooner _ _ _ _ _ _ _;
+}
 
-pub returns-then-is_sign_at : goal.returns-then-is_sign_at
-returns-then-is_sign_at c =
-    let sign : Entry → Bool = ends_or_stores c.args.image.now.size c.args.causer (was_read (state_in c.args.flat.now) c.args.victim) in
-    let test : ℕ → Bool = λ k. nat_lt c.args.after k && entry_is c.args.entries.now k sign in
-    sym (first_at (length c.args.entries.now) test c.loop-j.j (omega (arith, c.loop-j-test.true)) (sym c.is_sign_at.ensures ∙ c.if-is_sign_at.true) c.loop-j.invariant)
+pub loop-addr-preserved : goal.loop-addr-preserved
+loop-addr-preserved c =
+    let size = c.args.flat.now.image.size in
+    let read = was_read (state_in c.args.flat.now) c.args.victim in
+    let addresses = c.read_addresses-addr-items.result.now in
+    let index = c.loop-addr.addr-index in
+    let end = c.args.stores.now.end in
+    let was = c.loop-addr.invariant in
+    let within : slice_index addresses index < size = c.read_addresses-addr-items.ensures.within index c.loop-addr-test.true in
+    elim c.if-is_some.branch [
+      | then-is_some w ↦
+          let same : c.if-is_some.first ≡ min c.loop-addr.first w.next.result = cc in
+          let is : read (slice_index addresses index) ≡ true = ap is_some (sym c.outside.ensures) ∙ (sym c.is_some.ensures ∙ w.if-is_some.true) in record {
+            most = omega (arith, same, was.most);
+            soonest = λ entries core ahead past. subst (IsSoonest size entries core read addresses c.args.after end (index + 1)) (sym same)
+                (sooner size entries core read addresses c.args.after end index c.loop-addr.first w.next.result is within (w.next.ensures.next size entries core ahead past within)
+                (was.soonest entries core ahead past));
+          }
+      | else-is_some w ↦
+          let fails : read (slice_index addresses index) ≡ false = ap is_some (sym c.outside.ensures) ∙ (sym c.is_some.ensures ∙ w.if-is_some.false) in record {
+            most = omega (arith, w.first-is, was.most);
+            soonest = λ entries core ahead past. subst (IsSoonest size entries core read addresses c.args.after end (index + 1)) (sym w.first-is)
+                (unread_next size entries core read addresses c.args.after end index c.loop-addr.first fails (was.soonest entries core ahead past));
+          }
+    ]
 
-pub loop-j-preserved : goal.loop-j-preserved
-loop-j-preserved c =
-    let sign : Entry → Bool = ends_or_stores c.args.image.now.size c.args.causer (was_read (state_in c.args.flat.now) c.args.victim) in
-    let test : ℕ → Bool = λ k. nat_lt c.args.after k && entry_is c.args.entries.now k sign in
-    also_at test c.loop-j.j c.loop-j.invariant (sym c.is_sign_at.ensures ∙ c.if-is_sign_at.false)
-
-pub returns : goal.returns
-returns c =
-    let sign : Entry → Bool = ends_or_stores c.args.image.now.size c.args.causer (was_read (state_in c.args.flat.now) c.args.victim) in
-    let test : ℕ → Bool = λ k. nat_lt c.args.after k && entry_is c.args.entries.now k sign in
-    sym (first_none (length c.args.entries.now) test (λ k below. c.loop-j.invariant k (omega (arith, below, c.loop-j-test.false))))
+pub returns-clause-next : goal.returns-clause-next
+returns-clause-next c entries core ahead past =
+    let s = state_in c.args.flat.now in
+    let addresses = c.read_addresses-addr-items.result.now in
+    soonest c.args.flat.now.image.size entries core (was_read s c.args.victim) addresses c.args.after c.args.stores.now.end c.loop-addr.addr-index c.loop-addr.first c.loop-addr-test.false
+    (listed_by (read_bytes (s.cores c.args.victim)) addresses c.read_addresses-addr-items.ensures.each) (c.loop-addr.invariant.soonest entries core ahead past)
