@@ -97,11 +97,18 @@ fn check_apart(rt: &impl Abort, bus: &CachedBus, k: u32, epoch: u32)
     }
 }
 
+/// What every store keeps holds of the bus.
+fn look_at(bus: &CachedBus)
+    ensures { view_spec.IsSettled (spec.store_view bus.now) }
+{
+    bus.look();
+}
+
 /// The core may begin the epoch.
 fn check_begin(rt: &impl Abort, bus: &CachedBus, core: u32, epoch: u32)
     ensures { view_spec.MayBegin (spec.store_view bus.now) core epoch }
 {
-    bus.look();
+    look_at(bus);
     assert!(rt; core < bus.cores());
     let attempt = bus.attempt(core);
     assert!(rt; attempt.is_none());
@@ -125,7 +132,7 @@ fn check_not_before(rt: &impl Abort, bus: &CachedBus, k: u32, epoch: u32)
 fn check_publish(rt: &impl Abort, bus: &CachedBus, core: u32, epoch: u32)
     ensures { view_spec.MayPublish (spec.store_view bus.now) core }
 {
-    bus.look();
+    look_at(bus);
     assert!(rt; core < bus.cores());
     match bus.attempt(core) {
         Some(attempt) => assert!(rt; !attempt.straight && attempt.epoch == epoch),

@@ -20,6 +20,8 @@ mod refusing;
 #[cfg(test)]
 mod rows;
 #[cfg(test)]
+mod views;
+#[cfg(test)]
 mod walk;
 #[cfg(test)]
 mod words;

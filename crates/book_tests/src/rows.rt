@@ -85,6 +85,12 @@ size 256
 epochs 2
 limit 100
 code 630e05008322000483220005832200068322000783220008678000002320a0042328a0042320a0062328a0062320a00867800000
+=FIVE_LOADS_IN_VERSION_2 | FIVE_LOADS_FIRST in version 2.
+version 2
+size 256
+epochs 2
+limit 100
+code 630e05002320a0042328a0042320a0062328a0062320a00867800000832200048322000583220006832200078322000867800000
 =NOTHING | Nothing is to be run.
 size 256
 epochs 0
@@ -128,6 +134,7 @@ stores to bytes of one line | caches | BYTES | 2 | 64 | 0 1 0 1 0 1 | go go go g
 a speculative store hurts who has loaded the line | caches | ADD | 3 | 64 | 0 1 2 2 1 0 0 0 | go go go go go go go left | 0 start 0; 1 start 1; 2 start 2; 2 load 64 4 0; 1 load 64 4 0; 0 load 64 4 0; 0 hurt 1; 0 hurt 2; 0 store 64 4 1; 0 commit | 3 1 0 1 | -
 both ways of a set are marked: a later core waits, the homefree one publishes | caches | ONE_SET | 2 | 64 | 0 1 1 1 1 0 0 0 | go go go go NoWay go go go | 0 start 0; 1 start 1; 1 load 64 4 0; 1 load 128 4 0; 0 load 64 4 0; 0 load 128 4 0; 0 publish; 0 load 192 4 0 | 5 0 0 0 | -
 a full buffer of its own | caches | FIVE_LOADS_FIRST | 2 | 64 | 0 0 0 0 0 0 1 1 1 1 1 1 0 1 1 | go go go go go go go go go go go OrbFull left go over | 0 start 0; 0 load 64 4 0; 0 load 80 4 0; 0 load 96 4 0; 0 load 112 4 0; 0 load 128 4 0; 1 start 1; 1 store 64 4 1; 1 store 80 4 1; 1 store 96 4 1; 1 store 112 4 1; 0 commit; 1 store 128 4 1; 1 commit | 5 5 0 2 | done 2
+longer lines fill no buffer | caches | FIVE_LOADS_IN_VERSION_2 | 2 | 64 | 0 0 0 0 0 0 1 1 1 1 1 1 0 1 | go go go go go go go go go go go go left over | 0 start 0; 0 load 64 4 0; 0 load 80 4 0; 0 load 96 4 0; 0 load 112 4 0; 0 load 128 4 0; 1 start 1; 1 store 64 4 1; 1 store 80 4 1; 1 store 96 4 1; 1 store 112 4 1; 1 store 128 4 1; 0 commit; 1 commit | 5 5 0 2 | done 2
 a full buffer of an earlier core | caches | FIVE_STORES_FIRST | 2 | 64 | 0 0 0 0 0 0 1 1 1 1 1 1 0 | go go go go go go go go go go go OrbBusy left | 0 start 0; 0 store 64 4 0; 0 store 80 4 0; 0 store 96 4 0; 0 store 112 4 0; 0 store 128 4 0; 1 start 1; 1 load 64 4 0; 1 load 80 4 0; 1 load 96 4 0; 1 load 112 4 0; 0 hurt 1; 0 commit | 4 5 0 1 | -
 an exit cancels the later epoch, over caches | caches | EXIT | 2 | 64 | 0 1 0 1 0 | go go go go over | 0 start 0; 1 start 1; 0 store 64 4 0; 1 store 64 4 1; 0 cancel 1; 0 commit | 0 2 0 1 | exit 0
 less than 16 free entries, over caches | caches | SUM_OF_FOUR | 1 | 16 | 0 0 | go HistoryFull | 0 start 0 | 0 0 0 0 | -

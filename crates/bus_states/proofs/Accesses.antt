@@ -14,14 +14,13 @@ use Rattle.spec_states.specs.States.{is_valid, is_exclusive, is_speculative}
 use Rattle.spec_states.specs.Tables.{marks_of}
 use Rattle.spec_states.proofs.CopyLaws.{own_load-keeps, own_load-filled, own_load-marks, own_store-keeps, own_store-filled, own_store-mask, own_store-within_line, marks_of-within_line}
 use Rattle.spec_states.proofs.RowLaws.{own_load-takes_hold, own_load-enters_none, own_load-held, own_store-takes_hold, owned-valid, owned-exclusive, owned-enters_none, speculative-valid}
-use Rattle.cache_lines.specs.declared.line.Line.{Line}
 use Rattle.orb.specs.Lines.{is_full}
 use Rattle.violations.specs.declared.step.WaitCause.TheVariants.{NoWay, OrbFull, OrbBusy}
 use Rattle.bus_states.specs.declared.notice.Notice.{Notice}
 use Rattle.bus_states.specs.declared.notice.Notice.TheVariants.{Load, Store, Publish}
 use Rattle.bus_states.specs.Bus.{CoreState, Bus, committed, sees}
 use Rattle.bus_states.specs.Coherent.{IsCoherent, speculates}
-use Rattle.bus_states.specs.Messages.{IsRoom, Message, message_of, is_busy, is_alone, changed_core, with_copy, without_line, leaves, after_message}
+use Rattle.bus_states.specs.Messages.{Room, IsRoom, Message, message_of, is_busy, is_alone, changed_core, with_copy, without_line, leaves, after_message}
 use Rattle.bus_states.specs.Speculative.{own, holds_line, room_for, no_room, kept_line, load_next, after_load, load_wait, store_next, owns, after_claim, with_bytes, after_store, store_wait}
 use Rattle.bus_states.proofs.Coherence.{IsCoherentWith, committed-with, coherent-with, with-same, sees-past, sees-held, sees-unmodified}
 use Rattle.bus_states.proofs.Copies.{clash, itself, made, made-state, made-up_to_date, made-in_place}
@@ -32,7 +31,7 @@ use Rattle.bus_states.proofs.Sending.{leaves-held, Sends, sent_lines, sent-with,
 -- ---- a core takes a line by a message
 
 -- what a message asks of the sender's change
-pub record Takes (bus : Bus) (message : Message) (room : Option Line) (next : Next) : Type 0 where
+pub record Takes (bus : Bus) (message : Message) (room : Option Room) (next : Next) : Type 0 where
   pub aligned : message.addr % bus.line_length ≡ 0
   pub inside : message.addr + bus.line_length ≤ bus.shape.size
   pub in_cores : message.sender < bus.shape.cores
@@ -54,11 +53,11 @@ pub record Takes (bus : Bus) (message : Message) (room : Option Line) (next : Ne
       → requires_ownership next.state next.marks ≡ true
   pub has_room : (next.enters && is_full (bus.core message.sender).buffer) ≡ false
 
-pub takes-sends : (bus : Bus) (message : Message) (room : Option Line) (next : Next) → IsCoherent bus → Takes bus message room next
-    → Sends bus message room (changed_core message.addr next message.line (without_line room (bus.core message.sender)))
+pub takes-sends : (bus : Bus) (message : Message) (room : Option Room) (next : Next) → IsCoherent bus → Takes bus message room next
+    → Sends bus message room (changed_core message.addr next message.line (without_line message.addr room (bus.core message.sender)))
     (made next.state next.marks message.line)
 takes-sends bus message room next h t =
-    let there : (without_line room (bus.core message.sender)).copy message.addr ≡ own bus message.sender message.addr = rw t.apart refl in
+    let there : (without_line message.addr room (bus.core message.sender)).copy message.addr ≡ own bus message.sender message.addr = rw t.apart refl in
     record {
       aligned = t.aligned;
       inside = t.inside;
@@ -71,8 +70,8 @@ takes-sends bus message room next h t =
       same_length = refl;
       same_limit = entry-limit next.enters message.addr (bus.core message.sender).buffer;
       stays =
-          changed-coherent (without_line room (bus.core message.sender)) message.addr next message.line
-          (without_line-coherent (bus.core message.sender) room (h.cores message.sender) (λ a e. (leaves-held (bus.core message.sender) room t.victim a e).1))
+          changed-coherent (without_line message.addr room (bus.core message.sender)) message.addr next message.line
+          (without_line-coherent (bus.core message.sender) message.addr room (h.cores message.sender) (λ a e. (leaves-held (bus.core message.sender) room t.victim a e).1))
           (record {
             enters = rw there t.enters;
             stays_required = rw there t.stays_required;
@@ -84,17 +83,17 @@ takes-sends bus message room next h t =
       exclusive = λ e. t.exclusive (sym (ap is_exclusive (made-state next.state next.marks message.line)) ∙ e);
     }
 
-pub taken-with : (bus : Bus) (message : Message) (room : Option Line) (next : Next) → IsCoherent bus → Takes bus message room next
+pub taken-with : (bus : Bus) (message : Message) (room : Option Room) (next : Next) → IsCoherent bus → Takes bus message room next
     → IsCoherentWith (after_message bus message room next) (sent_lines bus message)
 taken-with bus message room next h t =
-    sent-with bus message room (changed_core message.addr next message.line (without_line room (bus.core message.sender)))
+    sent-with bus message room (changed_core message.addr next message.line (without_line message.addr room (bus.core message.sender)))
     (made next.state next.marks message.line) h (takes-sends bus message room next h t)
 
 -- the sender's copy of the line afterwards
-pub own-after : (bus : Bus) (message : Message) (room : Option Line) (next : Next)
+pub own-after : (bus : Bus) (message : Message) (room : Option Room) (next : Next)
     → own (after_message bus message room next) message.sender message.addr ≡ made next.state next.marks message.line
 own-after bus message room next =
-    ap (λ (core : CoreState). core.copy message.addr) (at_sender bus message room (changed_core message.addr next message.line (without_line room (bus.core message.sender))))
+    ap (λ (core : CoreState). core.copy message.addr) (at_sender bus message room (changed_core message.addr next message.line (without_line message.addr room (bus.core message.sender))))
     ∙ rw (itself message.addr) refl
 
 pub kept-core : (bus : Bus) (core addr : ℕ) (next : Next)
@@ -109,7 +108,7 @@ own-kept bus core addr next =
 -- ---- the conditions of an access
 
 -- a core that runs a speculative attempt may access a line of memory
-pub record MayAccess (bus : Bus) (core addr : ℕ) (room : Option Line) : Type 0 where
+pub record MayAccess (bus : Bus) (core addr : ℕ) (room : Option Room) : Type 0 where
   pub aligned : addr % bus.line_length ≡ 0
   pub inside : addr + bus.line_length ≤ bus.shape.size
   pub in_cores : core < bus.shape.cores
@@ -117,7 +116,7 @@ pub record MayAccess (bus : Bus) (core addr : ℕ) (room : Option Line) : Type 0
   pub victim : IsRoom (bus.core core) room
 
 -- the line that leaves is another one than a line that the core does not hold
-pub not_leaving : (core : CoreState) (room : Option Line) (addr : ℕ) → IsRoom core room → is_valid (core.copy addr).state ≡ false
+pub not_leaving : (core : CoreState) (room : Option Room) (addr : ℕ) → IsRoom core room → is_valid (core.copy addr).state ≡ false
     → leaves room addr ≡ false
 not_leaving core room addr h absent =
     elim (leaves room addr) as (λ b. leaves room addr ≡ b → b ≡ false) [
@@ -129,7 +128,7 @@ pub none-room : (core : CoreState) → IsRoom core None
 none-room core = record { held = λ line e v. absurd (let x : ⊥ = cc in x); unmarked = λ line e. absurd (let x : ⊥ = cc in x) }
 
 -- a speculative access to a line in which the core has modified nothing
-pub record Fetches (bus : Bus) (core addr : ℕ) (room : Option Line) (next : Next) (alone : Bool) : Type 0 where
+pub record Fetches (bus : Bus) (core addr : ℕ) (room : Option Room) (next : Next) (alone : Bool) : Type 0 where
   pub unmodified : (own bus core addr).marks.bytes ≡ 0
   pub victim : IsRoom (bus.core core) room
   pub apart : leaves room addr ≡ false
@@ -138,7 +137,7 @@ pub record Fetches (bus : Bus) (core addr : ℕ) (room : Option Line) (next : Ne
   pub up_to_date : IsUpToDate (copy_of next.state next.marks (committed bus addr)) (committed bus addr)
   pub has_room : (next.enters && is_full (bus.core core).buffer) ≡ false
 
-pub fetches-takes : (bus : Bus) (notice : Notice) (core addr : ℕ) (room room2 : Option Line) (next : Next) → notice ≢ Publish → IsCoherent bus
+pub fetches-takes : (bus : Bus) (notice : Notice) (core addr : ℕ) (room room2 : Option Room) (next : Next) → notice ≢ Publish → IsCoherent bus
     → MayAccess bus core addr room → is_busy bus (message_of bus notice core addr) ≡ false
     → Fetches bus core addr room2 next (is_alone bus (message_of bus notice core addr))
     → Takes bus (message_of bus notice core addr) room2 next
@@ -192,7 +191,7 @@ load-within bus core addr offset width h =
     rw (own_load-marks mine.state mine.marks offset width (is_alone bus (message_of bus Load core addr)))
     (marks_of-within_line mine.state mine.marks bus.line_length (h.in_place core addr).mask)
 
-pub load-hit : (bus : Bus) (core addr offset width : ℕ) (room : Option Line) → IsCoherent bus → MayAccess bus core addr room → IsWidth width
+pub load-hit : (bus : Bus) (core addr offset width : ℕ) (room : Option Room) → IsCoherent bus → MayAccess bus core addr room → IsWidth width
     → holds_line bus core addr ≡ true → Keeps bus core addr (load_next bus core addr offset width)
 load-hit bus core addr offset width room h may widths held =
     let mine : LineCopy = own bus core addr in
@@ -210,7 +209,7 @@ load-hit bus core addr offset width room h may widths held =
       required = same_required _ _ _ row.enters (own_load-enters_none mine.state mine.marks offset width alone) row.stays_required;
     }
 
-pub load-miss : (bus : Bus) (core addr offset width : ℕ) (room : Option Line) → IsCoherent bus → MayAccess bus core addr room → IsWidth width
+pub load-miss : (bus : Bus) (core addr offset width : ℕ) (room : Option Room) → IsCoherent bus → MayAccess bus core addr room → IsWidth width
     → holds_line bus core addr ≡ false → is_busy bus (message_of bus Load core addr) ≡ false
     → Takes bus (message_of bus Load core addr) room (load_next bus core addr offset width)
 load-miss bus core addr offset width room h may widths absent free =
@@ -236,7 +235,7 @@ load-goes_on false false true e f = cc
 load-goes_on false false false e f = refl
 
 -- a load that does not wait: every line is committed as it was
-pub load-with : (bus : Bus) (core addr offset width : ℕ) (room : Option Line) → IsCoherent bus → MayAccess bus core addr room
+pub load-with : (bus : Bus) (core addr offset width : ℕ) (room : Option Room) → IsCoherent bus → MayAccess bus core addr room
     → IsWidth width → load_wait bus core addr room ≡ None
     → IsCoherentWith (after_load bus core addr offset width room) (committed bus)
 load-with bus core addr offset width room h may widths goes = pick (holds_line bus core addr) refl
@@ -287,7 +286,7 @@ unowned-unmodified copy c h e = by_state copy.state copy.marks e h.not_modified
     by_state SpS marks e f = empty marks.bytes e
     by_state SpE marks e f = cc
 
-pub store-owned : (bus : Bus) (core addr offset width : ℕ) (room : Option Line) → IsCoherent bus → MayAccess bus core addr room → IsWidth width
+pub store-owned : (bus : Bus) (core addr offset width : ℕ) (room : Option Room) → IsCoherent bus → MayAccess bus core addr room → IsWidth width
     → offset + width ≤ bus.line_length → owns bus core addr ≡ true → Keeps bus core addr (store_next bus core addr offset width)
 store-owned bus core addr offset width room h may widths inside owned =
     let mine : LineCopy = own bus core addr in
@@ -306,7 +305,7 @@ store-owned bus core addr offset width room h may widths inside owned =
       required = same_required _ _ _ row.enters (owned-enters_none mine.state mine.marks offset width alone owned) row.stays_required;
     }
 
-pub store-claims : (bus : Bus) (core addr offset width : ℕ) (room : Option Line) → IsCoherent bus → MayAccess bus core addr room → IsWidth width
+pub store-claims : (bus : Bus) (core addr offset width : ℕ) (room : Option Room) → IsCoherent bus → MayAccess bus core addr room → IsWidth width
     → offset + width ≤ bus.line_length → owns bus core addr ≡ false → is_busy bus (message_of bus Store core addr) ≡ false
     → ((store_next bus core addr offset width).enters && is_full (bus.core core).buffer) ≡ false
     → Takes bus (message_of bus Store core addr) (room_for bus core addr room) (store_next bus core addr offset width)
@@ -365,7 +364,7 @@ pub record IsClaimed (old new : Bus) (core addr offset width : ℕ) : Type 0 whe
   pub held : is_valid (own new core addr).state ≡ true
   pub masked : (x : ℕ) → is_within offset width x ≡ true → has (own new core addr).marks.bytes x ≡ true
 
-pub claim-with : (bus : Bus) (core addr offset width : ℕ) (room : Option Line) → IsCoherent bus → MayAccess bus core addr room → IsWidth width
+pub claim-with : (bus : Bus) (core addr offset width : ℕ) (room : Option Room) → IsCoherent bus → MayAccess bus core addr room → IsWidth width
     → offset + width ≤ bus.line_length → store_wait bus core addr offset width room ≡ None
     → IsClaimed bus (after_claim bus core addr offset width room) core addr offset width
 claim-with bus core addr offset width room h may widths inside goes = pick (owns bus core addr) refl
@@ -405,7 +404,7 @@ claim-with bus core addr offset width room h may widths inside goes = pick (owns
         }
 
 -- its bytes may be written then
-pub claim-writes : (bus : Bus) (core addr offset width : ℕ) (room : Option Line) → MayAccess bus core addr room → offset + width ≤ bus.line_length
+pub claim-writes : (bus : Bus) (core addr offset width : ℕ) (room : Option Room) → MayAccess bus core addr room → offset + width ≤ bus.line_length
     → IsClaimed bus (after_claim bus core addr offset width room) core addr offset width
     → Writes (after_claim bus core addr offset width room) core addr offset width
 claim-writes bus core addr offset width room may inside claimed =
@@ -418,7 +417,7 @@ claim-writes bus core addr offset width room may inside claimed =
     }
 
 -- a store that does not wait: every line is committed as it was
-pub store-with : (bus : Bus) (core addr offset width value : ℕ) (room : Option Line) → IsCoherent bus → MayAccess bus core addr room
+pub store-with : (bus : Bus) (core addr offset width value : ℕ) (room : Option Room) → IsCoherent bus → MayAccess bus core addr room
     → IsWidth width → offset + width ≤ bus.line_length → store_wait bus core addr offset width room ≡ None
     → IsCoherentWith (after_store bus core addr offset width value room) (committed bus)
 store-with bus core addr offset width value room h may widths inside goes =

@@ -5,14 +5,13 @@ use Rattle.spec_states.specs.declared.next.Next.{Next}
 use Rattle.spec_states.specs.Copies.{LineCopy, no_copy}
 use Rattle.spec_states.specs.Rows.{requires_ownership}
 use Rattle.spec_states.specs.States.{is_speculative}
-use Rattle.cache_lines.specs.declared.line.Line.{Line}
 use Rattle.cache_lines.specs.Protocol.{rolled_back_copy}
 use Rattle.cache_lines.proofs.CopyLaws.{unmarked-rolled_back}
 use Rattle.orb.specs.Lines.{Buffer, holds, is_full, without, IsBuffer}
 use Rattle.orb.proofs.EachOnce.{holds-push, holds-without, IsBuffer-push, IsBuffer-without}
 use Rattle.bus_states.specs.Bus.{CoreState}
 use Rattle.bus_states.specs.Coherent.{IsCoherentCore, speculates}
-use Rattle.bus_states.specs.Messages.{with_copy, with_entry, emptied, dropped_core, changed_core, leaves, without_line}
+use Rattle.bus_states.specs.Messages.{Room, with_copy, with_entry, emptied, dropped_core, changed_core, leaves, without_line}
 use Rattle.bus_states.proofs.Copies.{made, made-state, made-required, unrequired}
 
 -- ---- buffers
@@ -111,9 +110,9 @@ with_copy-coherent core addr copy h same unmarked =
     }
 
 -- an unmarked line leaves
-pub without_line-coherent : (core : CoreState) (room : Option Line) → IsCoherentCore core
-    → ((a : ℕ) → leaves room a ≡ true → is_speculative (core.copy a).state ≡ false) → IsCoherentCore (without_line room core)
-without_line-coherent core room h unmarked =
+pub without_line-coherent : (core : CoreState) (addr : ℕ) (room : Option Room) → IsCoherentCore core
+    → ((a : ℕ) → leaves room a ≡ true → is_speculative (core.copy a).state ≡ false) → IsCoherentCore (without_line addr room core)
+without_line-coherent core addr room h unmarked =
     record {
       listed =
           λ a. elim (leaves room a) as (λ b. leaves room a ≡ b → holds core.buffer.lines a ≡ requires_ownership (cond b no_copy (core.copy a)).state (cond b no_copy (core.copy a)).marks) [

@@ -16,7 +16,7 @@ use Rattle.bus_states.specs.declared.notice.Notice.{Notice}
 use Rattle.bus_states.specs.declared.notice.Notice.TheVariants.{Load, Store, Publish}
 use Rattle.bus_states.specs.Bus.{CoreState, Bus, no_core, is_later}
 use Rattle.bus_states.specs.Coherent.{IsCoherent, IsCoherentCore}
-use Rattle.bus_states.specs.Messages.{Message, with_copy, dropped_core, changed_core, reply, reply_to, order, bytes_after, violates, holds_up, heard_core, is_busy}
+use Rattle.bus_states.specs.Messages.{Message, with_copies, with_copy, dropped_core, changed_core, reply, reply_to, order, bytes_after, violates, holds_up, heard_core, is_busy}
 use Rattle.bus_states.proofs.Copies.{itself, made, made-state, made-up_to_date, none-in_place, made-in_place, rolled_back-valid, rolled_back-modified, rolled_back-in_place, Fades, Fades-same, Fades-rolled_back}
 use Rattle.bus_states.proofs.Cores.{entry-limit, changed-coherent, violated-coherent}
 use Rattle.bus_states.proofs.Coherence.{apart_test, none_below}
@@ -113,7 +113,7 @@ made-none false copy e = refl
 absent-core : (addr : ℕ) (v : Bool) (next : Next) (cell : ℕ → ℕ) → v ≡ false → is_valid next.state ≡ false
     → next.enters ≡ false → heard addr v next cell no_core ≡ no_core
 absent-core addr v next cell e f g =
-    rw (e, f, g) (ap (λ (copy : ℕ → LineCopy). record no_core { copy = copy }) (fun_ext (λ a. made-none (addr == a) no_copy refl)))
+    rw (e, f, g) (ap (λ (copies : ℕ → LineCopy). with_copies copies no_core) (fun_ext (λ a. made-none (addr == a) no_copy refl)))
 
 -- ---- in a message
 

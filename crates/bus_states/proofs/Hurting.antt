@@ -10,7 +10,6 @@ use Rattle.spec_states.specs.Mask.{has}
 use Rattle.spec_states.specs.Rows.{was_loaded, GivesWay}
 use Rattle.spec_states.specs.States.{is_valid, is_speculative}
 use Rattle.spec_states.proofs.RowLaws.{other_load-violates, other_store-violates, other_publish-violates, speculative-valid}
-use Rattle.cache_lines.specs.declared.line.Line.{Line}
 use Rattle.orb.specs.Lines.{is_full}
 use Rattle.violations.specs.declared.attempt.Attempt.{Attempt}
 use Rattle.violations.specs.View.{StoreView, epoch_of}
@@ -19,7 +18,7 @@ use Rattle.bus_states.specs.declared.notice.Notice.{Notice}
 use Rattle.bus_states.specs.declared.notice.Notice.TheVariants.{Load, Store, Publish}
 use Rattle.bus_states.specs.Bus.{CoreState, Bus, committed, is_later}
 use Rattle.bus_states.specs.Coherent.{IsCoherent, speculates}
-use Rattle.bus_states.specs.Messages.{Message, reply, reply_to, order, bytes_after, overflows, violates, changed_core}
+use Rattle.bus_states.specs.Messages.{Room, Message, reply, reply_to, order, bytes_after, overflows, violates, changed_core}
 use Rattle.bus_states.specs.Views.{view_of}
 use Rattle.bus_states.proofs.Coherence.{apart_test, committed-with}
 use Rattle.bus_states.proofs.Copies.{clash, itself, made}
@@ -218,7 +217,7 @@ changed-shows core addr a next cell c h row spares same =
     ] refl
 
 -- so does a core that a message spares
-pub heard-shows : (bus : Bus) (message : Message) (room : Option Line) (own : CoreState) (k : ℕ) → IsCoherent bus
+pub heard-shows : (bus : Bus) (message : Message) (room : Option Room) (own : CoreState) (k : ℕ) → IsCoherent bus
     → message.addr % bus.line_length ≡ 0 → k ≢ message.sender → violates bus message k ≡ false
     → ShowsSame bus (sent bus message room own) k
 heard-shows bus message room own k h aligned away spares =
@@ -245,7 +244,7 @@ no_store : Store ≡ Publish → ⊥
 no_store e = cc
 
 -- no line that it has loaded changes
-heard-stands : (bus : Bus) (message : Message) (room : Option Line) (own : CoreState) (mine : LineCopy) (k : ℕ) → IsCoherent bus
+heard-stands : (bus : Bus) (message : Message) (room : Option Room) (own : CoreState) (mine : LineCopy) (k : ℕ) → IsCoherent bus
     → Sends bus message room own mine → k ≢ message.sender → violates bus message k ≡ false
     → (a : ℕ) → a % bus.line_length ≡ 0 → ((bus.core k).copy a).marks.loaded ≡ true
     → (x : ℕ) → committed (sent bus message room own) a x ≡ committed bus a x
@@ -279,7 +278,7 @@ heard-stands bus message room own mine k h t away spares a on_line loaded x =
     here Publish is loaded = absurd (hit is loaded)
 
 -- what a message of a core does to the others. Where it is a publish, the core's epoch is the first
-pub message-hurts : (bus : Bus) (message : Message) (room : Option Line) (own : CoreState) (mine : LineCopy) → IsCoherent bus
+pub message-hurts : (bus : Bus) (message : Message) (room : Option Room) (own : CoreState) (mine : LineCopy) → IsCoherent bus
     → Sends bus message room own mine → (message.notice ≡ Publish → IsFirst bus message.sender)
     → HurtsLater (view_of bus) (view_of (sent bus message room own)) message.sender (violates bus message)
 message-hurts bus message room own mine h t first =

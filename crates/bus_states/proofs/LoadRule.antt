@@ -10,13 +10,12 @@ use Rattle.spec_states.specs.Tables.{marks_of, marks_after_load}
 use Rattle.spec_states.proofs.CopyLaws.{own_load-marks, own_load-read}
 use Rattle.spec_states.proofs.MaskLaws.{is_within-first}
 use Rattle.spec_states.proofs.RowLaws.{own_load-takes_hold, speculative-valid}
-use Rattle.cache_lines.specs.declared.line.Line.{Line}
 use Rattle.violations.specs.View.{IsLoad, Runs}
 use Rattle.violations.specs.Rule.{HurtsLater, TakesIn, IsCrowded, Loads}
 use Rattle.bus_states.specs.declared.notice.Notice.TheVariants.{Load}
 use Rattle.bus_states.specs.Bus.{Bus, committed, sees, line_of, offset_of}
 use Rattle.bus_states.specs.Coherent.{IsCoherent}
-use Rattle.bus_states.specs.Messages.{IsRoom, message_of, violates, is_busy, is_alone, after_message}
+use Rattle.bus_states.specs.Messages.{Room, IsRoom, message_of, violates, is_busy, is_alone, after_message}
 use Rattle.bus_states.specs.Speculative.{own, holds_line, no_room, kept_line, load_next, after_load, load_wait, load_violates}
 use Rattle.bus_states.specs.Views.{view_of}
 use Rattle.bus_states.proofs.Accesses.{MayAccess, load-hit, load-miss, load-goes_on, load-with}
@@ -36,7 +35,7 @@ load-valid bus core addr offset width =
     speculative-valid (load_next bus core addr offset width).state
     (own_load-takes_hold (own bus core addr).state (own bus core addr).marks offset width (is_alone bus (message_of bus Load core addr))).marked
 
-pub load-taken : (bus : Bus) (core addr offset width : ℕ) (room : Option Line) → IsCoherent bus → MayAccess bus core addr room → IsWidth width
+pub load-taken : (bus : Bus) (core addr offset width : ℕ) (room : Option Room) → IsCoherent bus → MayAccess bus core addr room → IsWidth width
     → load_wait bus core addr room ≡ None
     → HasTaken bus (after_load bus core addr offset width room) core addr (load_next bus core addr offset width).marks (load_violates bus core addr)
 load-taken bus core addr offset width room h may widths goes =
@@ -96,7 +95,7 @@ record HasLoaded (old new : Bus) (core addr offset width : ℕ) (hurt : ℕ → 
   pub only : (a : ℕ) → a % old.line_length ≡ 0 → (own new core a).marks.loaded ≡ true → (own old core a).marks.loaded ≡ false
       → (addr ≡ a) × IsOutside (own old core addr).marks.bytes offset width
 
-load-loaded : (bus : Bus) (core addr offset width : ℕ) (room : Option Line) → IsCoherent bus → MayAccess bus core addr room → IsWidth width
+load-loaded : (bus : Bus) (core addr offset width : ℕ) (room : Option Room) → IsCoherent bus → MayAccess bus core addr room → IsWidth width
     → load_wait bus core addr room ≡ None
     → HasLoaded bus (after_load bus core addr offset width room) core addr offset width (load_violates bus core addr)
 load-loaded bus core addr offset width room h may widths goes =
@@ -198,7 +197,7 @@ takes-in bus core address width a h lies same outside =
     before offset x within ends = grind (arith, nat_tests)
 
 -- a load that is answered with what the core sees
-pub load-loads : (bus : Bus) (core address width value : ℕ) (room : Option Line) (hurt : ℕ → Bool) → IsCoherent bus
+pub load-loads : (bus : Bus) (core address width value : ℕ) (room : Option Room) (hurt : ℕ → Bool) → IsCoherent bus
     → Runs (view_of bus) core false → IsLoad bus.shape address width → IsRoom (bus.core core) room
     → load_wait bus core (line_of bus.line_length address) room ≡ None
     → value ≡ number_at (sees bus core (line_of bus.line_length address)) (offset_of bus.line_length address) width → value < 256 ^ width

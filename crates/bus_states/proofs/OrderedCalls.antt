@@ -1,9 +1,9 @@
 -- Each call keeps the order of the attempts.
 use Rattle.std.proofs.Common.{◌≡◌, ℕ, ◌+◌, ◌≤◌, true, false, Option, None, refl}
 use Rattle.memory_bytes.specs.Bytes.{IsWidth}
-use Rattle.cache_lines.specs.declared.line.Line.{Line}
 use Rattle.violations.specs.View.{MayBegin, MayPublish, Runs}
 use Rattle.bus_states.specs.Bus.{Bus}
+use Rattle.bus_states.specs.Messages.{Room}
 use Rattle.bus_states.specs.Coherent.{IsCoherent}
 use Rattle.bus_states.specs.Attempts.{after_begin, after_leave, after_cancel}
 use Rattle.bus_states.specs.Speculative.{after_load, load_wait, load_violates, after_store, store_wait, store_violates}
@@ -29,13 +29,13 @@ leave-ordered bus core h ordered runs = ordered-ends bus (after_leave bus core) 
 pub cancel-ordered : (bus : Bus) (core : ℕ) → IsCoherent bus → AreOrdered bus → Runs (view_of bus) core false → AreOrdered (after_cancel bus core)
 cancel-ordered bus core h ordered runs = ordered-ends bus (after_cancel bus core) core ordered (cancel-ends bus core h runs)
 
-pub load-ordered : (bus : Bus) (core addr offset width : ℕ) (room : Option Line) → IsCoherent bus → AreOrdered bus → MayAccess bus core addr room
+pub load-ordered : (bus : Bus) (core addr offset width : ℕ) (room : Option Room) → IsCoherent bus → AreOrdered bus → MayAccess bus core addr room
     → IsWidth width → load_wait bus core addr room ≡ None → AreOrdered (after_load bus core addr offset width room)
 load-ordered bus core addr offset width room h ordered may widths goes =
     let t = load-taken bus core addr offset width room h may widths goes in
     ordered-hurts bus (after_load bus core addr offset width room) core (load_violates bus core addr) ordered t.others t.attempt
 
-pub store-ordered : (bus : Bus) (core addr offset width value : ℕ) (room : Option Line) → IsCoherent bus → AreOrdered bus
+pub store-ordered : (bus : Bus) (core addr offset width value : ℕ) (room : Option Room) → IsCoherent bus → AreOrdered bus
     → MayAccess bus core addr room → IsWidth width → offset + width ≤ bus.line_length → store_wait bus core addr offset width room ≡ None
     → AreOrdered (after_store bus core addr offset width value room)
 store-ordered bus core addr offset width value room h ordered may widths inside goes =
@@ -47,13 +47,13 @@ publish-ordered bus core h ordered may =
     ordered-publishes bus (after_publish bus core) core (publish_violates bus core) ordered may
     (publish-publishes bus core (publish_violates bus core) h ordered may (λ k. refl))
 
-pub straight_load-ordered : (bus : Bus) (core addr : ℕ) (room : Option Line) → IsCoherent bus → AreOrdered bus → MayAccessStraight bus core addr room
+pub straight_load-ordered : (bus : Bus) (core addr : ℕ) (room : Option Room) → IsCoherent bus → AreOrdered bus → MayAccessStraight bus core addr room
     → AreOrdered (after_straight_load bus core addr room)
 straight_load-ordered bus core addr room h ordered may =
     let t = load-straight bus core addr room h may in
     ordered-hurts bus (after_straight_load bus core addr room) core (straight_load_violates bus core addr) ordered t.others t.attempt
 
-pub straight_store-ordered : (bus : Bus) (core addr offset width value : ℕ) (room : Option Line) → IsCoherent bus → AreOrdered bus
+pub straight_store-ordered : (bus : Bus) (core addr offset width value : ℕ) (room : Option Room) → IsCoherent bus → AreOrdered bus
     → MayAccessStraight bus core addr room → offset + width ≤ bus.line_length
     → AreOrdered (after_straight_store bus core addr offset width value room)
 straight_store-ordered bus core addr offset width value room h ordered may inside =

@@ -73,7 +73,7 @@ publish-free bus core addr h t =
 abbrev pub line_published : Bus → ℕ → ℕ → CoreState
 line_published bus core addr =
     let next : Next = publish_next bus core addr in
-    let changed : CoreState = changed_core addr next (sees bus core addr) (without_line None (bus.core core)) in
+    let changed : CoreState = changed_core addr next (sees bus core addr) (without_line addr None (bus.core core)) in
     record changed { buffer = record changed.buffer { lines = without addr changed.buffer.lines } }
 
 -- a sender that changes once more
@@ -91,7 +91,7 @@ sent-again bus message first change =
 pub publish_line-sent : (bus : Bus) (core addr : ℕ)
     → after_publish_line bus core addr ≡ sent bus (message_of bus Publish core addr) None (line_published bus core addr)
 publish_line-sent bus core addr =
-    sent-again bus (message_of bus Publish core addr) (changed_core addr (publish_next bus core addr) (sees bus core addr) (without_line None (bus.core core)))
+    sent-again bus (message_of bus Publish core addr) (changed_core addr (publish_next bus core addr) (sees bus core addr) (without_line addr None (bus.core core)))
     (λ (state : CoreState). record state { buffer = record state.buffer { lines = without addr state.buffer.lines } })
 
 pub publish-sends : (bus : Bus) (core addr : ℕ) → IsCoherent bus → IsListed bus core addr

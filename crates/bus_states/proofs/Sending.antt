@@ -11,7 +11,7 @@ use Rattle.cache_lines.specs.Protocol.{IsInPlace, copy_of_line}
 use Rattle.bus_states.specs.declared.notice.Notice.TheVariants.{Publish}
 use Rattle.bus_states.specs.Bus.{CoreState, Bus, committed, memory_line, some_core, is_later}
 use Rattle.bus_states.specs.Coherent.{IsCoherent, IsCoherentLine, IsCoherentCore}
-use Rattle.bus_states.specs.Messages.{IsRoom, Message, reply, order, violates, remains, heard_core, is_busy, is_alone, leaves, with_line, with_victim}
+use Rattle.bus_states.specs.Messages.{Room, IsRoom, Message, reply, order, violates, remains, heard_core, is_busy, is_alone, leaves, with_line, with_victim}
 use Rattle.bus_states.proofs.Addresses.{with_line-here, with_line-elsewhere}
 use Rattle.bus_states.proofs.Coherence
 use Rattle.bus_states.proofs.Coherence.{IsCoherentWith, committed-with, coherent-with, by_core, none_below}
@@ -32,17 +32,17 @@ right line_addr a true e = grind (arith, nat_tests)
 right line_addr a false e = cc
 
 -- a line that leaves, seen from its address
-pub leaves-held : (core : CoreState) (room : Option Line) → IsRoom core room → (a : ℕ) → leaves room a ≡ true
+pub leaves-held : (core : CoreState) (room : Option Room) → IsRoom core room → (a : ℕ) → leaves room a ≡ true
     → (is_valid (core.copy a).state ≡ true) × (is_speculative (core.copy a).state ≡ false)
 leaves-held core None h a e = absurd (let x : ⊥ = cc in x)
-leaves-held core (Some line) h a e =
-    let v : is_valid line.state ≡ true = left (is_valid line.state) (line.addr == a) e in
-    let at : line.addr ≡ a = right line.addr a (is_valid line.state) e in
-    let is : core.copy a ≡ copy_of_line line = subst (λ (a : ℕ). core.copy a ≡ copy_of_line line) at (h.held line refl v) in
-    rw is (v, h.unmarked line refl)
+leaves-held core (Some r) h a e =
+    let v : is_valid r.line.state ≡ true = left (is_valid r.line.state) (r.line.addr == a) e in
+    let at : r.line.addr ≡ a = right r.line.addr a (is_valid r.line.state) e in
+    let is : core.copy a ≡ copy_of_line r.line = subst (λ (a : ℕ). core.copy a ≡ copy_of_line r.line) at (h.held r refl v) in
+    rw is (v, h.unmarked r refl)
 
 -- a core sends a message, and is then as given, where `mine` is its copy of the line
-pub record Sends (bus : Bus) (message : Message) (room : Option Line) (own : CoreState) (mine : LineCopy) : Type 0 where
+pub record Sends (bus : Bus) (message : Message) (room : Option Room) (own : CoreState) (mine : LineCopy) : Type 0 where
   pub aligned : message.addr % bus.line_length ≡ 0
   pub inside : message.addr + bus.line_length ≤ bus.shape.size
   pub in_cores : message.sender < bus.shape.cores
@@ -60,7 +60,7 @@ pub record Sends (bus : Bus) (message : Message) (room : Option Line) (own : Cor
       → (is_exclusive ((bus.core message.sender).copy message.addr).state || is_alone bus message) ≡ true
 
 -- the bus afterwards, and what is committed then
-abbrev pub sent : Bus → Message → Option Line → CoreState → Bus
+abbrev pub sent : Bus → Message → Option Room → CoreState → Bus
 sent bus message room own =
     record bus {
       core = λ k. cond (k == message.sender) own (heard_core bus message k);
@@ -70,10 +70,10 @@ sent bus message room own =
 abbrev pub sent_lines : Bus → Message → ℕ → ℕ → ℕ
 sent_lines bus message a = cond (message.addr == a) message.line (committed bus a)
 
-pub at_sender : (bus : Bus) (message : Message) (room : Option Line) (own : CoreState) → (sent bus message room own).core message.sender ≡ own
+pub at_sender : (bus : Bus) (message : Message) (room : Option Room) (own : CoreState) → (sent bus message room own).core message.sender ≡ own
 at_sender bus message room own = rw (itself message.sender) refl
 
-pub at_other : (bus : Bus) (message : Message) (room : Option Line) (own : CoreState) (k : ℕ) → k ≢ message.sender
+pub at_other : (bus : Bus) (message : Message) (room : Option Room) (own : CoreState) (k : ℕ) → k ≢ message.sender
     → (sent bus message room own).core k ≡ heard_core bus message k
 at_other bus message room own k away = rw (Coherence.apart_test k message.sender away) refl
 
@@ -93,7 +93,7 @@ invalid-both v valid e = grind (arith, nat_tests)
 unremaining : (same v valid : Bool) → same ≡ false → (not same && (not v && valid)) ≡ false → (not v && valid) ≡ false
 unremaining same v valid e f = grind (arith, nat_tests)
 
-others-gone : (bus : Bus) (message : Message) (room : Option Line) (own : CoreState) (mine : LineCopy) → IsCoherent bus
+others-gone : (bus : Bus) (message : Message) (room : Option Room) (own : CoreState) (mine : LineCopy) → IsCoherent bus
     → Sends bus message room own mine → is_exclusive mine.state ≡ true → (k : ℕ) → k ≢ message.sender
     → is_valid ((heard_core bus message k).copy message.addr).state ≡ false
 others-gone bus message room own mine h t ex k away =
@@ -120,7 +120,7 @@ others-gone bus message room own mine h t ex k away =
         let past : bus.shape.cores ≤ k = grind (arith, nat_tests) in
         rw (Heard.heard-absent bus message k (h.absent k past)) refl
 
-line-here : (bus : Bus) (message : Message) (room : Option Line) (own : CoreState) (mine : LineCopy) → IsCoherent bus
+line-here : (bus : Bus) (message : Message) (room : Option Room) (own : CoreState) (mine : LineCopy) → IsCoherent bus
     → Sends bus message room own mine
     → IsCoherentLine (λ k. ((sent bus message room own).core k).copy message.addr) (memory_line bus.line_length (sent bus message room own).memory message.addr) message.line
 line-here bus message room own mine h t =
@@ -139,7 +139,7 @@ line-here bus message room own mine h t =
 
 -- ---- another line
 
-sender-fades : (core own : CoreState) (addr a : ℕ) (room : Option Line) (mine : LineCopy) (c : ℕ → ℕ) → (addr == a) ≡ false
+sender-fades : (core own : CoreState) (addr a : ℕ) (room : Option Room) (mine : LineCopy) (c : ℕ → ℕ) → (addr == a) ≡ false
     → own.copy a ≡ cond (addr == a) mine (cond (leaves room a) no_copy (core.copy a))
     → IsUpToDate (core.copy a) c → Fades (core.copy a) (own.copy a) c
 sender-fades core own addr a room mine c e f h = rw (f, e) (pick (leaves room a))
@@ -148,7 +148,7 @@ sender-fades core own addr a room mine c e f h = rw (f, e) (pick (leaves room a)
     pick true = Fades-none (core.copy a) c
     pick false = Fades-same (core.copy a) c h
 
-fades : (bus : Bus) (message : Message) (room : Option Line) (own : CoreState) (mine : LineCopy) → IsCoherent bus
+fades : (bus : Bus) (message : Message) (room : Option Room) (own : CoreState) (mine : LineCopy) → IsCoherent bus
     → Sends bus message room own mine → (a : ℕ) → a % bus.line_length ≡ 0 → (message.addr == a) ≡ false → (k : ℕ)
     → Fades ((bus.core k).copy a) (((sent bus message room own).core k).copy a) (committed bus a)
 fades bus message room own mine h t a aligned e k =
@@ -159,7 +159,7 @@ fades bus message room own mine h t a aligned e k =
     (Heard.elsewhere-fades (bus.core k) message.addr a (violates bus message k) (reply bus message k) _ (committed bus a) e ((h.lines a aligned).up_to_date k)))
 
 -- an M copy of a line that does not leave stays
-stays-modified : (bus : Bus) (message : Message) (room : Option Line) (own : CoreState) (mine : LineCopy)
+stays-modified : (bus : Bus) (message : Message) (room : Option Room) (own : CoreState) (mine : LineCopy)
     → Sends bus message room own mine → (a : ℕ) → (message.addr == a) ≡ false
     → (leaves room a ≡ true → is_modified ((bus.core message.sender).copy a).state ≡ false) → (k : ℕ)
     → is_modified (((sent bus message room own).core k).copy a).state ≡ is_modified ((bus.core k).copy a).state
@@ -175,7 +175,7 @@ stays-modified bus message room own mine t a e l k =
     pick false f = refl
 
 -- memory has a line that nobody holds as M any more
-unwritten : (bus : Bus) (message : Message) (room : Option Line) (own : CoreState) (mine : LineCopy) → IsCoherent bus
+unwritten : (bus : Bus) (message : Message) (room : Option Room) (own : CoreState) (mine : LineCopy) → IsCoherent bus
     → Sends bus message room own mine → (a : ℕ) → a % bus.line_length ≡ 0 → (message.addr == a) ≡ false
     → ((k : ℕ) → is_modified (((sent bus message room own).core k).copy a).state ≡ false) → (x : ℕ)
     → memory_line bus.line_length (with_victim bus.line_length room bus.memory) a x ≡ committed bus a x
@@ -186,40 +186,40 @@ unwritten bus message room own mine h t a aligned e none x =
         → memory_line bus.line_length bus.memory a x ≡ committed bus a x
     same f = (h.lines a aligned).in_memory (λ k. sym (f k) ∙ none k) x
 
-    at_line : (line : Line) → room ≡ Some line → (b : Bool) → is_modified line.state ≡ b → (d : Bool) → (line.addr == a) ≡ d
-        → ((leaves (Some line) a ≡ true → is_modified ((bus.core message.sender).copy a).state ≡ false)
+    at_line : (line : Line) (way : ℕ) → room ≡ Some (record { way = way; line = line }) → (b : Bool) → is_modified line.state ≡ b → (d : Bool) → (line.addr == a) ≡ d
+        → ((leaves (Some (record { way = way; line = line })) a ≡ true → is_modified ((bus.core message.sender).copy a).state ≡ false)
         → (k : ℕ) → is_modified (((sent bus message room own).core k).copy a).state ≡ is_modified ((bus.core k).copy a).state)
         → memory_line bus.line_length (cond b (with_line bus.line_length line.addr (cell_of line) bus.memory) bus.memory) a x ≡ committed bus a x
-    at_line line is true m true at f =
+    at_line line way is true m true at f =
         let valid : is_valid line.state ≡ true = modified-valid line.state m in
         let here : line.addr ≡ a = grind (arith, nat_tests) in
         let copy : (bus.core message.sender).copy a ≡ copy_of_line line =
-        subst (λ (a : ℕ). (bus.core message.sender).copy a ≡ copy_of_line line) here (t.victim.held line is valid) in
+        subst (λ (a : ℕ). (bus.core message.sender).copy a ≡ copy_of_line line) here (t.victim.held (record { way = way; line = line }) is valid) in
         let modified : is_modified ((bus.core message.sender).copy a).state ≡ true = rw copy m in
         subst (λ (line_addr : ℕ). memory_line bus.line_length (with_line bus.line_length line_addr (cell_of line) bus.memory) a x ≡ committed bus a x) (sym here)
         (with_line-here bus.line_length a (cell_of line) bus.memory h.length_is aligned
         (λ x le. ap (λ (copy : LineCopy). copy.cell x) (sym copy) ∙ (h.in_place message.sender a).cells x le) x
         ∙ ap (λ (copy : LineCopy). copy.cell x) (sym copy)
         ∙ modified_is ((bus.core message.sender).copy a) (committed bus a) ((h.lines a aligned).up_to_date message.sender) modified x)
-    at_line line is true m false at f =
+    at_line line way is true m false at f =
         let valid : is_valid line.state ≡ true = modified-valid line.state m in
-        let held : is_valid ((bus.core message.sender).copy line.addr).state ≡ true = rw (t.victim.held line is valid) valid in
+        let held : is_valid ((bus.core message.sender).copy line.addr).state ≡ true = rw (t.victim.held (record { way = way; line = line }) is valid) valid in
         with_line-elsewhere bus.line_length line.addr a (cell_of line) bus.memory h.length_is ((h.in_place message.sender line.addr).aligned held) aligned at x
         ∙ same (f (λ l. absurd (never (is_valid line.state) (line.addr == a) at l)))
-    at_line line is false m d at f =
+    at_line line way is false m d at f =
         same (f (λ l.
         let here : line.addr ≡ a = right line.addr a (is_valid line.state) l in
         let valid : is_valid line.state ≡ true = left (is_valid line.state) (line.addr == a) l in
-        rw (subst (λ (a : ℕ). (bus.core message.sender).copy a ≡ copy_of_line line) here (t.victim.held line is valid)) m))
+        rw (subst (λ (a : ℕ). (bus.core message.sender).copy a ≡ copy_of_line line) here (t.victim.held (record { way = way; line = line }) is valid)) m))
 
-    by_room : (room2 : Option Line) → room ≡ room2
+    by_room : (room2 : Option Room) → room ≡ room2
         → ((leaves room2 a ≡ true → is_modified ((bus.core message.sender).copy a).state ≡ false)
         → (k : ℕ) → is_modified (((sent bus message room own).core k).copy a).state ≡ is_modified ((bus.core k).copy a).state)
         → memory_line bus.line_length (with_victim bus.line_length room2 bus.memory) a x ≡ committed bus a x
     by_room None is f = same (f (λ l. cc))
-    by_room (Some line) is f = at_line line is (is_modified line.state) refl (line.addr == a) refl f
+    by_room (Some r) is f = at_line r.line r.way is (is_modified r.line.state) refl (r.line.addr == a) refl f
 
-line-elsewhere : (bus : Bus) (message : Message) (room : Option Line) (own : CoreState) (mine : LineCopy) → IsCoherent bus
+line-elsewhere : (bus : Bus) (message : Message) (room : Option Room) (own : CoreState) (mine : LineCopy) → IsCoherent bus
     → Sends bus message room own mine → (a : ℕ) → a % bus.line_length ≡ 0 → (message.addr == a) ≡ false
     → IsCoherentLine (λ k. ((sent bus message room own).core k).copy a) (memory_line bus.line_length (sent bus message room own).memory a) (committed bus a)
 line-elsewhere bus message room own mine h t a aligned e =
@@ -231,7 +231,7 @@ line-elsewhere bus message room own mine h t a aligned e =
     (λ none x. with_line-elsewhere bus.line_length message.addr a message.line (with_victim bus.line_length room bus.memory) h.length_is t.aligned aligned e x
     ∙ unwritten bus message room own mine h t a aligned e none x)
 
-every-line : (bus : Bus) (message : Message) (room : Option Line) (own : CoreState) (mine : LineCopy) → IsCoherent bus
+every-line : (bus : Bus) (message : Message) (room : Option Room) (own : CoreState) (mine : LineCopy) → IsCoherent bus
     → Sends bus message room own mine → (a : ℕ) → a % bus.line_length ≡ 0
     → IsCoherentLine (λ k. ((sent bus message room own).core k).copy a) (memory_line bus.line_length (sent bus message room own).memory a) (sent_lines bus message a)
 every-line bus message room own mine h t a aligned =
@@ -245,7 +245,7 @@ every-line bus message room own mine h t a aligned =
 
 -- ---- every copy in its place, of a line of memory
 
-own-in_place : (bus : Bus) (message : Message) (room : Option Line) (own : CoreState) (mine : LineCopy) → IsCoherent bus
+own-in_place : (bus : Bus) (message : Message) (room : Option Room) (own : CoreState) (mine : LineCopy) → IsCoherent bus
     → Sends bus message room own mine → (a : ℕ) → IsInPlace bus.line_length a (own.copy a)
 own-in_place bus message room own mine h t a =
     rw (t.copies a)
@@ -260,7 +260,7 @@ own-in_place bus message room own mine h t a =
     pick true = none-in_place bus.line_length a
     pick false = h.in_place message.sender a
 
-valid-before : (bus : Bus) (message : Message) (room : Option Line) (own : CoreState) (mine : LineCopy)
+valid-before : (bus : Bus) (message : Message) (room : Option Room) (own : CoreState) (mine : LineCopy)
     → Sends bus message room own mine → (k a : ℕ) → (message.addr == a) ≡ false
     → is_valid (((sent bus message room own).core k).copy a).state ≡ true → is_valid ((bus.core k).copy a).state ≡ true
 valid-before bus message room own mine t k a e =
@@ -275,7 +275,7 @@ valid-before bus message room own mine t k a e =
 
 -- ---- the law
 
-pub sent-with : (bus : Bus) (message : Message) (room : Option Line) (own : CoreState) (mine : LineCopy) → IsCoherent bus
+pub sent-with : (bus : Bus) (message : Message) (room : Option Room) (own : CoreState) (mine : LineCopy) → IsCoherent bus
     → Sends bus message room own mine → IsCoherentWith (sent bus message room own) (sent_lines bus message)
 sent-with bus message room own mine h t =
     record {
@@ -311,13 +311,13 @@ sent-with bus message room own mine h t =
           at_other bus message room own k away ∙ Heard.heard-absent bus message k (h.absent k past);
     }
 
-pub sent-coherent : (bus : Bus) (message : Message) (room : Option Line) (own : CoreState) (mine : LineCopy) → IsCoherent bus
+pub sent-coherent : (bus : Bus) (message : Message) (room : Option Room) (own : CoreState) (mine : LineCopy) → IsCoherent bus
     → Sends bus message room own mine → IsCoherent (sent bus message room own)
 sent-coherent bus message room own mine h t =
     coherent-with (sent bus message room own) (sent_lines bus message) (sent-with bus message room own mine h t)
 
 -- the line is committed as sent, each other one as it was
-pub sent-committed : (bus : Bus) (message : Message) (room : Option Line) (own : CoreState) (mine : LineCopy) → IsCoherent bus
+pub sent-committed : (bus : Bus) (message : Message) (room : Option Room) (own : CoreState) (mine : LineCopy) → IsCoherent bus
     → Sends bus message room own mine → (a : ℕ) → a % bus.line_length ≡ 0 → (x : ℕ)
     → committed (sent bus message room own) a x ≡ sent_lines bus message a x
 sent-committed bus message room own mine h t =

@@ -9,7 +9,6 @@ use Rattle.spec_states.specs.States.{is_valid}
 use Rattle.spec_states.specs.Tables.{marks_of, marks_after_store}
 use Rattle.spec_states.proofs.CopyLaws.{own_store-marks, own_store-mask}
 use Rattle.spec_states.proofs.RowLaws.{own_store-takes_hold, owned-valid, speculative-valid}
-use Rattle.cache_lines.specs.declared.line.Line.{Line}
 use Rattle.cache_lines.specs.Protocol.{copy_with_number}
 use Rattle.orb.specs.Lines.{is_full}
 use Rattle.violations.specs.View
@@ -18,7 +17,7 @@ use Rattle.violations.specs.Rule.{HurtsLater, Guards, OwnsIn, IsCrowded, Stores}
 use Rattle.bus_states.specs.declared.notice.Notice.TheVariants.{Store}
 use Rattle.bus_states.specs.Bus.{CoreState, Bus, committed, sees, line_of, offset_of}
 use Rattle.bus_states.specs.Coherent.{IsCoherent}
-use Rattle.bus_states.specs.Messages.{IsRoom, message_of, violates, is_busy, is_alone, with_copy, after_message}
+use Rattle.bus_states.specs.Messages.{Room, IsRoom, message_of, violates, is_busy, is_alone, with_copy, after_message}
 use Rattle.bus_states.specs.Speculative.{own, holds_line, room_for, no_room, kept_line, store_next, owns, after_claim, with_bytes, after_store, store_wait, store_violates}
 use Rattle.bus_states.specs.Views.{view_of}
 use Rattle.bus_states.proofs.Accesses.{MayAccess, store-owned, store-claims, store-goes_on, IsClaimed, claim-with, claim-writes, store-with}
@@ -38,7 +37,7 @@ store-valid bus core addr offset width widths =
     speculative-valid (store_next bus core addr offset width).state
     (own_store-takes_hold (own bus core addr).state (own bus core addr).marks offset width (is_alone bus (message_of bus Store core addr)) widths).marked
 
-claim-taken : (bus : Bus) (core addr offset width : ℕ) (room : Option Line) → IsCoherent bus → MayAccess bus core addr room → IsWidth width
+claim-taken : (bus : Bus) (core addr offset width : ℕ) (room : Option Room) → IsCoherent bus → MayAccess bus core addr room → IsWidth width
     → offset + width ≤ bus.line_length → store_wait bus core addr offset width room ≡ None
     → HasTaken bus (after_claim bus core addr offset width room) core addr (store_next bus core addr offset width).marks (store_violates bus core addr)
 claim-taken bus core addr offset width room h may widths inside goes =
@@ -106,7 +105,7 @@ or_false : (b : Bool) → b ≡ (b || false)
 or_false true = refl
 or_false false = refl
 
-pub store-stored : (bus : Bus) (core addr offset width value : ℕ) (room : Option Line) → IsCoherent bus → MayAccess bus core addr room → IsWidth width
+pub store-stored : (bus : Bus) (core addr offset width value : ℕ) (room : Option Room) → IsCoherent bus → MayAccess bus core addr room → IsWidth width
     → offset + width ≤ bus.line_length → store_wait bus core addr offset width room ≡ None
     → HasStored bus (after_store bus core addr offset width value room) core addr offset width value (store_violates bus core addr)
 store-stored bus core addr offset width value room h may widths inside goes =
@@ -250,7 +249,7 @@ store-tells_later bus core address width k h access none away later guards =
     (store-tells bus (message_of bus Store core addr) k h (aligned_at bus h address) refl away (is-later (epoch_of (bus.core core).attempt) (epoch_of (bus.core k).attempt) later) loaded)
 
 -- a store that is answered
-pub store-stores : (bus : Bus) (core address width value : ℕ) (room : Option Line) (hurt : ℕ → Bool) → IsCoherent bus
+pub store-stores : (bus : Bus) (core address width value : ℕ) (room : Option Room) (hurt : ℕ → Bool) → IsCoherent bus
     → Runs (view_of bus) core false → IsLoad bus.shape address width → IsRoom (bus.core core) room
     → store_wait bus core (line_of bus.line_length address) (offset_of bus.line_length address) width room ≡ None
     → ((k : ℕ) → hurt k ≡ store_violates bus core (line_of bus.line_length address) k)

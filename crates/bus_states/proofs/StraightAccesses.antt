@@ -11,14 +11,13 @@ use Rattle.spec_states.specs.Copies.{LineCopy, copy_of, IsUpToDate}
 use Rattle.spec_states.specs.Rows.{requires_ownership}
 use Rattle.spec_states.specs.States.{is_valid, is_exclusive, is_speculative}
 use Rattle.spec_states.specs.Tables.{no_marks}
-use Rattle.cache_lines.specs.declared.line.Line.{Line}
 use Rattle.cache_lines.specs.Cells.{with_number}
 use Rattle.cache_lines.specs.Protocol.{changed_copy, copy_with_number}
 use Rattle.orb.specs.Lines.{is_full}
 use Rattle.bus_states.specs.declared.notice.Notice.TheVariants.{Load, Publish}
 use Rattle.bus_states.specs.Bus.{Bus, committed, sees, is_later}
 use Rattle.bus_states.specs.Coherent.{IsCoherent, speculates}
-use Rattle.bus_states.specs.Messages.{IsRoom, Message, message_of, reply, holds_up, is_busy, is_alone, leaves, with_copy, after_message}
+use Rattle.bus_states.specs.Messages.{Room, IsRoom, Message, message_of, reply, holds_up, is_busy, is_alone, leaves, with_copy, after_message}
 use Rattle.bus_states.specs.Speculative.{own, holds_line, room_for}
 use Rattle.bus_states.specs.Straight.{unmarked_next, after_straight_load, stores_alone, straight_store_message, after_straight_store}
 use Rattle.bus_states.proofs.Accesses.{Takes, taken-with, not_leaving, none-room}
@@ -76,7 +75,7 @@ first-free bus message h aligned first =
 -- ---- conditions
 
 -- a straight core may access a line of memory
-pub record MayAccessStraight (bus : Bus) (core addr : ℕ) (room : Option Line) : Type 0 where
+pub record MayAccessStraight (bus : Bus) (core addr : ℕ) (room : Option Room) : Type 0 where
   pub aligned : addr % bus.line_length ≡ 0
   pub inside : addr + bus.line_length ≤ bus.shape.size
   pub in_cores : core < bus.shape.cores
@@ -84,11 +83,11 @@ pub record MayAccessStraight (bus : Bus) (core addr : ℕ) (room : Option Line) 
   pub first : IsFirst bus core
   pub victim : IsRoom (bus.core core) room
 
-own-unmarked : (bus : Bus) (core addr : ℕ) (room : Option Line) → IsCoherent bus → MayAccessStraight bus core addr room
+own-unmarked : (bus : Bus) (core addr : ℕ) (room : Option Room) → IsCoherent bus → MayAccessStraight bus core addr room
     → is_speculative (own bus core addr).state ≡ false
 own-unmarked bus core addr room h may = (h.cores core).unmarked addr may.straight
 
-own-empty : (bus : Bus) (core addr : ℕ) (room : Option Line) → IsCoherent bus → MayAccessStraight bus core addr room
+own-empty : (bus : Bus) (core addr : ℕ) (room : Option Room) → IsCoherent bus → MayAccessStraight bus core addr room
     → (own bus core addr).marks.bytes ≡ 0
 own-empty bus core addr room h may =
     ((h.lines addr may.aligned).up_to_date core).not_modified (own-unmarked bus core addr room h may)
@@ -112,7 +111,7 @@ unmarked-fresh s line e =
     pick-bytes false = refl
 
 -- a straight core takes a line by a message, in an unmarked state
-straight-takes : (bus : Bus) (message : Message) (room room2 : Option Line) (s : LineState) → IsCoherent bus
+straight-takes : (bus : Bus) (message : Message) (room room2 : Option Room) (s : LineState) → IsCoherent bus
     → MayAccessStraight bus message.sender message.addr room → is_valid s ≡ true → is_speculative s ≡ false
     → ((x : ℕ) → bus.line_length ≤ x → message.line x ≡ 0)
     → (message.notice ≢ Publish → message.line ≡ committed bus message.addr)
@@ -164,11 +163,11 @@ alone-in : (b : Bool) (s : LineState) → is_exclusive (cond b s S) ≡ true →
 alone-in true s e = refl
 alone-in false s e = cc
 
-own-seen : (bus : Bus) (core addr : ℕ) (room : Option Line) → IsCoherent bus → MayAccessStraight bus core addr room
+own-seen : (bus : Bus) (core addr : ℕ) (room : Option Room) → IsCoherent bus → MayAccessStraight bus core addr room
     → sees bus core addr ≡ committed bus addr
 own-seen bus core addr room h may = fun_ext (sees-unmodified bus core addr (own-empty bus core addr room h may))
 
-pub straight_load-takes : (bus : Bus) (core addr : ℕ) (room : Option Line) → IsCoherent bus → MayAccessStraight bus core addr room
+pub straight_load-takes : (bus : Bus) (core addr : ℕ) (room : Option Room) → IsCoherent bus → MayAccessStraight bus core addr room
     → holds_line bus core addr ≡ false
     → Takes bus (message_of bus Load core addr) room (unmarked_next (cond (is_alone bus (message_of bus Load core addr)) E S))
 straight_load-takes bus core addr room h may absent =
@@ -177,7 +176,7 @@ straight_load-takes bus core addr room h may absent =
     (λ x le. sees-past bus core addr x h le) (λ _. own-seen bus core addr room h may) may.victim
     (not_leaving (bus.core core) room addr may.victim absent) (alone-in alone E)
 
-pub straight_load-with : (bus : Bus) (core addr : ℕ) (room : Option Line) → IsCoherent bus → MayAccessStraight bus core addr room
+pub straight_load-with : (bus : Bus) (core addr : ℕ) (room : Option Room) → IsCoherent bus → MayAccessStraight bus core addr room
     → IsCoherentWith (after_straight_load bus core addr room) (committed bus)
 straight_load-with bus core addr room h may = pick (holds_line bus core addr) refl
   where
@@ -204,7 +203,7 @@ alone-exclusive M e = refl
 alone-exclusive SpS e = e
 alone-exclusive SpE e = refl
 
-store-alone : (bus : Bus) (core addr offset width value : ℕ) (room : Option Line) → IsCoherent bus
+store-alone : (bus : Bus) (core addr offset width value : ℕ) (room : Option Room) → IsCoherent bus
     → MayAccessStraight bus core addr room → offset + width ≤ bus.line_length → stores_alone (own bus core addr).state ≡ true
     → ChangesOne bus core addr (changed_copy (copy_with_number offset width value (own bus core addr)) (unmarked_next M)) bus.memory
     (with_number (own bus core addr).cell offset width value)
@@ -242,7 +241,7 @@ abbrev pub stored_alone : Bus → ℕ → ℕ → ℕ → ℕ → ℕ → LineCo
 stored_alone bus core addr offset width value =
     changed_copy (copy_with_number offset width value (own bus core addr)) (unmarked_next M)
 
-pub straight_store-quietly : (bus : Bus) (core addr offset width value : ℕ) (room : Option Line) → IsCoherent bus
+pub straight_store-quietly : (bus : Bus) (core addr offset width value : ℕ) (room : Option Room) → IsCoherent bus
     → MayAccessStraight bus core addr room → offset + width ≤ bus.line_length → stores_alone (own bus core addr).state ≡ true
     → ChangesQuietly bus core (with_copy addr (stored_alone bus core addr offset width value) (bus.core core)) bus.memory
     (one_line bus addr (with_number (own bus core addr).cell offset width value))
@@ -250,7 +249,7 @@ straight_store-quietly bus core addr offset width value room h may inside alone 
     one-quietly bus core addr (stored_alone bus core addr offset width value) bus.memory (with_number (own bus core addr).cell offset width value) h
     (store-alone bus core addr offset width value room h may inside alone)
 
-pub straight_store-takes : (bus : Bus) (core addr offset width value : ℕ) (room : Option Line) → IsCoherent bus
+pub straight_store-takes : (bus : Bus) (core addr offset width value : ℕ) (room : Option Room) → IsCoherent bus
     → MayAccessStraight bus core addr room → offset + width ≤ bus.line_length
     → Takes bus (straight_store_message bus core addr offset width value) (room_for bus core addr room)
     (unmarked_next (cond (is_alone bus (straight_store_message bus core addr offset width value)) M S))
@@ -269,7 +268,7 @@ straight_store-takes bus core addr offset width value room h may inside =
     apart true e = refl
     apart false e = not_leaving (bus.core core) room addr may.victim e
 
-pub straight_store-with : (bus : Bus) (core addr offset width value : ℕ) (room : Option Line) → IsCoherent bus
+pub straight_store-with : (bus : Bus) (core addr offset width value : ℕ) (room : Option Room) → IsCoherent bus
     → MayAccessStraight bus core addr room → offset + width ≤ bus.line_length
     → IsCoherentWith (after_straight_store bus core addr offset width value room) (stored_lines bus core addr offset width value)
 straight_store-with bus core addr offset width value room h may inside = pick (stores_alone (own bus core addr).state) refl

@@ -7,13 +7,12 @@ use Rattle.spec_states.specs.declared.line.LineState.TheVariants.{S, E, M}
 use Rattle.spec_states.specs.declared.next.Next.{Next}
 use Rattle.spec_states.specs.Mask.{is_within}
 use Rattle.spec_states.specs.States.{is_exclusive}
-use Rattle.cache_lines.specs.declared.line.Line.{Line}
 use Rattle.violations.specs.View.{attempt_of, is_accessed, IsLoad, Runs}
 use Rattle.violations.specs.Rule.{HurtsLater, Guards, LoadsStraight, StoresStraight}
 use Rattle.bus_states.specs.declared.notice.Notice.TheVariants.{Load}
 use Rattle.bus_states.specs.Bus.{CoreState, Bus, committed, sees, line_of, offset_of}
 use Rattle.bus_states.specs.Coherent.{IsCoherent, speculates}
-use Rattle.bus_states.specs.Messages.{IsRoom, Message, message_of, violates, is_alone, changed_core, with_copy, without_line, after_message}
+use Rattle.bus_states.specs.Messages.{Room, IsRoom, Message, message_of, violates, is_alone, changed_core, with_copy, without_line, after_message}
 use Rattle.bus_states.specs.Speculative.{own, holds_line, room_for}
 use Rattle.bus_states.specs.Straight.{unmarked_next, after_straight_load, straight_load_violates, stores_alone, straight_store_message, after_straight_store, straight_store_violates}
 use Rattle.bus_states.specs.Views.{view_of, AreOrdered}
@@ -33,7 +32,7 @@ use Rattle.bus_states.proofs.Taking.{by_line}
 use Rattle.bus_states.proofs.Violating.{load-crowds, access-meets, guards-loaded, publish-tells, in_case}
 
 -- a straight core may access the line of its load or store
-pub may-access_straight : (bus : Bus) (core address width : ℕ) (room : Option Line) → IsCoherent bus → AreOrdered bus
+pub may-access_straight : (bus : Bus) (core address width : ℕ) (room : Option Room) → IsCoherent bus → AreOrdered bus
     → Runs (view_of bus) core true → IsLoad bus.shape address width → IsRoom (bus.core core) room
     → MayAccessStraight bus core (line_of bus.line_length address) room
 may-access_straight bus core address width room h ordered runs access victim =
@@ -54,10 +53,10 @@ pub record GoesStraight (old new : Bus) (core : ℕ) (hurt : ℕ → Bool) : Typ
   pub attempt : (new.core core).attempt ≡ (old.core core).attempt
 
 -- by a message
-told-straight : (bus : Bus) (message : Message) (room : Option Line) (next : Next) → IsCoherent bus → IsFirst bus message.sender
+told-straight : (bus : Bus) (message : Message) (room : Option Room) (next : Next) → IsCoherent bus → IsFirst bus message.sender
     → Takes bus message room next → GoesStraight bus (after_message bus message room next) message.sender (violates bus message)
 told-straight bus message room next h first takes =
-    let state : CoreState = changed_core message.addr next message.line (without_line room (bus.core message.sender)) in
+    let state : CoreState = changed_core message.addr next message.line (without_line message.addr room (bus.core message.sender)) in
     record {
       shape = refl;
       length = refl;
@@ -67,7 +66,7 @@ told-straight bus message room next h first takes =
 
 -- ---- loads
 
-pub load-straight : (bus : Bus) (core addr : ℕ) (room : Option Line) → IsCoherent bus → MayAccessStraight bus core addr room
+pub load-straight : (bus : Bus) (core addr : ℕ) (room : Option Room) → IsCoherent bus → MayAccessStraight bus core addr room
     → GoesStraight bus (after_straight_load bus core addr room) core (straight_load_violates bus core addr)
 load-straight bus core addr room h may = pick (holds_line bus core addr) refl
   where
@@ -78,7 +77,7 @@ load-straight bus core addr room h may = pick (holds_line bus core addr) refl
     pick false e = told-straight bus (message_of bus Load core addr) room _ h may.first (straight_load-takes bus core addr room h may e)
 
 -- a straight load that gives what the core sees, which is what is committed
-pub straight_load-loads_straight : (bus : Bus) (core address width value : ℕ) (room : Option Line) (hurt : ℕ → Bool) → IsCoherent bus → AreOrdered bus
+pub straight_load-loads_straight : (bus : Bus) (core address width value : ℕ) (room : Option Room) (hurt : ℕ → Bool) → IsCoherent bus → AreOrdered bus
     → Runs (view_of bus) core true → IsLoad bus.shape address width → IsRoom (bus.core core) room
     → value ≡ number_at (sees bus core (line_of bus.line_length address)) (offset_of bus.line_length address) width → value < 256 ^ width
     → ((k : ℕ) → hurt k ≡ straight_load_violates bus core (line_of bus.line_length address) k)
@@ -105,7 +104,7 @@ straight_load-loads_straight bus core address width value room hurt h ordered ru
 
 -- ---- stores
 
-pub store-straight : (bus : Bus) (core addr offset width value : ℕ) (room : Option Line) → IsCoherent bus → MayAccessStraight bus core addr room
+pub store-straight : (bus : Bus) (core addr offset width value : ℕ) (room : Option Room) → IsCoherent bus → MayAccessStraight bus core addr room
     → offset + width ≤ bus.line_length
     → GoesStraight bus (after_straight_store bus core addr offset width value room) core (straight_store_violates bus core addr offset width value)
 store-straight bus core addr offset width value room h may inside = pick (stores_alone (own bus core addr).state) refl
@@ -147,7 +146,7 @@ straight_store-tells bus core address width value k h access away guards =
     rw (not_so (stores_alone state) (is_exclusive state) (alone-exclusive state) (loaded-shared bus core k addr h aligned (λ same. away (sym same)) loaded))
     (publish-tells bus (straight_store_message bus core addr (offset_of bus.line_length address) width value) k h aligned refl away loaded)
 
-pub straight_store-stores_straight : (bus : Bus) (core address width value : ℕ) (room : Option Line) (hurt : ℕ → Bool) → IsCoherent bus → AreOrdered bus
+pub straight_store-stores_straight : (bus : Bus) (core address width value : ℕ) (room : Option Room) (hurt : ℕ → Bool) → IsCoherent bus → AreOrdered bus
     → Runs (view_of bus) core true → IsLoad bus.shape address width → IsRoom (bus.core core) room
     → ((k : ℕ) → hurt k ≡ straight_store_violates bus core (line_of bus.line_length address) (offset_of bus.line_length address) width value k)
     → StoresStraight (view_of bus)

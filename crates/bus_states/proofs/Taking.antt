@@ -7,7 +7,6 @@ use Rattle.spec_states.specs.Tables.{marks_of, no_marks}
 use Rattle.spec_states.specs.Copies.{LineCopy, no_copy, IsUpToDate}
 use Rattle.spec_states.specs.Mask.{has}
 use Rattle.spec_states.specs.States.{is_valid, is_speculative}
-use Rattle.cache_lines.specs.declared.line.Line.{Line}
 use Rattle.violations.specs.Rule.{HurtsLater}
 use Rattle.violations.specs.View.{attempt_of, IsLoad, Runs}
 use Rattle.bus_states.proofs.Addresses.{line-aligned}
@@ -17,7 +16,7 @@ use Rattle.bus_states.specs.declared.notice.Notice.{Notice}
 use Rattle.bus_states.specs.declared.notice.Notice.TheVariants.{Publish}
 use Rattle.bus_states.specs.Bus.{CoreState, Bus, committed, sees, line_of}
 use Rattle.bus_states.specs.Coherent.{IsCoherent, speculates}
-use Rattle.bus_states.specs.Messages.{IsRoom, message_of, violates, changed_core, without_line, leaves, after_message}
+use Rattle.bus_states.specs.Messages.{Room, IsRoom, message_of, violates, changed_core, without_line, leaves, after_message}
 use Rattle.bus_states.specs.Speculative.{own, kept_line}
 use Rattle.bus_states.specs.Views.{view_of}
 use Rattle.bus_states.proofs.Accesses.{MayAccess, Takes, takes-sends, own-after, own-kept, kept-core}
@@ -31,7 +30,7 @@ use Rattle.bus_states.proofs.Showing.{Shows, Shows-same, Shows-gone, merged-same
 -- ---- the conditions of an access
 
 -- a core that runs a speculative attempt may access the line of its load or store
-pub may-access : (bus : Bus) (core address width : ℕ) (room : Option Line) → IsCoherent bus → Runs (view_of bus) core false
+pub may-access : (bus : Bus) (core address width : ℕ) (room : Option Room) → IsCoherent bus → Runs (view_of bus) core false
     → IsLoad bus.shape address width → IsRoom (bus.core core) room → MayAccess bus core (line_of bus.line_length address) room
 may-access bus core address width room h runs access victim =
     record {
@@ -82,13 +81,13 @@ kept-taken bus core addr next h keeps valid with =
     }
 
 -- a line for which it sends a message
-pub told-taken : (bus : Bus) (notice : Notice) (core addr : ℕ) (room : Option Line) (next : Next) → IsCoherent bus → notice ≢ Publish
+pub told-taken : (bus : Bus) (notice : Notice) (core addr : ℕ) (room : Option Room) (next : Next) → IsCoherent bus → notice ≢ Publish
     → Takes bus (message_of bus notice core addr) room next
     → IsCoherentWith (after_message bus (message_of bus notice core addr) room next) (committed bus)
     → HasTaken bus (after_message bus (message_of bus notice core addr) room next) core addr next.marks (violates bus (message_of bus notice core addr))
 told-taken bus notice core addr room next h access takes with =
     let new : Bus = after_message bus (message_of bus notice core addr) room next in
-    let state : CoreState = changed_core addr next (sees bus core addr) (without_line room (bus.core core)) in
+    let state : CoreState = changed_core addr next (sees bus core addr) (without_line addr room (bus.core core)) in
     let at : new.core core ≡ state = at_sender bus (message_of bus notice core addr) room state in
     let is = made-valid next (sees bus core addr) (own new core addr) takes.valid (own-after bus (message_of bus notice core addr) room next) in
     record {

@@ -9,11 +9,12 @@ use Rattle.orb.specs.Lines.{Buffer}
 use Rattle.violations.specs.declared.attempt.Attempt.{Attempt}
 use Rattle.violations.specs.View.{Shape, epoch_of}
 
--- what a core holds: the bytes of a line of its cache, its copy of the line at each address, its ownership required buffer,
--- its attempt
+-- what a core holds: the bytes of a line of its cache, its copy of the line at each address, the way of its set in which that
+-- line stands (none where the core has no copy), its ownership required buffer, its attempt
 pub record CoreState : Type 0 where
   pub line_length : ℕ
   pub copy : ℕ → LineCopy
+  pub way : ℕ → Option ℕ
   pub buffer : Buffer
   pub attempt : Option Attempt
 
@@ -27,7 +28,13 @@ pub record Bus : Type 0 where
 -- what stands past the last core: it holds nothing and runs nothing
 abbrev pub no_core : CoreState
 no_core =
-    record { line_length = 0; copy = λ _. no_copy; buffer = record { limit = 0; lines = [] }; attempt = None }
+    record {
+      line_length = 0;
+      copy = λ _. no_copy;
+      way = λ _. None;
+      buffer = record { limit = 0; lines = [] };
+      attempt = None;
+    }
 
 -- the line in which this byte lies, and the byte's place there
 abbrev pub line_of : ℕ → ℕ → ℕ

@@ -81,9 +81,14 @@ is_busy bus message = some_core bus.shape.cores (holds_up bus message)
 abbrev pub is_alone : Bus → Message → Bool
 is_alone bus message = not (some_core bus.shape.cores (remains bus message))
 
+-- the core with these copies: a line that it still holds stands where it stood
+abbrev pub with_copies : (ℕ → LineCopy) → CoreState → CoreState
+with_copies copies core =
+    record core { copy = copies; way = λ a. if is_valid (copies a).state then core.way a else None }
+
 -- the core with this copy of the line at that address
 abbrev pub with_copy : ℕ → LineCopy → CoreState → CoreState
-with_copy addr copy core = record core { copy = λ a. if addr == a then copy else core.copy a }
+with_copy addr copy core = with_copies (λ a. if addr == a then copy else core.copy a) core
 
 abbrev pub emptied : Buffer → Buffer
 emptied buffer = record buffer { lines = [] }
@@ -95,7 +100,7 @@ with_entry enters addr buffer = if enters then record buffer { lines = buffer.li
 -- a core that drops its attempt: every copy is rolled back, its buffer is empty
 abbrev pub dropped_core : CoreState → CoreState
 dropped_core core =
-    record core { copy = λ a. rolled_back_copy (core.copy a); buffer = emptied core.buffer; attempt = None }
+    record (with_copies (λ a. rolled_back_copy (core.copy a)) core) { buffer = emptied core.buffer; attempt = None }
 
 -- a core whose copy changes so, with these bytes. The line enters the core's buffer where the change says so
 abbrev pub changed_core : ℕ → Next → (ℕ → ℕ) → CoreState → CoreState
@@ -114,40 +119,52 @@ heard_core bus message k =
 
 -- ---- what becomes of the sender and of memory
 
--- "Room" is the line in the way that a new line takes, and none where every way of its set carries marks. A valid line
--- there leaves the cache.
+-- the room for a new line: the way that it takes, and the line that stands there. There is none where every way of its set
+-- carries marks. A valid line there leaves the cache
+pub record Room : Type 0 where
+  pub way : ℕ
+  pub line : Line
 
 -- the line that leaves is one that the core holds, without marks
-pub record IsRoom (core : CoreState) (room : Option Line) : Type 0 where
-  pub held : (line : Line) → room ≡ Some line → is_valid line.state ≡ true → core.copy line.addr ≡ copy_of_line line
-  pub unmarked : (line : Line) → room ≡ Some line → is_speculative line.state ≡ false
+pub record IsRoom (core : CoreState) (room : Option Room) : Type 0 where
+  pub held : (r : Room) → room ≡ Some r → is_valid r.line.state ≡ true → core.copy r.line.addr ≡ copy_of_line r.line
+  pub unmarked : (r : Room) → room ≡ Some r → is_speculative r.line.state ≡ false
 
-abbrev pub leaves : Option Line → ℕ → Bool
+abbrev pub leaves : Option Room → ℕ → Bool
 leaves None addr = false
-leaves (Some line) addr = is_copy_of line addr
+leaves (Some room) addr = is_copy_of room.line addr
 
--- the core without the line that leaves
-abbrev pub without_line : Option Line → CoreState → CoreState
-without_line room core = record core { copy = λ a. if leaves room a then no_copy else core.copy a }
+-- the way of each line, where the line at this address takes the room
+abbrev pub way_with : Option Room → ℕ → (ℕ → Option ℕ) → ℕ → Option ℕ
+way_with None addr way a = way a
+way_with (Some room) addr way a = if addr == a then Some room.way else way a
+
+-- the core without the line that leaves, and with its way for the line at this address
+abbrev pub without_line : ℕ → Option Room → CoreState → CoreState
+without_line addr room core =
+    record core {
+      copy = λ a. if leaves room a then no_copy else core.copy a;
+      way = λ a. way_with room addr core.way a;
+    }
 
 -- memory with these bytes of the line at that address
 abbrev pub with_line : ℕ → ℕ → (ℕ → ℕ) → (ℕ → ℕ) → ℕ → ℕ
 with_line line_length addr line memory a = if is_within addr line_length a then line (a - addr) else memory a
 
 -- memory with the line that leaves, where it was M
-abbrev pub with_victim : ℕ → Option Line → (ℕ → ℕ) → ℕ → ℕ
+abbrev pub with_victim : ℕ → Option Room → (ℕ → ℕ) → ℕ → ℕ
 with_victim line_length None memory = memory
-with_victim line_length (Some line) memory =
-    if is_modified line.state then with_line line_length line.addr (cell_of line) memory else memory
+with_victim line_length (Some room) memory =
+    if is_modified room.line.state then with_line line_length room.line.addr (cell_of room.line) memory else memory
 
 -- the bus after the message. The sender has the line with the bytes that it sent, its copy changed so, in the place of the
 -- line that leaves; memory has the line too
-abbrev pub after_message : Bus → Message → Option Line → Next → Bus
+abbrev pub after_message : Bus → Message → Option Room → Next → Bus
 after_message bus message room next =
     record bus {
       core =
           λ k. if k == message.sender then
-          changed_core message.addr next message.line (without_line room (bus.core message.sender))
+          changed_core message.addr next message.line (without_line message.addr room (bus.core message.sender))
           else heard_core bus message k;
       memory =
           with_line bus.line_length message.addr message.line (with_victim bus.line_length room bus.memory);

@@ -5,14 +5,13 @@ use Rattle.spec_states.specs.declared.line.LineState.{LineState}
 use Rattle.spec_states.specs.declared.line.LineState.TheVariants.{I, S, E, M, SpS, SpE}
 use Rattle.spec_states.specs.declared.next.Next.{Next}
 use Rattle.spec_states.specs.Tables.{no_marks, settlement, next, to}
-use Rattle.cache_lines.specs.declared.line.Line.{Line}
 use Rattle.cache_lines.specs.Cells.{with_number}
 use Rattle.cache_lines.specs.Protocol.{changed_copy, published_copy, copy_with_number}
 use Rattle.orb.specs.Lines.{without}
 use Rattle.violations.specs.declared.attempt.Attempt.{Attempt}
 use Rattle.bus_states.specs.declared.notice.Notice.TheVariants.{Load, Publish}
 use Rattle.bus_states.specs.Bus.{CoreState, Bus, sees}
-use Rattle.bus_states.specs.Messages.{Message, message_of, violates, is_alone, with_copy, emptied, after_message}
+use Rattle.bus_states.specs.Messages.{Room, Message, message_of, violates, is_alone, with_copy, with_copies, emptied, after_message}
 use Rattle.bus_states.specs.Attempts.{with_core}
 use Rattle.bus_states.specs.Speculative.{own, holds_line, room_for}
 
@@ -49,8 +48,7 @@ straight_attempt (Some attempt) = Some (record attempt { straight = true })
 -- attempt is straight
 abbrev pub settled_core : CoreState → CoreState
 settled_core core =
-    record core {
-      copy = λ a. published_copy true (core.copy a);
+    record (with_copies (λ a. published_copy true (core.copy a)) core) {
       buffer = emptied core.buffer;
       attempt = straight_attempt core.attempt;
     }
@@ -78,7 +76,7 @@ abbrev pub unmarked_next : LineState → Next
 unmarked_next state = next (to state) no_marks
 
 -- a hit changes nothing; a miss is a message, and the line comes in as committed
-abbrev pub after_straight_load : Bus → ℕ → ℕ → Option Line → Bus
+abbrev pub after_straight_load : Bus → ℕ → ℕ → Option Room → Bus
 after_straight_load bus core addr room =
     let message : Message = message_of bus Load core addr in
     if holds_line bus core addr then bus
@@ -103,7 +101,7 @@ straight_store_message bus core addr offset width value =
     record (message_of bus Publish core addr) { line = with_number (sees bus core addr) offset width value }
 
 -- an E or M copy becomes M with the bytes; else the line is published as stored, and is S where another copy remains, else M
-abbrev pub after_straight_store : Bus → ℕ → ℕ → ℕ → ℕ → ℕ → Option Line → Bus
+abbrev pub after_straight_store : Bus → ℕ → ℕ → ℕ → ℕ → ℕ → Option Room → Bus
 after_straight_store bus core addr offset width value room =
     let message : Message = straight_store_message bus core addr offset width value in
     if stores_alone (own bus core addr).state then

@@ -15,6 +15,10 @@ abbrev pub lowest_way : (Line → Bool) → Contents → ℕ → Option ℕ
 lowest_way test cache addr =
     if test (line_in cache addr 0) then Some 0 else (if test (line_in cache addr 1) then Some 1 else None)
 
+-- the way in which the cache holds the line at this address; none where it does not hold it
+abbrev pub way_at : Contents → ℕ → Option ℕ
+way_at cache addr = lowest_way (λ line. is_copy_of line addr) cache addr
+
 abbrev pub is_invalid : Line → Bool
 is_invalid line = not (is_valid line.state)
 
@@ -61,6 +65,10 @@ CopiesAreFilled old new way line =
     (addr : ℕ) → copy_at new addr
     ≡ (if is_copy_of line addr then copy_of_line line
     else (if is_copy_of (line_in old line.addr way) addr then no_copy else copy_at old addr))
+
+-- each line that the cache holds stands in this way
+abbrev pub StandIn : Contents → (ℕ → Option ℕ) → Type 0
+StandIn cache way = (addr : ℕ) → way_at cache addr ≡ (if is_valid (copy_at cache addr).state then way addr else None)
 
 -- the copy in this way of the set of `addr` is changed so, and the other copies are as before
 abbrev pub CopiesChange : Contents → Contents → ℕ → ℕ → (LineCopy → LineCopy) → Type 0

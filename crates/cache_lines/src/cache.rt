@@ -1,10 +1,10 @@
-ghost use Rattle.std.specs.Prelude.{◌≡◌, ℕ, ◌+◌, ◌<◌, ◌≤◌, ◌%◌, ◌*◌, map, true, false, slice_index, IsTrue, All, IfSome, IfNone};
+ghost use Rattle.std.specs.Prelude.{◌≡◌, ℕ, ◌+◌, ◌<◌, ◌≤◌, ◌%◌, ◌*◌, map, true, false, Some, None, if◌then◌else◌, slice_index, IsTrue, All, IfSome, IfNone};
 ghost use Rattle.spec_states.specs.declared.line.LineState.TheVariants.{I};
 ghost use Rattle.spec_states.specs.Copies.{no_copy, merged_line, IsUpToDate};
 ghost use Rattle.memory_bytes.specs.Bytes.{IsWidth};
 ghost use Rattle.spec_states.specs.States.{is_valid, is_speculative};
 ghost use Rattle.cache_lines.specs.Cells.{line_with_number, refreshed_line};
-ghost use Rattle.cache_lines.specs.Changes.{lowest_way, victim_of, rolled_back_line, published_line, with_each_line, IsFound, IsAbsent, CopiesAreFilled, CopiesChange, CopiesAllChange};
+ghost use Rattle.cache_lines.specs.Changes.{way_at, victim_of, rolled_back_line, published_line, with_each_line, IsFound, IsAbsent, CopiesAreFilled, CopiesChange, CopiesAllChange, StandIn};
 ghost use Rattle.cache_lines.specs.Lines.{Contents, is_line_length, set_count, way_count, place, line_in, with_line, is_copy_of};
 ghost use Rattle.cache_lines.specs.Placed.{IsNotElsewhere, FitsLength, IsPlaced, MayStand};
 ghost use Rattle.cache_lines.specs.Protocol.{IsInPlace, copy_at, copy_of_line, rolled_back_copy, published_copy, copy_with_number, refreshed_copy};
@@ -75,6 +75,7 @@ impl Cache {
         ensures invalid { All (λ line. line.state ≡ I) result.lines }
         ensures placed { IsPlaced result }
         ensures copies { (addr : ℕ) → copy_at result addr ≡ no_copy }
+        ensures ways { (addr : ℕ) → way_at result addr ≡ None }
     {
         Cache {
             lines: [Line::INVALID; LINES],
@@ -103,7 +104,7 @@ impl Cache {
 
     /// The way that has a valid copy of the line at `addr`.
     pub fn find(&self, addr: u32) -> Option<usize>
-        ensures value { result ≡ lowest_way (λ line. is_copy_of line addr) self.now addr }
+        ensures value { result ≡ way_at self.now addr }
         ensures found { IfSome result (IsFound self.now addr) }
         ensures absent { IfNone result (IsAbsent self.now addr) }
         ensures in_place { IsInPlace self.now.line_length addr (copy_at self.now addr) }
@@ -151,6 +152,7 @@ impl Cache {
         ensures exact { self.new ≡ with_line self.old line.addr way line }
         ensures line { line_in self.new line.addr way ≡ line }
         ensures copies { CopiesAreFilled self.old self.new way line }
+        ensures ways { StandIn self.new (λ addr. if is_copy_of line addr then Some way else way_at self.old addr) }
     {
         self.put(line.addr, way, line);
     }
@@ -166,6 +168,7 @@ impl Cache {
         ensures line { line_in self.new addr way
             ≡ line_with_number (line_in self.old addr way) offset width value }
         ensures copies { CopiesChange self.old self.new addr way (copy_with_number offset width value) }
+        ensures ways { StandIn self.new (way_at self.old) }
     {
         let line = self.line(addr, way).with_number(offset, width, value);
         self.put(addr, way, line);
@@ -212,6 +215,7 @@ impl Cache {
         ensures lines { (addr way : ℕ) → way < way_count
             → line_in self.new addr way ≡ rolled_back_line (line_in self.old addr way) }
         ensures copies { CopiesAllChange self.old self.new rolled_back_copy }
+        ensures ways { StandIn self.new (way_at self.old) }
         ensures unmarked { (addr : ℕ) → is_speculative (copy_at self.new addr).state ≡ false }
         ensures up_to_date { (addr : ℕ) (committed : ℕ → ℕ)
             → IsUpToDate (copy_at self.old addr) committed → IsUpToDate (copy_at self.new addr) committed }
@@ -225,6 +229,7 @@ impl Cache {
         ensures lines { (addr way : ℕ) → way < way_count
             → line_in self.new addr way ≡ published_line true (line_in self.old addr way) }
         ensures copies { CopiesAllChange self.old self.new (published_copy true) }
+        ensures ways { StandIn self.new (way_at self.old) }
         ensures unmarked { (addr : ℕ) → is_speculative (copy_at self.new addr).state ≡ false }
         ensures up_to_date { (addr : ℕ) (committed : ℕ → ℕ) → IsUpToDate (copy_at self.old addr) committed
             → IsUpToDate (copy_at self.new addr)

@@ -1,5 +1,6 @@
 //! Tests of the conditions of calls.
-ghost use Rattle.std.specs.Prelude.{◌<◌};
+ghost use Rattle.std.specs.Prelude.{◌≡◌, ◌<◌};
+ghost use Rattle.spec_states.specs.Rows.{requires_ownership};
 ghost use Rattle.violations.specs.View as view_spec;
 ghost use Rattle.spec_bus.specs.Cached as spec;
 ghost use Rattle.cache_tests.specs.Checked.{IfSo, IsApart, IsNotBefore};
@@ -106,4 +107,13 @@ pub fn lies(bus: &CachedBus, addr: u32, width: u32) -> bool
         return false;
     }
     true
+}
+
+/// Whether a core's buffer lists the line at `line`: just those lines that require ownership are listed.
+pub fn is_listed(bus: &CachedBus, core: u32, line: u32) -> bool
+    requires { core < (spec.bus bus.now).shape.cores }
+    ensures { result ≡ requires_ownership (((spec.bus bus.now).core core).copy line).state (((spec.bus bus.now).core core).copy line).marks }
+{
+    bus.look();
+    bus.orb_at(core).holds(line)
 }

@@ -13,7 +13,7 @@
 //! | `orb 0 64 80` | core 0's buffer has these lines, in this order |
 //! | `byte 64 7` | the committed byte at 64 is 7 |
 
-use crate::checks::{lies, may_begin, may_publish, runs};
+use crate::checks::{is_listed, lies, may_begin, may_publish, runs};
 use crate::words::{hex, number, state, word};
 use spec_bus::CachedBus;
 use std::process::Abort;
@@ -127,7 +127,10 @@ fn is_orb(bus: &CachedBus, call: &str) -> bool {
         if orb.at(i).unwrap_or(u32::MAX) != number(call, i + 2) {
             return false;
         }
-        if orb.at(i).is_some() {
+        if let Some(line) = orb.at(i) {
+            if !is_listed(bus, core, line) {
+                return false;
+            }
             count = count.wrapping_add(1);
         }
     }

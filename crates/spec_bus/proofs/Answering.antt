@@ -8,29 +8,27 @@ use Rattle.spec_states.proofs.RowLaws.{own_store-takes_hold, speculative-valid}
 use Rattle.cache_lines.specs.Protocol.{copy_with_number}
 use Rattle.bus_states.proofs.Accesses.{own-after, own-kept}
 use Rattle.spec_states.specs.States.{is_valid}
-use Rattle.cache_lines.specs.declared.line.Line.{Line}
 use Rattle.cache_lines.specs.Changes.{victim_of}
-use Rattle.cache_lines.specs.Lines.{line_in}
 use Rattle.bus_states.specs.declared.notice.Notice.TheVariants.{Load, Store}
 use Rattle.spec_states.specs.declared.next.Next.{Next}
 use Rattle.bus_states.specs.Coherent.{IsCoherent}
 use Rattle.bus_states.proofs.Coherence.{sees-held}
 use Rattle.spec_bus.proofs.Moving.{sees_absent, same_bus}
 use Rattle.bus_states.specs.Bus.{Bus, sees, committed}
-use Rattle.bus_states.specs.Messages.{message_of, violates, is_busy, is_alone, with_copy, after_message}
+use Rattle.bus_states.specs.Messages.{Room, message_of, violates, is_busy, is_alone, with_copy, after_message}
 use Rattle.bus_states.specs.Speculative.{holds_line, load_next, owns, own, store_next, kept_line, room_for, after_claim, with_bytes}
 use Rattle.spec_bus.specs.declared.bus_core.Core.{Core}
 use Rattle.spec_bus.specs.declared.parts.Parts.{Parts}
 use Rattle.spec_bus.specs.Answers.{IsLoaded, MayTake, IsTaken, IsStored}
-use Rattle.spec_bus.specs.Parts.{bus_in, bus_of, core_at, line_at, room_at}
+use Rattle.spec_bus.specs.Parts.{room_in, bus_in, bus_of, core_at, line_at, room_at}
 
 -- the room for a line, where a victim was found
 pub room_found : (cores : List Core) (k addr way : ℕ) (core : Core) → slice_get cores k ≡ Some core → victim_of core.cache addr ≡ Some way
-    → room_at cores k addr ≡ Some (line_in core.cache addr way)
+    → room_at cores k addr ≡ Some (room_in core.cache addr way)
 room_found cores k addr way core is found = rw (is, found) refl
 
 pub line_found : (cores : List Core) (k addr way : ℕ) (core : Core) → slice_get cores k ≡ Some core
-    → line_at cores k addr (Some way) ≡ Some (line_in core.cache addr way)
+    → line_at cores k addr (Some way) ≡ Some (room_in core.cache addr way)
 line_found cores k addr way core is = rw is refl
 
 -- a load that misses
@@ -56,7 +54,7 @@ loaded_miss old new core addr offset width way there value hurt is found absent 
 -- ---- stores
 
 -- a store that may take hold of a line that the core holds
-pub taken_held : (old : Bus) (new : Bus) (core addr offset width : ℕ) (room : Option Line) (next : Next) (line : ℕ → ℕ) (hurt : ℕ → Bool)
+pub taken_held : (old : Bus) (new : Bus) (core addr offset width : ℕ) (room : Option Room) (next : Next) (line : ℕ → ℕ) (hurt : ℕ → Bool)
     → IsCoherent old → addr % old.line_length ≡ 0 → owns old core addr ≡ false → holds_line old core addr ≡ true
     → MayTake old core addr offset width next hurt
     → ((x : ℕ) → line x ≡ ((old.core core).copy addr).cell x)
@@ -93,7 +91,7 @@ taken_missed old new core addr offset width way there next line hurt is found h 
     }
 
 -- where the core has taken hold of a line, it holds it
-pub claimed_valid : (bus : Bus) (core addr offset width : ℕ) (room : Option Line) → IsWidth width
+pub claimed_valid : (bus : Bus) (core addr offset width : ℕ) (room : Option Room) → IsWidth width
     → is_valid (own (after_claim bus core addr offset width room) core addr).state ≡ true
 claimed_valid bus core addr offset width room widths = pick (owns bus core addr)
   where
@@ -110,7 +108,7 @@ claimed_valid bus core addr offset width room widths = pick (owns bus core addr)
         subst (λ (copy : LineCopy). is_valid copy.state ≡ true) (sym (own-after bus (message_of bus Store core addr) (room_for bus core addr room) (store_next bus core addr offset width))) (rw valid valid)
 
 -- and its lines are as long
-pub claimed_length : (bus : Bus) (core addr offset width : ℕ) (room : Option Line)
+pub claimed_length : (bus : Bus) (core addr offset width : ℕ) (room : Option Room)
     → ((after_claim bus core addr offset width room).core core).line_length ≡ (bus.core core).line_length
 claimed_length bus core addr offset width room = pick (owns bus core addr)
   where
@@ -123,7 +121,7 @@ claimed_length bus core addr offset width room = pick (owns bus core addr)
     pick false = rw (itself core) refl
 
 -- a store that is answered
-pub stored_bytes : (old mid : Parts) (cores : List Core) (core addr offset width value : ℕ) (room : Option Line) (hurt : ℕ → Bool)
+pub stored_bytes : (old mid : Parts) (cores : List Core) (core addr offset width value : ℕ) (room : Option Room) (hurt : ℕ → Bool)
     → IsTaken (bus_in old) (bus_in mid) core addr offset width room hurt → length cores ≡ length mid.cores.items
     → ((j : ℕ) → core_at cores j ≡ cond (j == core) (with_copy addr (copy_with_number offset width value ((core_at mid.cores.items core).copy addr)) (core_at mid.cores.items core)) (core_at mid.cores.items j))
     → IsStored (bus_in old) (bus_of mid.code mid.limits cores mid.memory.items) core addr offset width value room hurt

@@ -5,8 +5,8 @@ use Rattle.std.proofs.lemmas.Bool.Decides.{nat_tests}
 use Rattle.spec_states.specs.declared.next.Next.{Next}
 use Rattle.spec_states.specs.Copies.{LineCopy, no_copy}
 use Rattle.spec_states.specs.States.{is_valid}
-use Rattle.cache_lines.specs.Changes.{IsFound, IsAbsent, CopiesAreFilled, CopiesChange}
-use Rattle.cache_lines.specs.Lines.{Contents, line_in}
+use Rattle.cache_lines.specs.Changes.{way_at, IsFound, IsAbsent, CopiesAreFilled, CopiesChange, StandIn}
+use Rattle.cache_lines.specs.Lines.{Contents, line_in, is_copy_of}
 use Rattle.cache_lines.specs.Protocol.{copy_at, copy_with_number}
 use Rattle.cache_lines.proofs.CopyLaws.{copies-refilled, copies-found}
 use Rattle.orb.specs.Lines.{Buffer}
@@ -18,18 +18,29 @@ use Rattle.std.proofs.Math.ListN.{get_or}
 use Rattle.bus_states.specs.Bus.{CoreState}
 use Rattle.spec_bus.specs.declared.bus_core.Core.{Core}
 use Rattle.spec_bus.specs.CoreStates.{state_of}
-use Rattle.spec_bus.specs.Parts.{state_or_none, core_at, line_or_none, line_at}
-use Rattle.bus_states.specs.Messages.{changed_core, without_line, leaves}
+use Rattle.spec_bus.specs.Parts.{room_in, state_or_none, core_at, line_or_none, line_at}
+use Rattle.bus_states.specs.Messages.{changed_core, without_line, leaves, way_with}
 use Rattle.bus_states.proofs.Copies.{made, itself}
 
-abbrev pub state_record : ℕ → (ℕ → LineCopy) → Buffer → Option Attempt → CoreState
-state_record line_length copy buffer attempt =
-    record { line_length = line_length; copy = copy; buffer = buffer; attempt = attempt }
+abbrev pub state_record : ℕ → (ℕ → LineCopy) → (ℕ → Option ℕ) → Buffer → Option Attempt → CoreState
+state_record line_length copy way buffer attempt =
+    record { line_length = line_length; copy = copy; way = way; buffer = buffer; attempt = attempt }
 
-pub same_state : (length length2 : ℕ) (copy copy2 : ℕ → LineCopy) (buffer buffer2 : Buffer) (attempt attempt2 : Option Attempt)
-    → length ≡ length2 → ((a : ℕ) → copy a ≡ copy2 a) → buffer ≡ buffer2 → attempt ≡ attempt2
-    → state_record length copy buffer attempt ≡ state_record length2 copy2 buffer2 attempt2
-same_state length length2 copy copy2 buffer buffer2 attempt attempt2 e f g h = rw (e, fun_ext f, g, h) refl
+-- the lines that are held stand in these ways
+abbrev pub standing : (ℕ → LineCopy) → (ℕ → Option ℕ) → ℕ → Option ℕ
+standing copy way a = cond (is_valid (copy a).state) (way a) None
+
+pub same_state : (length length2 : ℕ) (copy copy2 : ℕ → LineCopy) (way way2 : ℕ → Option ℕ) (buffer buffer2 : Buffer) (attempt attempt2 : Option Attempt)
+    → length ≡ length2 → ((a : ℕ) → copy a ≡ copy2 a) → ((a : ℕ) → way a ≡ standing copy way2 a) → buffer ≡ buffer2 → attempt ≡ attempt2
+    → state_record length copy way buffer attempt ≡ state_record length2 copy2 (λ a. standing copy2 way2 a) buffer2 attempt2
+same_state length length2 copy copy2 way way2 buffer buffer2 attempt attempt2 e f w g h =
+    rw (
+      e,
+      g,
+      h,
+      fun_ext (λ a. w a ∙ ap (λ (copy : LineCopy). cond (is_valid copy.state) (way2 a) None) (f a)),
+      fun_ext f,
+    ) refl
 
 -- the copies of a cache in which one line changes
 pub changed_found : (old new : Contents) (addr way : ℕ) (next : Next) (cells : List ℕ) → IsFound old addr way
@@ -81,8 +92,35 @@ absent_here cache addr (Some way) found absent e =
 pub filled_absent : (old new : Contents) (addr way : ℕ) (next : Next) (cells : List ℕ) → is_valid next.state ≡ true
     → CopiesAreFilled old new way (record { addr = addr; state = next.state; marks = next.marks; cells = cells }) → (a : ℕ)
     → copy_at new a ≡ cond (addr == a) (made next.state next.marks (slice_index cells))
-    (cond (leaves (Some (line_in old addr way)) a) no_copy (copy_at old a))
+    (cond (leaves (Some (room_in old addr way)) a) no_copy (copy_at old a))
 filled_absent old new addr way next cells valid filled a = rw valid (rw valid at (filled a))
+
+-- ---- the ways of the lines
+
+-- where a line changes in its way
+pub way_found : (old new : Contents) (addr way : ℕ) (next : Next) (cells : List ℕ) → way_at old addr ≡ Some way
+    → StandIn new (λ a. cond (is_copy_of (record { addr = addr; state = next.state; marks = next.marks; cells = cells }) a) (Some way) (way_at old a))
+    → (a : ℕ) → way_at new a ≡ standing (copy_at new) (way_at old) a
+way_found old new addr way next cells found ways a =
+    ways a ∙ ap (λ (w : Option ℕ). cond (is_valid (copy_at new a).state) w None) (pick (is_valid next.state && (addr == a)) refl)
+  where
+    at : (v : Bool) → (v && (addr == a)) ≡ true → addr ≡ a
+    at v e = grind (arith, nat_tests)
+
+    pick : (b : Bool) → (is_valid next.state && (addr == a)) ≡ b → cond b (Some way) (way_at old a) ≡ way_at old a
+    pick true e = sym found ∙ ap (way_at old) (at (is_valid next.state) e)
+    pick false e = refl
+
+-- where a line comes into a way
+pub way_filled : (old new : Contents) (addr way : ℕ) (next : Next) (cells : List ℕ) → is_valid next.state ≡ true
+    → StandIn new (λ a. cond (is_copy_of (record { addr = addr; state = next.state; marks = next.marks; cells = cells }) a) (Some way) (way_at old a))
+    → (a : ℕ) → way_at new a ≡ standing (copy_at new) (λ a. way_with (Some (room_in old addr way)) addr (way_at old) a) a
+way_filled old new addr way next cells valid ways a = rw valid at (ways a)
+
+-- a core that holds nothing
+pub idle_way : (b : Bool) (none : Option ℕ) → none ≡ cond b none none
+idle_way true none = refl
+idle_way false none = refl
 
 -- ---- a list of cores
 
@@ -91,9 +129,9 @@ pub state_get : (cores : List Core) (k : ℕ) (core : Core) → k < length cores
 state_get cores k core lt e = ap state_of e ∙ ap state_or_none (sym (slice_get-get_or cores k core lt))
 
 pub line_get : (cores : List Core) (k addr way : ℕ) (core : Core) → k < length cores → core ≡ get_or cores k core
-    → Some (line_in core.cache addr way) ≡ line_at cores k addr (Some way)
+    → Some (room_in core.cache addr way) ≡ line_at cores k addr (Some way)
 line_get cores k addr way core lt e =
-    ap (λ (core : Core). Some (line_in core.cache addr way)) e
+    ap (λ (core : Core). Some (room_in core.cache addr way)) e
     ∙ ap (λ (core : Option Core). line_or_none core addr (Some way)) (sym (slice_get-get_or cores k core lt))
 
 get_set : (xs : List Core) (p i : ℕ) (y : Core) → p < length xs
@@ -129,9 +167,9 @@ state_set cores k core lt j = rw (get_set cores k j core lt) (choice (j == k) (s
 
 -- one core is filled
 pub one_filled : (cores : List Core) (k addr way : ℕ) (old new : Core) (next : Next) (cell : ℕ → ℕ) → k < length cores → old ≡ get_or cores k old
-    → state_of new ≡ changed_core addr next cell (without_line (Some (line_in old.cache addr way)) (state_of old)) → (j : ℕ)
+    → state_of new ≡ changed_core addr next cell (without_line addr (Some (room_in old.cache addr way)) (state_of old)) → (j : ℕ)
     → core_at (slice_set cores k new) j
-    ≡ cond (j == k) (changed_core addr next cell (without_line (line_at cores k addr (Some way)) (core_at cores k))) (core_at cores j)
+    ≡ cond (j == k) (changed_core addr next cell (without_line addr (line_at cores k addr (Some way)) (core_at cores k))) (core_at cores j)
 one_filled cores k addr way old new next cell lt e filled j =
     state_set cores k new lt j
     ∙ ap (λ (state : CoreState). cond (j == k) state (core_at cores j))

@@ -1,7 +1,6 @@
 -- The calls keep what the caches on a bus keep, and meet the rule of a store of speculative epochs.
 use Rattle.std.proofs.Common.{◌≡◌, ℕ, ◌+◌, ◌<◌, ◌^◌, ◌≤◌, ◌%◌, Bool, true, false, Option, Some, length, sym, ap, subst, ◌∙◌}
 use Rattle.memory_bytes.specs.Bytes.{number_at}
-use Rattle.cache_lines.specs.declared.line.Line.{Line}
 use Rattle.violations.specs.declared.step.Step.{Step}
 use Rattle.violations.specs.declared.step.Step.TheVariants.{Done, Wait}
 use Rattle.violations.specs.Answers.{MatchStep, wait_of}
@@ -12,7 +11,7 @@ use Rattle.bus_states.specs.declared.notice.Notice.{Notice}
 use Rattle.bus_states.specs.Attempts.{after_begin, after_leave, after_cancel}
 use Rattle.bus_states.specs.Bus.{Bus, committed, sees, line_of, offset_of}
 use Rattle.bus_states.specs.Coherent.{IsCoherent, speculates}
-use Rattle.bus_states.specs.Messages.{IsRoom, message_of, is_busy}
+use Rattle.bus_states.specs.Messages.{Room, IsRoom, message_of, is_busy}
 use Rattle.bus_states.specs.Speculative.{after_load, load_wait, after_store, store_wait}
 use Rattle.bus_states.specs.Straight.{after_publish, publish_violates, after_straight_load, straight_load_violates, after_straight_store, straight_store_violates}
 use Rattle.bus_states.specs.Views.{view_of, AreOrdered}
@@ -105,28 +104,28 @@ cancelled old new core h runs moves =
 
 -- ---- an access of the core to the line of an address
 
-pub record Accesses (parts : Parts) (core address width : ℕ) (straight : Bool) (line : ℕ) (room : Option Line) : Type 0 where
+pub record Accesses (parts : Parts) (core address width : ℕ) (straight : Bool) (line : ℕ) (room : Option Room) : Type 0 where
   pub keeps : IsCached (record { parts = parts })
   pub runs : Runs (view_of (bus_in parts)) core straight
   pub access : IsLoad (bus_in parts).shape address width
   pub line_is : line ≡ line_of parts.limits.line_length address
   pub victim : IsRoom ((bus_in parts).core core) room
 
-pub access_ends : (parts : Parts) (core address width : ℕ) (straight : Bool) (line : ℕ) (room : Option Line)
+pub access_ends : (parts : Parts) (core address width : ℕ) (straight : Bool) (line : ℕ) (room : Option Room)
     → Accesses parts core address width straight line room → offset_of parts.limits.line_length address + width ≤ parts.limits.line_length
 access_ends parts core address width straight line room t =
     (lies-in_line parts.limits.line_length (bus_in parts).shape address width t.keeps.coherent.length_is t.keeps.coherent.whole_lines t.access).ends
 
 -- ---- speculative loads and stores
 
-load-rule : (old : Parts) (core address width line : ℕ) (room : Option Line) (value : ℕ) (hurt : ℕ → Bool) (new : Bus)
+load-rule : (old : Parts) (core address width line : ℕ) (room : Option Room) (value : ℕ) (hurt : ℕ → Bool) (new : Bus)
     → Accesses old core address width false line room
     → IsLoaded (bus_in old) new core (line_of old.limits.line_length address) (offset_of old.limits.line_length address) width room value hurt
     → Loads (view_of (bus_in old)) (view_of (after_load (bus_in old) core (line_of old.limits.line_length address) (offset_of old.limits.line_length address) width room)) core address width value hurt
 load-rule old core address width line room value hurt new t done =
     load-loads (bus_in old) core address width value room hurt t.keeps.coherent t.runs t.access t.victim done.goes_on done.value_is done.small done.violates
 
-pub loads : (step : Step) (old new : Parts) (core address width line : ℕ) (room : Option Line)
+pub loads : (step : Step) (old new : Parts) (core address width line : ℕ) (room : Option Room)
     → Accesses old core address width false line room
     → MatchAnswer step (λ value hurt. IsLoaded (bus_in old) (bus_in new) core line (offset_of old.limits.line_length address) width room value hurt)
     (λ cause. (load_wait (bus_in old) core line room ≡ Some cause) × (new ≡ old))
@@ -138,7 +137,7 @@ loads (Done value hurt) old new core address width line room t done =
     (load-rule old core address width line room value (is_in hurt) (bus_in new) t at)
 loads (Wait cause) old new core address width line room t waits = ap (λ (parts : Parts). CachedInside.view_of (record { parts = parts })) waits.1
 
-pub loaded : (step : Step) (old new : Parts) (core address width line : ℕ) (room : Option Line)
+pub loaded : (step : Step) (old new : Parts) (core address width line : ℕ) (room : Option Room)
     → Accesses old core address width false line room
     → MatchAnswer step (λ value hurt. IsLoaded (bus_in old) (bus_in new) core line (offset_of old.limits.line_length address) width room value hurt)
     (λ cause. (load_wait (bus_in old) core line room ≡ Some cause) × (new ≡ old))
@@ -156,21 +155,21 @@ loaded (Wait cause) old new core address width line room t waits =
     subst (λ (parts : Parts). IsCached (record { parts = parts })) (sym waits.1) t.keeps
 
 -- it waits just where the load has to
-pub load_waits : (step : Step) (old new : Parts) (core offset width line : ℕ) (room : Option Line)
+pub load_waits : (step : Step) (old new : Parts) (core offset width line : ℕ) (room : Option Room)
     → MatchAnswer step (λ value hurt. IsLoaded (bus_in old) (bus_in new) core line offset width room value hurt)
     (λ cause. (load_wait (bus_in old) core line room ≡ Some cause) × (new ≡ old))
     → wait_of step ≡ load_wait (bus_in old) core line room
 load_waits (Done value hurt) old new core offset width line room done = sym done.goes_on
 load_waits (Wait cause) old new core offset width line room waits = sym waits.0
 
-store-rule : (old : Parts) (core address width value line : ℕ) (room : Option Line) (hurt : ℕ → Bool) (new : Bus)
+store-rule : (old : Parts) (core address width value line : ℕ) (room : Option Room) (hurt : ℕ → Bool) (new : Bus)
     → Accesses old core address width false line room
     → IsStored (bus_in old) new core (line_of old.limits.line_length address) (offset_of old.limits.line_length address) width value room hurt
     → Stores (view_of (bus_in old)) (view_of (after_store (bus_in old) core (line_of old.limits.line_length address) (offset_of old.limits.line_length address) width value room)) core address width value hurt
 store-rule old core address width value line room hurt new t done =
     store-stores (bus_in old) core address width value room hurt t.keeps.coherent t.runs t.access t.victim done.goes_on done.violates
 
-pub stores : (step : Step) (old new : Parts) (core address width value line : ℕ) (room : Option Line)
+pub stores : (step : Step) (old new : Parts) (core address width value line : ℕ) (room : Option Room)
     → Accesses old core address width false line room
     → MatchAnswer step (λ answer hurt. (answer ≡ 0) × IsStored (bus_in old) (bus_in new) core line (offset_of old.limits.line_length address) width value room hurt)
     (λ cause. (store_wait (bus_in old) core line (offset_of old.limits.line_length address) width room ≡ Some cause) × (new ≡ old))
@@ -184,7 +183,7 @@ stores (Done answer hurt) old new core address width value line room t done =
     )
 stores (Wait cause) old new core address width value line room t waits = ap (λ (parts : Parts). CachedInside.view_of (record { parts = parts })) waits.1
 
-pub stored : (step : Step) (old new : Parts) (core address width value line : ℕ) (room : Option Line)
+pub stored : (step : Step) (old new : Parts) (core address width value line : ℕ) (room : Option Room)
     → Accesses old core address width false line room
     → MatchAnswer step (λ answer hurt. (answer ≡ 0) × IsStored (bus_in old) (bus_in new) core line (offset_of old.limits.line_length address) width value room hurt)
     (λ cause. (store_wait (bus_in old) core line (offset_of old.limits.line_length address) width room ≡ Some cause) × (new ≡ old))
@@ -202,7 +201,7 @@ stored (Done answer hurt) old new core address width value line room t done =
 stored (Wait cause) old new core address width value line room t waits =
     subst (λ (parts : Parts). IsCached (record { parts = parts })) (sym waits.1) t.keeps
 
-pub store_waits : (step : Step) (old new : Parts) (core offset width value line : ℕ) (room : Option Line)
+pub store_waits : (step : Step) (old new : Parts) (core offset width value line : ℕ) (room : Option Room)
     → MatchAnswer step (λ answer hurt. (answer ≡ 0) × IsStored (bus_in old) (bus_in new) core line offset width value room hurt)
     (λ cause. (store_wait (bus_in old) core line offset width room ≡ Some cause) × (new ≡ old))
     → wait_of step ≡ store_wait (bus_in old) core line offset width room
@@ -237,7 +236,7 @@ pub straight_free : (notice : Notice) (parts : Parts) (core line : ℕ) → IsCa
 straight_free notice parts core line h runs aligned =
     first-free (bus_in parts) (message_of (bus_in parts) notice core line) h.coherent aligned (first-straight (bus_in parts) core h.ordered runs)
 
-load_straight-rule : (old : Parts) (core address width line : ℕ) (room : Option Line) (value : ℕ) (hurt : ℕ → Bool)
+load_straight-rule : (old : Parts) (core address width line : ℕ) (room : Option Room) (value : ℕ) (hurt : ℕ → Bool)
     → Accesses old core address width true line room
     → value ≡ number_at (sees (bus_in old) core line) (offset_of old.limits.line_length address) width → value < 256 ^ width
     → ((k : ℕ) → hurt k ≡ straight_load_violates (bus_in old) core line k)
@@ -248,7 +247,7 @@ load_straight-rule old core address width line room value hurt t is small are =
     → LoadsStraight (view_of (bus_in old)) (view_of (after_straight_load (bus_in old) core line room)) core address width value hurt) (sym t.line_is)
     (λ is are. straight_load-loads_straight (bus_in old) core address width value room hurt t.keeps.coherent t.keeps.ordered t.runs t.access t.victim is small are) is are
 
-pub loads_straight : (old new : Parts) (core address width line : ℕ) (room : Option Line) (value : ℕ) (hurt : ℕ → Bool)
+pub loads_straight : (old new : Parts) (core address width line : ℕ) (room : Option Room) (value : ℕ) (hurt : ℕ → Bool)
     → Accesses old core address width true line room → bus_in new ≡ after_straight_load (bus_in old) core line room
     → value ≡ number_at (sees (bus_in old) core line) (offset_of old.limits.line_length address) width → value < 256 ^ width
     → ((k : ℕ) → hurt k ≡ straight_load_violates (bus_in old) core line k)
@@ -257,7 +256,7 @@ loads_straight old new core address width line room value hurt t moves is small 
     subst (λ (bus : Bus). LoadsStraight (view_of (bus_in old)) (view_of bus) core address width value hurt) (sym moves)
     (load_straight-rule old core address width line room value hurt t is small are)
 
-pub loaded_straight : (old new : Parts) (core address width line : ℕ) (room : Option Line) (value : ℕ) (hurt : ℕ → Bool)
+pub loaded_straight : (old new : Parts) (core address width line : ℕ) (room : Option Room) (value : ℕ) (hurt : ℕ → Bool)
     → Accesses old core address width true line room → bus_in new ≡ after_straight_load (bus_in old) core line room
     → value ≡ number_at (sees (bus_in old) core line) (offset_of old.limits.line_length address) width → value < 256 ^ width
     → ((k : ℕ) → hurt k ≡ straight_load_violates (bus_in old) core line k)
@@ -271,7 +270,7 @@ loaded_straight old new core address width line room value hurt t moves is small
     (coherent-with _ (committed (bus_in old)) (straight_load-with (bus_in old) core (line_of old.limits.line_length address) room t.keeps.coherent may)))
     (ordered-hurts (bus_in old) after core hurt t.keeps.ordered rule.others rule.attempt) rule.shape
 
-store_straight-rule : (old : Parts) (core address width value line : ℕ) (room : Option Line) (hurt : ℕ → Bool)
+store_straight-rule : (old : Parts) (core address width value line : ℕ) (room : Option Room) (hurt : ℕ → Bool)
     → Accesses old core address width true line room
     → ((k : ℕ) → hurt k ≡ straight_store_violates (bus_in old) core line (offset_of old.limits.line_length address) width value k)
     → StoresStraight (view_of (bus_in old)) (view_of (after_straight_store (bus_in old) core line (offset_of old.limits.line_length address) width value room)) core address width value hurt
@@ -281,7 +280,7 @@ store_straight-rule old core address width value line room hurt t are =
     (sym t.line_is)
     (λ are. straight_store-stores_straight (bus_in old) core address width value room hurt t.keeps.coherent t.keeps.ordered t.runs t.access t.victim are) are
 
-pub stores_straight : (old new : Parts) (core address width value line : ℕ) (room : Option Line) (hurt : ℕ → Bool)
+pub stores_straight : (old new : Parts) (core address width value line : ℕ) (room : Option Room) (hurt : ℕ → Bool)
     → Accesses old core address width true line room
     → bus_in new ≡ after_straight_store (bus_in old) core line (offset_of old.limits.line_length address) width value room
     → ((k : ℕ) → hurt k ≡ straight_store_violates (bus_in old) core line (offset_of old.limits.line_length address) width value k)
@@ -290,7 +289,7 @@ stores_straight old new core address width value line room hurt t moves are =
     subst (λ (bus : Bus). StoresStraight (view_of (bus_in old)) (view_of bus) core address width value hurt) (sym moves)
     (store_straight-rule old core address width value line room hurt t are)
 
-pub stored_straight : (old new : Parts) (core address width value line : ℕ) (room : Option Line) (hurt : ℕ → Bool)
+pub stored_straight : (old new : Parts) (core address width value line : ℕ) (room : Option Room) (hurt : ℕ → Bool)
     → Accesses old core address width true line room
     → bus_in new ≡ after_straight_store (bus_in old) core line (offset_of old.limits.line_length address) width value room
     → ((k : ℕ) → hurt k ≡ straight_store_violates (bus_in old) core line (offset_of old.limits.line_length address) width value k)

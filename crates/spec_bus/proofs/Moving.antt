@@ -12,7 +12,7 @@ use Rattle.bus_states.specs.Bus.{CoreState, Bus, sees, committed}
 use Rattle.bus_states.proofs.Coherence.{sees-unmodified}
 use Rattle.bus_states.proofs.Accesses.{invalid-unmarked}
 use Rattle.bus_states.specs.Coherent.{IsCoherent}
-use Rattle.bus_states.specs.Messages.{Message, changed_core, without_line, heard_core, with_line, with_victim, after_message}
+use Rattle.bus_states.specs.Messages.{Room, Message, changed_core, without_line, heard_core, with_line, with_victim, after_message}
 use Rattle.bus_states.specs.Speculative.{kept_line}
 use Rattle.spec_bus.specs.declared.bus_core.Core.{Core}
 use Rattle.spec_bus.specs.declared.parts.Parts.{Parts}
@@ -44,12 +44,12 @@ sender_last : (b : Bool) (new sender mid old other : CoreState) → new ≡ cond
 sender_last true new sender mid old other e f = e
 sender_last false new sender mid old other e f = e ∙ f
 
-pub fetched : (old mid : Parts) (cores : List Core) (memory : List ℕ) (message : Message) (way : ℕ) (next : Next) (victim : Line)
+pub fetched : (old mid : Parts) (cores : List Core) (memory : List ℕ) (message : Message) (way : ℕ) (next : Next) (victim : Room)
     → IsTold (bus_in old) (bus_in mid) message → slice_get mid.cores.items message.sender ≡ slice_get old.cores.items message.sender
     → mid.memory ≡ old.memory → mid.code ≡ old.code → mid.limits ≡ old.limits
     → length cores ≡ length mid.cores.items
     → ((j : ℕ) → core_at cores j ≡ cond (j == message.sender)
-    (changed_core message.addr next message.line (without_line (line_at mid.cores.items message.sender message.addr (Some way)) (core_at mid.cores.items message.sender)))
+    (changed_core message.addr next message.line (without_line message.addr (line_at mid.cores.items message.sender message.addr (Some way)) (core_at mid.cores.items message.sender)))
     (core_at mid.cores.items j))
     → length memory ≡ length mid.memory.items
     → line_at old.cores.items message.sender message.addr (Some way) ≡ Some victim
@@ -59,7 +59,7 @@ pub fetched : (old mid : Parts) (cores : List Core) (memory : List ℕ) (message
 fetched old mid cores memory message way next victim told own same_memory same_code same_limits count core size room bytes =
     same_bus _ _ _ _ _ _ _ _ _ _ _ _ (count ∙ told.count) (size ∙ ap (λ m. length m.items) same_memory) same_code same_limits
     (λ k. sender_last (k == message.sender) (core_at cores k)
-    (changed_core message.addr next message.line (without_line (line_at old.cores.items message.sender message.addr (Some way)) (core_at old.cores.items message.sender)))
+    (changed_core message.addr next message.line (without_line message.addr (line_at old.cores.items message.sender message.addr (Some way)) (core_at old.cores.items message.sender)))
     (core_at mid.cores.items k) (core_at old.cores.items k) (heard_core (bus_in old) message k)
     (rw (ap (λ (core : Option Core). line_or_none core message.addr (Some way)) own, ap state_or_none own) at (core k))
     (by_sender k))

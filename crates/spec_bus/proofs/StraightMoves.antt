@@ -15,7 +15,7 @@ use Rattle.bus_states.specs.declared.notice.Notice.TheVariants.{Load, Publish}
 use Rattle.bus_states.specs.Bus.{Bus, sees, committed}
 use Rattle.bus_states.specs.Coherent.{IsCoherent, IsCoherentCore, speculates}
 use Rattle.bus_states.proofs.Coherence.{sees-unmodified}
-use Rattle.bus_states.specs.Messages.{message_of, violates, is_alone, changed_core, after_message}
+use Rattle.bus_states.specs.Messages.{Room, message_of, violates, is_alone, changed_core, after_message}
 use Rattle.bus_states.specs.Speculative.{own, holds_line, room_for}
 use Rattle.bus_states.specs.Straight.{unmarked_next, stores_alone, after_straight_load, straight_load_violates, after_straight_store, straight_store_violates}
 use Rattle.spec_bus.specs.declared.bus_core.Core.{Core}
@@ -62,17 +62,17 @@ right false x y e = refl
 
 -- ---- loads
 
-pub loaded_held : (bus : Bus) (core addr : ℕ) (room : Option Line) → holds_line bus core addr ≡ true → bus ≡ after_straight_load bus core addr room
+pub loaded_held : (bus : Bus) (core addr : ℕ) (room : Option Room) → holds_line bus core addr ≡ true → bus ≡ after_straight_load bus core addr room
 loaded_held bus core addr room held = left (holds_line bus core addr) bus _ held
 
-pub loaded_missed : (old new : Bus) (core addr : ℕ) (room way : Option Line) (next : Next) (line : ℕ → ℕ) (alone : Bool)
+pub loaded_missed : (old new : Bus) (core addr : ℕ) (room way : Option Room) (next : Next) (line : ℕ → ℕ) (alone : Bool)
     → holds_line old core addr ≡ false → way ≡ room → line ≡ sees old core addr → next ≡ unmarked_next (cond alone E S)
     → alone ≡ is_alone old (message_of old Load core addr)
     → new ≡ after_message old (record { notice = Load; sender = core; addr = addr; line = line }) way next
     → new ≡ after_straight_load old core addr room
 loaded_missed old new core addr room way next line alone absent e f g a moves =
     moves
-    ∙ ap (λ (way : Option Line). after_message old (record { notice = Load; sender = core; addr = addr; line = line }) way next) e
+    ∙ ap (λ (way : Option Room). after_message old (record { notice = Load; sender = core; addr = addr; line = line }) way next) e
     ∙ ap (λ (line : ℕ → ℕ). after_message old (record { notice = Load; sender = core; addr = addr; line = line }) room next) f
     ∙ ap (λ (next : Next). after_message old (message_of old Load core addr) room next) (g ∙ ap (λ b. unmarked_next (cond b E S)) a)
     ∙ right (holds_line old core addr) _ _ absent
@@ -87,7 +87,7 @@ load_hurts bus core addr k b absent e = e ∙ right (holds_line bus core addr) f
 -- ---- stores
 
 -- the line is published as stored
-pub stored_sent : (old new : Bus) (core addr offset width value : ℕ) (room way : Option Line) (next : Next) (line : ℕ → ℕ) (alone : Bool)
+pub stored_sent : (old new : Bus) (core addr offset width value : ℕ) (room way : Option Room) (next : Next) (line : ℕ → ℕ) (alone : Bool)
     → stores_alone (own old core addr).state ≡ false → way ≡ room_for old core addr room
     → line ≡ with_number (sees old core addr) offset width value → next ≡ unmarked_next (cond alone M S)
     → alone ≡ is_alone old (message_of old Publish core addr)
@@ -95,7 +95,7 @@ pub stored_sent : (old new : Bus) (core addr offset width value : ℕ) (room way
     → new ≡ after_straight_store old core addr offset width value room
 stored_sent old new core addr offset width value room way next line alone apart e f g a moves =
     moves
-    ∙ ap (λ (way : Option Line). after_message old (record { notice = Publish; sender = core; addr = addr; line = line }) way next) e
+    ∙ ap (λ (way : Option Room). after_message old (record { notice = Publish; sender = core; addr = addr; line = line }) way next) e
     ∙ ap (λ (line : ℕ → ℕ). after_message old (record { notice = Publish; sender = core; addr = addr; line = line }) (room_for old core addr room) next) f
     ∙ ap (λ (next : Next). after_message old (record { notice = Publish; sender = core; addr = addr; line = with_number (sees old core addr) offset width value }) (room_for old core addr room) next)
     (g ∙ ap (λ b. unmarked_next (cond b M S)) a)
@@ -109,10 +109,10 @@ pub store_hurts : (bus : Bus) (core addr offset width value k : ℕ) (b : Bool) 
     → b ≡ violates bus (message_of bus Publish core addr) k → b ≡ straight_store_violates bus core addr offset width value k
 store_hurts bus core addr offset width value k b apart e = e ∙ right (stores_alone (own bus core addr).state) false _ apart
 
-pub room_held : (bus : Bus) (core addr : ℕ) (room : Option Line) → holds_line bus core addr ≡ true → None ≡ room_for bus core addr room
+pub room_held : (bus : Bus) (core addr : ℕ) (room : Option Room) → holds_line bus core addr ≡ true → None ≡ room_for bus core addr room
 room_held bus core addr room held = left (holds_line bus core addr) None room held
 
-pub room_missed : (bus : Bus) (core addr : ℕ) (room : Option Line) → holds_line bus core addr ≡ false → room ≡ room_for bus core addr room
+pub room_missed : (bus : Bus) (core addr : ℕ) (room : Option Room) → holds_line bus core addr ≡ false → room ≡ room_for bus core addr room
 room_missed bus core addr room absent = right (holds_line bus core addr) None room absent
 
 pub alone_valid : (state : LineState) → stores_alone state ≡ true → is_valid state ≡ true
@@ -132,7 +132,7 @@ sees_committed bus core addr h aligned calm =
     sees-unmodified bus core addr (((h.lines addr aligned).up_to_date core).not_modified ((h.cores core).unmarked addr calm))
 
 -- the bytes are written into a copy that no other core has
-pub stored_alone : (old : Parts) (cores : List Core) (core addr offset width value : ℕ) (room : Option Line) (cells : List ℕ)
+pub stored_alone : (old : Parts) (cores : List Core) (core addr offset width value : ℕ) (room : Option Room) (cells : List ℕ)
     → length cores ≡ length old.cores.items
     → ((j : ℕ) → core_at cores j ≡ cond (j == core) (changed_core addr (unmarked_next M) (slice_index cells) (core_at old.cores.items core)) (core_at old.cores.items j))
     → ((x : ℕ) → slice_index cells x ≡ with_number (own (bus_in old) core addr).cell offset width value x)

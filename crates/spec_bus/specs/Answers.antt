@@ -2,7 +2,6 @@
 use Rattle.std.specs.Prelude.{◌≡◌, ◌<◌, ◌^◌, ◌&&◌, ℕ, Bool, false, if◌then◌else◌, Option, Some, None}
 use Rattle.memory_bytes.specs.Bytes.{number_at}
 use Rattle.spec_states.specs.declared.next.Next.{Next}
-use Rattle.cache_lines.specs.declared.line.Line.{Line}
 use Rattle.violations.specs.declared.step.Step.{Step}
 use Rattle.violations.specs.declared.step.Step.TheVariants.{Done, Wait}
 use Rattle.violations.specs.declared.step.WaitCause.{WaitCause}
@@ -10,7 +9,7 @@ use Rattle.violations.specs.declared.step.WaitCause.TheVariants.{OrbFull, OrbBus
 use Rattle.violations.specs.CoreSet.{is_in}
 use Rattle.orb.specs.Lines.{is_full}
 use Rattle.bus_states.specs.declared.notice.Notice.TheVariants.{Store}
-use Rattle.bus_states.specs.Messages.{message_of, violates, is_busy}
+use Rattle.bus_states.specs.Messages.{Room, message_of, violates, is_busy}
 use Rattle.bus_states.specs.Bus.{Bus, sees}
 use Rattle.bus_states.specs.Speculative.{after_load, load_wait, load_violates, store_next, after_claim, after_store, store_wait, store_violates}
 
@@ -20,7 +19,7 @@ MatchAnswer (Done value hurt) done waits = done value (is_in hurt)
 MatchAnswer (Wait cause) done waits = waits cause
 
 -- a load that is answered: it doesn't wait, the bus is as it makes it, the value is what the core sees, and it violates these
-pub record IsLoaded (old new : Bus) (core addr offset width : ℕ) (room : Option Line) (value : ℕ) (hurt : ℕ → Bool) : Type 0 where
+pub record IsLoaded (old new : Bus) (core addr offset width : ℕ) (room : Option Room) (value : ℕ) (hurt : ℕ → Bool) : Type 0 where
   pub goes_on : load_wait old core addr room ≡ None
   pub bus : new ≡ after_load old core addr offset width room
   pub value_is : value ≡ number_at (sees old core addr) offset width
@@ -42,13 +41,13 @@ full_or_busy bus core addr offset width =
     else None
 
 -- the core has taken hold of the line of its store
-pub record IsTaken (old new : Bus) (core addr offset width : ℕ) (room : Option Line) (hurt : ℕ → Bool) : Type 0 where
+pub record IsTaken (old new : Bus) (core addr offset width : ℕ) (room : Option Room) (hurt : ℕ → Bool) : Type 0 where
   pub goes_on : store_wait old core addr offset width room ≡ None
   pub bus : new ≡ after_claim old core addr offset width room
   pub violates : (k : ℕ) → hurt k ≡ store_violates old core addr k
 
 -- a store that is answered
-pub record IsStored (old new : Bus) (core addr offset width value : ℕ) (room : Option Line) (hurt : ℕ → Bool) : Type 0 where
+pub record IsStored (old new : Bus) (core addr offset width value : ℕ) (room : Option Room) (hurt : ℕ → Bool) : Type 0 where
   pub goes_on : store_wait old core addr offset width room ≡ None
   pub bus : new ≡ after_store old core addr offset width value room
   pub violates : (k : ℕ) → hurt k ≡ store_violates old core addr k

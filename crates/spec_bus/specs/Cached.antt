@@ -1,9 +1,9 @@
 -- What contracts see of the caches on a bus.
 use Rattle.std.specs.Prelude.{ℕ, List, Option}
 use Rattle.rv32_image.specs.declared.version.Limits.{Limits}
-use Rattle.cache_lines.specs.declared.line.Line.{Line}
 use Rattle.violations.specs.View.{StoreView, Waits}
 use Rattle.bus_states.specs.Bus.{Bus, line_of, offset_of}
+use Rattle.bus_states.specs.Messages.{Room}
 use Rattle.bus_states.specs.Speculative.{load_wait, store_wait}
 use Rattle.bus_states.specs.Views.{view_of}
 use Rattle.spec_bus.specs.declared.bus_core.Core.{Core}
@@ -21,7 +21,7 @@ abbrev pub bus : CachedView → Bus
 bus v = bus_of v.code v.limits v.cores v.memory
 
 -- for each core and line the line in the way that it takes: none where every way of its set carries marks
-abbrev pub room : CachedView → ℕ → ℕ → Option Line
+abbrev pub room : CachedView → ℕ → ℕ → Option Room
 room v = room_at v.cores
 
 -- what they show as a store of speculative epochs

@@ -3,6 +3,7 @@ use Rattle.std.specs.Prelude.{◌≡◌, ℕ, ◌&&◌, Bool, true, false, if◌
 use Rattle.spec_states.specs.declared.next.Next.{Next}
 use Rattle.spec_states.specs.Copies.{no_copy, IsMarked}
 use Rattle.spec_states.specs.States.{is_speculative}
+use Rattle.cache_lines.specs.Changes.{way_at}
 use Rattle.cache_lines.specs.Protocol.{copy_at}
 use Rattle.orb.specs.Lines.{holds, is_full}
 use Rattle.bus_states.specs.Bus.{CoreState}
@@ -14,6 +15,7 @@ state_of core =
     record {
       line_length = core.cache.line_length;
       copy = copy_at core.cache;
+      way = way_at core.cache;
       buffer = core.orb;
       attempt = core.attempt;
     }

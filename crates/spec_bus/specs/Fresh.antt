@@ -11,7 +11,13 @@ use Rattle.spec_bus.specs.Parts.{core_at}
 -- a core that holds nothing and runs nothing, with lines of so many bytes and room for so many lines in its buffer
 abbrev pub idle_core : ℕ → ℕ → CoreState
 idle_core line_length limit =
-    record { line_length = line_length; copy = λ _. no_copy; buffer = record { limit = limit; lines = [] }; attempt = None }
+    record {
+      line_length = line_length;
+      copy = λ _. no_copy;
+      way = λ _. None;
+      buffer = record { limit = limit; lines = [] };
+      attempt = None;
+    }
 
 -- the image's memory, and so many idle cores; lines and buffers are as long as the image's version says
 abbrev pub fresh_bus : LoadedImage → ℕ → Bus

@@ -1,11 +1,10 @@
 -- What the parts of the machine hold, as a bus.
 use Rattle.std.specs.Prelude.{◌≡◌, ◌==◌, if◌then◌else◌, ℕ, List, length, Option, Some, None, option_map, slice_get, slice_index}
 use Rattle.rv32_image.specs.declared.version.Limits.{Limits}
-use Rattle.cache_lines.specs.declared.line.Line.{Line}
 use Rattle.cache_lines.specs.Changes.{victim_of}
-use Rattle.cache_lines.specs.Lines.{line_in}
+use Rattle.cache_lines.specs.Lines.{Contents, line_in}
 use Rattle.bus_states.specs.Bus.{CoreState, Bus, no_core}
-use Rattle.bus_states.specs.Messages.{Message, heard_core}
+use Rattle.bus_states.specs.Messages.{Room, Message, heard_core}
 use Rattle.spec_bus.specs.declared.bus_core.Core.{Core}
 use Rattle.spec_bus.specs.declared.parts.Parts.{Parts}
 use Rattle.spec_bus.specs.CoreStates.{state_of}
@@ -29,12 +28,15 @@ bus_of code limits cores memory =
 abbrev pub bus_in : Parts → Bus
 bus_in parts = bus_of parts.code parts.limits parts.cores.items parts.memory.items
 
--- the line in this way of the set of that address, in a core's cache
-abbrev pub line_or_none : Option Core → ℕ → Option ℕ → Option Line
-line_or_none None addr way = None
-line_or_none (Some core) addr way = option_map (line_in core.cache addr) way
+-- this way of the set of that address, with its line, in a core's cache
+abbrev pub room_in : Contents → ℕ → ℕ → Room
+room_in cache addr way = record { way = way; line = line_in cache addr way }
 
-abbrev pub line_at : List Core → ℕ → ℕ → Option ℕ → Option Line
+abbrev pub line_or_none : Option Core → ℕ → Option ℕ → Option Room
+line_or_none None addr way = None
+line_or_none (Some core) addr way = option_map (room_in core.cache addr) way
+
+abbrev pub line_at : List Core → ℕ → ℕ → Option ℕ → Option Room
 line_at cores k addr way = line_or_none (slice_get cores k) addr way
 
 -- the way that a line of this address takes there
@@ -42,8 +44,8 @@ abbrev pub victim_or_none : Option Core → ℕ → Option ℕ
 victim_or_none None addr = None
 victim_or_none (Some core) addr = victim_of core.cache addr
 
--- the room for a line in a core's cache: the line in the way that it takes
-abbrev pub room_at : List Core → ℕ → ℕ → Option Line
+-- the room for a line in a core's cache: the way that it takes
+abbrev pub room_at : List Core → ℕ → ℕ → Option Room
 room_at cores k addr = line_at cores k addr (victim_or_none (slice_get cores k) addr)
 
 -- all cores but the sender have heard the message

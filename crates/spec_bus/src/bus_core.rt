@@ -3,13 +3,14 @@ ghost use Rattle.memory_bytes.specs.Bytes.{IsWidth};
 ghost use Rattle.spec_states.specs.Copies.{IsMarked, no_copy};
 ghost use Rattle.spec_states.specs.Mask.{IsWithinLine};
 ghost use Rattle.spec_states.specs.States.{is_valid, is_speculative};
-ghost use Rattle.cache_lines.specs.Lines.{way_count, line_in, is_line_length};
+ghost use Rattle.cache_lines.specs.Lines.{way_count, is_line_length};
 ghost use Rattle.cache_lines.specs.Protocol.{IsInPlace, copy_at, copy_with_number};
 ghost use Rattle.orb.specs.Lines.{holds, is_full, without, IsLimit};
 ghost use Rattle.bus_states.specs.Messages.{with_copy, with_entry, dropped_core, changed_core, without_line, order, reply_to, bytes_after};
 ghost use Rattle.bus_states.specs.Straight.{straight_attempt, settled_core};
 ghost use Rattle.spec_bus.specs.CoreStates.{state_of, MayHear, heard};
 ghost use Rattle.spec_bus.specs.Fresh.{idle_core};
+ghost use Rattle.spec_bus.specs.Parts.{room_in};
 
 use crate::memory;
 use bus_states::{Notice, answer};
@@ -116,7 +117,7 @@ impl Core {
         requires entry { next.enters ≡ true → holds self.old.orb.lines addr ≡ false }
         requires room { (next.enters && is_full self.old.orb) ≡ false }
         ensures { state_of self.new ≡ changed_core addr next (slice_index cells)
-            (without_line (Some (line_in self.old.cache addr way)) (state_of self.old)) }
+            (without_line addr (Some (room_in self.old.cache addr way)) (state_of self.old)) }
     {
         let _nowhere = self.cache.find(addr);
         self.cache.fill(

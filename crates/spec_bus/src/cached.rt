@@ -5,6 +5,7 @@ ghost use Rattle.violations.specs.Answers.{MatchStep, wait_of};
 ghost use Rattle.violations.specs.CoreSet.{is_in};
 ghost use Rattle.bus_states.specs.Bus as bus_spec;
 ghost use Rattle.bus_states.specs.Attempts as attempts;
+ghost use Rattle.bus_states.specs.Coherent.{IsCoherent};
 ghost use Rattle.bus_states.specs.Speculative as speculative;
 ghost use Rattle.bus_states.specs.Straight as straight;
 ghost use Rattle.spec_bus.specs.Cached as spec;
@@ -143,7 +144,11 @@ impl EpochStore for CachedBus {
         })
     }
 
-    fn look(&self) {
+    /// What every store keeps, and that the bus is coherent: this call does nothing, and its contract is the law.
+    fn look(&self)
+        ensures settled { view_spec.IsSettled (spec.store_view self.now) }
+        ensures coherent { IsCoherent (spec.bus self.now) }
+    {
         let _ = &self.parts;
     }
 

@@ -112,7 +112,7 @@ pub(crate) fn fill(
     requires room { (next.enters && is_full (core_at cores.old.items k).buffer) ≡ false }
     ensures count { length cores.new.items ≡ length cores.old.items }
     ensures core { (j : ℕ) → core_at cores.new.items j ≡ (if j == k then
-        changed_core addr next (slice_index cells) (without_line (line_at cores.old.items k addr (Some way)) (core_at cores.old.items k))
+        changed_core addr next (slice_index cells) (without_line addr (line_at cores.old.items k addr (Some way)) (core_at cores.old.items k))
         else core_at cores.old.items j) }
 {
     cores[k].fill(addr, way, next, cells);

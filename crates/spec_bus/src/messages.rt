@@ -1,5 +1,5 @@
 //! Messages on the bus, and changes that nobody is told of.
-ghost use Rattle.std.specs.Prelude.{◌≡◌, ℕ, ◌+◌, ◌<◌, ◌≤◌, ◌%◌, ◌&&◌, true, false, length, slice_get, slice_index, Some, None};
+ghost use Rattle.std.specs.Prelude.{if◌then◌else◌, ◌≡◌, ℕ, ◌+◌, ◌<◌, ◌≤◌, ◌%◌, ◌&&◌, true, false, length, slice_get, slice_index, Some, None};
 ghost use Rattle.spec_states.specs.declared.line.TheConstants.{LONGEST_LINE};
 ghost use Rattle.spec_states.specs.States.{is_valid, is_modified};
 ghost use Rattle.cache_lines.specs.Lines.{way_count};
@@ -25,7 +25,9 @@ fn write_victim(memory: &mut Vec<u8>, line_length: usize, victim: Line)
     requires short { line_length ≤ LONGEST_LINE }
     ensures size { length memory.new.items ≡ length memory.old.items }
     ensures bytes { (p : ℕ) → slice_index memory.new.items p
-        ≡ message_spec.with_victim line_length (Some victim) (slice_index memory.old.items) p }
+        ≡ (if is_modified victim.state then
+        message_spec.with_line line_length victim.addr (slice_index victim.cells) (slice_index memory.old.items)
+        else slice_index memory.old.items) p }
 {
     write_line_if(
         victim.state.is_modified(),

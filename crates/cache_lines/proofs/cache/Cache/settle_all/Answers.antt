@@ -2,9 +2,10 @@ use Rattle.std.proofs.Common.{true, sym, subst, ap, ◌∙◌}
 use Rattle.spec_states.specs.Copies.{LineCopy, IsUpToDate, merged_line}
 use Rattle.spec_states.specs.States.{is_speculative}
 use Rattle.cache_lines.specs.Lines.{Contents}
-use Rattle.cache_lines.specs.Changes.{published_line, with_each_line, CopiesAllChange}
+use Rattle.cache_lines.specs.Changes.{published_line, with_each_line, CopiesAllChange, StandIn, way_at}
 use Rattle.cache_lines.specs.Protocol.{copy_at, published_copy}
 use Rattle.cache_lines.proofs.CopyLaws.{copies-each, ChangesCopy-published, unmarked-published, IsUpToDate-published}
+use Rattle.cache_lines.proofs.Ways.{stand-each}
 use Rattle.cache_lines.proofs.WholeCache.{IsPlaced-each}
 use Rattle.cache_lines.proofs.cache.Cache.settle_all.Goals as goal
 
@@ -30,3 +31,9 @@ returns-clause-up_to_date c =
     λ addr committed h.
     subst (λ (copy : LineCopy). IsUpToDate copy (merged_line (copy_at c.args.self.now addr).marks.bytes (copy_at c.args.self.now addr).cell committed)) (sym (returns-clause-copies c addr))
     (IsUpToDate-published true (copy_at c.args.self.now addr) committed h)
+
+pub returns-clause-ways : goal.returns-clause-ways
+returns-clause-ways c =
+    rw c.settle_lines.ensures
+    (subst (λ (cache : Contents). StandIn (with_each_line (published_line true) (record { line_length = c.self.inside.line_length; lines = c.self.inside.lines })) (way_at cache)) c.self.view_is
+    (stand-each (published_line true) (ChangesCopy-published true).keeps (record { line_length = c.self.inside.line_length; lines = c.self.inside.lines }) c.self.invariant))
