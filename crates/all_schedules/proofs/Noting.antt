@@ -1,10 +1,19 @@
--- A text is noted, and every text so far still stands there once.
-use Rattle.std.proofs.Common.{◌≡◌, ◌≢◌, inl, inr, ℕ, ◌+◌, ◌<◌, ◌≤◌, Bool, true, false, List, [], ◌∷◌, ◌++◌, All, length, get_or, Some, Result, Ok, Err, OnOk, Vec, sym, ap, subst, ◌∙◌, arith, add-zero}
+-- A text is noted in a set, and every text so far still stands there once.
+use Rattle.std.proofs.Common.{◌≡◌, ◌≢◌, inl, inr, ℕ, ◌+◌, ◌<◌, ◌≤◌, Bool, true, false, List, [], ◌∷◌, ◌++◌, ◌⊎◌, All, AllPairs, length, get_or, Some, Result, Ok, Err, OnOk, Vec, refl, sym, ap, subst, ◌∙◌, arith, add-zero}
 use Rattle.std.specs.declared.alloc.Global.{Global}
 use Rattle.std.specs.List.{Contains}
+use Rattle.std.specs.BTreeSet.{BTreeSet, insert_key}
+use Rattle.std.specs.Cmp.Lexicographic.{slice_cmp}
+use Rattle.std.specs.declared.cmp.Ordering.{Ordering}
+use Rattle.std.specs.declared.cmp.Ordering.TheVariants.{Less, Equal, Greater}
+use Rattle.std.specs.List.Sorted.{IsStrictlySortedBy}
+use Rattle.std.specs.Ordering.{match_ordering, nat_cmp}
+use Rattle.std.proofs.lemmas.Cmp.{nat_list_cmp_total, tied_itself}
 use Rattle.std.proofs.lemmas.List.{get_or-map, length-map}
-use Rattle.std.proofs.lemmas.List.Elements.{All-nil, All-push, All-weaker, Contains-append_left, Contains-get_or, Contains-push}
-use Rattle.std.proofs.lemmas.List.Quantifiers.{all_pairs_push}
+use Rattle.std.proofs.lemmas.List.Elements.{All-cons, All-map, All-nil, All-push, All-weaker, Contains-append_left, Contains-append_right, Contains-get_or, Contains-push}
+use Rattle.std.proofs.lemmas.Map.Keys.{Less-from_sorted}
+use Rattle.std.proofs.lemmas.Map.Lookups.{exact_bytes}
+use Rattle.std.proofs.lemmas.Map.Views.{All-insert_key}
 use Rattle.all_schedules.specs.declared.survey.Extreme.{Extreme}
 use Rattle.all_schedules.specs.declared.survey.Survey.{Survey}
 use Rattle.all_schedules.specs.Schedules.{lists_of}
@@ -19,56 +28,95 @@ none_noted = record {
   every = All-nil (Contains []);
 }
 
-module _ (all old : List (List ℕ)) (text : List ℕ) (so : AreEachOnce all old) where
-  older : (xs : List (List ℕ)) → All (Contains all) xs → All (Contains (all ++ text ∷ [])) xs
-  older xs there = All-weaker (Contains all) (Contains (all ++ text ∷ [])) (λ x is. Contains-append_left all (text ∷ []) x is) xs there
+of_all : {X : Type 0} (P : X → Type 0) (xs : List X) (x : X) → All P xs → Contains xs x → P x
+of_all P xs x all there = subst P there.2 (all there.0 x there.1)
 
-  -- it stood there
-  again : Contains old text → AreEachOnce (all ++ text ∷ []) old
-  again known = record {
-    different = so.different;
-    there = older old so.there;
-    every = All-push (Contains old) all text so.every known;
-  }
-
-  kept : (x : List ℕ) → Contains old x → Contains (old ++ text ∷ []) x
-  kept x is = Contains-append_left old (text ∷ []) x is
-
-  -- it didn't
-  first_time : (Contains old text → ⊥) → AreEachOnce (all ++ text ∷ []) (old ++ text ∷ [])
-  first_time unknown = record {
-    different = all_pairs_push (λ a b. a ≢ b) old text so.different
-        (λ k d below same. unknown (subst (Contains old) same (Contains-get_or old k d below)));
-    there = All-push (Contains (all ++ text ∷ [])) old text (older old so.there) (Contains-push all text);
-    every = All-push (Contains (old ++ text ∷ [])) all text
-        (All-weaker (Contains old) (Contains (old ++ text ∷ [])) kept all so.every) (Contains-push old text);
-  }
-
-  pub noted : (new : List (List ℕ)) → IsNoted old new text → AreEachOnce (all ++ text ∷ []) new
-  noted new (inl is) = subst (AreEachOnce (all ++ text ∷ [])) (sym is.1) (again is.0)
-  noted new (inr is) = subst (AreEachOnce (all ++ text ∷ [])) (sym is.1) (first_time is.0)
+-- a text more
+pub noted : (all old new : List (List ℕ)) (text : List ℕ) → AreEachOnce all old → IsNoted old new text → AreEachOnce (all ++ text ∷ []) new
+noted all old new text so is =
+    let known : (x : List ℕ) → Contains old x → Contains all x = λ x there. of_all (Contains all) old x so.there there in record {
+      different = is.different;
+      there = All-weaker (λ x. Contains old x ⊎ (x ≡ text)) (Contains (all ++ text ∷ []))
+          (λ x one. elim one [
+            | inl there ↦ Contains-append_left all (text ∷ []) x (known x there)
+            | inr same ↦ subst (Contains (all ++ text ∷ [])) (sym same) (Contains-push all text)
+          ]) new is.no_other;
+      every = All-push (Contains new) all text
+          (All-weaker (Contains old) (Contains new) (λ x there. of_all (Contains new) old x is.kept there) all so.every) is.there;
+    }
 
 -- ---- in vectors
 
-pub noted_at : (texts : List (Vec ℕ Global)) (i : ℕ) (v : Vec ℕ Global) (text : List ℕ) → i < length texts → v ≡ get_or texts i v → v.items ≡ text
-    → Contains (lists_of texts) text
-noted_at texts i v text below there is =
-    let items : Vec ℕ Global → List ℕ = λ w. w.items in
-    (i, omega (arith, below, length-map texts items), get_or-map items texts i v text below ∙ (ap items (sym there) ∙ is))
+abbrev items_of : Vec ℕ Global → List ℕ
+items_of v = v.items
 
-at_one : (texts : List (Vec ℕ Global)) (v : Vec ℕ Global) (text : List ℕ) (left k : ℕ) → left ≤ 0
-    → ((j : ℕ) (d : Vec ℕ Global) → left ≤ j → j < length texts → (get_or texts j d).items ≢ text) → k < length texts
-    → get_or (lists_of texts) k text ≡ text → ⊥
-at_one texts v text left k none unlike below is =
-    let items : Vec ℕ Global → List ℕ = λ w. w.items in
-    unlike k v (omega (arith, none)) below (sym (get_or-map items texts k v text below) ∙ is)
+-- vectors are in the order of their bytes
+abbrev pub by_bytes : Vec ℕ Global → Vec ℕ Global → Ordering
+by_bytes v w = slice_cmp nat_cmp v.items w.items
 
--- none of them is the text
-pub not_noted : (texts : List (Vec ℕ Global)) (text : List ℕ) (left : ℕ) → left ≤ 0
-    → ((j : ℕ) (d : Vec ℕ Global) → left ≤ j → j < length texts → (get_or texts j d).items ≢ text) → Contains (lists_of texts) text → ⊥
-not_noted [] text left none unlike there = absurd (omega (arith, there.1))
-not_noted (v ∷ texts) text left none unlike there =
-    at_one (v ∷ texts) v text left there.0 none unlike (omega (arith, there.1, length-map (v ∷ texts) (λ (w : Vec ℕ Global). w.items))) there.2
+each_there : (xs : List (List ℕ)) → All (Contains xs) xs
+each_there xs = λ i d below. Contains-get_or xs i d below
+
+head_there : (x : List ℕ) (xs : List (List ℕ)) → Contains (x ∷ xs) x
+head_there x xs = Contains-append_left (x ∷ []) xs x (Contains-push [] x)
+
+tail_there : (x y : List ℕ) (xs : List (List ℕ)) → Contains xs y → Contains (x ∷ xs) y
+tail_there x y xs there = Contains-append_right (x ∷ []) xs y there
+
+module _ (k : Vec ℕ Global) where
+  put : List (Vec ℕ Global) → List (Vec ℕ Global)
+  put vs = insert_key by_bytes vs k
+
+  put_by : (v : Vec ℕ Global) (vs more : List (Vec ℕ Global)) (o : Ordering) → by_bytes k v ≡ o → Contains (lists_of more) k.items
+      → Contains (lists_of (match_ordering o (k ∷ v ∷ vs) (v ∷ vs) (v ∷ more))) k.items
+  put_by v vs more Less is there = head_there k.items (lists_of (v ∷ vs))
+  put_by v vs more Equal is there = subst (Contains (lists_of (v ∷ vs))) (sym (exact_bytes k.items v.items is)) (head_there v.items (lists_of vs))
+  put_by v vs more Greater is there = tail_there v.items k.items (lists_of more) there
+
+  put_there : (vs : List (Vec ℕ Global)) → Contains (lists_of (insert_key by_bytes vs k)) k.items
+  put_there [] = Contains-push [] k.items
+  put_there (v ∷ vs) = put_by v vs (insert_key by_bytes vs k) (by_bytes k v) refl (put_there vs)
+
+  keep_by : (v : Vec ℕ Global) (vs more : List (Vec ℕ Global)) (o : Ordering) → All (Contains (lists_of more)) (lists_of vs)
+      → All (Contains (lists_of (match_ordering o (k ∷ v ∷ vs) (v ∷ vs) (v ∷ more)))) (lists_of (v ∷ vs))
+  keep_by v vs more Less kept =
+      All-weaker (Contains (lists_of (v ∷ vs))) (Contains (lists_of (k ∷ v ∷ vs))) (λ x there. tail_there k.items x (lists_of (v ∷ vs)) there)
+      (lists_of (v ∷ vs)) (each_there (lists_of (v ∷ vs)))
+  keep_by v vs more Equal kept = each_there (lists_of (v ∷ vs))
+  keep_by v vs more Greater kept =
+      let new = lists_of (v ∷ more) in
+      All-cons (Contains new) v.items (lists_of vs) (head_there v.items (lists_of more))
+      (All-weaker (Contains (lists_of more)) (Contains new) (λ x there. tail_there v.items x (lists_of more) there) (lists_of vs) kept)
+
+  all_kept : (vs : List (Vec ℕ Global)) → All (Contains (lists_of (insert_key by_bytes vs k))) (lists_of vs)
+  all_kept [] = All-nil (Contains (k.items ∷ []))
+  all_kept (v ∷ vs) = keep_by v vs (insert_key by_bytes vs k) (by_bytes k v) (all_kept vs)
+
+  no_other : (vs : List (Vec ℕ Global)) → All (λ x. Contains (lists_of vs) x ⊎ (x ≡ k.items)) (lists_of (insert_key by_bytes vs k))
+  no_other vs =
+      let P : List ℕ → Type 0 = λ x. Contains (lists_of vs) x ⊎ (x ≡ k.items) in
+      let old : All (λ (v : Vec ℕ Global). P v.items) vs = λ i v below.
+      subst P (get_or-map items_of vs i v [] below) (inl (Contains-get_or (lists_of vs) i [] (omega (arith, below, length-map vs items_of)))) in
+      All-map P items_of (insert_key by_bytes vs k) (All-insert_key by_bytes k (λ v. P v.items) vs old (inr refl))
+
+-- in order no two have the same bytes
+apart : (vs : List (Vec ℕ Global)) → IsStrictlySortedBy by_bytes vs → AllPairs (λ a b. a ≢ b) (lists_of vs)
+apart [] sorted = λ i j d before below. absurd (omega (arith, below))
+apart (v ∷ vs) sorted = λ i j d before below same.
+    let all = v ∷ vs in
+    let within : j < length all = omega (arith, below, length-map all items_of) in
+    let less = Less-from_sorted by_bytes all i j v sorted before within in
+    let one : (get_or all i v).items ≡ (get_or all j v).items =
+    sym (get_or-map items_of all i v d (omega (arith, before, within))) ∙ (same ∙ get_or-map items_of all j v d within) in
+    let tied : by_bytes (get_or all i v) (get_or all j v) ≡ Equal =
+    ap (λ (x : List ℕ). slice_cmp nat_cmp (get_or all i v).items x) (sym one) ∙ tied_itself nat_list_cmp_total (get_or all i v).items in
+    absurd cc
+
+pub is_noted : (old new : List (Vec ℕ Global)) (k : Vec ℕ Global) → new ≡ insert_key by_bytes old k → IsStrictlySortedBy by_bytes new
+    → IsNoted (lists_of old) (lists_of new) k.items
+is_noted old new k is sorted =
+    subst (λ (vs : List (Vec ℕ Global)). IsStrictlySortedBy by_bytes vs → IsNoted (lists_of old) (lists_of vs) k.items) (sym is)
+    (λ s. record { there = put_there k old; kept = all_kept k old; no_other = no_other k old; different = apart (insert_key by_bytes old k) s }) sorted
 
 -- ---- a survey
 
@@ -82,21 +130,21 @@ module _ (place restarts : ℕ) (trace : List ℕ) (old mid new : Survey) where
 
   pub adds_over : (is_over : Bool) → is_over ≡ true → mid.over ≡ old.over + 1 → mid.traces ≡ old.traces → mid.least ≡ Some (lesser old.least found)
       → mid.most ≡ Some (greater old.most found) → new.over ≡ mid.over → new.least ≡ mid.least → new.most ≡ mid.most
-      → IsNoted (lists_of mid.traces.items) (lists_of new.traces.items) trace → Adds place is_over restarts trace old new
+      → IsNoted (lists_of mid.traces.keys) (lists_of new.traces.keys) trace → Adds place is_over restarts trace old new
   adds_over is_over so over traces least most over_is least_is most_is noted =
       subst (λ (b : Bool). Adds place b restarts trace old new) (sym so) (record {
         over = over_is ∙ over;
-        traces = subst (λ (t : Vec (Vec ℕ Global) Global). IsNoted (lists_of t.items) (lists_of new.traces.items) trace) traces noted;
+        traces = subst (λ (t : BTreeSet (Vec ℕ Global)). IsNoted (lists_of t.keys) (lists_of new.traces.keys) trace) traces noted;
         least = least_is ∙ least;
         most = most_is ∙ most;
       })
 
   pub adds_open : (is_over : Bool) → is_over ≡ false → mid ≡ old → new.over ≡ mid.over → new.least ≡ mid.least → new.most ≡ mid.most
-      → IsNoted (lists_of mid.traces.items) (lists_of new.traces.items) trace → Adds place is_over restarts trace old new
+      → IsNoted (lists_of mid.traces.keys) (lists_of new.traces.keys) trace → Adds place is_over restarts trace old new
   adds_open is_over so same over_is least_is most_is noted =
       subst (λ (b : Bool). Adds place b restarts trace old new) (sym so) (record {
         over = over_is ∙ (ap (λ (s : Survey). s.over) same ∙ sym (add-zero old.over));
-        traces = subst (λ (s : Survey). IsNoted (lists_of s.traces.items) (lists_of new.traces.items) trace) same noted;
+        traces = subst (λ (s : Survey). IsNoted (lists_of s.traces.keys) (lists_of new.traces.keys) trace) same noted;
         least = least_is ∙ ap (λ (s : Survey). s.least) same;
         most = most_is ∙ ap (λ (s : Survey). s.most) same;
       })

@@ -109,7 +109,7 @@ module _ (runs : List Run) (new : Run) (place : ℕ) (at : place ≡ length runs
   most_by false old is off = most_open old is off
 
 -- of no runs
-pub none_surveyed : (cores : ℕ) (survey : Survey) → survey.over ≡ 0 → survey.traces.items ≡ [] → survey.least ≡ None → survey.most ≡ None → IsSurvey cores [] survey
+pub none_surveyed : (cores : ℕ) (survey : Survey) → survey.over ≡ 0 → survey.traces.keys ≡ [] → survey.least ≡ None → survey.most ≡ None → IsSurvey cores [] survey
 none_surveyed cores survey over traces least most = record {
   over = over;
   traces = subst (λ l. AreEachOnce [] (lists_of l)) (sym traces) none_noted;
@@ -122,8 +122,8 @@ pub surveyed_more : (cores place : ℕ) (runs : List Run) (new : Run) (old now :
     → Adds place (is_over new) (restarts_of new) (trace_of cores new) old now → IsSurvey cores (runs ++ new ∷ []) now
 surveyed_more cores place runs new old now at so adds = record {
   over = adds.over ∙ (ap (λ n. n + cond (is_over new) 1 0) so.over ∙ sym (sum_by_push (λ run. cond (is_over run) 1 0) runs new));
-  traces = subst (λ all. AreEachOnce all (lists_of now.traces.items)) (sym (map_push (trace_of cores) runs new))
-      (noted (map (trace_of cores) runs) (lists_of old.traces.items) (trace_of cores new) so.traces (lists_of now.traces.items) adds.traces);
+  traces = subst (λ all. AreEachOnce all (lists_of now.traces.keys)) (sym (map_push (trace_of cores) runs new))
+      (noted (map (trace_of cores) runs) (lists_of old.traces.keys) (lists_of now.traces.keys) (trace_of cores new) so.traces adds.traces);
   least = subst (IsLeast (runs ++ new ∷ [])) (sym adds.least) (least_by runs new place at (is_over new) old.least so.least refl);
   most = subst (IsMost (runs ++ new ∷ [])) (sym adds.most) (most_by runs new place at (is_over new) old.most so.most refl);
 }

@@ -1,5 +1,5 @@
 -- How a survey grows by a run.
-use Rattle.std.specs.Prelude.{◌≡◌, ◌⊎◌, ℕ, ◌+◌, Bool, List, [], ◌∷◌, ◌++◌, Contains, Option, Some, None, is_some, nat_le, if◌then◌else◌}
+use Rattle.std.specs.Prelude.{◌≡◌, ◌≢◌, ◌⊎◌, ℕ, ◌+◌, Bool, List, All, AllPairs, Contains, Option, Some, None, is_some, nat_le, if◌then◌else◌}
 use Rattle.violations.specs.View.{StoreView}
 use Rattle.homefree.specs.BookView.{BookView}
 use Rattle.homefree.specs.Counted.{counted_in}
@@ -19,14 +19,17 @@ abbrev pub greater : Option Extreme → Extreme → Extreme
 greater None found = found
 greater (Some old) found = if nat_le found.restarts old.restarts then old else found
 
--- a text was noted, unless it stood there
-abbrev pub IsNoted : List (List ℕ) → List (List ℕ) → List ℕ → Type 0
-IsNoted old new text = (Contains old text × (new ≡ old)) ⊎ ((Contains old text → ⊥) × (new ≡ old ++ text ∷ []))
+-- a text was noted: it stands there, with those that stood there before and no other, each once
+pub record IsNoted (old new : List (List ℕ)) (text : List ℕ) : Type 0 where
+  pub there : Contains new text
+  pub kept : All (Contains new) old
+  pub no_other : All (λ x. Contains old x ⊎ (x ≡ text)) new
+  pub different : AllPairs (λ a b. a ≢ b) new
 
 -- a run at this place, over or not, with so many restarts and this trace
 pub record Adds (place : ℕ) (is_over : Bool) (restarts : ℕ) (trace : List ℕ) (old new : Survey) : Type 0 where
   pub over : new.over ≡ old.over + (if is_over then 1 else 0)
-  pub traces : IsNoted (lists_of old.traces.items) (lists_of new.traces.items) trace
+  pub traces : IsNoted (lists_of old.traces.keys) (lists_of new.traces.keys) trace
   pub least : new.least ≡ (if is_over then Some (lesser old.least (record { place = place; restarts = restarts })) else old.least)
   pub most : new.most ≡ (if is_over then Some (greater old.most (record { place = place; restarts = restarts })) else old.most)
 

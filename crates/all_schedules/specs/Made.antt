@@ -1,6 +1,6 @@
 -- What a schedule makes.
 -- Source: this project.
-use Rattle.std.specs.Prelude.{◌≡◌, ℕ, List, [], Option, None, Result, Ok, Err}
+use Rattle.std.specs.Prelude.{◌≡◌, ℕ, ◌≤◌, List, [], length, Option, None, Result, Ok, Err}
 use Rattle.rv32_image.specs.Image.{LoadedImage}
 use Rattle.rv32_exec.specs.declared.sequential.End.{End}
 use Rattle.run_ledger.specs.Counts.{no_counts}
@@ -11,8 +11,10 @@ use Rattle.homefree.specs.declared.book.Loop.{Loop}
 use Rattle.homefree.specs.declared.fault.TurnFault.{TurnFault}
 use Rattle.homefree.specs.declared.fault.TurnFault.TheVariants.{HistoryFull, NoMemory}
 use Rattle.homefree.specs.BookView.{BookView}
+use Rattle.homefree.specs.Caused.{HasCauses, HasKinds}
 use Rattle.homefree.specs.Driven.{Driven, Driver, driver}
 use Rattle.homefree.specs.LockView.{loop_of}
+use Rattle.homefree.specs.Missed.{PassesOverNone, IsOfCaches}
 
 abbrev pub loop_on : LoadedImage → ℕ → ℕ → Loop
 loop_on image cores room = record { image = image; cores = cores; room = room }
@@ -25,27 +27,35 @@ pub record IsNew {S : Type 0} (view : S → StoreView) (l : Loop) (b : BookView 
   pub store : IsFresh l.image l.cores (view b.store)
   pub stopped : b.stopped ≡ None
 
--- the schedule's turns, one for each of its cores, in order, make this history and come to this. Which accesses the store
--- makes wait is left open
-pub record Makes {S : Type 0} (view : S → StoreView) (l : Loop) (schedule : List ℕ) (result : Result (Option End) TurnFault) (history : List Entry) : Type 0 where
-  pub waits : S → Waits
+-- a history that turns over a store make: each violation has its cause and is of a kind, over caches no entry passes over a later
+-- epoch that has read in a line which it writes, further stores aside, and the entries are within the room
+pub record IsOfTurns {S : Type 0} (view : S → StoreView) (l : Loop) (history : List Entry) : Type 0 where
+  pub caused : HasCauses history
+  pub kinds : HasKinds l.image l.cores history
+  pub passes : IsOfCaches view → PassesOverNone l.image l.cores history
+  pub within : length history ≤ l.room
+
+-- the schedule's turns, one for each of its cores, in order, make this history and come to this: an access waits where the store
+-- makes it wait, and for the cause that the store has
+pub record Makes {S : Type 0} (view : S → StoreView) (waits : S → Waits) (l : Loop) (schedule : List ℕ) (result : Result (Option End) TurnFault) (history : List Entry) : Type 0 where
   pub first : BookView S
   pub last : Driver S
   pub is_new : IsNew view l first
   pub driven : Driven view waits (λ _. None) (driver first no_counts) schedule result last
   pub history_is : last.book.history ≡ history
+  pub of_turns : IsOfTurns view l history
 
 -- a turn of the schedule finds too few free entries
-abbrev pub IsFull : {S : Type 0} → (S → StoreView) → Loop → List ℕ → Type 0
-IsFull view l schedule = (history : List Entry) × Makes view l schedule (Err HistoryFull) history
+abbrev pub IsFull : {S : Type 0} → (S → StoreView) → (S → Waits) → Loop → List ℕ → Type 0
+IsFull view waits l schedule = (history : List Entry) × Makes view waits l schedule (Err HistoryFull) history
 
 -- the turns may end in this fault
-abbrev pub IsFault : {S : Type 0} → (S → StoreView) → Loop → List ℕ → TurnFault → Type 0
-IsFault view l schedule HistoryFull = IsFull view l schedule
-IsFault view l schedule NoMemory = Unit {0}
+abbrev pub IsFault : {S : Type 0} → (S → StoreView) → (S → Waits) → Loop → List ℕ → TurnFault → Type 0
+IsFault view waits l schedule HistoryFull = IsFull view waits l schedule
+IsFault view waits l schedule NoMemory = Unit {0}
 
 -- the book has the history that the schedule makes
-pub record IsMade {S : Type 0} (view : S → StoreView) (l : Loop) (schedule : List ℕ) (b : BookView S) : Type 0 where
+pub record IsMade {S : Type 0} (view : S → StoreView) (waits : S → Waits) (l : Loop) (schedule : List ℕ) (b : BookView S) : Type 0 where
   pub loop : loop_of b ≡ l
   pub result : Option End
-  pub makes : Makes view l schedule (Ok result) b.history
+  pub makes : Makes view waits l schedule (Ok result) b.history

@@ -6,7 +6,7 @@ use Rattle.rv32_exec.specs.declared.sequential.End.{End}
 use Rattle.spec_history.specs.declared.entry.Entry.{Entry}
 use Rattle.spec_history.specs.FlatState.{FlatState}
 use Rattle.spec_history.specs.Replay.{replay}
-use Rattle.violations.specs.View.{StoreView}
+use Rattle.violations.specs.View.{StoreView, Waits}
 use Rattle.homefree.specs.declared.book.Loop.{Loop}
 use Rattle.homefree.specs.declared.fault.TurnFault.{TurnFault}
 use Rattle.homefree.specs.declared.fault.TurnFault.TheVariants.{HistoryFull, NoMemory}
@@ -42,9 +42,9 @@ IsEnd image s (Some end) = IsInOrder image end s.committed
 IsEnd image s None = Unit {0}
 
 -- the turns of the schedule make this history, from an empty one on; it replays on the one-thread machine to a state, with this end
-pub record IsRun {S : Type 0} (view : S → StoreView) (l : Loop) (run : Run) : Type 0 where
+pub record IsRun {S : Type 0} (view : S → StoreView) (waits : S → Waits) (l : Loop) (run : Run) : Type 0 where
   pub result : Option End
-  pub makes : Makes view l run.schedule (Ok result) run.history
+  pub makes : Makes view waits l run.schedule (Ok result) run.history
   pub state : FlatState
   pub replays : replay l.image l.cores run.history ≡ Some state
   pub end_is : run.end ≡ state.end
@@ -78,18 +78,18 @@ pub record AreEachOnce (all once : List (List ℕ)) : Type 0 where
 -- how many runs are over, their traces each once, and those with the fewest and with the most restarts
 pub record IsSurvey (cores : ℕ) (runs : List Run) (survey : Survey) : Type 0 where
   pub over : survey.over ≡ count_by is_over runs
-  pub traces : AreEachOnce (map (trace_of cores) runs) (lists_of survey.traces.items)
+  pub traces : AreEachOnce (map (trace_of cores) runs) (lists_of survey.traces.keys)
   pub least : IsLeast runs survey.least
   pub most : IsMost runs survey.most
 
 -- each schedule was driven, and together they come to this
-pub record Surveys {S : Type 0} (view : S → StoreView) (l : Loop) (schedules : List (List ℕ)) (survey : Survey) : Type 0 where
+pub record Surveys {S : Type 0} (view : S → StoreView) (waits : S → Waits) (l : Loop) (schedules : List (List ℕ)) (survey : Survey) : Type 0 where
   pub runs : List Run
   pub schedules_are : map (λ run. run.schedule) runs ≡ schedules
-  pub driven : All (IsRun view l) runs
+  pub driven : All (IsRun view waits l) runs
   pub come_to : IsSurvey l.cores runs survey
 
 -- the turns of one of them may end in this fault
-abbrev pub IsFaultOfOne : {S : Type 0} → (S → StoreView) → Loop → List (List ℕ) → TurnFault → Type 0
-IsFaultOfOne view l schedules HistoryFull = (schedule : List ℕ) × Contains schedules schedule × IsFull view l schedule
-IsFaultOfOne view l schedules NoMemory = Unit {0}
+abbrev pub IsFaultOfOne : {S : Type 0} → (S → StoreView) → (S → Waits) → Loop → List (List ℕ) → TurnFault → Type 0
+IsFaultOfOne view waits l schedules HistoryFull = (schedule : List ℕ) × Contains schedules schedule × IsFull view waits l schedule
+IsFaultOfOne view waits l schedules NoMemory = Unit {0}

@@ -31,7 +31,7 @@ extreme_lines name schedules None = []
 -- how many schedules there are, how many of them are over, and how many different histories they make
 abbrev pub counts_lines : ℕ → Survey → List ℕ
 counts_lines schedules survey =
-    number_line (codes "schedules ") schedules ++ number_line (codes "over ") survey.over ++ number_line (codes "histories ") (length survey.traces.items)
+    number_line (codes "schedules ") schedules ++ number_line (codes "over ") survey.over ++ number_line (codes "histories ") (length survey.traces.keys)
 
 -- the report of the sequential loop, where a schedule is over
 abbrev pub end_lines : LoadedImage → Option Extreme → List ℕ

@@ -1,5 +1,5 @@
 //! What schedules come to together.
-ghost use Rattle.std.specs.Prelude.{◌≡◌, ◌≤◌, ◌<◌, ◌^◌, ◌↔◌, All, Contains, IfOk, IfErr, IsTrue, OnOk};
+ghost use Rattle.std.specs.Prelude.{◌≡◌, ◌≤◌, ◌<◌, ◌^◌, All, IfOk, IfErr, OnOk};
 ghost use Rattle.violations.specs.Rule.{IsCoreCount};
 ghost use Rattle.all_schedules.specs.Made as made_spec;
 ghost use Rattle.all_schedules.specs.Schedules.{lists_of};
@@ -10,6 +10,7 @@ use crate::driving::drive_schedule;
 use homefree::{Book, TurnFault};
 use rv32_exec::Image;
 use std::alloc::{AllocError, Global};
+use std::collections::BTreeSet;
 use trace_text::print_trace;
 use violations::EpochStore;
 
@@ -28,7 +29,7 @@ pub struct Survey {
     /// For how many schedules the loop is over.
     pub over: usize,
     /// The traces of the histories that they make, each once.
-    pub traces: Vec<Vec<u8>>,
+    pub traces: BTreeSet<Vec<u8>>,
     /// Of those that are over one with the fewest restarts.
     pub least: Option<Extreme>,
     /// Of those that are over one with the most restarts.
@@ -50,12 +51,12 @@ pub fn survey_schedules<S: EpochStore>(
     requires least { 16 ≤ room }
     requires most { room ≤ 1048576 }
     requires schedules { All (All (λ core. core < cores)) (lists_of schedules.now) }
-    ensures made { IfOk result (spec.Surveys S.view (made_spec.loop_on image.now cores room) (lists_of schedules.now)) }
-    ensures fault { IfErr result (spec.IsFaultOfOne S.view (made_spec.loop_on image.now cores room) (lists_of schedules.now)) }
+    ensures made { IfOk result (spec.Surveys S.view S.waits (made_spec.loop_on image.now cores room) (lists_of schedules.now)) }
+    ensures fault { IfErr result (spec.IsFaultOfOne S.view S.waits (made_spec.loop_on image.now cores room) (lists_of schedules.now)) }
 {
     let mut survey = Survey {
         over: 0,
-        traces: Vec::new(alloc),
+        traces: BTreeSet::new(alloc),
         least: None,
         most: None,
     };
@@ -107,7 +108,8 @@ impl Survey {
             self.least = Some(lesser(self.least, found));
             self.most = Some(greater(self.most, found));
         }
-        note(&mut self.traces, trace)
+        self.traces.insert(trace)?;
+        Ok(())
     }
 }
 
@@ -129,29 +131,4 @@ fn greater(old: Option<Extreme>, found: Extreme) -> Extreme
         Some(old) if found.restarts <= old.restarts => old,
         _ => found,
     }
-}
-
-/// Notes a text, unless it stands there.
-fn note(texts: &mut Vec<Vec<u8>>, text: Vec<u8>) -> Result<(), AllocError>
-    ensures { OnOk result (inside.IsNoted (lists_of texts.old.items) (lists_of texts.new.items) text.items) }
-{
-    if is_noted(texts.as_slice(), text.as_slice()) {
-        return Ok(());
-    }
-    texts.push(text)?;
-    Ok(())
-}
-
-/// Whether a text stands there. The newest are looked at first.
-fn is_noted(texts: &[Vec<u8>], text: &[u8]) -> bool
-    ensures { IsTrue result ↔ Contains (lists_of texts.now) text.now }
-{
-    let mut left = texts.len();
-    while left > 0 {
-        left -= 1;
-        if texts[left].as_slice() == text {
-            return true;
-        }
-    }
-    false
 }

@@ -13,6 +13,7 @@ use Rattle.homefree.specs.InStep.{InStep}
 use Rattle.homefree.proofs.Drives.{in_order}
 use Rattle.trace_commands.specs.declared.outcome.Outcome.{Outcome}
 use Rattle.trace_commands.specs.Report.{open_report, report_of}
+use Rattle.trace_text.specs.Laws.{AreEntries}
 use Rattle.trace_text.specs.Printing.{printed_trace}
 use Rattle.run_command.specs.Committed.{IsCommitted}
 use Rattle.run_command.specs.Run.{counts_line}
@@ -51,13 +52,14 @@ module _ {S : Type 0} (view : S → StoreView) (image : LoadedImage) (b : BookVi
 
 -- with the counts and the trace below the report
 pub shown : {S : Type 0} (view : S → StoreView) (image : LoadedImage) (cores : ℕ) (b : BookView S) (outcome : Outcome) (report text : List ℕ) → InStep view b
-    → b.image ≡ image → b.cores ≡ cores
+    → b.image ≡ image → b.cores ≡ cores → AreEntries b.history
     → ((s : FlatState) → replay b.image b.cores b.history ≡ Some s → outcome ≡ outcome_at s.end s.homefree)
     → ((s : FlatState) → replay b.image b.cores b.history ≡ Some s → IsReport image s s.end report)
     → text ≡ report ++ counts_line b.totals ++ printed_trace cores b.history → IsShown image cores b.history outcome text
-shown view image cores b outcome report text i image_is cores_are outcome_is reports text_is = record {
+shown view image cores b outcome report text i image_is cores_are numbers outcome_is reports text_is = record {
   state = i.state;
   replays = (λ k. replay (sym image_is k) (sym cores_are k) b.history) ∙ i.replays;
+  numbers = numbers;
   outcome_is = outcome_is i.state i.replays;
   report = report;
   reports = reports i.state i.replays;

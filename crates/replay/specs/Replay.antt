@@ -11,13 +11,14 @@ use Rattle.spec_history.specs.declared.entry.Entry.{Entry}
 use Rattle.spec_history.specs.FlatState.{FlatState}
 use Rattle.spec_history.specs.Laws.{IsPublished}
 use Rattle.spec_history.specs.Replay.{replay}
-use Rattle.violations.specs.View.{StoreView}
+use Rattle.violations.specs.View.{StoreView, Waits}
 use Rattle.violations.specs.Rule.{IsCoreCount}
 use Rattle.homefree.specs.declared.book.Loop.{Loop}
 use Rattle.homefree.specs.Counted.{counted_in}
 use Rattle.trace_text.specs.declared.fault.TraceFault.{TraceFault}
 use Rattle.trace_text.specs.declared.fault.TraceFaultKind.{TraceFaultKind}
 use Rattle.trace_text.specs.declared.fault.TraceFaultKind.TheVariants as kind
+use Rattle.trace_text.specs.Laws.{AreEntries}
 use Rattle.trace_text.specs.Printing.{printed_trace}
 use Rattle.trace_text.specs.TraceText.{longest_trace_text}
 use Rattle.trace_commands.specs.declared.outcome.Outcome.{Outcome}
@@ -43,26 +44,27 @@ abbrev pub IsReport : LoadedImage → FlatState → Option End → List ℕ → 
 IsReport image s (Some end) report = (end ≡ (sequential_result image).end) × (report ≡ report_of image (sequential_result image))
 IsReport image s None report = (so : IsPublished image s) × (report ≡ open_report image s.homefree so.memory)
 
--- the history replays on the one-thread machine to a state; the text is the report of that state, the counts of the history and
--- its trace
+-- the history replays on the one-thread machine to a state, and its numbers are of 32 bits; the text is the report of that state,
+-- the counts of the history and its trace
 pub record IsShown (image : LoadedImage) (cores : ℕ) (history : List Entry) (outcome : Outcome) (text : List ℕ) : Type 0 where
   pub state : FlatState
   pub replays : replay image cores history ≡ Some state
+  pub numbers : AreEntries history
   pub outcome_is : outcome ≡ outcome_at state.end state.homefree
   pub report : List ℕ
   pub reports : IsReport image state state.end report
   pub text_is : text ≡ report ++ counts_line (counted_in history) ++ printed_trace cores history
 
 -- the text shows the history that the schedule makes
-abbrev pub IsReplay : {S : Type 0} → (S → StoreView) → Loop → List ℕ → Outcome → List ℕ → Type 0
-IsReplay view l schedule outcome text = (result : Option End) × (history : List Entry)
-    × Makes view l schedule (Ok result) history × IsShown l.image l.cores history outcome text
+abbrev pub IsReplay : {S : Type 0} → (S → StoreView) → (S → Waits) → Loop → List ℕ → Outcome → List ℕ → Type 0
+IsReplay view waits l schedule outcome text = (result : Option End) × (history : List Entry)
+    × Makes view waits l schedule (Ok result) history × IsShown l.image l.cores history outcome text
 
 -- turns may stop so
-abbrev pub IsStop : {S : Type 0} → (S → StoreView) → Loop → List ℕ → StopCause → Type 0
-IsStop view l schedule HistoryFull = IsFull view l schedule
-IsStop view l schedule NoMemory = Unit {0}
-IsStop view l schedule other = ⊥
+abbrev pub IsStop : {S : Type 0} → (S → StoreView) → (S → Waits) → Loop → List ℕ → StopCause → Type 0
+IsStop view waits l schedule HistoryFull = IsFull view waits l schedule
+IsStop view waits l schedule NoMemory = Unit {0}
+IsStop view waits l schedule other = ⊥
 
 -- ---- the whole input
 
@@ -82,25 +84,25 @@ IsTurnsRefusal cores kind.Line fault text =
 IsTurnsRefusal cores kind fault text = ⊥
 
 -- nothing is printed, since the image, the number of cores or the lines of turns are refused, the history is full or memory ran out
-abbrev pub IsNoReplay : {S : Type 0} → (S → StoreView) → ℕ → ℕ → List ℕ → Outcome → Type 0
-IsNoReplay view cores room text Usage =
+abbrev pub IsNoReplay : {S : Type 0} → (S → StoreView) → (S → Waits) → ℕ → ℕ → List ℕ → Outcome → Type 0
+IsNoReplay view waits cores room text Usage =
     MatchResult (image_text (image_part text)) (λ image. (limits_of image.version).most_cores < cores) (λ fault. ⊥)
-IsNoReplay view cores room text (BadImage fault) = (image_text (image_part text) ≡ Err fault) × (length text ≤ longest_trace_text)
-IsNoReplay view cores room text (BadTurns fault) = IsTurnsRefusal cores fault.kind fault text
-IsNoReplay view cores room text (Stopped HistoryFull) = OfText cores room text (IsFull view)
-IsNoReplay view cores room text (Stopped NoMemory) = Unit {0}
-IsNoReplay view cores room text outcome = ⊥
+IsNoReplay view waits cores room text (BadImage fault) = (image_text (image_part text) ≡ Err fault) × (length text ≤ longest_trace_text)
+IsNoReplay view waits cores room text (BadTurns fault) = IsTurnsRefusal cores fault.kind fault text
+IsNoReplay view waits cores room text (Stopped HistoryFull) = OfText cores room text (IsFull view waits)
+IsNoReplay view waits cores room text (Stopped NoMemory) = Unit {0}
+IsNoReplay view waits cores room text outcome = ⊥
 
 -- this is printed
-abbrev pub IsReplayOn : {S : Type 0} → (S → StoreView) → ℕ → ℕ → List ℕ → Outcome → List ℕ → Type 0
-IsReplayOn view cores room text outcome printed = OfText cores room text (λ l schedule. IsReplay view l schedule outcome printed)
+abbrev pub IsReplayOn : {S : Type 0} → (S → StoreView) → (S → Waits) → ℕ → ℕ → List ℕ → Outcome → List ℕ → Type 0
+IsReplayOn view waits cores room text outcome printed = OfText cores room text (λ l schedule. IsReplay view waits l schedule outcome printed)
 
 -- what `replay` came to over this store is right for this input, and this was written
-abbrev pub IsReplayOutcome : {S : Type 0} → (S → StoreView) → ℕ → ℕ → List ℕ → Option (List ℕ) → Option (List ℕ) → Outcome → Type 0
-IsReplayOutcome view cores room text old new (Reported end) =
-    (printed : List ℕ) × IsReplayOn view cores room text (Reported end) printed × Appends old new printed
-IsReplayOutcome view cores room text old new (Open homefree) =
-    (printed : List ℕ) × IsReplayOn view cores room text (Open homefree) printed × Appends old new printed
-IsReplayOutcome view cores room text old new (Stopped Write) =
-    (outcome : Outcome) × (printed : List ℕ) × IsReplayOn view cores room text outcome printed × AppendsPrefix old new printed
-IsReplayOutcome view cores room text old new outcome = IsNoReplay view cores room text outcome × Keeps old new
+abbrev pub IsReplayOutcome : {S : Type 0} → (S → StoreView) → (S → Waits) → ℕ → ℕ → List ℕ → Option (List ℕ) → Option (List ℕ) → Outcome → Type 0
+IsReplayOutcome view waits cores room text old new (Reported end) =
+    (printed : List ℕ) × IsReplayOn view waits cores room text (Reported end) printed × Appends old new printed
+IsReplayOutcome view waits cores room text old new (Open homefree) =
+    (printed : List ℕ) × IsReplayOn view waits cores room text (Open homefree) printed × Appends old new printed
+IsReplayOutcome view waits cores room text old new (Stopped Write) =
+    (outcome : Outcome) × (printed : List ℕ) × IsReplayOn view waits cores room text outcome printed × AppendsPrefix old new printed
+IsReplayOutcome view waits cores room text old new outcome = IsNoReplay view waits cores room text outcome × Keeps old new

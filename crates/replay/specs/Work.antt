@@ -1,9 +1,9 @@
 -- What the program answers.
-use Rattle.std.specs.Prelude.{◌≡◌, ◌⊎◌, ℕ, ◌+◌, ◌≤◌, List, Option, Some, None}
+use Rattle.std.specs.Prelude.{◌≡◌, ◌⊎◌, ℕ, ◌+◌, ◌^◌, ◌≤◌, List, Option, Some, None}
 use Rattle.std.specs.Io.KnownBytes.{Keeps}
 use Rattle.rv32_image.specs.ImageText.{longest_image_text}
 use Rattle.rv32_image.specs.Input.{TakesAtMost}
-use Rattle.violations.specs.View.{StoreView}
+use Rattle.violations.specs.View.{StoreView, Waits, never_waits}
 use Rattle.violations.specs.Plain as plain
 use Rattle.spec_bus.specs.Cached as caches
 use Rattle.trace_text.specs.TraceText.{longest_trace_text}
@@ -16,22 +16,27 @@ use Rattle.replay.specs.AllSchedules.{AllAnswers}
 use Rattle.replay.specs.Replay.{IsReplayOutcome}
 use Rattle.replay.specs.Streams.{Stream}
 
--- 1 to 16 cores
+-- every schedule of 1 to 16 turns, of which there are at most 65,536; or the schedule of the input
+abbrev pub AreFew : ℕ → Option ℕ → Type 0
+AreFew cores (Some turns) = (1 ≤ turns) × (turns ≤ 16) × (cores ^ turns ≤ 65536)
+AreFew cores None = Unit {0}
+
+-- 1 to 16 cores, and no more schedules than that
 abbrev pub IsRequest : Request → Type 0
-IsRequest request = (1 ≤ request.cores) × (request.cores ≤ 16)
+IsRequest request = (1 ≤ request.cores) × (request.cores ≤ 16) × AreFew request.cores request.turns
 
 -- over a store, on so many cores: the schedule of the input was replayed, or every schedule of so many turns was driven; and of the input
 -- no more than it may be long, and one byte, was taken
-abbrev pub TurnsAnswer : {S : Type 0} → (S → StoreView) → ℕ → ℕ → Option ℕ → List ℕ → Stream → Stream → Stream → ℕ → Type 0
-TurnsAnswer view cores room None text input output errors status =
-    Conclusion (IsReplayOutcome view cores room text output.old output.new) errors.old errors.new status
+abbrev pub TurnsAnswer : {S : Type 0} → (S → StoreView) → (S → Waits) → ℕ → ℕ → Option ℕ → List ℕ → Stream → Stream → Stream → ℕ → Type 0
+TurnsAnswer view waits cores room None text input output errors status =
+    Conclusion (IsReplayOutcome view waits cores room text output.old output.new) errors.old errors.new status
     × TakesAtMost input.old input.new (longest_trace_text + 1)
-TurnsAnswer view cores room (Some turns) text input output errors status =
-    AllAnswers view cores room turns text output errors status × TakesAtMost input.old input.new (longest_image_text + 1)
+TurnsAnswer view waits cores room (Some turns) text input output errors status =
+    AllAnswers view waits cores room turns text output errors status × TakesAtMost input.old input.new (longest_image_text + 1)
 
 abbrev pub StoreAnswers : Store → ℕ → ℕ → Option ℕ → List ℕ → Stream → Stream → Stream → ℕ → Type 0
-StoreAnswers Caches cores room turns text input output errors status = TurnsAnswer caches.store_view cores room turns text input output errors status
-StoreAnswers Plain cores room turns text input output errors status = TurnsAnswer plain.store_view cores room turns text input output errors status
+StoreAnswers Caches cores room turns text input output errors status = TurnsAnswer caches.store_view caches.waits cores room turns text input output errors status
+StoreAnswers Plain cores room turns text input output errors status = TurnsAnswer plain.store_view (λ _. never_waits) cores room turns text input output errors status
 
 -- a request was answered
 abbrev pub IsDone : ℕ → List ℕ → Stream → Stream → Stream → ℕ → Type 0

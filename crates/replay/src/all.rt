@@ -33,7 +33,7 @@ pub fn do_all<S: EpochStore, R: Read, W: Write, E: Write>(
     requires cores { 1 ≤ cores }
     requires least { 16 ≤ room }
     requires most { room ≤ 1048576 }
-    ensures outcome { ForText (R.remaining reader.old) (λ text. spec.AllAnswers S.view cores room turns text
+    ensures outcome { ForText (R.remaining reader.old) (λ text. spec.AllAnswers S.view S.waits cores room turns text
         (record { old = W.contents writer.old; new = W.contents writer.new }) (record { old = E.contents errors.old; new = E.contents errors.new }) result) }
     ensures taken { TakesAtMost (R.remaining reader.old) (R.remaining reader.new) (longest_image_text + 1) }
 {
@@ -56,8 +56,8 @@ fn all_of_input<S: EpochStore, R: Read, W: Write>(
     requires least { 16 ≤ room }
     requires most { room ≤ 1048576 }
     ensures outcome { ForText (R.remaining reader.old) (λ text. MatchResult result
-        (λ _. spec.IsWritten S.view cores room turns text (W.contents writer.old) (W.contents writer.new))
-        (spec.IsUnwritten S.view cores room turns text (W.contents writer.old) (W.contents writer.new))) }
+        (λ _. spec.IsWritten S.view S.waits cores room turns text (W.contents writer.old) (W.contents writer.new))
+        (spec.IsUnwritten S.view S.waits cores room turns text (W.contents writer.old) (W.contents writer.new))) }
     ensures taken { TakesAtMost (R.remaining reader.old) (R.remaining reader.new) (longest_image_text + 1) }
 {
     match read_image(alloc, reader) {
@@ -78,8 +78,8 @@ fn all_of_image<S: EpochStore, W: Write>(
     requires least { 16 ≤ room }
     requires most { room ≤ 1048576 }
     ensures { MatchResult result
-        (λ _. spec.IsWrittenOf S.view (loop_on image.now cores room) turns (W.contents writer.old) (W.contents writer.new))
-        (spec.IsUnwrittenOf S.view (loop_on image.now cores room) turns (W.contents writer.old) (W.contents writer.new)) }
+        (λ _. spec.IsWrittenOf S.view S.waits (loop_on image.now cores room) turns (W.contents writer.old) (W.contents writer.new))
+        (spec.IsUnwrittenOf S.view S.waits (loop_on image.now cores room) turns (W.contents writer.old) (W.contents writer.new)) }
 {
     if image.version().limits().most_cores < cores {
         return Err(Outcome::Usage);
@@ -106,8 +106,8 @@ fn print_all<S: EpochStore>(
     requires cores { IsCoreCount image.now cores }
     requires least { 16 ≤ room }
     requires most { room ≤ 1048576 }
-    ensures { MatchResult result (λ text. spec.IsAll S.view (loop_on image.now cores room) turns text.items)
-        (spec.IsAllStop S.view (loop_on image.now cores room) turns) }
+    ensures { MatchResult result (λ text. spec.IsAll S.view S.waits (loop_on image.now cores room) turns text.items)
+        (spec.IsAllStop S.view S.waits (loop_on image.now cores room) turns) }
 {
     let Ok(all) = every_schedule(alloc, cores, turns) else {
         return Err(StopCause::NoMemory);

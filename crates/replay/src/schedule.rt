@@ -37,7 +37,7 @@ pub fn do_replay<S: EpochStore, R: Read, W: Write, E: Write>(
     requires least { 16 ≤ room }
     requires most { room ≤ 1048576 }
     ensures outcome { ForText (R.remaining reader.old) (λ text.
-        Conclusion (spec.IsReplayOutcome S.view cores room text (W.contents writer.old) (W.contents writer.new)) (E.contents errors.old) (E.contents errors.new) result) }
+        Conclusion (spec.IsReplayOutcome S.view S.waits cores room text (W.contents writer.old) (W.contents writer.new)) (E.contents errors.old) (E.contents errors.new) result) }
     ensures taken { TakesAtMost (R.remaining reader.old) (R.remaining reader.new) (longest_trace_text + 1) }
 {
     replay_input::<S, R, W>(alloc, cores, room, reader, writer).conclude(errors)
@@ -55,7 +55,7 @@ fn replay_input<S: EpochStore, R: Read, W: Write>(
     requires least { 16 ≤ room }
     requires most { room ≤ 1048576 }
     ensures outcome { ForText (R.remaining reader.old) (λ text.
-        spec.IsReplayOutcome S.view cores room text (W.contents writer.old) (W.contents writer.new) result) }
+        spec.IsReplayOutcome S.view S.waits cores room text (W.contents writer.old) (W.contents writer.new) result) }
     ensures taken { TakesAtMost (R.remaining reader.old) (R.remaining reader.new) (longest_trace_text + 1) }
 {
     match read_input(alloc, reader, LONGEST_TRACE_TEXT) {
@@ -75,7 +75,7 @@ fn replay_text<S: EpochStore, W: Write>(
     requires least { 16 ≤ room }
     requires most { room ≤ 1048576 }
     requires short { length text.now ≤ longest_trace_text }
-    ensures { spec.IsReplayOutcome S.view cores room text.now (W.contents writer.old) (W.contents writer.new) result }
+    ensures { spec.IsReplayOutcome S.view S.waits cores room text.now (W.contents writer.old) (W.contents writer.new) result }
 {
     let (outcome, printed) = match replay_of::<S>(alloc, cores, room, text) {
         Ok(shown) => shown,
@@ -99,7 +99,7 @@ fn replay_of<S: EpochStore>(
     requires least { 16 ≤ room }
     requires most { room ≤ 1048576 }
     requires short { length text.now ≤ longest_trace_text }
-    ensures { MatchResult result (λ shown. spec.IsReplayOn S.view cores room text.now shown.0 shown.1.items) (spec.IsNoReplay S.view cores room text.now) }
+    ensures { MatchResult result (λ shown. spec.IsReplayOn S.view S.waits cores room text.now shown.0 shown.1.items) (spec.IsNoReplay S.view S.waits cores room text.now) }
 {
     let parts = parts_of(text);
     let image = match image_of(alloc, image_part(text, &parts)) {
@@ -131,8 +131,8 @@ fn replay_turns<S: EpochStore>(
     requires least { 16 ≤ room }
     requires most { room ≤ 1048576 }
     requires schedule { All (λ core. core < cores) schedule.now }
-    ensures shown { IfOk result (λ shown. spec.IsReplay S.view (loop_on image.now cores room) schedule.now shown.0 shown.1.items) }
-    ensures stopped { IfErr result (spec.IsStop S.view (loop_on image.now cores room) schedule.now) }
+    ensures shown { IfOk result (λ shown. spec.IsReplay S.view S.waits (loop_on image.now cores room) schedule.now shown.0 shown.1.items) }
+    ensures stopped { IfErr result (spec.IsStop S.view S.waits (loop_on image.now cores room) schedule.now) }
 {
     match drive_schedule::<S>(alloc, image, cores, room, schedule) {
         Ok(book) => match print_book(alloc, image, cores, &book) {

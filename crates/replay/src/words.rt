@@ -1,5 +1,5 @@
-ghost use Rattle.std.specs.Prelude.{◌≡◌, ◌≤◌, IfSome};
-ghost use Rattle.replay.specs.Work.{IsRequest};
+ghost use Rattle.std.specs.Prelude.{◌≡◌, ◌≤◌, ◌↔◌, IfSome, IsTrue};
+ghost use Rattle.replay.specs.Work.{AreFew, IsRequest};
 
 use rv32_image::number_in;
 use std::convert::AsStr;
@@ -38,6 +38,7 @@ pub fn request_of<S: AsStr>(words: &[S]) -> Option<Request>
 
 /// The request of these words. None: they name no store or number, or there are more than 65,536 schedules of so many turns.
 fn asked(store: &str, cores: &str, turns: Option<u32>) -> Option<Request>
+    requires { IfSome turns (λ n. (1 ≤ n) × (n ≤ 16)) }
     ensures { IfSome result IsRequest }
 {
     let store = store_named(store)?;
@@ -53,7 +54,10 @@ fn asked(store: &str, cores: &str, turns: Option<u32>) -> Option<Request>
 }
 
 /// Whether there are at most 65,536 schedules of so many turns.
-fn is_small(cores: u32, turns: Option<u32>) -> bool {
+fn is_small(cores: u32, turns: Option<u32>) -> bool
+    requires { IfSome turns (λ n. (1 ≤ n) × (n ≤ 16)) }
+    ensures { IsTrue result ↔ AreFew cores turns }
+{
     match turns {
         Some(turns) => cores
             .checked_pow(turns)

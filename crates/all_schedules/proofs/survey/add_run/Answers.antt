@@ -14,6 +14,6 @@ returns-in-Ok-add-clause-added g c =
           (printed_trace c.args.cores book.history) c.args.survey.now c.add.new.self
           (c.is_some-is_over.ensures ∙ ap is_some (c.ended.ensures.end step.state step.replays))
           (ap (λ (n : Counts). n.restarts) (c.totals.ensures ∙ step.counted))
-          (c.in-Ok.ensures ∙ ap (printed_trace c.args.cores) c.history.ensures)
+          (c.in-Ok.ensures.text ∙ ap (printed_trace c.args.cores) c.history.ensures)
           c.in-Ok-add.ensures;
     }

@@ -18,4 +18,4 @@ returns-in-Ok-print_book-clause-shown g c =
 pub returns-in-Err-HistoryFull-clause-stopped : goal.returns-in-Err-HistoryFull-clause-stopped
 returns-in-Err-HistoryFull-clause-stopped g c =
     let is : c.in-Err-HistoryFull.field-0 ≡ fault.HistoryFull = search rules in
-    subst (λ (f : TurnFault). IsFault g.S.EpochStore.view (loop_on c.args.image.now c.args.cores c.args.room) c.args.schedule.now f) is c.in-Err-HistoryFull.ensures.fault
+    subst (λ (f : TurnFault). IsFault g.S.EpochStore.view g.S.EpochStore.waits (loop_on c.args.image.now c.args.cores c.args.room) c.args.schedule.now f) is c.in-Err-HistoryFull.ensures.fault

@@ -14,21 +14,23 @@ use Rattle.replay.proofs.work.answer.Goals as goal
 pub returns-in-Some : goal.returns-in-Some
 returns-in-Some g c =
     let view = g.S.EpochStore.view in
+    let waits = g.S.EpochStore.waits in
     let cores = c.args.request.cores in
     let input : Stream = record { old = g.R.Read.remaining c.args.reader.now; new = g.R.Read.remaining c.do_all.new.reader } in
     let output : Stream = record { old = g.W.Write.contents c.args.writer.now; new = g.W.Write.contents c.do_all.new.writer } in
     let errors : Stream = record { old = g.E.Write.contents c.args.errors.now; new = g.E.Write.contents c.do_all.new.errors } in
-    subst (λ (turns : Option ℕ). ForText input.old (λ text. TurnsAnswer view cores c.args.room turns text input output errors c.do_all.result)) (sym c.in-Some.is)
-    (for_both input.old (λ text. AllAnswers view cores c.args.room c.in-Some.turns text output errors c.do_all.result)
+    subst (λ (turns : Option ℕ). ForText input.old (λ text. TurnsAnswer view waits cores c.args.room turns text input output errors c.do_all.result)) (sym c.in-Some.is)
+    (for_both input.old (λ text. AllAnswers view waits cores c.args.room c.in-Some.turns text output errors c.do_all.result)
     (TakesAtMost input.old input.new (longest_image_text + 1)) c.do_all.ensures.outcome c.do_all.ensures.taken)
 
 pub returns-in-None : goal.returns-in-None
 returns-in-None g c =
     let view = g.S.EpochStore.view in
+    let waits = g.S.EpochStore.waits in
     let cores = c.args.request.cores in
     let input : Stream = record { old = g.R.Read.remaining c.args.reader.now; new = g.R.Read.remaining c.do_replay.new.reader } in
     let output : Stream = record { old = g.W.Write.contents c.args.writer.now; new = g.W.Write.contents c.do_replay.new.writer } in
     let errors : Stream = record { old = g.E.Write.contents c.args.errors.now; new = g.E.Write.contents c.do_replay.new.errors } in
-    subst (λ (turns : Option ℕ). ForText input.old (λ text. TurnsAnswer view cores c.args.room turns text input output errors c.do_replay.result)) (sym c.in-None.is)
-    (for_both input.old (λ text. Conclusion (IsReplayOutcome view cores c.args.room text output.old output.new) errors.old errors.new c.do_replay.result)
+    subst (λ (turns : Option ℕ). ForText input.old (λ text. TurnsAnswer view waits cores c.args.room turns text input output errors c.do_replay.result)) (sym c.in-None.is)
+    (for_both input.old (λ text. Conclusion (IsReplayOutcome view waits cores c.args.room text output.old output.new) errors.old errors.new c.do_replay.result)
     (TakesAtMost input.old input.new (longest_trace_text + 1)) c.do_replay.ensures.outcome c.do_replay.ensures.taken)

@@ -1,4 +1,5 @@
 use Rattle.std.proofs.Common.{inl, sym, subst}
+use Rattle.violations.specs.View.{never_waits}
 use Rattle.violations.specs.Plain as plain
 use Rattle.spec_bus.specs.Cached as caches
 use Rattle.run_command.proofs.Outcomes.{for_text}
@@ -15,7 +16,7 @@ returns-in-Caches g c =
     let output : Stream = record { old = g.W.Write.contents c.args.writer.now; new = g.W.Write.contents c.answer.new.writer } in
     let errors : Stream = record { old = g.E.Write.contents c.args.errors.now; new = g.E.Write.contents c.answer.new.errors } in
     for_text (g.R.Read.remaining c.args.reader.now)
-    (λ text. TurnsAnswer caches.store_view request.cores c.args.room request.turns text input output errors c.answer.result)
+    (λ text. TurnsAnswer caches.store_view caches.waits request.cores c.args.room request.turns text input output errors c.answer.result)
     (λ text. WorkAnswers c.args.room text input output errors c.answer.result)
     (λ text so. inl (
       request,
@@ -31,7 +32,7 @@ returns-in-Plain g c =
     let output : Stream = record { old = g.W.Write.contents c.args.writer.now; new = g.W.Write.contents c.answer-in-Plain.new.writer } in
     let errors : Stream = record { old = g.E.Write.contents c.args.errors.now; new = g.E.Write.contents c.answer-in-Plain.new.errors } in
     for_text (g.R.Read.remaining c.args.reader.now)
-    (λ text. TurnsAnswer plain.store_view request.cores c.args.room request.turns text input output errors c.answer-in-Plain.result)
+    (λ text. TurnsAnswer plain.store_view (λ _. never_waits) request.cores c.args.room request.turns text input output errors c.answer-in-Plain.result)
     (λ text. WorkAnswers c.args.room text input output errors c.answer-in-Plain.result)
     (λ text so. inl (
       request,
