@@ -2,3 +2,4 @@ pub mod Committing
 pub mod Printing
 pub mod Stopping
 pub mod Outcomes
+pub mod RunLegal

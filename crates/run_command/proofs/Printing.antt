@@ -1,5 +1,5 @@
 -- What is printed of a run whose loop is over.
-use Rattle.std.proofs.Common.{◌≡◌, ℕ, List, [], ◌++◌, Bool, true, false, not, Some, Result, Ok, Err, IfOk, refl, sym, ap, subst, ◌∙◌, append_assoc, append-nil}
+use Rattle.std.proofs.Common.{◌≡◌, ℕ, List, [], ◌++◌, Bool, true, false, not, Some, Result, Ok, Err, IfOk, OnOk, refl, sym, ap, subst, ◌∙◌, append_assoc, append-nil}
 use Rattle.rv32_image.specs.Image.{LoadedImage}
 use Rattle.rv32_exec.specs.declared.sequential.End.{End}
 use Rattle.rv32_exec.specs.Sequential.{sequential_result}
@@ -14,11 +14,17 @@ use Rattle.homefree.specs.declared.book.Loop.{Loop}
 use Rattle.homefree.specs.LockView.{loop_of}
 use Rattle.core_threads.specs.Sentence.{Explains, Finishes}
 use Rattle.trace_commands.specs.Report.{report_of}
+use Rattle.trace_text.specs.Laws.{AreEntries}
 use Rattle.trace_text.specs.Printing.{printed_trace}
 use Rattle.run_command.specs.declared.options.RunOptions.{RunOptions}
 use Rattle.run_command.specs.Committed.{IsCommitted}
 use Rattle.run_command.specs.Run.{IsBelow, IsMade, IsPrinted, IsWholeHistory, counts_line, loop_asked}
 use Rattle.run_command.proofs.Committing.{committed_is_memory}
+
+-- a value of which two things hold
+pub both_ok : {A E : Type 0} (r : Result A E) (P : A → Type 0) (Q : Type 0) → IfOk r P → OnOk r Q → IfOk r (λ x. P x × Q)
+both_ok (Ok x) P Q so is = (so, is)
+both_ok (Err e) P Q so is = tt
 
 -- what follows for a value
 pub if_ok : {A E : Type 0} (r : Result A E) (P Q : A → Type 0) → ((x : A) → P x → Q x) → IfOk r P → IfOk r Q
@@ -50,8 +56,9 @@ module _ {S : Type 0} (view : S → StoreView) (image : LoadedImage) (options : 
   cores_are : b.cores ≡ options.cores
   cores_are = ap (λ l. l.cores) run.loop
 
-  whole : IsWholeHistory (loop_asked image options) b.history
-  whole = record {
+  whole : AreEntries b.history → IsWholeHistory (loop_asked image options) b.history
+  whole numbers = record {
+    numbers = numbers;
     made = made view b (loop_asked image options) run.loop so caches;
     state = run.state;
     replays = (λ i. replay (sym image_is i) (sym cores_are i) b.history) ∙ run.stands.replays;
@@ -67,11 +74,11 @@ module _ {S : Type 0} (view : S → StoreView) (image : LoadedImage) (options : 
       ([], subst (λ (t : Bool). IsBelow t (loop_asked image options) []) (sym off) refl, is ∙ sym (append-nil (report_of image (sequential_result image))))
 
   -- with a trace
-  pub printed_traced : (report text : List ℕ) → options.trace ≡ true → report ≡ report_of image (sequential_result image)
+  pub printed_traced : (report text : List ℕ) → AreEntries b.history → options.trace ≡ true → report ≡ report_of image (sequential_result image)
       → text ≡ (report ++ counts_line counted) ++ printed_trace options.cores b.history → IsPrinted image options text
-  printed_traced report text on first is =
+  printed_traced report text numbers on first is =
       let below : List ℕ = counts_line counted ++ printed_trace options.cores b.history in (
         below,
-        subst (λ (t : Bool). IsBelow t (loop_asked image options) below) (sym on) (b.history, whole, ap (λ c. counts_line c ++ printed_trace options.cores b.history) counted_is),
+        subst (λ (t : Bool). IsBelow t (loop_asked image options) below) (sym on) (b.history, whole numbers, ap (λ c. counts_line c ++ printed_trace options.cores b.history) counted_is),
         is ∙ (append_assoc report (counts_line counted) (printed_trace options.cores b.history) ∙ ap (λ r. r ++ below) first),
       )

@@ -1,5 +1,5 @@
 -- Why a run over caches stops.
-use Rattle.std.proofs.Common.{◌≡◌, ℕ, Option, Some, None, IfSome, refl, subst}
+use Rattle.std.proofs.Common.{◌≡◌, Option, Some, None, IfSome, refl, subst}
 use Rattle.rv32_image.specs.Image.{LoadedImage}
 use Rattle.run_ledger.specs.declared.counts.Counts.{Counts}
 use Rattle.violations.specs.View.{StoreView}

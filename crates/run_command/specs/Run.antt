@@ -19,6 +19,7 @@ use Rattle.homefree.specs.Counted.{counted_in}
 use Rattle.homefree.specs.Missed.{PassesOverNone}
 use Rattle.core_threads.specs.declared.fault.RunFault.{RunFault}
 use Rattle.core_threads.specs.declared.fault.RunFault.TheVariants as fault
+use Rattle.trace_text.specs.Laws.{AreEntries}
 use Rattle.trace_text.specs.Printing.{printed_trace}
 use Rattle.trace_commands.specs.declared.outcome.Outcome.{Outcome}
 use Rattle.trace_commands.specs.declared.outcome.Outcome.TheVariants.{Reported, Usage, BadImage, Stopped}
@@ -49,9 +50,11 @@ pub record IsMade (l : Loop) (history : List Entry) : Type 0 where
   pub passes : PassesOverNone l.image l.cores history
   pub within : length history ≤ l.room
 
--- a history of the loop that ends as the sequential loop does: it replays on the one-thread machine to that end
+-- a history of the loop that ends as the sequential loop does: it replays on the one-thread machine to that end; its numbers are of
+-- 32 bits
 pub record IsWholeHistory (l : Loop) (history : List Entry) : Type 0 where
   pub made : IsMade l history
+  pub numbers : AreEntries history
   pub state : FlatState
   pub replays : replay l.image l.cores history ≡ Some state
   pub over : state.end ≡ Some (sequential_result l.image).end

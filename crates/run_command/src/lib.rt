@@ -1,6 +1,7 @@
 //! The command `run` over any reader and writers: the loop on core threads, and what is printed of it.
 #![tactic(auto)]
 
+pub mod laws;
 mod memory;
 mod options;
 mod run;

@@ -3,6 +3,7 @@ ghost use Rattle.rv32_exec.specs.Sequential.{sequential_result};
 ghost use Rattle.homefree.specs.Driven.{IsInOrder};
 ghost use Rattle.homefree.specs.Missed.{IsOfCaches};
 ghost use Rattle.core_threads.specs.Sentence.{Explains, Finishes};
+ghost use Rattle.trace_text.specs.Laws.{AreEntries};
 ghost use Rattle.trace_text.specs.Printing.{printed_trace};
 ghost use Rattle.trace_commands.specs.Report as report_spec;
 ghost use Rattle.run_command.specs.Run as spec;
@@ -70,7 +71,8 @@ pub fn with_history(
     counts: Counts,
     history: &[Entry],
 ) -> Result<Vec<u8>, AllocError>
-    ensures { IfOk result (λ text. text.items ≡ report.items ++ spec.counts_line counts ++ printed_trace cores history.now) }
+    ensures text { IfOk result (λ text. text.items ≡ report.items ++ spec.counts_line counts ++ printed_trace cores history.now) }
+    ensures numbers { OnOk result (AreEntries history.now) }
 {
     let trace = trace_of(alloc, cores, history)?;
     with_trace(report, counts, trace.as_slice())
@@ -78,7 +80,8 @@ pub fn with_history(
 
 /// The text of a history's trace.
 fn trace_of(alloc: Global, cores: u32, history: &[Entry]) -> Result<Vec<u8>, AllocError>
-    ensures { IfOk result (λ text. text.items ≡ printed_trace cores history.now) }
+    ensures text { IfOk result (λ text. text.items ≡ printed_trace cores history.now) }
+    ensures numbers { OnOk result (AreEntries history.now) }
 {
     print_trace(alloc, cores, history).map_err(|_| AllocError)
 }

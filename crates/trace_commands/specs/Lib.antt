@@ -3,3 +3,5 @@ pub mod Report
 -- Words of contracts: what a command comes to, and what it reads.
 pub mod Outcome
 pub mod Audit
+-- What the law says.
+pub mod Laws

@@ -1,4 +1,5 @@
 pub mod Lengths
+pub mod Numbers
 pub mod Lines
 pub mod FaultKinds
 pub mod Words

@@ -1,5 +1,6 @@
-ghost use Rattle.std.specs.Prelude.{◌≡◌, ◌++◌, IfOk, OnOk, decimal};
+ghost use Rattle.std.specs.Prelude.{◌≡◌, ◌<◌, ◌^◌, ◌++◌, IfOk, OnOk, decimal};
 ghost use Rattle.std.specs.List.{flat_map};
+ghost use Rattle.trace_text.specs.Laws.{AreEntries, IsWhat};
 ghost use Rattle.trace_text.specs.Printing as spec;
 
 use crate::digits::{push_hex, push_number};
@@ -11,14 +12,16 @@ use std::alloc::{AllocError, Global};
 ///
 /// `NoMemory`: memory ran out, and nothing was made.
 pub fn print_trace(alloc: Global, cores: u32, entries: &[Entry]) -> Result<Vec<u8>, NoMemory>
-    ensures { IfOk result (λ text. text.items ≡ spec.printed_trace cores entries.now) }
+    ensures text { IfOk result (λ text. text.items ≡ spec.printed_trace cores entries.now) }
+    ensures numbers { OnOk result (AreEntries entries.now) }
 {
     trace_lines(alloc, cores, entries).map_err(|_| NoMemory)
 }
 
 #[tactic(auto, unfolding(crate::specs::Printing::printed_trace, crate::specs::Printing::head_line))]
 fn trace_lines(alloc: Global, cores: u32, entries: &[Entry]) -> Result<Vec<u8>, AllocError>
-    ensures { IfOk result (λ text. text.items ≡ spec.printed_trace cores entries.now) }
+    ensures text { IfOk result (λ text. text.items ≡ spec.printed_trace cores entries.now) }
+    ensures numbers { OnOk result (AreEntries entries.now) }
 {
     let mut text = Vec::from_slice(alloc, b"trace ")?;
     push_number(&mut text, cores)?;
@@ -32,7 +35,8 @@ fn trace_lines(alloc: Global, cores: u32, entries: &[Entry]) -> Result<Vec<u8>, 
 /// The line of an entry.
 #[tactic(auto, unfolding(crate::specs::Printing::entry_line))]
 fn push_entry(text: &mut Vec<u8>, entry: Entry) -> Result<(), AllocError>
-    ensures { OnOk result (text.new.items ≡ text.old.items ++ spec.entry_line entry) }
+    ensures text { OnOk result (text.new.items ≡ text.old.items ++ spec.entry_line entry) }
+    ensures numbers { (entry.by < 2 ^ 32) × IsWhat entry.what }
 {
     push_number(text, entry.by)?;
     text.extend_from_slice(b" ")?;
@@ -42,7 +46,8 @@ fn push_entry(text: &mut Vec<u8>, entry: Entry) -> Result<(), AllocError>
 
 /// What an entry says.
 fn push_what(text: &mut Vec<u8>, what: What) -> Result<(), AllocError>
-    ensures { OnOk result (text.new.items ≡ text.old.items ++ spec.what_text what) }
+    ensures text { OnOk result (text.new.items ≡ text.old.items ++ spec.what_text what) }
+    ensures numbers { IsWhat what }
 {
     match what {
         What::Start(epoch) => push_named(text, b"start ", epoch),

@@ -1,4 +1,4 @@
-use Rattle.std.proofs.Common.{◌≡◌, refl, sym, subst}
+use Rattle.std.proofs.Common.{refl, sym, subst}
 use Rattle.trace_commands.specs.declared.outcome.StopCause.{StopCause}
 use Rattle.spec_bus.specs.Cached.{store_view}
 use Rattle.run_command.specs.Run.{IsStop}

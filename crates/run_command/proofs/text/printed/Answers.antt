@@ -1,7 +1,8 @@
-use Rattle.std.proofs.Common.{◌≡◌, ◌++◌, ap, ◌∙◌}
+use Rattle.std.proofs.Common.{◌≡◌, ◌++◌, ap, subst, ◌∙◌}
+use Rattle.trace_text.specs.Laws.{AreEntries}
 use Rattle.trace_text.specs.Printing.{printed_trace}
 use Rattle.run_command.specs.Run.{IsPrinted, counts_line}
-use Rattle.run_command.proofs.Printing.{if_ok, on_is, printed_traced}
+use Rattle.run_command.proofs.Printing.{both_ok, if_ok, on_is, printed_traced}
 use Rattle.run_command.proofs.text.printed.Goals as goal
 
 pub returns : goal.returns
@@ -11,7 +12,9 @@ returns g c =
     let run = c.args.run.now in
     let report = c.in_ok-report.report.items in
     let above = report ++ counts_line run.counted in
-    if_ok c.with_history.result (λ text. text.items ≡ above ++ printed_trace options.cores c.history.result.now) (λ text. IsPrinted image options text.items)
+    let history = c.history.result.now in
+    if_ok c.with_history.result (λ text. (text.items ≡ above ++ printed_trace options.cores history) × AreEntries history) (λ text. IsPrinted image options text.items)
     (λ text is. printed_traced g.S.EpochStore.view image options run.book run.end run.totals run.counted c.requires.finishes c.requires.explained c.requires.caches report text.items
-    (on_is options.trace c.if-not-options.false) c.in_ok-report.ensures (is ∙ ap (λ h. above ++ printed_trace options.cores h) c.history.ensures))
-    c.with_history.ensures
+    (subst AreEntries c.history.ensures is.1) (on_is options.trace c.if-not-options.false) c.in_ok-report.ensures
+    (is.0 ∙ ap (λ h. above ++ printed_trace options.cores h) c.history.ensures))
+    (both_ok c.with_history.result (λ text. text.items ≡ above ++ printed_trace options.cores history) (AreEntries history) c.with_history.ensures.text c.with_history.ensures.numbers)
