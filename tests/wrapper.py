@@ -8,6 +8,7 @@ were called, and make a program that prints its words and its standard input. Ex
 """
 
 import os
+import re
 import shutil
 import subprocess
 import sys
@@ -42,7 +43,6 @@ for word; do
 done
 echo "$crate $verb" >>"$CALLS"
 echo "said of $crate"
-echo "checked $crate::f, 1 of 2"
 [ -z "$SLOW" ] || sleep "$SLOW"
 [ "$crate" != "$REFUSED" ] || exit 1
 case $last in
@@ -55,7 +55,7 @@ LINKER = """\
 #!/bin/sh
 [ -n "$NOTHING" ] || cp -p "$7" "$6"
 """
-BUILD = ["low build", "low check", "middle build", "middle check", "trace_cli build", "trace_cli check"]
+BUILD = ["low build", "middle build", "trace_cli build"]
 MOST_MILLISECONDS = 60
 
 
@@ -116,14 +116,16 @@ def rows():
         good = good and errors[1] == "trace_cli: proved and built in 0 min 00 s"
         if not good:
             return f"got {output!r}, {errors!r}, {status}, {calls!r}"
-        return None if log.count("said of") == 6 else f"the log is {log!r}"
+        return None if log.count("said of") == 3 else f"the log is {log!r}"
 
     def progress(tree):
         text = (tree.top / "tools/build").read_text()
         tree.write("tools/build", text.replace("SECONDS_BETWEEN_LINES = 20", "SECONDS_BETWEEN_LINES = 0.3"))
+        tree.write("crates/low/src/lib.rt", "pub fn one() {}\n    fn two() {}\n")
+        tree.write("crates/middle/src/lib.rt", "pub(crate) fn three() {}\n")
         _, errors, _, _ = tree.run(SLOW="0.7")
-        wanted = "trace_cli: 1 of 3 crates proved, 0 min 0"
-        lines = [it for it in errors if it.startswith(wanted) and it.endswith("; now middle 1 of 2 functions")]
+        wanted = "trace_cli: 1 of 3 crates, 2 of 3 functions proved, 0 min 0"
+        lines = [it for it in errors if it.startswith(wanted) and re.search(r"; now middle \(1 functions, \d s\)$", it)]
         return None if lines else f"got {errors!r}"
 
     def unproved(tree):
@@ -172,8 +174,8 @@ def rows():
 
     def another_program(tree):
         (tree.top / "bench").symlink_to("trace_cli")
-        return (tree.is_run(["bench build", "bench check", *BUILD[:4]], tree.top / "bench") or tree.is_run([], tree.top / "bench")
-                or tree.is_run(BUILD[4:]))
+        return (tree.is_run(["bench build", *BUILD[:2]], tree.top / "bench") or tree.is_run([], tree.top / "bench")
+                or tree.is_run(BUILD[2:]))
 
     def from_its_folder(tree):
         tree.is_run(BUILD)
@@ -182,9 +184,9 @@ def rows():
 
     def refused(tree):
         output, errors, status, calls = tree.run(REFUSED="middle")
-        good = output == "" and status == 126 and calls == [*BUILD[:2], "middle check"] and "said of middle" in errors
+        good = output == "" and status == 126 and calls == BUILD[:2] and "said of middle" in errors
         good = good and "trace_cli: middle is not proved and built; out/trace_cli.log has what the checker says, which ends so:" in errors
-        return tree.is_run(BUILD[2:]) if good else f"got {output!r}, {errors!r}, {status}, {calls!r}"
+        return tree.is_run(BUILD[1:]) if good else f"got {output!r}, {errors!r}, {status}, {calls!r}"
 
     def no_program(tree):
         output, errors, status, _ = tree.run(NOTHING="1")
@@ -223,16 +225,16 @@ def rows():
         ("a source that changed", after(lambda tree: tree.write("crates/low/src/lib.rt", "LOW"), BUILD)),
         ("a source that changed, with an old time", after(with_an_old_time, BUILD)),
         ("a proof that changed", after(lambda tree: tree.write("crates/low/proofs/Lib.antt", "PROOF"), BUILD)),
-        ("a new specification", after(lambda tree: tree.write("crates/middle/specs/Lib.antt", "new"), BUILD[2:])),
-        ("a source that went", after(lambda tree: (tree.top / "crates/middle/src/lib.rt").unlink(), BUILD[2:])),
+        ("a new specification", after(lambda tree: tree.write("crates/middle/specs/Lib.antt", "new"), BUILD[1:])),
+        ("a source that went", after(lambda tree: (tree.top / "crates/middle/src/lib.rt").unlink(), BUILD[1:])),
         ("a source that was touched", after(touched, [])),
         ("the program's tests", after(lambda tree: tree.write("crates/low/src/tests.rt", "TESTS"), [])),
         ("a crate that isn't the program's", after(lambda tree: tree.write("crates/other/src/lib.rt", "OTHER"), [])),
         ("a bench", after(lambda tree: tree.write("crates/bench/src/main.rt", "BENCH"), [])),
         ("another crate in crates.txt", after(
             lambda tree: tree.write("crates.txt", CRATES.replace("kit_library middle low", "middle other")),
-            ["other build", "other check", *BUILD[4:]])),
-        ("the program went", after(lambda tree: (tree.top / "crates/trace_cli/out/trace_cli").unlink(), BUILD[4:])),
+            ["other build", *BUILD[2:]])),
+        ("the program went", after(lambda tree: (tree.top / "crates/trace_cli/out/trace_cli").unlink(), BUILD[2:])),
         ("a library went", after(lambda tree: shutil.rmtree(tree.top / "crates/low/out/statements"), [])),
         ("symbolic links", links),
         ("a link of another program's name", another_program),
