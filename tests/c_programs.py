@@ -1,5 +1,5 @@
 #!/usr/bin/env python3
-"""C programs from source to report: tools/image-of-c, and the loops that it makes.
+"""C programs from source to report: tools/image-of, and the loops that it makes.
 
 Usage: tests/c_programs.py [--make] [COMMAND ..]
 
@@ -8,7 +8,7 @@ COMMAND reads an image on standard input and ends with the word `seq`; without i
 Each program of tests/c says in the lines that begin with `//> ` how its loop ends and which bytes its variables have then. They
 were printed by the same C, compiled by `cc` for this machine and called epoch by epoch, and are compared with that again where
 `cc` is there. The program's image stands beside it. The report has to be exactly the rows in which those bytes differ from the
-loaded ones, but for what calls left on stacks. By each compiler for RISC-V that is there, as tools/image-of-c says, all programs
+loaded ones, but for what calls left on stacks. By each compiler for RISC-V that is there, as tools/image-of says, all programs
 are compiled again and run too, with those of examples/c, and the sources that can't be an image are tried; a line says which
 compiler was left out. `--make` writes the lines and the images anew. Exits with 1 where a check failed.
 """
@@ -21,7 +21,7 @@ import tempfile
 from pathlib import Path
 
 ROOT = Path(__file__).resolve().parent.parent
-TOOL = ROOT / "tools" / "image-of-c"
+TOOL = ROOT / "tools" / "image-of"
 PROGRAMS = ROOT / "tests" / "c"
 ARITHMETIC = ROOT / "tools" / "arithmetic.c"
 # Programs of tests/c and their further sources.
@@ -263,7 +263,10 @@ def main():
     else:
         print("SKIPPED: the programs of tests/c on this machine, since cc or nm isn't installed")
     for compiler, packages in (("gcc", "gcc-riscv64-unknown-elf isn't"), ("clang", "clang and lld aren't")):
-        if "no compiler is installed" in image_of(["--compiler", compiler, PROGRAMS / "search.c"])[1]:
+        missing = image_of(["--compiler", compiler, PROGRAMS / "search.c"])[1]
+        if " is not installed" in missing:
+            print(f"SKIPPED: C sources to images by {compiler}: {missing.strip()}")
+        elif "no compiler is installed" in missing:
             print(f"SKIPPED: C sources to images by {compiler}, since {packages} installed")
         else:
             checks += [*compiled_anew(command, with_cc, compiler), *refusals(compiler), *warnings(compiler)]

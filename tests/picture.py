@@ -43,9 +43,9 @@ def stub(folder, name, output, error="", status=0):
     return path
 
 
-def picture(folder, report, *words, **more):
+def picture(folder, report, *words, text=IMAGE + TRACE, **more):
     why = stub(folder, "why", report, **more)
-    return subprocess.run([ROOT / "tools" / "picture", "--why", why, *words], input=IMAGE + TRACE, capture_output=True, text=True, check=False)
+    return subprocess.run([ROOT / "tools" / "picture", "--why", why, *words], input=text, capture_output=True, text=True, check=False)
 
 
 def svg(folder, report, *words):
@@ -79,6 +79,38 @@ def rows(folder):
     yield "a refused trace", (refused.stdout, refused.stderr, refused.returncode) == ("", "trace 3 Line\n", 2)
 
 
+def long_run(pairs):
+    """So many pairs of epochs, each as the two above: the text of the trace, and the lines of its violations."""
+    head, *entries = TRACE.splitlines()
+    trace, hurts = [head], []
+    for pair in range(pairs):
+        first, second, place = 2 * pair, 2 * pair + 1, 9 * pair
+        trace += [entry.replace("start 0", f"start {first}").replace("start 1", f"start {second}").replace("hurt 1", f"hurt {second}") for entry in entries]
+        hurts.append(HURT.replace("hurt 4", f"hurt {place + 4}").replace("epoch 1", f"epoch {second}").replace("by 0", f"by {first}")
+                     .replace("cause 5", f"cause {place + 5}").replace("load 3", f"load {place + 3}").replace("store 2", f"store {place + 2}"))
+    return IMAGE.replace("epochs 2", f"epochs {2 * pairs}") + "\n".join(trace) + "\n", "".join(hurts) + KIND + TOTAL
+
+
+def gathered(folder):
+    """A run of 20,000 epochs: its picture and its events are small, and leave out no rollback."""
+    text, report = long_run(10_000)
+    drawn = picture(folder, report, text=text).stdout
+    root = xml.fromstring(drawn)
+    tips = [tip.text for tip in root.iter(f"{SVG}title")]
+    counted = [int(tip.split()[1].replace(",", "")) for tip in tips if tip.startswith("true: ") and "rollback" in tip]
+    yield "a long run is at most 2 MB", 20_000 < len(drawn) < 2_000_000
+    yield "its rollbacks are all there", sum(counted) == 10_000
+    yield "a pixel has its share of turns", "the same run: cores over turns; a pixel is 67 turns, from below what was lost, cancelled and useful" in [
+        told.text for told in root.iter(f"{SVG}text")]
+    told = picture(folder, report, "--perfetto", text=text).stdout
+    events = json.loads(told)["traceEvents"]
+    yield "its events are at most 2 MB", len(told) < 2_000_000
+    yield "its events count all rollbacks", sum(one["args"]["true"] for one in events if one["name"] == "rollbacks") == 10_000
+    yield "its events count what was lost", sum(one["args"]["lost"] for one in events if one["name"] == "lost instructions") == 30_000
+    part = json.loads(picture(folder, report, "--perfetto", "--turns", "800-879", text=text).stdout)["traceEvents"]
+    yield "the events of eighty turns", sum(one["name"].startswith("rollback") for one in part) == 10 and all(800 <= one.get("ts", 800) <= 879 or one["ph"] in "MX" for one in part)
+
+
 def names(folder):
     """The same of tools/named."""
     def named(report, *words, **more):
@@ -98,6 +130,7 @@ def traces(folder):
     tools = Path(folder, "tools")
     tools.mkdir()
     shutil.copy(ROOT / "tools" / "trace", tools)
+    shutil.copytree(ROOT / "tools" / "loops", tools / "loops")
     image = Path(folder, "waits.image")
     image.write_text(IMAGE)
     stub(folder, "trace_cli", "end done 2\ncounts 2 1 1 2\n" + TRACE)
@@ -110,7 +143,7 @@ def traces(folder):
 
 def main():
     with tempfile.TemporaryDirectory() as folder:
-        results = [*rows(folder), *names(folder), *traces(folder)]
+        results = [*rows(folder), *gathered(folder), *names(folder), *traces(folder)]
     for name, holds in results:
         if not holds:
             print(f"FAILED {name}")

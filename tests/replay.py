@@ -195,6 +195,9 @@ end done 2
 at 00000040 ffff0000000000000000000000000000
 """
 NO_EPOCHS = "schedules 8\nover 8\nhistories 1\nleast 0\nturns 0 0 0\nmost 0\nturns 0 0 0\nend done 0\n"
+MOST_SCHEDULES = (
+    "schedules 65536\nover 65536\nhistories 1\nleast 0\nturns 0 0 0 0 0 0 0 0\nmost 0\nturns 0 0 0 0 0 0 0 0\nend done 0\n"
+)
 SIX_AND_SIX = "turns 0 0 0 0 0 0\nturns 1 1 1 1 1 1\n# then\n\nturns 0 1 1"
 
 # (words, image, the lines below it, status, standard output, standard error)
@@ -228,12 +231,19 @@ ROWS = [
     (["all", "caches", "2", "3"], NOTHING, "", 0, NO_EPOCHS, ""),
     (["all", "plain", "9", "2"], BYTES, "", 2, "", "usage\n"),
     (["all", "plain", "2", "17"], BYTES, "", 2, "", "usage\n"),
+    # 65,536 schedules, and more
+    (["all", "plain", "4", "8"], NOTHING, "", 0, MOST_SCHEDULES, ""),
+    (["all", "plain", "4", "9"], NOTHING, "", 2, "", "usage\n"),
+    (["all", "caches", "3", "11"], NOTHING, "", 2, "", "usage\n"),
     (["all", "plain", "2", "2"], BYTES, "turns 0\n", 2, "", "image 5 Line\n"),
 ]
 
 # A turn asks for 16 free entries of 1,048,576, and core 0 makes one in each turn: 17 of an epoch with 15 loads.
 JUST_ROOM = 1_048_576 - 16 + 1
 OPEN = ["open 61680", "counts 925200 0 0 61680", "trace 2"]
+
+# The bytes that an image and lines of turns may have together.
+LONGEST = 33_554_432
 
 # A program that tries again where it is interrupted would go on for ever.
 SECONDS = 30
@@ -280,6 +290,15 @@ def full_history(program):
         lines = output.splitlines()
         if (lines[:3], len(lines[3:]), errors, status) != expected:
             yield f"{count} turns\n  expected {expected}\n  got      {(lines[:3], len(lines[3:]), errors, status)}"
+
+
+def longest(program):
+    """What is wrong with the longest input, and with one that is a byte longer."""
+    text = SIGNAL + "turns 0 1 0 1 0\n"
+    for count, expected in (LONGEST, (COMMITTED, "", 0)), (LONGEST + 1, ("", "turns 0 TooLong\n", 2)):
+        outcome = run([str(program)], PLAIN, text + "#" * (count - len(text)))
+        if outcome != expected:
+            yield f"{count} bytes\n  expected {expected}\n  got      {outcome}"
 
 
 def read_fails(program, given):
@@ -347,10 +366,10 @@ def main():
             print("SKIPPED: interrupted reads of replay, since cc isn't installed")
         results += streams(program, shim)
     wrong = [f"{name}\n  expected {expected}\n  got      {got}" for name, got, expected in results if got != expected]
-    wrong += full_history(program)
+    wrong += [*full_history(program), *longest(program)]
     for text in wrong:
         print(f"FAILED {text}")
-    print(f"{len(results) + 2 - len(wrong)} rows passed, {len(wrong)} failed")
+    print(f"{len(results) + 4 - len(wrong)} rows passed, {len(wrong)} failed")
     return 1 if wrong else 0
 
 

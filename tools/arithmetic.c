@@ -1,5 +1,5 @@
 // Multiplication, division and 64-bit shifts for RV32I, which has none: the functions that compilers call for them, by the
-// names of libgcc. A further source for tools/image-of-c: it goes with --stack, since a function that calls needs one.
+// names of libgcc. A further source for tools/image-of: it goes with --stack, since a function that calls needs one.
 typedef unsigned long long wide;
 
 unsigned __mulsi3(unsigned a, unsigned b);

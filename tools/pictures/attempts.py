@@ -2,10 +2,10 @@
 
 from dataclasses import dataclass, field
 
-from .inputs import Entry, Violation
+from loops import Entry, Traced, Violation
 
 
-@dataclass
+@dataclass(slots=True)
 class Attempt:
     """One run of an epoch on a core, from its start or restart until it commits, is violated, is cancelled or faults."""
     core: int
@@ -23,14 +23,14 @@ class Attempt:
 class Run:
     """The attempts of a trace. A turn is what one core did while it had the lock: violations and cancellations first, then its act."""
 
-    def __init__(self, image, cores, entries, violations):
-        self.image, self.cores, self.entries, self.violations = image, cores, entries, violations
+    def __init__(self, traced: Traced, violations: list[Violation]):
+        self.image, self.cores, self.entries, self.violations = traced.image, traced.trace.cores, traced.trace.entries, violations
         self.attempts, self.turns, self.turn_of = [], 0, []
         self.end = None
         self._told = {violation.place: violation for violation in violations}
-        self._now = [None] * cores
+        self._now = [None] * self.cores
         self._tries = {}
-        for entry in entries:
+        for entry in self.entries:
             self.turn_of.append(self.turns)
             getattr(self, "_" + entry.what)(entry)
             if entry.what not in ("hurt", "cancel", "publish"):
@@ -45,7 +45,7 @@ class Run:
         return next((attempt for attempt in self._now if attempt and attempt.epoch == epoch), None)
 
     def _start(self, entry: Entry):
-        self._begin(entry.core, int(entry.words[0]))
+        self._begin(entry.core, entry.epoch)
 
     def _restart(self, entry):
         before = self._now[entry.core]
@@ -58,11 +58,11 @@ class Run:
     _store = _load
 
     def _hurt(self, entry):
-        victim = self._running(int(entry.words[0]))
+        victim = self._running(entry.epoch)
         victim.fate, victim.undone, victim.violation = "violated", self.turns, self._told[entry.place]
 
     def _cancel(self, entry):
-        victim = self._running(int(entry.words[0]))
+        victim = self._running(entry.epoch)
         victim.last = self.turns
         if victim.fate == "open":
             victim.fate, victim.undone = "cancelled", self.turns
@@ -80,6 +80,23 @@ class Run:
 
     def _leave(self, core, fate):
         self._now[core].fate, self._now[core].last = fate, self.turns
+
+    def span(self, attempt):
+        """The turns in which an attempt ran: of a violated one until it was violated."""
+        end = self.turns if attempt.last is None else attempt.last + (attempt.fate in ("committed", "fault"))
+        return attempt.first, attempt.undone + 0.5 if attempt.fate == "violated" else end
+
+    def shares(self, columns):
+        """For each core and each of so many columns of turns, how many turns of useful, lost and other attempts lie in it."""
+        wide, found = max(1, self.turns) / columns, {}
+        for attempt in self.attempts:
+            first, last = self.span(attempt)
+            kind = {"committed": 0, "fault": 0, "violated": 1}.get(attempt.fate, 2)
+            for column in range(int(first / wide), min(columns, int(last / wide) + 1)):
+                part = min(last, (column + 1) * wide) - max(first, column * wide)
+                if part > 0:
+                    found.setdefault((attempt.core, column), [0.0, 0.0, 0.0])[kind] += part
+        return found
 
     @property
     def committed(self):

@@ -22,8 +22,8 @@ def blame(page, run, x, y):
             part = sum(v.lost for v in violations if v.kind == kind)
             page.box(at, y + 4, BAR * part / top, 14, colour, tip=f"{kind}: {plural(part, 'instruction')} lost")
             at += BAR * part / top
-        names = sorted({run.image.name_of(v.first) if found is None else found[0]
-                        for v in violations if v.first is not None for found in [run.image.variable_of(v.first)]})
+        names = sorted({run.image.name_of(first) if found is None else found.name
+                        for first in {v.first for v in violations} - {None} for found in [run.image.variable_of(first)]})
         counted = ", ".join(f"{count} {kind}" for kind in COLOURS for count in [sum(v.kind == kind for v in violations)] if count)
         lost = sum(v.lost for v in violations)
         page.text(x + BAR + 10, y + 15, f"{lost:,} of {run.lost:,} lost, {plural(len(violations), 'rollback')} on {' and '.join(names)} ({counted})", 11, bold=True)

@@ -1,9 +1,13 @@
 """The run as trace events, which https://ui.perfetto.dev and chrome://tracing show: one microsecond is one turn that made an entry."""
 
 import json
+from collections import Counter
 
+from .page import COLOURS
 from .words import sentence
 
+# A run of more entries is gathered into so many parts of its turns.
+MOST_ENTRIES, PARTS = 2000, 1000
 COLOUR_NAMES = {"violated": "terrible", "committed": "good", "fault": "bad"}
 
 
@@ -14,8 +18,7 @@ def event(phase, core, at, name, **more):
 def attempts(run):
     """A slice for each attempt, one inside it for its straight part, and an instant for each access."""
     for attempt in run.attempts:
-        end = run.turns if attempt.last is None else attempt.last + (attempt.fate in ("committed", "fault"))
-        right = attempt.undone + 0.5 if attempt.fate == "violated" else end
+        _, right = run.span(attempt)
         name = f"epoch {attempt.epoch}" + (f" try {attempt.number}" if attempt.number > 1 else "") + (" lost" if attempt.fate == "violated" else "")
         told = {"epoch": attempt.epoch, "try": attempt.number, "fate": attempt.fate}
         yield event("X", attempt.core, attempt.first, name, dur=right - attempt.first, cat=attempt.fate, args=told,
@@ -42,10 +45,35 @@ def violations(run):
         yield event("C", 0, turn, "lost instructions", args={"lost": lost})
 
 
-def draw(run):
+def gathered(run):
+    """For each part of the turns how many of them each core spent on what, and how many rollbacks of each kind there were."""
+    wide = max(1, run.turns) / PARTS
+    for (core, part), (useful, lost, other) in run.shares(PARTS).items():
+        yield event("C", core, int(part * wide), f"core {core}", args={"useful": round(useful, 1), "lost": round(lost, 1), "other": round(other, 1)})
+    kinds = Counter((int(run.turn_of[violation.place] / wide), violation.kind) for violation in run.violations)
+    lost = Counter()
+    for violation in run.violations:
+        lost[int(run.turn_of[violation.place] / wide)] += violation.lost
+    for part in range(PARTS):
+        counts = {kind: kinds[part, kind] for kind in COLOURS}
+        yield event("C", 0, int(part * wide), "rollbacks", args=counts)
+        yield event("C", 0, int(part * wide), "lost instructions", args={"lost": lost[part]})
+
+
+def within(events, turns):
+    """The events of these turns."""
+    return [told for told in events if turns[0] <= told["ts"] <= turns[1] or told["ts"] < turns[0] < told["ts"] + told.get("dur", 0)]
+
+
+def draw(run, turns=None):
     names = [event("M", 0, 0, "process_name", args={"name": "speculative run"})]
     for core in range(run.cores):
         names += [event("M", core, 0, "thread_name", args={"name": f"core {core}"}),
                   event("M", core, 0, "thread_sort_index", args={"sort_index": core})]
-    events = sorted([*attempts(run), *violations(run)], key=lambda told: told["ts"])
+    whole = turns is not None or len(run.entries) <= MOST_ENTRIES
+    events = sorted([*attempts(run), *violations(run)] if whole else gathered(run), key=lambda told: told["ts"])
+    if turns is not None:
+        events = within(events, turns)
+    if not whole:
+        return json.dumps({"traceEvents": names + events, "displayTimeUnit": "ns"}, separators=(",", ":")) + "\n"
     return json.dumps({"traceEvents": names + events, "displayTimeUnit": "ns"}, indent=0) + "\n"

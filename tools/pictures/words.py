@@ -42,8 +42,8 @@ def advice(run, violations):
     lost = {kind: sum(violation.lost for violation in violations if violation.kind == kind) for kind in COLOURS}
     kind = max(lost, key=lost.get)
     of_kind = [violation for violation in violations if violation.kind == kind and violation.first is not None]
-    found = {run.image.variable_of(violation.first) for violation in of_kind} - {None}
-    names = " and ".join(sorted(name for name, _ in found)) or "these bytes"
+    found = {run.image.variable_of(first) for first in {violation.first for violation in of_kind}} - {None}
+    names = " and ".join(sorted(one.name for one in found)) or "these bytes"
     length = run.image.line_length
     return {
         "true": f"wait for {names}, or let each epoch keep its own and put them together at the end",

@@ -4,12 +4,12 @@ LOADS = {0: "lb", 1: "lh", 2: "lw", 4: "lbu", 5: "lhu"}
 STORES = {0: "sb", 1: "sh", 2: "sw"}
 
 
-def signed(bits):
+def signed(bits: int) -> int:
     """The number of twelve bits."""
     return (bits & 0xFFF ^ 0x800) - 0x800
 
 
-def spelled(word):
+def access_spelled(word: int) -> str | None:
     """`lw x4,-16(x3)`; None of an instruction that neither loads nor stores."""
     opcode, low, width, base, high = word & 127, word >> 7 & 31, word >> 12 & 7, word >> 15 & 31, word >> 20 & 31
     if opcode == 0b0000011 and width in LOADS:

@@ -1,0 +1,185 @@
+#!/usr/bin/env python3
+"""Tests tools/loops and tools/json: each form that the programs take and print is read, written as it was, and the same after the way through JSON.
+
+Usage: tests/forms.py [COMMAND ..]
+
+COMMAND is a command of `trace_cli` that ends with the word `seq`; `why` and `replay` are the programs that were built beside it. Without it those of this
+repository are tested. Texts worked by hand are tried first, which need no program; then all images of examples/, with what the programs print of them. Each
+document is held to tools/loops/schema.json where python3-jsonschema is installed. What isn't there is left out, and a line says so. Exits with 1 where a check failed.
+"""
+
+import json
+import re
+import subprocess
+import sys
+from pathlib import Path
+
+ROOT = Path(__file__).resolve().parent.parent
+sys.path.insert(0, str(ROOT / "tools"))
+
+from loops import Stopped, read_conflicts, read_image, with_trace  # noqa: E402
+from loops.documents import FORMS, SCHEMA, content_of, document, form_of  # noqa: E402
+from loops.programs import call  # noqa: E402
+from loops.runs import read_output  # noqa: E402
+
+try:
+    from jsonschema import Draft202012Validator, ValidationError
+except ImportError:
+    Draft202012Validator = None
+
+TOOLS = ["picture", "named", "trace", "json", "image-of"]
+HURT = ("hurt 4 true epoch 1 try 1 core 1 lost 3 entered 2 since 2 by 0 core 0 cause 5 commit load 3 00000004 store 2 00000014 at 00000040 4\n"
+        "also 4 silent load 3 00000004 store 2 00000014 at 00000080 4\nlater 4 store 7 00000014\nvain 4 hurt\nmoot 4\n")
+TOTAL = "total epochs 2 committed 2 useful 8 rollbacks 1 lost 3 cancelled 0 dropped 0 open 0 unsettled 0\n"
+GAIN = ("store plain cores 4 steps 108 gain 4.00 useful 432 lost 0 dropped 0 waiting 0 idle 0 restarts 0 true 0 silent 0 false 0 buffer 0 "
+        "nothomefree 0 noway 0 orbfull 0 orbbusy 0\n")
+# (form, a text of that form)
+TEXTS = [
+    ("image", "# One.\n#> end done 3\nversion 2\nexit\nsize 64\nepochs 3\nlimit 9\ncode 6780000013000000\nreg 2 0000ff00\nat 00000020 01ff\n"),
+    ("traced", "size 64\nepochs 3\nlimit 9\ncode 67800000\ntrace 2\n0 start 0\n0 load 00000020 4 00000001\n0 store 00000020 1 000000ff\n1 start 1\n"
+               "0 hurt 1\n0 publish\n0 commit\n1 restart\n1 cancel 2\n1 fault 7 00000004\n"),
+    ("output", "end fault 7 6 0000000c\nat 00000040 01000000000000000000000000000000\n"),
+    ("output", "end exit 2\n"),
+    ("output", "open 3\nat 00000040 01000000000000000000000000000000\ncounts 2 1 1 2\ntrace 2\n0 start 0\n0 commit\n"),
+    ("survey", "schedules 256\nover 0\nhistories 9\n"),
+    ("survey", "schedules 4\nover 4\nhistories 2\nleast 0\nturns 0 0\nmost 1\nturns 0 1\nend done 2\nat 00000040 01000000000000000000000000000000\n"),
+    ("verdict", "legal 9 2\n"),
+    ("verdict", "illegal 4 HurtMissing\n"),
+    ("conflicts", HURT + "cancel 9 epoch 3 try 1 core 0 lost 4 by 2 core 1\nopen epoch 3 try 2 core 0 done 5\n" + TOTAL),
+    ("conflicts", "hurt 4 other epoch 1 try 1 core 1 lost 3 entered 2 since - by 0 core 0 cause - - load - - store - - at - -\n" + TOTAL),
+    ("conflicts", "hurt 4 buffer epoch 1 try 1 core 1 lost 3 entered 2 since - by 0 core 0 cause 5 load held 3 00000004 asked 2 00000014 at 00000040 16\n"
+                  "epoch 1 rollbacks 1 lost 3\npair asked 00000014 held 00000004 rollbacks 1 lost 3 true 0 silent 0 false 0 buffer 1 stale 0 vain 0 later 0 "
+                  "distance 1 1 at 00000040 16\nline 00000040 rollbacks 1 lost 3 true 0 silent 0 false 0 buffer 1\npc 00000004 victim 1 3 causer 0 0\n"
+                  "kind buffer rollbacks 1 lost 3\n" + TOTAL),
+    ("gains", GAIN + "store caches cores 8 full\n"),
+]
+# (form, what isn't of it)
+REFUSED = [
+    ("image", "size 64\nspeed 3\n"), ("image", "size x\n"), ("traced", "size 64\n"), ("traced", "size 64\ntrace 2\n0 begin 0\n"), ("output", "end soon 3\n"),
+    ("conflicts", "hurt 4 true epoch 1\n"), ("conflicts", "vain 4 hurt\n"), ("conflicts", HURT.replace("vain 4", "vain 5")), ("gains", "store caches cores 2 fast\n"),
+]
+
+
+def wrong_with(form, text):
+    """What is wrong with a text's way through its class and through JSON, or None."""
+    if form_of(text) != form:
+        return f"is taken for {form_of(text)}"
+    told = json.loads(json.dumps(document(text)))
+    read = FORMS[form][1](text)
+    if content_of(told) != read:
+        return "is another after JSON"
+    if Draft202012Validator is not None:
+        found = next(Draft202012Validator(json.loads(SCHEMA.read_text(encoding="utf-8"))).iter_errors(told), None)
+        if found is not None:
+            return f"isn't as the schema says: {found.message[:200]}"
+    return None if content_of(told).text() == text else "isn't written as it was"
+
+
+def tool(name, text, *words):
+    done = subprocess.run([ROOT / "tools" / name, *words], input=text, capture_output=True, text=True, check=False)
+    return done.stdout, done.stderr, done.returncode
+
+
+def by_hand():
+    """(what it shows, what is wrong or None)"""
+    for form, text in TEXTS:
+        yield f"{form}: {text[:30]!r}", wrong_with(form, text)
+    for form, text in REFUSED:
+        got = tool("json", text, "--form", form)
+        right = got[0] == "" and got[1].startswith("json: ") and got[2] == 2
+        yield f"refused as {form}: {text[:40]!r}", None if right else f"got {got}"
+    got = tool("json", '{"form": "image", "version": 2, "content": {}}', "--back")
+    yield "another version", None if got[2] == 2 and "version 1 is known" in got[1] else f"got {got}"
+    image = read_image(TEXTS[0][1])
+    facts = (image.version, image.exit, image.size, image.registers, image.data[0].data, image.remarks)
+    yield "what an image says", None if facts == (2, True, 64, {2: 0xFF00}, b"\x01\xff", [" One.", "> end done 3"]) else f"got {facts}"
+    violation = read_conflicts(TEXTS[9][1]).violations[0]
+    facts = (violation.cause_what, violation.victims.pc, violation.also[0].kind, violation.later.entry, violation.vain, violation.moot)
+    yield "what a violation says", None if facts == ("commit", 4, "silent", 7, True, True) else f"got {facts}"
+    for name in TOOLS:
+        out, errors, status = tool(name, "", "--help")
+        yield f"tools/{name} --help", None if (errors, status) == ("", 0) and out.startswith("usage: ") and len(out.split()) > 20 else f"got {out!r}, {errors!r}"
+
+
+def packages():
+    """`pip install .` installs each package of tools/."""
+    told = json.loads(re.search(r"(?m)^packages = (.*)$", (ROOT / "pyproject.toml").read_text())[1])
+    there = sorted(path.parent.name for path in (ROOT / "tools").glob("*/__init__.py"))
+    yield "the packages that are installed", None if sorted(told) == there else f"{told}, there are {there}"
+
+
+def schema():
+    """The schema refuses what isn't a document."""
+    if Draft202012Validator is None:
+        print("SKIPPED: the schema, since python3-jsonschema isn't installed")
+        return
+    checker = Draft202012Validator(json.loads(SCHEMA.read_text(encoding="utf-8")))
+    Draft202012Validator.check_schema(checker.schema)
+    good = document(TEXTS[9][1])
+    for name, bad in (("another form", {**good, "form": "image"}), ("no version", {"form": "verdict", "content": good["content"]}),
+                      ("another kind", json.loads(json.dumps(good).replace('"true", "epoch"', '"odd", "epoch"')))):
+        try:
+            checker.validate(bad)
+            wrong = "is taken"
+        except ValidationError:
+            wrong = None
+        yield f"the schema: {name}", wrong
+
+
+def printed(program, words, text):
+    """What a program prints, or None where it refuses."""
+    try:
+        return call(program, words, text, (0, 1, 4))
+    except Stopped:
+        return None
+
+
+def examples(command):
+    """All examples, and what the programs print of them."""
+    programs = beside(command)
+    for name in ("why", "replay"):
+        if name not in programs:
+            print(f"SKIPPED: what {name} prints, since it wasn't built beside the program that is tested")
+    for path in sorted((ROOT / "examples").glob("*.image")):
+        text = path.read_text()
+        image = read_image(text)
+        told = json.loads(json.dumps(document(text)))
+        yield f"{path.name}: the image", None if content_of(told) == image == read_image(image.text()) else "is another after JSON"
+        seq = printed(command[0], command[1:], text)
+        yield f"{path.name}: the report of its text", None if printed(command[0], command[1:], image.text()) == seq else "is another"
+        run = printed(command[0], [*command[1:-1], "run", "--cores", "4", "--trace"], text)
+        if seq is None or run is None:
+            yield f"{path.name}: what it prints", "is refused"
+            continue
+        yield f"{path.name}: its report", wrong_with("output", seq)
+        yield f"{path.name}: a run", wrong_with("output", run)
+        traced = with_trace(image.text(), read_output(run).trace)
+        yield f"{path.name}: its trace", wrong_with("traced", traced)
+        yield f"{path.name}: its verdict", wrong_with("verdict", printed(command[0], [*command[1:-1], "audit"], traced))
+        if "why" in programs:
+            yield f"{path.name}: its conflicts", wrong_with("conflicts", printed(programs["why"], [], traced))
+        if "replay" in programs:
+            yield f"{path.name}: every schedule", wrong_with("survey", printed(programs["replay"], ["all", "plain", "2", "6"], text))
+
+
+def beside(command):
+    """The programs that were built beside a command of `trace_cli`."""
+    given = Path(command[0]).resolve()
+    folder = ROOT if given == ROOT / "trace_cli" else given.parents[2] if len(given.parents) > 2 else given.parent
+    found = {name: ROOT / name if folder == ROOT else folder / name / "out" / name for name in ("why", "replay")}
+    return {name: path for name, path in found.items() if path.is_file()}
+
+
+def main():
+    command = sys.argv[1:] or [str(ROOT / "trace_cli"), "seq"]
+    results = [*by_hand(), *packages(), *schema(), *examples(command)]
+    for name, wrong in results:
+        if wrong:
+            print(f"FAILED {name}: {wrong}")
+    failed = sum(wrong is not None for _, wrong in results)
+    print(f"{len(results) - failed} checks passed, {failed} failed")
+    return 1 if failed else 0
+
+
+if __name__ == "__main__":
+    sys.exit(main())

@@ -1,0 +1,342 @@
+#!/usr/bin/env python3
+"""Programs from C, C++, assembly, LLVM IR, objects, archives and linked files to their reports by tools/image-of, and inputs that it refuses.
+
+Usage: tests/image_of.py [COMMAND ..]
+
+COMMAND reads an image on standard input and ends with the word `seq`; without it `./trace_cli seq` of this repository is tested. Each program is run in order and on
+four cores; which bytes its variables have in the end was worked out by hand. With -g the code has to be the same, and its remarks have to name lines that are there.
+What isn't installed is left out, and a line says so. c_programs.py has the C programs, and what is told of C sources. Exits with 1 where a check failed.
+"""
+
+import re
+import shutil
+import struct
+import subprocess
+import sys
+import tempfile
+from pathlib import Path
+
+ROOT = Path(__file__).resolve().parent.parent
+TOOLS = ROOT / "tools"
+GCC = ["riscv64-unknown-elf-gcc", "-march=rv32i", "-mabi=ilp32", "-O2", "-ffreestanding", "-msmall-data-limit=0"]
+CLANG = ["clang", "--target=riscv32-unknown-elf", "-march=rv32i", "-mabi=ilp32", "-O2", "-ffreestanding", "-msmall-data-limit=0"]
+LD = ["riscv64-unknown-elf-ld", "--no-warn-rwx-segments", "-m", "elf32lriscv", "-e", "body"]
+LLD = ["ld.lld", "-m", "elf32lriscv", "-e", "body"]
+# Epoch e adds STEP * (e + 1): 2 and 4 and 6 and 8 are 20.
+C = "#include \"step.h\"\nunsigned sum, last[4];\nvoid body(unsigned epoch)\n{\n    for (unsigned i = 0; i <= epoch; i++)\n        sum += STEP;\n    last[epoch] = sum;\n}\n"
+CPP = ("// image: --epochs 4\ntemplate <class T> struct Sum { T total; void add(T one) { total += one; } };\n"
+       "Sum<unsigned> sum;\nextern \"C\" void body(unsigned epoch)\n{\n    sum.add(epoch + 5);\n}\n")
+ASSEMBLY = ("# Three more each time.\n# image: --epochs 4 --limit 20\n .globl body\n .type body, @function\nbody:\n la t0, count\n lw t1, 0(t0)\n addi t1, t1, 3\n"
+            " sw t1, 0(t0)\n ret\n .size body, .-body\n .bss\n .align 4\n .type count, @object\n .size count, 4\ncount:\n .zero 4\n")
+SQUARES = "unsigned table[4] __attribute__((aligned(16)));\nvoid body(unsigned epoch) { table[epoch] = epoch << 3; }\n"
+# The entry stands behind another function.
+SECOND = "unsigned out[4];\n__attribute__((noinline, used)) unsigned far(unsigned e) { return e + 7; }\nvoid loop(unsigned e) { out[e] = e ^ 3; }\n"
+LIBRARY = "unsigned add(unsigned a, unsigned b);\nunsigned out[4];\nvoid body(unsigned e) { out[e] = add(e, 40); }\n"
+SEARCH = "unsigned char keys[8] = {1}; unsigned wanted;\nunsigned body(unsigned e) { wanted += 1; return keys[e] == 9; }\n"
+MEMORY = ("void *memcpy(void *, const void *, unsigned long), *memset(void *, int, unsigned long), *memmove(void *, const void *, unsigned long);\n"
+          "int memcmp(const void *, const void *, unsigned long);\nunsigned long strlen(const char *);\nvoid *malloc(unsigned long), *allocate(unsigned, unsigned long);\n"
+          "char text[16] = \"abcdefgh\", moved[2][16];\nint told[4], null[2];\n"
+          "void body(unsigned e)\n{\n    char *part = malloc(12);\n    memcpy(part, text, 9);\n    memmove(part + 1 - e, part + e, 5);\n    told[e] = (int)strlen(part);\n"
+          "    told[2 + e] = memcmp(part, text, 8);\n    memset(moved[e], 'x', 9);\n    memcpy(moved[e], part, 6);\n    null[e] = allocate(e, 16) == 0 || allocate(e, 33) != 0;\n}\n")
+
+LINES = "volatile unsigned a, b;\nvoid body(unsigned epoch)\n{\n    a = epoch;\n\n    b = 3;\n}\n"
+
+
+def words(*numbers):
+    return struct.pack(f"<{len(numbers)}I", *(number & 0xFFFFFFFF for number in numbers))
+
+
+def do(*command, cwd):
+    done = subprocess.run([str(word) for word in command], cwd=cwd, capture_output=True, text=True, check=False)
+    if done.returncode:
+        raise RuntimeError(f"{' '.join(map(str, command))}: {done.stderr}")
+
+
+def image_of(folder, *given):
+    done = subprocess.run([sys.executable, TOOLS / "image-of", *map(str, given)], cwd=folder, capture_output=True, text=True, check=False)
+    return done.stdout, done.stderr, done.returncode
+
+
+def furnish(folder):
+    """Writes the sources, and makes objects, archives and linked files of them."""
+    for name, text in (("loop.c", C), ("step.h", ""), ("sum.cpp", CPP), ("count.s", ASSEMBLY), ("squares.c", SQUARES), ("second.c", SECOND), ("library.c", LIBRARY),
+                       ("search.c", SEARCH), ("blocks.c", MEMORY), ("lines.c", LINES), ("add.c", "unsigned add(unsigned a, unsigned b) { return a + b; }\n"),
+                       ("count.S", ASSEMBLY.replace("addi t1, t1, 3", "addi t1, t1, STEP"))):
+        Path(folder, name).write_text(text)
+    Path(folder, "keys.bin").write_bytes(bytes([0, 0, 0, 0, 0, 9]))
+
+
+def made(folder, compiler):
+    """Objects, an archive and a linked file by one compiler."""
+    compile_, link, archive = {"gcc": (GCC, LD, "riscv64-unknown-elf-ar"), "clang": (CLANG, LLD, "llvm-ar")}[compiler]
+    for name in ("second", "library", "add"):
+        do(*compile_, "-g", "-c", f"{name}.c", "-o", f"{name}-{compiler}.o", cwd=folder)
+    do(*compile_, "-DSTEP=2", "-c", "loop.c", "-o", f"loop-{compiler}.o", cwd=folder)
+    do(archive, "rc", f"lib-{compiler}.a", f"library-{compiler}.o", f"add-{compiler}.o", cwd=folder)
+    do(*link, "-Ttext=0", f"loop-{compiler}.o", "-o", f"first-{compiler}.elf", cwd=folder)
+    do(*link, "-Ttext=0x100", "-Tdata=0x400", f"library-{compiler}.o", f"add-{compiler}.o", "-o", f"far-{compiler}.elf", cwd=folder)
+
+
+def programs(compiler):
+    """(words of the command line, how the loop ends, the bytes of its variables)"""
+    by = ["--compiler", compiler]
+    some = ["--epochs", "4"]
+    sums = {"sum": words(20), "last": words(2, 6, 12, 20)}
+    lib = {"out": words(40, 41, 42, 43)}
+    yield [*by, *some, "-D", "STEP=2", "-I", ".", "-O", "1", "loop.c"], "end done 4", sums
+    yield [*by, *some, "--cflags=-DSTEP=2 -Os", "loop.c"], "end done 4", sums
+    yield [*by, "sum.cpp"], "end done 4", {"sum": words(26)}
+    yield [*by, "count.s"], "end done 4", {"count": words(12)}
+    yield [*by, "-D", "STEP=5", "count.S"], "end done 4", {"count": words(20)}
+    if compiler == "clang":
+        yield ["squares.ll"], "end done 4", {"table": words(0, 8, 16, 24)}
+        yield [*some, "squares.bc"], "end done 4", {"table": words(0, 8, 16, 24)}
+    yield [*by, *some, "--entry", "loop", f"second-{compiler}.o"], "end done 4", {"out": words(3, 2, 1, 0)}
+    yield [*by, *some, "--stack", "64", f"library-{compiler}.o", "add.c"], "end done 4", lib
+    yield [*by, *some, "--stack", "64", f"lib-{compiler}.a"], "end done 4", lib
+    yield [*some, "--version", "2", f"first-{compiler}.elf"], "end done 4", sums
+    yield [*some, "--version", "2", "--stack", "64", f"far-{compiler}.elf"], "end done 4", lib
+    yield [*by, *some, "--reg", "2=0x8000", "--size", "65536", f"library-{compiler}.o", f"add-{compiler}.o"], "end done 4", lib
+    yield [*by, "--epochs", "8", "--exit", "--data", "keys=keys.bin", "search.c"], "end exit 5", {"wanted": words(6)}
+    yield ([*by, "--epochs", "2", "--stack", "128", "-DARENA=64", "-DARENAS=2", "blocks.c", TOOLS / "memory.c", TOOLS / "allocator.c"], "end done 2",
+           {"moved": b"aabcdexxx" + bytes(7) + b"bcdeffxxx" + bytes(7), "told": words(8, 8, -1, 1), "null": words(0, 0)})
+
+
+# --- Whether they are right --------------------------------------------------
+
+def cells(text):
+    """Bytes of the `at` lines of an image or a report, by address."""
+    found = {}
+    for address, digits in re.findall(r"(?m)^at ([0-9a-f]{8}) ([0-9a-f]+)$", text):
+        found.update({int(address, 16) + i: byte for i, byte in enumerate(bytes.fromhex(digits))})
+    return found
+
+
+def run(command, image):
+    done = subprocess.run(command, input=image, capture_output=True, text=True, check=False)
+    return done.stdout, done.stderr, done.returncode
+
+
+def wrong_with(command, image, end, variables):
+    """What is wrong with the end of a program in order and on four cores, or None."""
+    known = {name: int(address, 16) for name, address in re.findall(r"(?m)^# (\w+) ([0-9a-f]{8}) \d+$", image)}
+    answers = [run(command, image), run([*command[:-1], "run", "--cores", "4"], image)]
+    if answers[0] != answers[1] or answers[0][1:] != ("", 0):
+        return f"in order and on cores: {answers}"
+    told, *_ = answers[0][0].splitlines()
+    memory = {**cells(image), **cells(answers[0][0])}
+    got = {name: bytes(memory.get(known[name] + i, 0) for i in range(len(data))) for name, data in variables.items() if name in known}
+    return None if (told, got) == (end, variables) else f"got {told}, {got}, expected {end}, {variables}"
+
+
+def same_code(folder, given, image):
+    """With -g the image is the same but for remarks, and each line that they name is one of a file that is there."""
+    text, errors, status = image_of(folder, "-g", *given)
+    if status:
+        return f"-g: {errors}"
+    if [line for line in text.splitlines() if line[0] != "#"] != [line for line in image.splitlines() if line[0] != "#"]:
+        return "-g changes the image"
+    told = re.findall(r"(?m)^# code ([0-9a-f]{8}) (\S+):(\d+)$", text)
+    lengths = {name: len((folder / name if (folder / name).is_file() else TOOLS / name).read_text().splitlines()) for name in {name for _, name, _ in told}}
+    if not told or any(not 1 <= int(line) <= lengths[name] for _, name, line in told):
+        return f"-g names lines that aren't there: {told}"
+    return None
+
+
+def right(command, folder, compiler):
+    for given, end, variables in programs(compiler):
+        text, errors, status = image_of(folder, *given)
+        wrong = errors or "no image" if status else wrong_with(command, text, end, variables)
+        has_lines = given[-1] not in ("squares.ll", "squares.bc") and not str(given[-1]).startswith(("first", "lib-"))
+        yield f"{compiler}: {' '.join(map(str, given))}", wrong or (same_code(folder, given, text) if has_lines else None)
+
+
+def lines_told(folder):
+    """The lines of the source of the two stores, by each compiler."""
+    for compiler in ("gcc", "clang"):
+        if shutil.which(compiler if compiler == "clang" else GCC[0]):
+            text = image_of(folder, "--compiler", compiler, "-g", "--epochs", "4", "lines.c")[0]
+            stores = [pc for pc in range(0, 400, 4) for word in [int.from_bytes(bytes.fromhex(re.search(r"(?m)^code (\w+)", text)[1])[pc:pc + 4], "little")]
+                      if word & 127 == 0x23]
+            told = dict(re.findall(r"(?m)^# code ([0-9a-f]{8}) (\S+)$", text))
+            got = {told.get(f"{pc:08x}") for pc in stores}
+            yield f"the lines of the stores by {compiler}", None if got == {"lines.c:4", "lines.c:6"} else f"got {got}"
+
+
+def beside(command, name):
+    """A program that was built beside the one that is tested, or None."""
+    given = Path(command[0])
+    path = ROOT / name if given == ROOT / "trace_cli" else given.parents[2] / name / "out" / name if len(given.parents) > 2 else given.with_name(name)
+    return path if path.is_file() else None
+
+
+def whole_way(command, folder):
+    """From C to what tools/named and tools/picture tell of a schedule: the load and the store to blame, at their lines of the source."""
+    why, replay = beside(command, "why"), beside(command, "replay")
+    if why is None or replay is None:
+        print("SKIPPED: from C to a picture, since why and replay weren't built beside the program that is tested")
+        return
+    source = ROOT / "examples" / "c" / "own_counters.c"
+    lines = source.read_text().splitlines()
+    load, store = (1 + next(place for place, line in enumerate(lines) if words in line) for words in ("old = counter[", "] = old + 1"))
+    for compiler in ("gcc", "clang"):
+        if not shutil.which(compiler if compiler == "clang" else GCC[0]):
+            continue
+        image = image_of(folder, "--compiler", compiler, "-g", source)[0]
+        done = subprocess.run([replay, "caches", "2"], input=image + "turns" + " 0 1" * 200 + "\n", capture_output=True, text=True, check=False)
+        traced = image + done.stdout[re.search(r"(?m)^trace ", done.stdout).start():]
+        told = [subprocess.run([TOOLS / name, "--why", why], input=traced, capture_output=True, text=True, check=False).stdout for name in ("named", "picture")]
+        found = set(re.findall(r"(?m)^pc .* (\S+:\d+) [ls]w ", told[0]))
+        yield f"the lines in the report, by {compiler}", None if found == {f"own_counters.c:{load}", f"own_counters.c:{store}"} else f"got {found}"
+        spelled = re.search(r"the store [0-9a-f]{8} at (\S+) hits the load [0-9a-f]{8} at (\S+)<", told[1])
+        right_lines = spelled and spelled.groups() == (f"own_counters.c:{store}", f"own_counters.c:{load}")
+        yield f"the lines in the picture, by {compiler}", None if right_lines else f"got {spelled and spelled.groups()}"
+
+
+# --- What is refused ---------------------------------------------------------
+
+def bad_inputs(folder):
+    """(words of the command line, what is told); makes each input."""
+    def text(name, content):
+        Path(folder, name).write_bytes(content if isinstance(content, bytes) else content.encode())
+
+    def object_of(name, source, *flags, compiler=GCC[0]):
+        text(f"{name}.c", source)
+        do(compiler, "-O2", "-ffreestanding", *flags, "-c", f"{name}.c", "-o", f"{name}.o", cwd=folder)
+
+    body = "unsigned a[4];\nvoid body(unsigned e) { a[e] = e; }\n"
+    asm = "unsigned a[4];\nvoid body(unsigned e) {{ __asm__ volatile (\"{}\"); a[e] = e; }}\n"
+    rv32 = ["-march=rv32i", "-mabi=ilp32"]
+    if shutil.which("cc"):
+        object_of("host", body, compiler="cc")
+        yield ["host.o"], r"host\.o: is for the machine .*, not for RISC-V; compile it with -march=rv32i"
+        do("riscv64-unknown-elf-ar", "rc", "host.a", "host.o", cwd=folder)
+        yield ["host.a"], r"host\.a\(host\.o\): is for the machine .*, not for RISC-V"
+    object_of("imac", "unsigned a[4];\nvoid body(unsigned e)\n{\n    a[e] = e * a[0];\n}\n", "-march=rv32imac", "-mabi=ilp32", "-g")
+    yield ["imac.o"], r"body\+\d+, address [0-9a-f]{8}, imac\.c:4: the instruction [0-9a-f]{8} needs the extension M: .*arithmetic\.c"
+    yield ["imac.o"], r"body\+\d+, address [0-9a-f]{8}, imac\.c:\d: the compressed instruction [0-9a-f]{4} needs the extension C: .*-march=rv32i"
+    object_of("wide", body, "-march=rv64i", "-mabi=lp64")
+    yield ["wide.o"], r"wide\.o: is for RISC-V of 64 bits; compile it with -march=rv32i -mabi=ilp32"
+    object_of("hard", body, "-march=rv32imafd", "-mabi=ilp32d")
+    yield ["hard.o"], r"hard\.o: passes numbers in floating-point registers \(ABI ilp32d\)"
+    object_of("atomic", asm.format("amoadd.w t0, t1, (a0)"), "-march=rv32ia", "-mabi=ilp32")
+    yield ["atomic.o"], r"body\+0, address 00000000: .* needs the extension A"
+    object_of("csr", asm.format("csrr t0, mcycle"), "-march=rv32i_zicsr", "-mabi=ilp32")
+    yield ["csr.o"], r"body\+0, .* needs the extension Zicsr: the machine has no control registers"
+    object_of("call", asm.format("ecall"), *rv32)
+    yield ["call.o"], r"body\+0, .*: the instruction 00000073 is a system instruction: there is no system to call"
+    text("multiplies.s", " .globl body\nbody:\n mul a0, a0, a0\n ret\n")
+    for compiler in ("gcc", "clang"):
+        if compiler == "gcc" or shutil.which("clang"):
+            yield ["--compiler", compiler, "multiplies.s"], r"multiplies\.s:3: the instruction needs the extension M"
+    object_of("good", body, *rv32)
+    whole = Path(folder, "good.o").read_bytes()
+    for length in (20, 60, len(whole) // 2, len(whole) - 1):
+        text("cut.o", whole[:length])
+        yield ["cut.o"], r"cut\.o: is a (damaged or )?truncated ELF file"
+    text("noise.bin", bytes(range(256)))
+    yield ["noise.bin"], r"noise\.bin: is neither an ELF file nor an archive, and its name doesn't end like that of a source"
+    object_of("loop2", "unsigned a[4];\nvoid loop(unsigned e) { a[e] = e; }\n", *rv32)
+    yield ["loop2.o"], r"undefined: body: a source has to define void body"
+    yield ["loop2.o"], r"the global functions are: loop"
+    text("mangled.cpp", "unsigned a[4];\nvoid body(unsigned e) { a[e] = e; }\n")
+    yield ["mangled.cpp"], r"there is the C\+\+ function _Z4bodyj; write extern \"C\" before its definition"
+    object_of("calls", "unsigned a[4], far_away(unsigned);\nvoid body(unsigned e) { a[e] = far_away(e); }\n", *rv32)
+    yield ["--stack", "64", "calls.o"], r"undefined: far_away: there is no C library; define it in one of the sources"
+    text("twin.o", whole)
+    yield ["twin.o", "good.o"], r"multiple definition of `?body"
+    object_of("copies", "void *memcpy(void *, const void *, unsigned long);\nchar a[4][64];\nvoid body(unsigned e) { memcpy(a[e], a[0], e); }\n", *rv32)
+    yield ["--stack", "64", "copies.o"], r"undefined: memcpy: .*tools/memory\.c"
+    text("throws.cpp", "unsigned a[4];\nextern \"C\" void body(unsigned e) { if (e > 9) throw e; a[e] = e; }\n")
+    yield ["--stack", "64", "--cflags=-fexceptions", "throws.cpp"], r"undefined: .*__cxa_throw.*: there is no C\+\+ library; do without exceptions"
+    text("before.cpp", "unsigned first(unsigned e);\nunsigned a = first(2);\n__attribute__((noinline)) unsigned first(unsigned e) { return *(volatile unsigned *)&a + e; }\n"
+                       "extern \"C\" void body(unsigned e) { a += e; }\n")
+    yield ["--stack", "64", "before.cpp"], r"no place for the sections \.init_array: the machine calls body alone"
+    text("own.c", "_Thread_local unsigned a;\nvoid body(unsigned e) { a = e; }\n")
+    yield ["--reg", "4=1024", "own.c"], r"no place for the sections \.tbss: there are no threads of their own"
+    if shutil.which("ld.lld"):
+        object_of("moved", "unsigned a[4], *p = a;\nvoid body(unsigned e) { p[e] = e; }\n", *rv32, "-fPIC")
+        do("ld.lld", "-m", "elf32lriscv", "-pie", "-e", "body", "moved.o", "-o", "moved.elf", cwd=folder)
+        yield ["moved.elf"], r"moved\.elf: has relocations that are left to a loader .*-static -no-pie"
+        text("text.s", " .globl body\nbody:\n ret\n .word a\n .data\n .globl a\na:\n .word 1\n")
+        do(*GCC, "-c", "text.s", "-o", "text.o", cwd=folder)
+        do("ld.lld", "-m", "elf32lriscv", "-shared", "-z", "notext", "text.o", "-o", "text.so", cwd=folder)
+        yield ["text.so"], r"text\.so: has relocations that are left to a loader"
+    do(*LD, "-Ttext=0x80000000", "good.o", "-o", "high.elf", cwd=folder)
+    yield ["--version", "2", "high.elf"], r"high\.elf: its sections end at address 8\w{7}, and memory ends at 00100000; link it there"
+    do(*LD, "-Ttext=0x2000", "-Tbss=0x100", "good.o", "-o", "turned.elf", cwd=folder)
+    yield ["turned.elf"], r"turned\.elf: the section \.bss can be written and lies at 00000100, before the code ends"
+    do(*LD, "-Ttext=0x0", "second-gcc.o", "-o", "behind.elf", cwd=folder)
+    yield ["--entry", "loop", "behind.elf"], r"behind\.elf: loop isn't at address 0, and no 4 bytes are free there"
+    yield ["behind.elf"], r"behind\.elf: has no symbol body; --entry NAME names another function, of far, loop"
+    yield ["behind.elf", "good.o"], r"a linked ELF file is an image alone"
+    object_of("large", "unsigned a[99999];\nvoid body(unsigned e) { a[e] = e; }\n", *rv32)
+    yield ["large.o"], r"more than 65536 bytes; --version 2 has up to 1048576"
+    text("dense.c", "unsigned a[150000] = {[0 ... 149999] = 0x01010101};\nvoid body(unsigned e) { a[e] = e; }\n")
+    yield ["--version", "2", "dense.c"], r"the text of the image has \d+ bytes, more than 1048576"
+    object_of("deep", "unsigned a[4], g(unsigned);\nvoid body(unsigned e) { a[e] = g(e) + 1; }\n__attribute__((noinline)) unsigned g(unsigned e) { return a[e]; }\n", *rv32)
+    yield ["deep.o"], r"the code needs a stack"
+    yield ["-g", "good.o"], r"no file says which line an instruction comes from; compile the objects with -g"
+    if Path(folder, "host.ll").is_file():
+        yield ["host.ll"], r"host\.ll: is LLVM IR for x86_64-pc-linux-gnu; make it for RV32I"
+        yield ["--compiler", "gcc", "squares.ll"], r"gcc compiles no LLVM IR"
+    text("nine.bin", bytes(9))
+    yield ["--data", "keys=nine.bin", "--exit", "search.c"], r"--data keys: nine\.bin has 9 bytes, and the variable 8"
+    yield ["--data", "key=nine.bin", "--exit", "search.c"], r"--data key: there is no variable of this name"
+    yield ["--data", "keys=none.bin", "search.c"], r"none\.bin is not a file"
+    yield ["--reg", "10=4", "good.o"], r"'10=4' isn't N=VALUE with a register of 2 to 31 but 10"
+    yield ["--stack", "64", "--reg", "2=64", "good.o"], r"--stack and --reg 2 both set the stack pointer"
+    yield ["none.o"], r"none\.o is not a file"
+
+
+def refused(folder):
+    for given, reason in bad_inputs(folder):
+        text, errors, status = image_of(folder, "--epochs", "4", *given)
+        lines = [line for line in errors.splitlines() if re.match(rf"image-of: .*?{reason}", line)]
+        yield f"refused: {' '.join(map(str, given))}: {reason}", None if (text, status, bool(lines)) == ("", 1, True) else f"got {text[:80]!r}, {errors[:600]!r}"
+
+
+def checks(command, folder):
+    """All checks for which there are the tools."""
+    furnish(folder)
+    for compiler, needed in (("gcc", [GCC[0]]), ("clang", ["clang", "ld.lld", "llvm-ar", "llvm-as"])):
+        lacking = [name for name in needed if not shutil.which(name)]
+        if lacking:
+            print(f"SKIPPED: programs by {compiler}, since {' and '.join(lacking)} isn't installed")
+            continue
+        made(folder, compiler)
+        if compiler == "clang":
+            do(*CLANG, "-S", "-emit-llvm", "squares.c", "-o", "squares.ll", cwd=folder)
+            do("llvm-as", "squares.ll", "-o", "squares.bc", cwd=folder)
+            text = (folder / "squares.ll").read_text()
+            (folder / "squares.ll").write_text("; Eight times the epoch.\n; image: --epochs 4\n" + text)
+            (folder / "host.ll").write_text(re.sub(r'target triple = "[^"]*"', 'target triple = "x86_64-pc-linux-gnu"', text))
+        yield from right(command, folder, compiler)
+    yield from lines_told(folder)
+    yield from whole_way(command, folder)
+    if shutil.which(GCC[0]):
+        yield from refused(folder)
+    else:
+        print(f"SKIPPED: what is refused, since {GCC[0]} isn't installed")
+
+
+def main():
+    command = sys.argv[1:] or [str(ROOT / "trace_cli"), "seq"]
+    command[0] = str(Path(command[0]).resolve())
+    with tempfile.TemporaryDirectory() as folder:
+        Path(folder, "none.c").write_text("void body(unsigned e) { (void)e; }\n")
+        missing = image_of(Path(folder), "--epochs", "1", "none.c")[1]
+        if "is not installed" in missing or "no compiler is installed" in missing:
+            print(f"SKIPPED: tools/image-of: {missing.strip()}")
+            return 0
+        results = list(checks(command, Path(folder)))
+    for name, wrong in results:
+        if wrong:
+            print(f"FAILED {name}\n  {wrong}")
+    failed = sum(wrong is not None for _, wrong in results)
+    print(f"{len(results) - failed} checks passed, {failed} failed")
+    return 1 if failed else 0
+
+
+if __name__ == "__main__":
+    sys.exit(main())

@@ -1,0 +1,20 @@
+"""Loops and their runs: calls the programs, and reads what they take and print. Each form is read and written here and nowhere else.
+
+    from loops import Programs, read_image
+
+    programs = Programs()
+    image = Path("loop.image").read_text()
+    output = programs.run(image, cores=4)
+    conflicts = programs.why(with_trace(image, output.trace))
+    print(conflicts.total.lost, [pair.kinds.false for pair in conflicts.pairs])
+"""
+
+from .conflicts import Access, Conflicts, Violation, read_conflicts
+from .images import Image, Unreadable, read_image
+from .programs import Programs, Stopped, with_trace
+from .runs import Counts, Entry, Output, Report, Survey, Trace, Traced, Verdict, read_output, read_report, read_survey, read_traced, read_verdict
+
+__all__ = [
+    "Access", "Conflicts", "Counts", "Entry", "Image", "Output", "Programs", "Report", "Stopped", "Survey", "Trace", "Traced", "Unreadable", "Verdict",
+    "Violation", "read_conflicts", "read_image", "read_output", "read_report", "read_survey", "read_traced", "read_verdict", "with_trace",
+]

@@ -1,0 +1,87 @@
+"""Each form as JSON and back: `{"form": NAME, "version": 1, "content": {..}}`, as schema.json beside this file says.
+
+The content is the fields of the form's class by their names. Bytes are hexadecimal digits, addresses and values are numbers, and what isn't there is null.
+"""
+
+import json
+import types
+from collections.abc import Callable
+from dataclasses import fields, is_dataclass
+from pathlib import Path
+from typing import Any, Union, get_args, get_origin, get_type_hints
+
+from .conflicts import Conflicts, read_conflicts
+from .gains import Gains, read_gains
+from .images import Image, Unreadable, read_image
+from .runs import Output, Survey, Traced, Verdict, read_output, read_survey, read_traced, read_verdict
+
+VERSION = 1
+SCHEMA = Path(__file__).with_name("schema.json")
+FORMS: dict[str, tuple[type, Callable[[str], Any]]] = {
+    "image": (Image, read_image), "traced": (Traced, read_traced), "output": (Output, read_output), "survey": (Survey, read_survey),
+    "verdict": (Verdict, read_verdict), "conflicts": (Conflicts, read_conflicts), "gains": (Gains, read_gains),
+}
+# The words that begin a text, and their forms; a text of another beginning is an image.
+BEGINNINGS = {
+    "end": "output", "open": "output", "schedules": "survey", "legal": "verdict", "illegal": "verdict", "store": "gains",
+    "hurt": "conflicts", "cancel": "conflicts", "epoch": "conflicts", "total": "conflicts",
+}
+
+
+def form_of(text: str) -> str:
+    """The name of a text's form, by its first words."""
+    first = next((line for line in text.split("\n") if line and not line.startswith("#")), "").split(" ")
+    if first[:2] == ["open", "epoch"]:
+        return "conflicts"
+    if first[0] in BEGINNINGS:
+        return BEGINNINGS[first[0]]
+    if first == [""]:
+        raise Unreadable("there is nothing to read")
+    return "traced" if "\ntrace " in text else "image"
+
+
+def plain(value: Any) -> Any:
+    """A value as JSON has it."""
+    if is_dataclass(value):
+        return {one.name: plain(getattr(value, one.name)) for one in fields(value)}
+    if isinstance(value, bytes):
+        return value.hex()
+    if isinstance(value, dict):
+        return {str(key): plain(one) for key, one in value.items()}
+    return [plain(one) for one in value] if isinstance(value, list) else value
+
+
+def made(kind: Any, value: Any) -> Any:
+    """The value of a type that JSON's says."""
+    if get_origin(kind) in (Union, types.UnionType):
+        return None if value is None else made(next(one for one in get_args(kind) if one is not type(None)), value)
+    if get_origin(kind) is list:
+        return [made(get_args(kind)[0], one) for one in value]
+    if get_origin(kind) is dict:
+        return {int(key): one for key, one in value.items()}
+    if is_dataclass(kind):
+        return kind(**{name: made(one, value[name]) for name, one in get_type_hints(kind).items()})
+    return bytes.fromhex(value) if kind is bytes else value
+
+
+def document(text: str, form: str | None = None) -> dict[str, Any]:
+    """The document of a text."""
+    name = form or form_of(text)
+    return {"form": name, "version": VERSION, "content": plain(FORMS[name][1](text))}
+
+
+def content_of(told: dict[str, Any]) -> Any:
+    """What a document says."""
+    if told.get("version") != VERSION or told.get("form") not in FORMS:
+        raise Unreadable(f"the document is of form {told.get('form')!r}, version {told.get('version')!r}; version {VERSION} is known, of {', '.join(FORMS)}")
+    return made(FORMS[told["form"]][0], told["content"])
+
+
+def to_json(text: str, form: str | None = None) -> str:
+    """A text as JSON."""
+    return json.dumps(document(text, form), indent=1) + "\n"
+
+
+def from_json(text: str) -> str:
+    """The text that JSON says."""
+    return content_of(json.loads(text)).text()

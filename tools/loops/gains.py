@@ -1,0 +1,70 @@
+"""What `gain` prints: a line for each store and each number of cores, of the run at even speed."""
+
+import re
+from dataclasses import dataclass, field, fields
+
+from .images import Unreadable
+
+
+@dataclass
+class Gain:
+    """One run: how long it took, how much faster than on one core, and where the steps of its cores went."""
+    store: str                          # caches or plain
+    cores: int
+    full: bool = False                  # the history was full before the loop was over: there is nothing else
+    steps: int | None = None
+    gain: float | None = None
+    useful: int | None = None
+    lost: int | None = None
+    dropped: int | None = None
+    waiting: int | None = None
+    idle: int | None = None
+    restarts: int | None = None
+    true: int | None = None
+    silent: int | None = None
+    false: int | None = None
+    buffer: int | None = None
+    nothomefree: int | None = None
+    noway: int | None = None
+    orbfull: int | None = None
+    orbbusy: int | None = None
+
+    def text(self) -> str:
+        head = f"store {self.store} cores {self.cores}"
+        if self.full:
+            return head + " full\n"
+        return head + "".join(f" {name} {self.told(name)}" for name in NAMES) + "\n"
+
+    def told(self, name: str) -> str:
+        value = getattr(self, name)
+        return f"{value:.2f}" if name == "gain" else str(value)
+
+
+NAMES = [one.name for one in fields(Gain)[3:]]
+
+
+@dataclass
+class Gains:
+    """All runs, in the order in which they are printed."""
+    runs: list[Gain] = field(default_factory=list)
+
+    def text(self) -> str:
+        return "".join(run.text() for run in self.runs)
+
+
+FORM = re.compile(r"store (\w+) cores (\d+) (?:full|" + " ".join(rf"{name} ([\d.]+)" for name in NAMES) + ")")
+
+
+def read_gains(text: str) -> Gains:
+    """The lines that `gain` printed."""
+    gains = Gains()
+    for line in text.splitlines():
+        match = FORM.fullmatch(line)
+        if match is None:
+            raise Unreadable(f"{line!r} is no line of gain")
+        run = Gain(match[1], int(match[2]), match[3] is None)
+        for name, word in zip(NAMES, match.groups()[2:]):
+            if word is not None:
+                setattr(run, name, float(word) if name == "gain" else int(word))
+        gains.runs.append(run)
+    return gains

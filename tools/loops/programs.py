@@ -1,0 +1,86 @@
+"""Calls of the programs: `trace_cli`, `why` and `replay`."""
+
+import os
+import subprocess
+from dataclasses import dataclass, field
+from pathlib import Path
+
+from .conflicts import Conflicts, read_conflicts
+from .images import Image
+from .runs import Output, Survey, Trace, Traced, Verdict, read_output, read_survey, read_verdict
+
+# Statuses with which a program has printed its answer: the loop is done or exited, or an epoch faulted.
+ENDED = (0, 1)
+ILLEGAL = 4
+TREE = Path(__file__).resolve().parents[2]
+
+
+class Stopped(Exception):
+    """A program that refused its input or was stopped: its status, and the line that it wrote."""
+
+    def __init__(self, status: int, line: str):
+        super().__init__(line.rstrip())
+        self.status, self.line = status, line
+
+
+def folder() -> Path:
+    """Where the programs are: the folder that LOOPS_PROGRAMS names, or the tree that this file stands in."""
+    return Path(os.environ.get("LOOPS_PROGRAMS", TREE))
+
+
+def call(program: str | Path, words: list[str], text: str, right: tuple[int, ...] = ENDED) -> str:
+    """What a program prints on an input; Stopped where its status is none of those."""
+    done = subprocess.run([str(program), *words], input=text.encode("latin-1"), capture_output=True, check=False)
+    if done.returncode not in right:
+        raise Stopped(done.returncode, (done.stderr or done.stdout).decode("latin-1"))
+    return done.stdout.decode("ascii")
+
+
+@dataclass
+class Programs:
+    """The programs of a folder. An input is an image or its text, as it stands in a file."""
+    folder: Path = field(default_factory=folder)
+    why_command: str | Path | None = None           # in the place of the folder's `why`
+
+    def seq(self, image: Image | str) -> Output:
+        """The loop in order."""
+        return read_output(call(self.folder / "trace_cli", ["seq"], text_of(image)))
+
+    def run(self, image: Image | str, cores: int) -> Output:
+        """The loop on threads, with its trace."""
+        return read_output(call(self.folder / "trace_cli", ["run", "--cores", str(cores), "--trace"], text_of(image)))
+
+    def audit(self, traced: Traced | str) -> Verdict:
+        """Whether a trace is legal."""
+        return read_verdict(call(self.folder / "trace_cli", ["audit"], text_of(traced), (0, ILLEGAL)))
+
+    def why(self, traced: Traced | str) -> Conflicts:
+        """Which conflicts rolled back."""
+        return read_conflicts(self.why_text(text_of(traced)))
+
+    def why_text(self, text: str) -> str:
+        """The same as it is printed."""
+        return call(self.why_command or self.folder / "why", [], text, (0,))
+
+    def replay(self, image: Image | str, store: str, cores: int, turns: list[int]) -> Output:
+        """The loop by a schedule, the cores whose turns are taken one after another; store is caches or plain."""
+        text = ended(text_of(image)) + " ".join(["turns", *map(str, turns)]) + "\n"
+        return read_output(call(self.folder / "replay", [store, str(cores)], text))
+
+    def replay_all(self, image: Image | str, store: str, cores: int, turns: int) -> Survey:
+        """Every schedule of so many turns."""
+        return read_survey(call(self.folder / "replay", ["all", store, str(cores), str(turns)], text_of(image), (0,)))
+
+
+def text_of(given: Image | Traced | str) -> str:
+    return given if isinstance(given, str) else given.text()
+
+
+def ended(text: str) -> str:
+    """A text whose last line is ended."""
+    return text if text.endswith("\n") else text + "\n"
+
+
+def with_trace(text: str, trace: Trace) -> str:
+    """The text of an image with a trace below it: what `audit` and `why` read."""
+    return ended(text) + trace.text()
