@@ -1,11 +1,13 @@
 #!/usr/bin/env python3
-"""The pages of this project: links, the definitions that contracts cite, counts, and the length of the root README.
+"""The pages of this project: reading lists, floors of the crates, links, counts, lines and lengths.
 
 Usage: tests/documents.py [--list]
 
-A definition is cited where a clause (`requires` or `ensures`) of an exported function names it, from a file of `specs/` that the
-source imports by `ghost use`. Each has to stand in docs/, in a line or a row of a table that has its name in code letters and a
-link to its file. `--list` prints all of them, with what is missing. Needs Python 3 alone. Exits with 1 where a check failed.
+`docs/reading.md` has to be what `tools/definitions` writes. The README has to say how many definitions the sentence stands on, and
+none of them may be of the caches or their bus. A definition is cited where a clause (`requires` or `ensures`) of an exported function
+names it, from a file of `specs/` that the source imports by `ghost use`; each has to be in its file. `--list` prints all of them. The
+drawing of docs/architecture.md and the README's list have the crates of crates.txt, by its floors. Needs Python 3 alone. Exits with 1
+where a check failed.
 """
 
 import re
@@ -15,6 +17,8 @@ from pathlib import Path
 
 ROOT = Path(__file__).resolve().parent.parent
 DOCS = ROOT / "docs"
+MOST_WORDS = 30_200
+LONGEST_LINE = 120
 MOST_WORDS_OF_README = 1600
 # Crates whose functions nobody outside uses: tests.
 WITHOUT_CONTRACTS = {"machine_tests"}
@@ -114,34 +118,62 @@ def file_of(crate, path):
     return ROOT / "crates" / crate / "specs" / (path.replace(".", "/") + ".antt")
 
 
-def paragraphs():
-    """The rows of tables and the paragraphs of all pages of docs/."""
-    for page in sorted(DOCS.glob("*.md")):
-        for part in re.split(r"\n(?=\||- |\n)", page.read_text()):
-            yield part
-
-
 def definitions():
-    """What is missing of each definition that a contract cites."""
-    parts = list(paragraphs())
+    """Each definition that a contract cites, and whether it is in its file."""
     for crate, path, name in cited():
-        link = f"](../crates/{crate}/specs/{path.replace('.', '/')}.antt)"
-        named = [part for part in parts if re.search(rf"`(?:[^`\n]*[\s(])?{re.escape(name)}(?:[\s,)][^`\n]*)?`", part)]
-        wrong = None
-        if not named:
-            wrong = "is on no page of docs/"
-        elif not any(link in part for part in named):
-            wrong = f"has no link {link[1:]} beside it"
-        yield f"{crate}: {path}.{name}", wrong
+        there = re.search(rf"(?m)^ *(?:[a-z]+ )*{re.escape(name)}(?=[ :]|$)", file_of(crate, path).read_text())
+        yield f"{crate}: {path}.{name}", None if there else "isn't in its file"
 
 
-def stale():
-    """The rows of the list whose definition has gone from its file."""
-    page = DOCS / "cited-definitions.md"
-    for name, crate, path in re.findall(r"(?m)^\| `([^`]+)` \| \[`[^`]*`\]\(\.\./crates/(\w+)/specs/([\w/]+)\.antt\)", page.read_text()):
-        file = file_of(crate, path)
-        there = file.is_file() and re.search(rf"(?m)^ *(?:[a-z]+ )*{re.escape(name)}(?=[ :]|$)", file.read_text())
-        yield f"{page.name}: {crate}, {path}, {name}", None if there else "has gone from its file"
+# --- Reading lists -----------------------------------------------------------
+
+def printed(*words):
+    return subprocess.run([sys.executable, ROOT / "tools/definitions", *words], capture_output=True, text=True, check=False).stdout
+
+
+def reading():
+    """The page of reading lists, and what the README says of that of the sentence."""
+    page = (DOCS / "reading.md").read_text()
+    yield "docs/reading.md", None if page == printed() else "isn't what tools/definitions writes"
+    list_of_run = page.partition("## `run_cores`\n")[2].partition("\n## ")[0]
+    count = re.search(r"It stands on (\d+ definitions) of (\d+ lines)", list_of_run)
+    said = " ".join((ROOT / "README.md").read_text().split())
+    yield "README.md", None if count and all(it in said for it in count.groups()) else f"doesn't say {count and count.groups()} of the sentence"
+    of_bus = set(re.findall(r"\(\.\./crates/(\w+)/", list_of_run)) & {"spec_bus", "bus_states", "cache_lines", "orb", "spec_states"}
+    yield "what the sentence stands on", f"is of the bus: {', '.join(sorted(of_bus))}" if of_bus else None
+
+
+# --- Floors -------------------------------------------------------------------
+
+def floors():
+    """The crates by floors, the lowest first, as crates.txt has them."""
+    parts = re.split(r"(?m)^# .*\n", (ROOT / "crates.txt").read_text())
+    return list(filter(None, (re.findall(r"(?m)^(\w+)[^:#\n]*:", part) for part in parts)))
+
+
+def drawn():
+    """The rows of the drawing of the crates, the lowest first: the names in each."""
+    drawing = re.search(r"(?ms)^```\n(.*?)^```", (DOCS / "architecture.md").read_text())[1]
+    rows, every = [], set(listed_crates())
+    for line in drawing.splitlines():
+        names = [word for word in re.findall(r"\w+", line) if word in every]
+        if names and line[2] != " ":
+            rows.append(names)
+        elif names:
+            rows[-1] += names
+    return rows[::-1]
+
+
+def architecture():
+    """The drawing, the README's list and the crates' pages have every crate, at its floor."""
+    listed, rows = floors(), drawn()
+    yield "the floors of docs/architecture.md", None if len(rows) == len(listed) else f"are {len(rows)}, those of crates.txt {len(listed)}"
+    for names, row in zip(listed, rows):
+        yield f"the floor of {names[0]} in docs/architecture.md", None if sorted(names) == sorted(row) else f"has {row}, in crates.txt {names}"
+    table = re.findall(r"(?m)^- \[`(\w+)`\]\(crates/", (ROOT / "README.md").read_text())
+    yield "the README's list of crates", None if table == sum(listed, []) else "doesn't have the crates of crates.txt in their order"
+    for name in listed_crates():
+        yield f"crates/{name}/README.md", None if (ROOT / "crates" / name / "README.md").is_file() else "isn't there"
 
 
 # --- Links and lengths ------------------------------------------------------
@@ -175,8 +207,23 @@ def links():
 
 
 def lengths():
+    """The words of the README and of all pages, and the lines that could be wrapped."""
     count = len((ROOT / "README.md").read_text().split())
     yield "README.md", None if count <= MOST_WORDS_OF_README else f"has {count} words, more than {MOST_WORDS_OF_README}"
+    count = sum(len(page.read_text().split()) for page in pages())
+    yield "all pages", None if count <= MOST_WORDS else f"have {count} words, more than {MOST_WORDS}"
+    for page in pages():
+        yield from ((f"{page.relative_to(ROOT)}, line {number}", "can be wrapped") for number in too_long(page.read_text()))
+
+
+def too_long(text):
+    """The lines of a page that are too long and could be broken: those of prose, with a space within the length."""
+    fenced = False
+    for number, line in enumerate(text.splitlines(), 1):
+        fenced ^= line.lstrip().startswith("```")
+        prose = not fenced and not line.lstrip().startswith(("|", "#", "```"))
+        if prose and len(line) > LONGEST_LINE and " " in re.sub(r"^\s*(?:[-*>]|\d+\.)?\s*", "", line)[:LONGEST_LINE - 8]:
+            yield number
 
 
 NUMBERS = "no one two three four five six seven eight nine ten eleven twelve thirteen fourteen fifteen sixteen seventeen eighteen nineteen twenty".split()
@@ -217,7 +264,7 @@ def main():
         for name, wrong in definitions():
             print(name, wrong or "")
         return 0
-    checks = [*definitions(), *stale(), *links(), *lengths(), *counts()]
+    checks = [*definitions(), *reading(), *architecture(), *links(), *lengths(), *counts()]
     failed = [(name, wrong) for name, wrong in checks if wrong]
     for name, wrong in failed:
         print(f"FAILED {name} {wrong}")

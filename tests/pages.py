@@ -6,9 +6,11 @@ Usage: tests/pages.py [COMMAND ..]
 COMMAND is a command of `trace_cli` that ends with the word `seq`, as for the other tests; `why` and `replay` are the programs that
 were built beside it. Without it ./trace_cli, ./why and ./replay are tested. A command with nothing below it has to end well and to say
 nothing on standard error. The commands of a page are run in one new folder, in which the tree's folders are found by their names.
-What calls `why` or `replay` is left out where they aren't built, and what compiles C where no gcc for RISC-V is installed; a line
-says so. Exits with 1 where a check failed.
+What calls `why` or `replay` is left out where they aren't built, what makes an image where tools/image-of lacks something or no gcc
+for RISC-V is installed, and what reads a file that so wasn't made; a line says so. Exits with 1 where a check failed.
 """
+import functools
+import os
 import re
 import shutil
 import subprocess
@@ -40,12 +42,38 @@ def programs(command):
     return {"trace_cli": given} | {name: path for name, path in beside.items() if path.is_file()}
 
 
+@functools.cache
+def can_compile():
+    """Whether tools/image-of finds what it needs."""
+    done = subprocess.run([sys.executable, ROOT / "tools" / "image-of", ROOT / "examples" / "c" / "histogram.c"], capture_output=True, check=False)
+    return done.returncode == 0
+
+
 def lacks(command, found):
     """What a command needs that isn't there, or None."""
     for name in ("why", "replay"):
         if f"./{name} " in command and name not in found:
             return f"the program {name}"
-    return COMPILER if "image-of-c" in command and not shutil.which(COMPILER) else None
+    for tool in ("named", "picture"):
+        if f"tools/{tool} " in command and "why" not in found:
+            return "the program why"
+    if "image-of" in command and not can_compile():
+        return "what tools/image-of needs"
+    needed = [COMPILER] if "image-of" in command else ["clang", "ld.lld"] if command.startswith("clang") else []
+    return next((one for one in needed if not shutil.which(one)), None)
+
+
+def files_of(command):
+    """The files that a command makes."""
+    return set(re.findall(r"(?:>|-o) *([\w.]+)", command))
+
+
+def left_out(commands, found, unmade):
+    """What the commands of a block need that isn't there, or None; and the files that aren't there after them."""
+    missing = next(filter(None, (lacks(it, found) for it, _ in commands)), None)
+    if not missing:
+        missing = next((f"the file {name}" for it, _ in commands for name in sorted(unmade) if re.search(rf"(?<![\w.]){re.escape(name)}\b", it)), None)
+    return missing, unmade | set().union(*(files_of(it) for it, _ in commands)) if missing else unmade
 
 
 def furnish(room, found):
@@ -61,7 +89,8 @@ def furnish(room, found):
 def failure_of(command, wanted, room):
     """Why a command isn't what its page says, or None."""
     try:
-        ran = subprocess.run(["bash", "-c", command], cwd=room, capture_output=True, text=True, timeout=SECONDS, stdin=subprocess.DEVNULL, check=False)
+        ran = subprocess.run(["bash", "-c", command], cwd=room, capture_output=True, text=True, timeout=SECONDS, stdin=subprocess.DEVNULL,
+                             env={**os.environ, "LOOPS_PROGRAMS": str(room)}, check=False)
     except subprocess.TimeoutExpired:
         return f"is still running after {SECONDS} seconds"
     if wanted and ran.stdout != wanted:
@@ -76,12 +105,11 @@ def main(words):
     for page in sorted((ROOT / "docs").glob("*.md")):
         with tempfile.TemporaryDirectory(prefix="pages-") as folder:
             furnish(Path(folder), found)
+            unmade = set()
             for line, commands in blocks(page):
-                for command, wanted in commands:
-                    missing = next(filter(None, (lacks(it, found) for it, _ in commands)), None)
-                    if missing:
-                        lacking.add(missing)
-                        continue
+                missing, unmade = left_out(commands, found, unmade)
+                lacking |= {missing} - {None}
+                for command, wanted in [] if missing else commands:
                     why = failure_of(command, wanted, folder)
                     passed, failed = passed + (why is None), failed + (why is not None)
                     if why:
