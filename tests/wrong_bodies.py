@@ -50,9 +50,13 @@ ANSWERS = """\
 use Rattle.std.proofs.Common.{arith}
 use Rattle.steps.proofs.next_but_one.Goals as goal
 
+two-steps : goal.returns
+two-steps c = let one = c.next-one.ensures in let two = c.next.ensures in omega (arith, one, two)
+
 pub returns : goal.returns
-returns c = let one = c.next-one.ensures in let two = c.next.ensures in omega (arith, one, two)
+returns = two-steps
 """
+# Where a step has another name, `two-steps` names one that isn't there, and `returns` depends on it, "which was rejected".
 # Name of an edit: its pairs of old and new text, and what has to be told of it.
 EDITS = {
     "next_is_two_more": ([("    n + 1", "    n + 2")], "refused: "),

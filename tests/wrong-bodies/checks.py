@@ -14,7 +14,7 @@ GOAL = re.compile(r"\(`([^`]+)`\)")
 UNPROVED = re.compile(r"not proved|not shown|does not hold")
 FALSE_GOAL = "allow values at which this goal is false"
 # An answer that names what the text took away says nothing of the function's promise.
-NAMES = re.compile(r"has no field|is not a field of|is not in scope|has no `|was not admitted")
+NAMES = re.compile(r"has no field|is not a field of|is not in scope|has no `|was not admitted|which was rejected")
 
 
 @dataclass
