@@ -13,7 +13,7 @@ class Gain:
     cores: int
     full: bool = False                  # the history was full before the loop was over: there is nothing else
     steps: int | None = None
-    gain: float | None = None
+    gain: float | None = None           # none where that of one core was full
     useful: int | None = None
     lost: int | None = None
     dropped: int | None = None
@@ -37,7 +37,7 @@ class Gain:
 
     def told(self, name: str) -> str:
         value = getattr(self, name)
-        return f"{value:.2f}" if name == "gain" else str(value)
+        return "-" if value is None else f"{value:.2f}" if name == "gain" else str(value)
 
 
 NAMES = [one.name for one in fields(Gain)[3:]]
@@ -52,7 +52,8 @@ class Gains:
         return "".join(run.text() for run in self.runs)
 
 
-FORM = re.compile(r"store (\w+) cores (\d+) (?:full|" + " ".join(rf"{name} ([\d.]+)" for name in NAMES) + ")")
+NUMBER, HUNDREDTHS = r"(\d+)", r"(\d+\.\d\d|-)"
+FORM = re.compile(r"store (\w+) cores (\d+) (?:full|" + " ".join(f"{name} {HUNDREDTHS if name == 'gain' else NUMBER}" for name in NAMES) + ")")
 
 
 def read_gains(text: str) -> Gains:
@@ -64,7 +65,7 @@ def read_gains(text: str) -> Gains:
             raise Unreadable(f"{line!r} is no line of gain")
         run = Gain(match[1], int(match[2]), match[3] is None)
         for name, word in zip(NAMES, match.groups()[2:]):
-            if word is not None:
+            if word not in (None, "-"):
                 setattr(run, name, float(word) if name == "gain" else int(word))
         gains.runs.append(run)
     return gains

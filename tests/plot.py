@@ -1,0 +1,129 @@
+#!/usr/bin/env python3
+"""Tests tools/plot on lines of `gain`: the plot is read back as XML, the table as CSV. Nothing has to be built.
+
+Usage: tests/plot.py
+
+The figures are those of a trial of the schedule outside the program. The plots are left out where no Python here has matplotlib, and a line says so. Exits with 1
+where a check failed.
+"""
+
+import csv
+import io
+import re
+import subprocess
+import sys
+import tempfile
+import xml.etree.ElementTree as xml
+from pathlib import Path
+
+ROOT = Path(__file__).resolve().parent.parent
+SVG = "{http://www.w3.org/2000/svg}"
+NAMES = "store cores steps gain useful lost dropped waiting idle restarts true silent false buffer nothomefree noway orbfull orbbusy".split()
+# Of own_counters all violations are false sharing; of queens all waiting is for a way; of the histogram one of nine is made up to be false sharing.
+LINES = {
+    "own_counters": """caches 1 464 1.00 464 0 0 0 0 0 0 0 0 0 0 0 0 0
+caches 4 428 1.08 464 1092 0 0 156 42 0 0 42 0 0 0 0 0
+plain 1 464 1.00 464 0 0 0 0 0 0 0 0 0 0 0 0 0
+plain 4 116 4.00 464 0 0 0 0 0 0 0 0 0 0 0 0 0""",
+    "queens": """caches 1 1014 1.00 1014 0 0 0 0 0 0 0 0 0 0 0 0 0
+caches 4 728 1.39 1014 0 0 944 954 0 0 0 0 0 0 944 0 0
+plain 1 1014 1.00 1014 0 0 0 0 0 0 0 0 0 0 0 0 0
+plain 4 268 3.78 1014 0 0 58 0 0 0 0 0 0 58 0 0 0""",
+    "histogram": "caches 4 84 2.29 192 99 0 27 18 9 8 0 1 0 27 0 0 0",
+}
+FULL = "store caches cores 1 full\nstore caches cores 2 steps 84 gain - " + " ".join(f"{name} 0" for name in NAMES[4:]).replace("useful 0", "useful 168") + "\n"
+# Of each bar the parts that are drawn, from below, in hundredths of all steps, rounded.
+PARTS = {
+    "own_counters-caches-1": {"useful": 100}, "own_counters-caches-4": {"useful": 27, "false": 64, "idle": 9}, "own_counters-plain-4": {"useful": 100},
+    "queens-caches-4": {"useful": 35, "noway": 32, "idle": 33}, "queens-plain-4": {"useful": 95, "nothomefree": 5},
+    "histogram-caches-4": {"useful": 57, "true": 26, "false": 3, "nothomefree": 8, "idle": 5}, "grown-caches-2": {"useful": 100},
+}
+
+
+def text_of(rows):
+    """The lines of `gain` of a table."""
+    return "".join(" ".join(f"{name} {word}" for name, word in zip(NAMES, row.split())) + "\n" for row in rows.splitlines())
+
+
+def plot(*words, text=""):
+    done = subprocess.run([ROOT / "tools" / "plot", *words], input=text, capture_output=True, text=True, check=False)
+    return done.stdout, done.stderr, done.returncode
+
+
+def files(folder):
+    """The inputs, as words NAME=FILE."""
+    for name, rows in [*LINES.items(), ("grown", None)]:
+        Path(folder, f"{name}.txt").write_text(FULL if rows is None else text_of(rows))
+        yield f"{name}={folder}/{name}.txt"
+
+
+def bars(root):
+    """Of each bar the heights of its parts, from below."""
+    found = {}
+    for group in root.iter(f"{SVG}g"):
+        named = re.fullmatch(r"(\w+-(?:caches|plain)-\d+)-(\w+)", group.get("id", ""))
+        if named:
+            heights = [float(point.split()[-1]) for point in re.findall(r"[ML] ([-\d.]+ [-\d.]+)", group.find(f"{SVG}path").get("d"))]
+            found.setdefault(named[1], []).append((named[2], min(heights), max(heights)))
+    return {name: sorted(parts, key=lambda part: -part[2]) for name, parts in found.items()}
+
+
+def plots(words):
+    """(what it shows, what is wrong or None) of the plot of all inputs."""
+    out, errors, status = plot(*words)
+    if "is not installed" in errors:
+        print("SKIPPED: plots, since python3-matplotlib isn't installed")
+        return
+    yield "a plot", None if (errors, status) == ("", 0) else f"{errors!r}, {status}"
+    root = xml.fromstring(out)
+    texts = ["".join(text.itertext()).strip() for text in root.iter(f"{SVG}text")]
+    for name in [*LINES, "grown"]:
+        yield f"the panel of {name}", None if name in texts else f"{texts}"
+    gains = [text for text in texts if re.fullmatch(r"\d\.\d\d|-|full", text)]
+    wanted = "1.00 1.08 1.00 4.00 1.00 1.39 1.00 3.78 2.29 full -".split()
+    yield "the gain above each bar", None if sorted(gains) == sorted(wanted) else f"{gains}"
+    told = [text for text in texts if text.startswith(("useful", "lost,", "dropped", "waiting", "idle"))]
+    wanted = ["useful: attempts that committed", "lost, true sharing", "lost, false sharing", "waiting to be the first epoch", "waiting for a way in a full set",
+              "idle: without an epoch"]
+    yield "what occurs is explained, and nothing else", None if told == wanted else f"{told}"
+    found = bars(root)
+    yield "a bar for each run that isn't full", None if len(found) == 10 else f"{sorted(found)}"
+    for name, wanted in PARTS.items():
+        whole = sum(high - low for _, low, high in found[name])
+        got = {part: round(100 * (high - low) / whole) for part, low, high in found[name]}
+        yield f"the parts of {name}", None if list(got.items()) == list(wanted.items()) else f"{got}"
+    yield "the same bytes again", None if plot(*words)[0] == out else "others"
+    yield "no colour alone", None if out.count("url(#h") >= 4 else "too few hatches"
+
+
+def tables(words, folder):
+    """The same of the table, and what is refused."""
+    out, errors, status = plot("--csv", *words)
+    rows = list(csv.DictReader(io.StringIO(out)))
+    yield "a row for each line", None if (len(rows), errors, status) == (11, "", 0) else f"{len(rows)}, {errors!r}, {status}"
+    found = next(row for row in rows if (row["loop"], row["store"], row["cores"]) == ("own_counters", "caches", "4"))
+    wanted = dict(zip(["loop", *NAMES], ["own_counters", *LINES["own_counters"].splitlines()[1].split()])) | {"full": "0"}
+    yield "a row", None if found == wanted else f"{found}"
+    full = rows[-2]
+    yield "a full run", None if (full["full"], full["steps"], rows[-1]["gain"]) == ("1", "", "") else f"{full}"
+    named = plot("--csv", f"{folder}/queens.txt")[0].splitlines()[1].split(",")[0]
+    yield "named after the file", None if named == "queens" else named
+    for name, text, said in (("another line", "end done 3\n", "is no line of gain"), ("nothing", "", "there is no line of gain")):
+        got = plot("--csv", text=text)
+        yield f"refused: {name}", None if got[0] == "" and said in got[1] and got[2] == 2 else f"{got}"
+
+
+def main():
+    with tempfile.TemporaryDirectory() as folder:
+        words = list(files(folder))
+        results = [*plots(words), *tables(words, folder)]
+    for name, wrong in results:
+        if wrong:
+            print(f"FAILED {name}: {wrong}")
+    failed = sum(wrong is not None for _, wrong in results)
+    print(f"{len(results) - failed} checks passed, {failed} failed")
+    return 1 if failed else 0
+
+
+if __name__ == "__main__":
+    sys.exit(main())

@@ -1,0 +1,1 @@
+"""Plots of what loops gain, from the lines that `gain` printed."""
