@@ -48,9 +48,9 @@ def picture(folder, report, *words, text=IMAGE + TRACE, **more):
     return subprocess.run([ROOT / "tools" / "picture", "--why", why, *words], input=text, capture_output=True, text=True, check=False)
 
 
-def svg(folder, report, *words):
+def svg(folder, report, *words, text=IMAGE + TRACE):
     """All texts of a picture, and all its hover texts."""
-    done = picture(folder, report, *words)
+    done = picture(folder, report, *words, text=text)
     root = xml.fromstring(done.stdout)
     return [text.text or "" for text in root.iter(f"{SVG}text")], [tip.text for tip in root.iter(f"{SVG}title")]
 
@@ -79,15 +79,17 @@ def rows(folder):
     yield "a refused trace", (refused.stdout, refused.stderr, refused.returncode) == ("", "trace 3 Line\n", 2)
 
 
-def long_run(pairs):
-    """So many pairs of epochs, each as the two above: the text of the trace, and the lines of its violations."""
-    head, *entries = TRACE.splitlines()
-    trace, hurts = [head], []
+def long_run(pairs, cores=2):
+    """So many pairs of epochs, each as the two above, on two cores after two: the text of the trace, and the lines of its violations, one of ten of them false sharing."""
+    trace, hurts = [f"trace {cores}"], []
     for pair in range(pairs):
         first, second, place = 2 * pair, 2 * pair + 1, 9 * pair
-        trace += [entry.replace("start 0", f"start {first}").replace("start 1", f"start {second}").replace("hurt 1", f"hurt {second}") for entry in entries]
-        hurts.append(HURT.replace("hurt 4", f"hurt {place + 4}").replace("epoch 1", f"epoch {second}").replace("by 0", f"by {first}")
-                     .replace("cause 5", f"cause {place + 5}").replace("load 3", f"load {place + 3}").replace("store 2", f"store {place + 2}"))
+        by, core = first % cores, second % cores
+        trace += [f"{core if entry[0] == '1' else by}{entry[1:]}".replace("start 0", f"start {first}").replace("start 1", f"start {second}")
+                  .replace("hurt 1", f"hurt {second}") for entry in TRACE.splitlines()[1:]]
+        hurt = HURT.replace("core 1", f"core {core}").replace("core 0", f"core {by}").replace("hurt 4", f"hurt {place + 4}").replace("epoch 1", f"epoch {second}")
+        hurts.append(hurt.replace("by 0", f"by {first}").replace("cause 5", f"cause {place + 5}").replace("load 3", f"load {place + 3}")
+                     .replace("store 2", f"store {place + 2}").replace("true", "true" if pair % 10 else "false"))
     return IMAGE.replace("epochs 2", f"epochs {2 * pairs}") + "\n".join(trace) + "\n", "".join(hurts) + KIND + TOTAL
 
 
@@ -97,16 +99,22 @@ def gathered(folder):
     drawn = picture(folder, report, text=text).stdout
     root = xml.fromstring(drawn)
     tips = [tip.text for tip in root.iter(f"{SVG}title")]
-    counted = [int(tip.split()[1].replace(",", "")) for tip in tips if tip.startswith("true: ") and "rollback" in tip]
+    counted = [int(tip.split()[1].replace(",", "")) for tip in tips if tip.startswith(("true: ", "false: ")) and "rollback" in tip]
     yield "a long run is at most 2 MB", 20_000 < len(drawn) < 2_000_000
+    yield "a long run has at most 2,000 elements", len(list(root.iter())) < 2_000
     yield "its rollbacks are all there", sum(counted) == 10_000
     yield "a pixel has its share of turns", "the same run: cores over turns; a pixel is 67 turns, from below what was lost, cancelled and useful" in [
         told.text for told in root.iter(f"{SVG}text")]
     told = picture(folder, report, "--perfetto", text=text).stdout
     events = json.loads(told)["traceEvents"]
     yield "its events are at most 2 MB", len(told) < 2_000_000
-    yield "its events count all rollbacks", sum(one["args"]["true"] for one in events if one["name"] == "rollbacks") == 10_000
+    yield "its events are at most 12,100", len(events) < 12_100
+    yield "its events count all rollbacks", [sum(one["args"][kind] for one in events if one["name"] == "rollbacks") for kind in ("true", "false")] == [9_000, 1_000]
     yield "its events count what was lost", sum(one["args"]["lost"] for one in events if one["name"] == "lost instructions") == 30_000
+    wide, report_of_wide = long_run(10_000, cores=16)
+    drawn, told = (picture(folder, report_of_wide, *words, text=wide).stdout for words in ([], ["--perfetto"]))
+    yield "on 16 cores its elements are at most 2,000 too", len(drawn) < 2_000_000 and len(list(xml.fromstring(drawn).iter())) < 2_000
+    yield "on 16 cores its events are at most 12,100 too", len(told) < 2_000_000 and 10_000 < len(json.loads(told)["traceEvents"]) < 12_100
     part = json.loads(picture(folder, report, "--perfetto", "--turns", "800-879", text=text).stdout)["traceEvents"]
     yield "the events of eighty turns", sum(one["name"].startswith("rollback") for one in part) == 10 and all(800 <= one.get("ts", 800) <= 879 or one["ph"] in "MX" for one in part)
 

@@ -6,8 +6,8 @@ from collections import Counter
 from .page import COLOURS
 from .words import sentence
 
-# A run of more entries is gathered into so many parts of its turns.
-MOST_ENTRIES, PARTS = 2000, 1000
+# A run of more entries is gathered into so many parts of its turns, on many cores into fewer, so that there are at most so many events.
+MOST_ENTRIES, MOST_PARTS, MOST_EVENTS = 2000, 1000, 12_000
 COLOUR_NAMES = {"violated": "terrible", "committed": "good", "fault": "bad"}
 
 
@@ -47,14 +47,15 @@ def violations(run):
 
 def gathered(run):
     """For each part of the turns how many of them each core spent on what, and how many rollbacks of each kind there were."""
-    wide = max(1, run.turns) / PARTS
-    for (core, part), (useful, lost, other) in run.shares(PARTS).items():
+    parts = min(MOST_PARTS, MOST_EVENTS // (run.cores + 2))
+    wide = max(1, run.turns) / parts
+    for (core, part), (useful, lost, other) in run.shares(parts).items():
         yield event("C", core, int(part * wide), f"core {core}", args={"useful": round(useful, 1), "lost": round(lost, 1), "other": round(other, 1)})
     kinds = Counter((int(run.turn_of[violation.place] / wide), violation.kind) for violation in run.violations)
     lost = Counter()
     for violation in run.violations:
         lost[int(run.turn_of[violation.place] / wide)] += violation.lost
-    for part in range(PARTS):
+    for part in range(parts):
         counts = {kind: kinds[part, kind] for kind in COLOURS}
         yield event("C", 0, int(part * wide), "rollbacks", args=counts)
         yield event("C", 0, int(part * wide), "lost instructions", args={"lost": lost[part]})
