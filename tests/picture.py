@@ -24,6 +24,7 @@ TRACE = ("trace 2\n0 start 0\n1 start 1\n0 store 00000040 4 00000001\n1 load 000
 REPORT = ("hurt 4 true epoch 1 try 1 core 1 lost 3 entered 2 since 2 by 0 core 0 cause 5 commit load 3 00000004 store 2 00000014 at 00000040 4\n"
           "kind true rollbacks 1 lost 3\ntotal epochs 2 committed 2 useful 8 rollbacks 1 lost 3 cancelled 0 dropped 0 open 0 unsettled 0\n")
 SENTENCE = "epoch 1's load at 00000004 at waits.c:7 of flag, 4 bytes was hit by epoch 0's store at 00000014, committed; 3 instructions lost; true sharing"
+BESIDE = REPORT.replace("true", "false")
 FULL = REPORT.replace("true", "buffer").replace("since 2", "since -").replace("load 3 00000004 store 2 00000014", "held 3 00000004 asked 2 00000014")
 SUMS = ("pair store 00000014 load 00000004 rollbacks 1 lost 3 true 1 silent 0 false 0 buffer 0 stale 1 vain 0 later 0 distance 1 1 at 00000040 4\n"
         "line 00000040 rollbacks 1 lost 3 true 1 silent 0 false 0 buffer 0\npc 00000004 victim 1 3 causer 0 0\npc 00000014 victim 0 0 causer 1 3\n")
@@ -64,6 +65,13 @@ def rows(folder):
     yield "the arrow tells the conflict", tips.count(SENTENCE) == 2 and "flag" in texts
     yield "the lost attempt", "epoch 1, try 1: violated, 3 instructions lost" in tips
     yield "the pair to blame", "3 of 3 lost, 1 rollback on flag (1 true)" in texts
+    yield "the legend has the bars' words", any(text.endswith("(e5 try 3, e5 #3 or #3: the third try of epoch 5)") for text in texts)
+    texts, tips = svg(folder, REPORT, text=IMAGE.replace("# Two", "# 2. Two") + TRACE)
+    yield "a heading with a number in front", "2. Two epochs, of which one waits." in texts
+    texts, tips = svg(folder, BESIDE, text=IMAGE.replace("256\n", "256\n# mark 00000044 4\n") + TRACE.replace("store 00000040", "store 00000044"))
+    yield "false sharing names both variables", "may help: give flag and mark lines of 16 bytes of their own" in texts and any("store at 00000014 to mark" in tip for tip in tips)
+    texts, tips = svg(folder, BESIDE, text=IMAGE.replace("40 4\n", "40 8\n") + TRACE.replace("store 00000040", "store 00000044"))
+    yield "false sharing in one variable names both places", "may help: give flag and flag+4 lines of 16 bytes of their own" in texts
     texts, tips = svg(folder, REPORT, "--overview")
     yield "the overview", SENTENCE in tips and "instructions that each epoch lost to rollbacks, a block for each" in texts
     texts, tips = svg(folder, FULL)

@@ -9,6 +9,8 @@ from .instructions import access_spelled
 LINE_LENGTH = {1: 16, 2: 32}
 VARIABLE = re.compile(r" (\S+) ([0-9a-fA-F]{8}) (\d+)")
 SOURCE = re.compile(r" code ([0-9a-fA-F]{8}) (\S+:\d+)")
+# To a full stop that another sentence follows, or to the end; that of a number in front, as in `2. A histogram.`, is none.
+SENTENCE = re.compile(r"(?:\d+\. )?.+?(?:\.(?= [\"'(]?[A-Z])|$)")
 
 
 class Unreadable(ValueError):
@@ -65,7 +67,8 @@ class Image:
             named = remark.startswith(">") or SOURCE.fullmatch(remark) or VARIABLE.fullmatch(remark)
             if not named and (not told or told[-1]):
                 told.append(remark.strip())
-        return re.split(r"(?<=\.) ", " ".join(filter(None, told)))[0]
+        found = SENTENCE.match(" ".join(filter(None, told)))
+        return found[0] if found else ""
 
     def variable_of(self, address: int) -> Variable | None:
         """The variable that has this byte."""

@@ -43,7 +43,7 @@ def legend(page, run, x, y, lanes):
     def bar(fill):
         return lambda a, b: page.box(a, b - 7, 26, 14, fill, INK, line=0.6)
 
-    rows = [(bar(USEFUL), "an attempt that commits (e5 #3: epoch 5, third try)" if lanes else "epochs: attempts that commit"),
+    rows = [(bar(USEFUL), "an attempt that commits (e5 try 3, e5 #3 or #3: the third try of epoch 5)" if lanes else "epochs: attempts that commit"),
             (bar(LOST), "lost: this attempt was rolled back")]
     if any(attempt.straight is not None for attempt in run.attempts) and lanes:
         rows.append((bar(STRAIGHT), "straight: published, its stores are committed at once"))

@@ -2,6 +2,9 @@
 
 from .page import COLOURS
 
+# So many names are listed; of more the first two.
+MOST_NAMES = 4
+
 
 def plural(count, word):
     return f"{count:,} {word}" + ("" if count == 1 else "s")
@@ -20,6 +23,24 @@ def bytes_of(run, violation):
     return name if violation.length == 1 else f"{name}, {violation.length} bytes"
 
 
+def stored_at(run, violation):
+    """The first byte of the blamed store, or None."""
+    return violation.causers and run.entries[violation.causers.entry].address
+
+
+def named_apart(image, places):
+    """The names of bytes that should lie apart: of variables, or where all lie in one, or have no name, of the bytes."""
+    found = [image.variable_of(place) for place in places]
+    names = sorted({one.name for one in found if one})
+    return names if len(names) > 1 and None not in found else [image.name_of(place) for place in places]
+
+
+def listed(names):
+    """`a, b and c`, or the first two and how many more there are."""
+    kept, more = (names[:2], [f"{len(names) - 2} more"]) if len(names) > MOST_NAMES else (names[:-1], names[-1:])
+    return " and ".join(filter(None, [", ".join(kept), *more]))
+
+
 def sentence(run, violation):
     """What the report says of a violation."""
     lost = f"{plural(violation.lost, 'instruction')} lost"
@@ -31,8 +52,9 @@ def sentence(run, violation):
                 f"buffer by its store at {spelled(violation.victims.pc)}; {lost}")
     else:
         told = {"publish": ", published", "commit": ", committed", "fault": ", committed by its fault"}.get(violation.cause_what, "")
+        to = f" to {run.image.name_of(stored_at(run, violation))}" if violation.kind == "false" else ""
         said = (f"epoch {violation.epoch}'s load at {spelled(violation.victims.pc)} of {bytes_of(run, violation)} was hit by epoch "
-                f"{violation.by_epoch}'s store at {spelled(violation.causers.pc)}{told}; {lost}; {violation.kind} sharing"
+                f"{violation.by_epoch}'s store at {spelled(violation.causers.pc)}{to}{told}; {lost}; {violation.kind} sharing"
                 .replace("silent sharing", "a silent store"))
     return said + ("; in vain, since that epoch was undone itself" if violation.vain else "")
 
@@ -45,10 +67,11 @@ def advice(run, violations):
     found = {run.image.variable_of(first) for first in {violation.first for violation in of_kind}} - {None}
     names = " and ".join(sorted(one.name for one in found)) or "these bytes"
     length = run.image.line_length
+    beside = sorted({place for violation in of_kind if kind == "false" for place in (violation.first, stored_at(run, violation))} - {None})
     return {
         "true": f"wait for {names}, or let each epoch keep its own and put them together at the end",
         "silent": f"store to {names} only where the value differs",
-        "false": f"give what lies beside each other in {names} lines of {length} bytes of their own",
+        "false": f"give {listed(named_apart(run.image, beside))} lines of {length} bytes of their own",
         "buffer": f"store to fewer lines in one epoch: its buffer holds {4 if length == 16 else 8}",
         "other": "nothing is known",
     }[kind]
