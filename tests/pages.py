@@ -1,13 +1,15 @@
 #!/usr/bin/env python3
-"""The commands that the pages of docs/ print: each block with lines `$ COMMAND` is run, and has to print what stands below.
+"""The commands that the pages print: each block with lines `$ COMMAND` is run, and has to print what stands below.
 
 Usage: tests/pages.py [COMMAND ..]
 
 COMMAND is a command of `trace_cli` that ends with the word `seq`, as for the other tests; `why` and `replay` are the programs that
 were built beside it. Without it ./trace_cli, ./why and ./replay are tested. A command with nothing below it has to end well and to say
-nothing on standard error. The commands of a page are run in one new folder, in which the tree's folders are found by their names.
-What calls `why` or `replay` is left out where they aren't built, what makes an image where tools/image-of lacks something or no gcc
-for RISC-V is installed, and what reads a file that so wasn't made; a line says so. Exits with 1 where a check failed.
+nothing on standard error. The commands of a page are run in one new folder, in which the tree's folders are found by their names; the
+word `--unproved` of ./trace_cli is dropped, since the program is there. A line of a block that begins as a command does, and has no
+`$ `, is told as failed. What NOT_RUN names is left out. So is what calls `why` or `replay` where they aren't built, what makes an
+image where tools/image-of lacks something or no gcc for RISC-V is installed, and what reads a file that so wasn't made. A line says
+each that is left out. Exits with 1 where a check failed.
 """
 import functools
 import os
@@ -21,15 +23,23 @@ from pathlib import Path
 ROOT = Path(__file__).resolve().parent.parent
 COMPILER = "riscv64-unknown-elf-gcc"
 SECONDS = 120
+PAGES = ["README.md", "CONTRIBUTING.md", "docs/**/*.md", "examples/*.md", "tests/*.md", "bench/**/*.md", "crates/*/README.md"]
+FOLDERS = ["bench", "docs", "examples", "tests", "tools"]
+# How a command begins that is this project's own.
+OWN = re.compile(r"(?m)^(?:\./|tools/|tests/|bench/|\.ci/).*")
+# Commands that no test runs, with the reason.
+NOT_RUN = {
+    ".ci/run": "runs for an hour, and this test with the others",
+    "bench/": "measures speed, and needs rustc and valgrind",
+}
 
 
 def blocks(page):
-    """The blocks of a page with lines `$ COMMAND`: for each the line where it begins, and its commands with what they print."""
+    """The fenced blocks of a page: for each the line where it begins, what stands above its first command, and its commands with what they print."""
     text = page.read_text(encoding="utf-8")
     for found in re.finditer(r"(?ms)^```\w*\n(.*?)^```", text):
-        commands = re.split(r"(?m)^\$ ", found[1])
-        if len(commands) > 1:
-            yield text.count("\n", 0, found.start()) + 2, [it.partition("\n")[::2] for it in commands[1:]]
+        above, *commands = re.split(r"(?m)^\$ ", found[1])
+        yield text.count("\n", 0, found.start()) + 2, above, [it.partition("\n")[::2] for it in commands]
 
 
 def programs(command):
@@ -52,7 +62,7 @@ def can_compile():
 def lacks(command, found):
     """What a command needs that isn't there, or None."""
     for name in ("why", "replay"):
-        if f"./{name} " in command and name not in found:
+        if re.search(rf"\./{name}\b", command) and name not in found:
             return f"the program {name}"
     for tool in ("named", "picture"):
         if f"tools/{tool} " in command and "why" not in found:
@@ -63,26 +73,33 @@ def lacks(command, found):
     return next((one for one in needed if not shutil.which(one)), None)
 
 
+def not_run(command):
+    """Why no test runs a command, or None."""
+    return next((f"{name}, which {reason}" for name, reason in NOT_RUN.items() if command.startswith(name)), None)
+
+
 def files_of(command):
     """The files that a command makes."""
     return set(re.findall(r"(?:>|-o) *([\w.]+)", command))
 
 
 def left_out(commands, found, unmade):
-    """What the commands of a block need that isn't there, or None; and the files that aren't there after them."""
+    """Why the commands of a block are left out, or None; and the files that aren't there after them."""
+    kept_back = next(filter(None, (not_run(it) for it, _ in commands)), None)
     missing = next(filter(None, (lacks(it, found) for it, _ in commands)), None)
     if not missing:
         missing = next((f"the file {name}" for it, _ in commands for name in sorted(unmade) if re.search(rf"(?<![\w.]){re.escape(name)}\b", it)), None)
-    return missing, unmade | set().union(*(files_of(it) for it, _ in commands)) if missing else unmade
+    reason = kept_back or (missing and f"what needs {missing}, which isn't there")
+    return reason, unmade | set().union(*(files_of(it) for it, _ in commands)) if reason else unmade
 
 
 def furnish(room, found):
     """Lays out the folder in which a page's commands are run."""
-    for name in ("examples", "tools"):
+    for name in FOLDERS:
         (room / name).symlink_to(ROOT / name)
     for name, path in found.items():
         script = room / name
-        script.write_text(f'#!/bin/sh\nexec "{path}" "$@"\n', encoding="utf-8")
+        script.write_text(f'#!/bin/sh\n[ "$1" != --unproved ] || shift\nexec "{path}" "$@"\n', encoding="utf-8")
         script.chmod(0o755)
 
 
@@ -100,24 +117,30 @@ def failure_of(command, wanted, room):
     return None
 
 
+def tried(page, found, told):
+    """(where, its failure or None) of each command of a page; what was left out is added to what is told."""
+    name, unmade = page.relative_to(ROOT), set()
+    with tempfile.TemporaryDirectory(prefix="pages-") as folder:
+        furnish(Path(folder), found)
+        for line, above, commands in blocks(page):
+            yield from ((f"{name}, line {line}: {it}", "has no `$ `") for it in OWN.findall(above))
+            reason, unmade = left_out(commands, found, unmade)
+            told |= {reason} - {None}
+            for command, wanted in [] if reason else commands:
+                yield f"{name}, line {line}: {command}", failure_of(command, wanted, folder)
+
+
 def main(words):
-    found, passed, failed, lacking = programs(words[:-1] if words[-1:] == ["seq"] else words), 0, 0, set()
-    for page in sorted((ROOT / "docs").glob("*.md")):
-        with tempfile.TemporaryDirectory(prefix="pages-") as folder:
-            furnish(Path(folder), found)
-            unmade = set()
-            for line, commands in blocks(page):
-                missing, unmade = left_out(commands, found, unmade)
-                lacking |= {missing} - {None}
-                for command, wanted in [] if missing else commands:
-                    why = failure_of(command, wanted, folder)
-                    passed, failed = passed + (why is None), failed + (why is not None)
-                    if why:
-                        print(f"FAILED {page.name}, line {line}: {command}: {why}")
-    for it in sorted(lacking):
-        print(f"left out: what needs {it}, which isn't there")
-    print(f"{passed} commands passed, {failed} failed")
-    return 1 if failed or not passed else 0
+    found, told = programs(words[:-1] if words[-1:] == ["seq"] else words), set()
+    pages = sorted(page for form in PAGES for page in ROOT.glob(form))
+    results = [result for page in pages for result in tried(page, found, told)]
+    failed = [(where, why) for where, why in results if why]
+    for where, why in failed:
+        print(f"FAILED {where}: {why}")
+    for it in sorted(told):
+        print(f"left out: {it}")
+    print(f"{len(results) - len(failed)} commands passed, {len(failed)} failed")
+    return 1 if failed or not results else 0
 
 
 if __name__ == "__main__":
