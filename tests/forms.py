@@ -27,7 +27,7 @@ try:
 except ImportError:
     Draft202012Validator = None
 
-TOOLS = ["picture", "named", "trace", "json", "image-of", "plot"]
+TOOLS = ["picture", "named", "trace", "json", "image-of", "plot", "verdict"]
 HURT = ("hurt 4 true epoch 1 try 1 core 1 lost 3 entered 2 since 2 by 0 core 0 cause 5 commit load 3 00000004 store 2 00000014 at 00000040 4\n"
         "also 4 silent load 3 00000004 store 2 00000014 at 00000080 4\nlater 4 store 7 00000014\nvain 4 hurt\nmoot 4\n")
 TOTAL = "total epochs 2 committed 2 useful 8 rollbacks 1 lost 3 cancelled 0 dropped 0 open 0 unsettled 0\n"
@@ -52,6 +52,7 @@ TEXTS = [
                   "distance 1 1 at 00000040 16\nline 00000040 rollbacks 1 lost 3 true 0 silent 0 false 0 buffer 1\npc 00000004 victim 1 3 causer 0 0\n"
                   "kind buffer rollbacks 1 lost 3\n" + TOTAL),
     ("gains", GAIN + "store caches cores 1 full\n" + GAIN.replace("gain 4.00", "gain -")),
+    ("output", "turns 0 1 0\nend done 1\ncounts 0 0 0 1\ntrace 2\n0 start 0\n0 commit\n"),
 ]
 # (form, what isn't of it)
 REFUSED = [

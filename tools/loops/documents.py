@@ -23,7 +23,7 @@ FORMS: dict[str, tuple[type, Callable[[str], Any]]] = {
 }
 # The words that begin a text, and their forms; a text of another beginning is an image.
 BEGINNINGS = {
-    "end": "output", "open": "output", "schedules": "survey", "legal": "verdict", "illegal": "verdict", "store": "gains",
+    "end": "output", "open": "output", "turns": "output", "schedules": "survey", "legal": "verdict", "illegal": "verdict", "store": "gains",
     "hurt": "conflicts", "cancel": "conflicts", "epoch": "conflicts", "total": "conflicts",
 }
 

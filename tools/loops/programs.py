@@ -1,4 +1,4 @@
-"""Calls of the programs: `trace_cli`, `why` and `replay`."""
+"""Calls of the programs: `trace_cli`, `why`, `replay` and `gain`."""
 
 import os
 import subprocess
@@ -6,6 +6,7 @@ from dataclasses import dataclass, field
 from pathlib import Path
 
 from .conflicts import Conflicts, read_conflicts
+from .gains import Gains, read_gains
 from .images import Image
 from .runs import Output, Survey, Trace, Traced, Verdict, read_output, read_survey, read_verdict
 
@@ -66,6 +67,14 @@ class Programs:
         """The loop by a schedule, the cores whose turns are taken one after another; store is caches or plain."""
         text = ended(text_of(image)) + " ".join(["turns", *map(str, turns)]) + "\n"
         return read_output(call(self.folder / "replay", [store, str(cores)], text))
+
+    def even(self, image: Image | str, store: str, cores: int) -> Output:
+        """The loop at even speed, with the schedule."""
+        return read_output(call(self.folder / "replay", ["even", store, str(cores)], text_of(image)))
+
+    def gain(self, image: Image | str, cores: int) -> Gains:
+        """What the loop gains on up to so many cores."""
+        return read_gains(call(self.folder / "gain", [str(cores)], text_of(image)))
 
     def replay_all(self, image: Image | str, store: str, cores: int, turns: int) -> Survey:
         """Every schedule of so many turns."""

@@ -93,7 +93,7 @@ class Output:
 
     def text(self) -> str:
         turns = "" if self.turns is None else " ".join(["turns", *map(str, self.turns)]) + "\n"
-        return self.report.text() + turns + "".join(part.text() for part in (self.counts, self.trace) if part)
+        return turns + self.report.text() + "".join(part.text() for part in (self.counts, self.trace) if part)
 
 
 @dataclass

@@ -1,0 +1,1 @@
+"""Verdicts on loops: what one gains at even speed, and what holds it back, in English."""
