@@ -72,6 +72,10 @@ class Programs:
         """The loop at even speed, with the schedule."""
         return read_output(call(self.folder / "replay", ["even", store, str(cores)], text_of(image)))
 
+    def seeded(self, image: Image | str, seed: int, store: str, cores: int) -> Output:
+        """The loop by the schedule that is drawn from a seed."""
+        return read_output(call(self.folder / "replay", ["seeded", str(seed), store, str(cores)], text_of(image)))
+
     def gain(self, image: Image | str, cores: int) -> Gains:
         """What the loop gains on up to so many cores."""
         return read_gains(call(self.folder / "gain", [str(cores)], text_of(image)))
