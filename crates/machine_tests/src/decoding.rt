@@ -112,8 +112,3 @@ fn refuses_words(rt: HostRuntime) {
 fn decodes_a_fence(rt: HostRuntime) {
     assert!(rt; matches!(decode(0x0ff0_000f), Ok(Instr::Fence)));
 }
-
-#[test]
-fn names_the_reasons(rt: HostRuntime) {
-    assert!(rt; Refused::Illegal.name() == "Illegal" && Refused::System.name() == "System");
-}

@@ -1,6 +1,6 @@
 //! Reading of images.
 
-use rv32_image::{Image, ImageFault, ImageFaultKind, InputFault, NoMemory, read_image, read_input};
+use rv32_image::{Image, InputFault, read_image, read_input};
 use std::test::Fail;
 
 #[test]
@@ -47,16 +47,4 @@ fn reads_an_image(rt: HostRuntime) -> Result<(), Fail> {
     assert!(rt; has_bytes(image.bytes(), 32, 0, &[0x67, 0x80, 0]));
     assert!(rt; has_bytes(image.bytes(), 32, 30, &[0, 0xff]));
     Ok(())
-}
-
-/// Whether a fault of this kind prints this name.
-fn is_named(kind: ImageFaultKind, name: &str) -> bool {
-    ImageFault { line: 7, kind }.name() == name && kind.name() == name
-}
-
-#[test]
-fn names_its_faults(rt: HostRuntime) {
-    assert!(rt; is_named(ImageFaultKind::MissingOrRepeated, "MissingOrRepeated"));
-    assert!(rt; is_named(ImageFaultKind::Hex, "Hex"));
-    assert!(rt; InputFault::TooLong.name() == "TooLong" && NoMemory.name() == "NoMemory");
 }

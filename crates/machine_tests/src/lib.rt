@@ -4,6 +4,8 @@
 #[cfg(test)]
 mod decoding;
 #[cfg(test)]
+mod errors;
+#[cfg(test)]
 mod execution;
 #[cfg(test)]
 mod images;
