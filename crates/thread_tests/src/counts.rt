@@ -1,5 +1,6 @@
 //! What a run counts.
 
+use crate::words::prints;
 use run_ledger::{
     Counts, Unequal, agree, count_commit, count_load, count_restart, count_store, gather, open,
 };
@@ -44,6 +45,8 @@ fn each_quantity_is_counted_on_both_sides(rt: HostRuntime) -> Result<(), Fail> {
 }
 
 #[test]
-fn the_error_prints_its_name(rt: HostRuntime) {
+fn the_error_has_a_name_and_prints_what_it_is(rt: HostRuntime) -> Result<(), Fail> {
     assert!(rt; Unequal.name() == "Unequal");
+    assert!(rt; prints(rt.alloc(), Unequal, "the shares do not sum to the totals")?);
+    Ok(())
 }

@@ -25,10 +25,13 @@ impl Gate for ShutAt {
 /// How often a core looks for the others before the gate shuts.
 const LOOKS: u64 = 100_000_000;
 
-/// Lets no core pass its turns 0, 1 and 2 before every other core has come to pass the same turn.
+/// Lets no core pass its turns 0, 1 and 2 before every other core has come to pass the same turn. It shuts where a core comes to pass
+/// one of them twice.
 #[derive(Drop)]
 pub struct Meeting {
+    /// A bit for each core.
     cores: u64,
+    /// The bits of the cores that have come to pass each turn.
     come: [AtomicU64; 3],
     /// How many cores had come to turn 1 with a store in hand when the first of them went on; 0 before.
     pub stores: AtomicU64,
@@ -38,12 +41,17 @@ pub struct Meeting {
 impl Meeting {
     pub fn new(cores: u32) -> Meeting {
         Meeting {
-            cores: cores as u64,
+            cores: bit_of(cores).wrapping_sub(1),
             come: [AtomicU64::new(0), AtomicU64::new(0), AtomicU64::new(0)],
             stores: AtomicU64::new(0),
             shown: AtomicU64::new(0),
         }
     }
+}
+
+/// The bit of a core.
+fn bit_of(core: u32) -> u64 {
+    1u64.wrapping_shl(core)
 }
 
 /// Whether a core hands in a store.
@@ -58,7 +66,7 @@ fn is_store(next: Option<&Arrived>) -> bool {
 }
 
 impl Gate for Meeting {
-    fn pass(&self, _core: u32, turn: u64, next: Option<&Arrived>) -> Result<(), Shut> {
+    fn pass(&self, core: u32, turn: u64, next: Option<&Arrived>) -> Result<(), Shut> {
         if turn > 2 {
             return Ok(());
         }
@@ -66,9 +74,13 @@ impl Gate for Meeting {
             self.shown.fetch_add(1, Ordering::SeqCst);
         }
         let come = &self.come[turn as usize];
-        come.fetch_add(1, Ordering::SeqCst);
+        if come.fetch_or(bit_of(core), Ordering::SeqCst) & bit_of(core) != 0 {
+            // Nobody has to wait for the others now.
+            come.fetch_or(self.cores, Ordering::SeqCst);
+            return Err(Shut);
+        }
         for _ in 0..LOOKS {
-            if come.load(Ordering::SeqCst) >= self.cores {
+            if come.load(Ordering::SeqCst) == self.cores {
                 if turn == 1 {
                     self.stores
                         .fetch_max(self.shown.load(Ordering::SeqCst), Ordering::SeqCst);

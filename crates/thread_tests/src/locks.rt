@@ -2,6 +2,7 @@
 ghost use Rattle.std.specs.Prelude.{◌≡◌, Some, IfOk};
 ghost use Rattle.ticket_lock.specs.Past.{GrowsBy};
 
+use crate::words::prints;
 use std::alloc::Global;
 use std::process::Abort;
 use std::sync::Wait;
@@ -141,6 +142,13 @@ fn no_ticket_is_drawn_past_the_last(rt: HostRuntime) -> Result<(), Fail> {
 }
 
 #[test]
-fn errors_print_their_names(rt: HostRuntime) {
-    assert!(rt; NoMemory.name() == "NoMemory" && Spent.name() == "Spent");
+fn errors_have_names_and_print_what_they_are(rt: HostRuntime) -> Result<(), Fail> {
+    let alloc = rt.alloc();
+    assert!(rt;
+        NoMemory.name() == "NoMemory" && prints(alloc, NoMemory, "no memory for the lock")?
+    );
+    assert!(rt;
+        Spent.name() == "Spent" && prints(alloc, Spent, "all tickets of the lock have been drawn")?
+    );
+    Ok(())
 }

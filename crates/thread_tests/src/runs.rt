@@ -7,6 +7,7 @@ use crate::words::{cell, end_of, is_row, number};
 use core_threads::{Finished, Gate, Open};
 use homefree::Book;
 use rv32_exec::{End, Image, image_of};
+use spec_bus::CachedBus;
 use std::alloc::Global;
 use std::process::Abort;
 use std::sync::Wait;
@@ -21,12 +22,13 @@ fn ends<S: EpochStore, G: Gate, R: Abort + Threads + Wait + Sync>(
     alloc: Global,
     text: &str,
     cores: u32,
+    room: u32,
     gate: &G,
     end: End,
     words: &str,
 ) -> Result<(), Fail> {
     let image = image_of(alloc, text.as_bytes())?;
-    match run::<S, G, R>(rt, alloc, &image, cores, 4096, gate) {
+    match run::<S, G, R>(rt, alloc, &image, cores, room, gate) {
         Ok(run) => has_ended(rt, alloc, &run, &image, cores, end, words),
         Err(run) => Err(run.fault.name().into()),
     }
@@ -87,6 +89,7 @@ fn ends_as<S: EpochStore, R: Abort + Threads + Wait + Sync>(
         alloc,
         text,
         number(cell(line, 1), 0),
+        4096,
         &Open,
         end,
         cell(line, 3),
@@ -103,7 +106,7 @@ fn loops_end_as_the_sequential_loop_does(rt: HostRuntime) -> Result<(), Fail> {
 }
 
 /// So many cores meet in the gate, each with a store at turn 1.
-fn meet<R: Abort + Threads + Wait + Sync>(
+fn meet<S: EpochStore, R: Abort + Threads + Wait + Sync>(
     rt: &R,
     alloc: Global,
     text: &str,
@@ -111,7 +114,7 @@ fn meet<R: Abort + Threads + Wait + Sync>(
 ) -> Result<(), Fail> {
     let gate = Meeting::new(cores);
     let end = End::Done(cores);
-    ends::<PlainStore, Meeting, R>(rt, alloc, text, cores, &gate, end, "0 1")?;
+    ends::<S, Meeting, R>(rt, alloc, text, cores, 64, &gate, end, "0 1")?;
     assert!(rt; gate.stores.load(Ordering::SeqCst) == cores as u64);
     Ok(())
 }
@@ -120,6 +123,8 @@ fn meet<R: Abort + Threads + Wait + Sync>(
 /// store, which it has come to before the gate.
 #[test]
 fn all_cores_meet_in_the_gate(rt: HostRuntime) -> Result<(), Fail> {
-    meet(&rt, rt.alloc(), WORDS_OF_TWO, 2)?;
-    meet(&rt, rt.alloc(), WORDS_OF_EIGHT, 8)
+    meet::<PlainStore, HostRuntime>(&rt, rt.alloc(), WORDS_OF_TWO, 2)?;
+    meet::<PlainStore, HostRuntime>(&rt, rt.alloc(), WORDS_OF_EIGHT, 8)?;
+    meet::<CachedBus, HostRuntime>(&rt, rt.alloc(), WORDS_OF_TWO, 2)?;
+    meet::<CachedBus, HostRuntime>(&rt, rt.alloc(), WORDS_OF_EIGHT, 8)
 }

@@ -3,19 +3,21 @@
 use crate::gates::ShutAt;
 use crate::look::{look, run, word_at};
 use crate::programs::SUM_OF_FOUR;
+use crate::words::prints;
 use core_threads::{Gate, Halted, LoopEnd, Open, RunFault, Shut, core_loop};
 use homefree::Book;
 use rv32_exec::{End, Image, image_of};
+use spec_bus::CachedBus;
 use std::alloc::Global;
 use std::process::Abort;
 use std::sync::Wait;
 use std::test::Fail;
 use std::thread::Threads;
 use ticket_lock::TicketLock;
-use violations::PlainStore;
+use violations::{EpochStore, PlainStore};
 
 /// A run that is halted for this fault, with a legal history.
-fn halted<G: Gate, R: Abort + Threads + Wait + Sync>(
+fn halted<S: EpochStore, G: Gate, R: Abort + Threads + Wait + Sync>(
     rt: &R,
     alloc: Global,
     image: &Image,
@@ -23,8 +25,8 @@ fn halted<G: Gate, R: Abort + Threads + Wait + Sync>(
     room: u32,
     gate: &G,
     fault: RunFault,
-) -> Result<Halted<PlainStore>, Fail> {
-    match run::<PlainStore, G, R>(rt, alloc, image, cores, room, gate) {
+) -> Result<Halted<S>, Fail> {
+    match run::<S, G, R>(rt, alloc, image, cores, room, gate) {
         Ok(_) => Err("it is over".into()),
         Err(run) => {
             assert!(rt; run.fault == fault);
@@ -35,10 +37,10 @@ fn halted<G: Gate, R: Abort + Threads + Wait + Sync>(
 }
 
 /// Looks at the book of a run that was halted.
-fn look_at(
+fn look_at<S: EpochStore>(
     rt: &impl Abort,
     alloc: Global,
-    run: &Halted<PlainStore>,
+    run: &Halted<S>,
     image: &Image,
     cores: u32,
 ) -> Result<(), &'static str> {
@@ -48,13 +50,13 @@ fn look_at(
 }
 
 /// How many entries the run has, how many epochs have committed, and the word at 64.
-fn reached(run: &Halted<PlainStore>) -> Option<(usize, u32, u32)> {
+fn reached<S: EpochStore>(run: &Halted<S>) -> Option<(usize, u32, u32)> {
     let book = run.book.as_ref()?;
     Some((book.len(), book.homefree(), word_at(book, 64)?))
 }
 
 /// Whether a run ends with its loop over.
-fn is_over<G: Gate, R: Abort + Threads + Wait + Sync>(
+fn is_over<S: EpochStore, G: Gate, R: Abort + Threads + Wait + Sync>(
     rt: &R,
     alloc: Global,
     image: &Image,
@@ -62,11 +64,11 @@ fn is_over<G: Gate, R: Abort + Threads + Wait + Sync>(
     room: u32,
     gate: &G,
 ) -> bool {
-    run::<PlainStore, G, R>(rt, alloc, image, cores, room, gate).is_ok()
+    run::<S, G, R>(rt, alloc, image, cores, room, gate).is_ok()
 }
 
 /// The gate shuts for the one core at this turn. It makes an entry a turn, and four for each epoch.
-fn stops_at<R: Abort + Threads + Wait + Sync>(
+fn stops_at<S: EpochStore, R: Abort + Threads + Wait + Sync>(
     rt: &R,
     alloc: Global,
     image: &Image,
@@ -76,33 +78,43 @@ fn stops_at<R: Abort + Threads + Wait + Sync>(
         core: 0,
         turn: turn as u64,
     };
-    let run = halted(rt, alloc, image, 1, 64, &gate, RunFault::Shut)?;
+    let run: Halted<S> = halted(rt, alloc, image, 1, 64, &gate, RunFault::Shut)?;
     let homefree = turn / 4;
     let sum = homefree.wrapping_mul(homefree.wrapping_sub(1)) / 2;
     assert_eq!(rt; reached(&run), Some((turn as usize, homefree, sum)));
     Ok(())
 }
 
-#[test]
-fn a_shut_gate_stops_the_run_at_any_turn(rt: HostRuntime) -> Result<(), Fail> {
-    let image = image_of(rt.alloc(), SUM_OF_FOUR.as_bytes())?;
+/// The gate that shuts at any turn, and the one that shuts after the last.
+fn stops_at_any<S: EpochStore, R: Abort + Threads + Wait + Sync>(
+    rt: &R,
+    alloc: Global,
+    image: &Image,
+) -> Result<(), Fail> {
     for turn in 0..16 {
-        stops_at(&rt, rt.alloc(), &image, turn)?;
+        stops_at::<S, R>(rt, alloc, image, turn)?;
     }
     let late = ShutAt { core: 0, turn: 16 };
-    assert!(rt; is_over(&rt, rt.alloc(), &image, 1, 64, &late));
+    assert!(rt; is_over::<S, ShutAt, R>(rt, alloc, image, 1, 64, &late));
     Ok(())
 }
 
+#[test]
+fn a_shut_gate_stops_the_run_at_any_turn(rt: HostRuntime) -> Result<(), Fail> {
+    let image = image_of(rt.alloc(), SUM_OF_FOUR.as_bytes())?;
+    stops_at_any::<PlainStore, HostRuntime>(&rt, rt.alloc(), &image)?;
+    stops_at_any::<CachedBus, HostRuntime>(&rt, rt.alloc(), &image)
+}
+
 /// A run whose gate shuts for core 1 of four is over, or is halted for that with a legal history.
-fn shuts_or_is_over<R: Abort + Threads + Wait + Sync>(
+fn shuts_or_is_over<S: EpochStore, R: Abort + Threads + Wait + Sync>(
     rt: &R,
     alloc: Global,
     image: &Image,
     turn: u64,
 ) -> Result<(), Fail> {
     let gate = ShutAt { core: 1, turn };
-    match run::<PlainStore, ShutAt, R>(rt, alloc, image, 4, 4096, &gate) {
+    match run::<S, ShutAt, R>(rt, alloc, image, 4, 4096, &gate) {
         Ok(run) => look(rt, alloc, &run.book, image, 4)?,
         Err(run) => {
             assert_eq!(rt; run.fault, RunFault::Shut);
@@ -116,13 +128,14 @@ fn shuts_or_is_over<R: Abort + Threads + Wait + Sync>(
 fn a_gate_that_shuts_one_core_of_four_leaves_a_legal_history(rt: HostRuntime) -> Result<(), Fail> {
     let image = image_of(rt.alloc(), SUM_OF_FOUR.as_bytes())?;
     for turn in 0..21 {
-        shuts_or_is_over(&rt, rt.alloc(), &image, turn)?;
+        shuts_or_is_over::<PlainStore, HostRuntime>(&rt, rt.alloc(), &image, turn)?;
+        shuts_or_is_over::<CachedBus, HostRuntime>(&rt, rt.alloc(), &image, turn)?;
     }
     Ok(())
 }
 
 /// The one core has room for so many entries, and as many epochs have committed then.
-fn is_full<R: Abort + Threads + Wait + Sync>(
+fn is_full<S: EpochStore, R: Abort + Threads + Wait + Sync>(
     rt: &R,
     alloc: Global,
     image: &Image,
@@ -131,30 +144,39 @@ fn is_full<R: Abort + Threads + Wait + Sync>(
     homefree: u32,
     sum: u32,
 ) -> Result<(), Fail> {
-    let run = halted(rt, alloc, image, 1, room, &Open, RunFault::HistoryFull)?;
+    let run: Halted<S> = halted(rt, alloc, image, 1, room, &Open, RunFault::HistoryFull)?;
     assert_eq!(rt; reached(&run), Some((entries, homefree, sum)));
     Ok(())
 }
 
 /// A turn asks for 16 free entries, and the loop of four sums makes 16 entries.
-#[test]
-fn a_full_history_stops_the_run(rt: HostRuntime) -> Result<(), Fail> {
-    let image = image_of(rt.alloc(), SUM_OF_FOUR.as_bytes())?;
-    is_full(&rt, rt.alloc(), &image, 16, 1, 0, 0)?;
-    is_full(&rt, rt.alloc(), &image, 20, 5, 1, 0)?;
-    is_full(&rt, rt.alloc(), &image, 30, 15, 3, 3)?;
-    assert!(rt; is_over(&rt, rt.alloc(), &image, 1, 31, &Open));
-    Ok(())
-}
-
-/// The book that the core leaves when it finds no ticket.
-fn leaves<R: Abort + Threads + Wait + Sync>(
+fn stops_when_full<S: EpochStore, R: Abort + Threads + Wait + Sync>(
     rt: &R,
     alloc: Global,
     image: &Image,
-) -> Result<Book<PlainStore>, Fail> {
+) -> Result<(), Fail> {
+    is_full::<S, R>(rt, alloc, image, 16, 1, 0, 0)?;
+    is_full::<S, R>(rt, alloc, image, 20, 5, 1, 0)?;
+    is_full::<S, R>(rt, alloc, image, 30, 15, 3, 3)?;
+    assert!(rt; is_over::<S, Open, R>(rt, alloc, image, 1, 31, &Open));
+    Ok(())
+}
+
+#[test]
+fn a_full_history_stops_the_run(rt: HostRuntime) -> Result<(), Fail> {
+    let image = image_of(rt.alloc(), SUM_OF_FOUR.as_bytes())?;
+    stops_when_full::<PlainStore, HostRuntime>(&rt, rt.alloc(), &image)?;
+    stops_when_full::<CachedBus, HostRuntime>(&rt, rt.alloc(), &image)
+}
+
+/// The book that the core leaves when it finds no ticket.
+fn leaves<S: EpochStore, R: Abort + Threads + Wait + Sync>(
+    rt: &R,
+    alloc: Global,
+    image: &Image,
+) -> Result<Book<S>, Fail> {
     assert!(rt; image.version().limits().most_cores > 0);
-    let (book, shares) = Book::<PlainStore>::new(alloc, image, 1, 64)?;
+    let (book, shares) = Book::<S>::new(alloc, image, 1, 64)?;
     let (lock, pass) = TicketLock::open_at(alloc, book, 1, (1 << 63) - 5)?;
     let (pass, shares, end) = core_loop(rt, &lock, pass, shares, image, &Open);
     assert!(rt; end == LoopEnd::Spent);
@@ -164,22 +186,31 @@ fn leaves<R: Abort + Threads + Wait + Sync>(
 }
 
 /// Five tickets are left, and then the core finds none.
-#[test]
-fn the_last_ticket_ends_the_turns(rt: HostRuntime) -> Result<(), Fail> {
-    let image = image_of(rt.alloc(), SUM_OF_FOUR.as_bytes())?;
-    let book = leaves(&rt, rt.alloc(), &image)?;
+fn ends_at_the_last<S: EpochStore, R: Abort + Threads + Wait + Sync>(
+    rt: &R,
+    alloc: Global,
+    image: &Image,
+) -> Result<(), Fail> {
+    let book = leaves::<S, R>(rt, alloc, image)?;
     assert!(rt; book.len() == 5 && book.homefree() == 1);
-    look(&rt, rt.alloc(), &book, &image, 1)?;
+    look(rt, alloc, &book, image, 1)?;
     Ok(())
 }
 
+#[test]
+fn the_last_ticket_ends_the_turns(rt: HostRuntime) -> Result<(), Fail> {
+    let image = image_of(rt.alloc(), SUM_OF_FOUR.as_bytes())?;
+    ends_at_the_last::<PlainStore, HostRuntime>(&rt, rt.alloc(), &image)?;
+    ends_at_the_last::<CachedBus, HostRuntime>(&rt, rt.alloc(), &image)
+}
+
 /// A run with two cores is over, or memory or a thread was refused; what there is of it is a legal history.
-fn is_over_or_refused<R: Abort + Threads + Wait + Sync>(
+fn is_over_or_refused<S: EpochStore, R: Abort + Threads + Wait + Sync>(
     rt: &R,
     alloc: Global,
     image: &Image,
 ) -> Result<(), &'static str> {
-    match run::<PlainStore, Open, R>(rt, alloc, image, 2, 64, &Open) {
+    match run::<S, Open, R>(rt, alloc, image, 2, 64, &Open) {
         Ok(run) => {
             assert_eq!(rt; run.end, End::Done(4));
             look_again(rt, alloc, &run.book, image)
@@ -195,10 +226,10 @@ fn is_over_or_refused<R: Abort + Threads + Wait + Sync>(
 }
 
 /// Looks at a book again where memory was refused at the first look.
-fn look_again(
+fn look_again<S: EpochStore>(
     rt: &impl Abort,
     alloc: Global,
-    book: &Book<PlainStore>,
+    book: &Book<S>,
     image: &Image,
 ) -> Result<(), &'static str> {
     if look(rt, alloc, book, image, 2).is_ok() {
@@ -215,14 +246,14 @@ fn want_of_memory_halts_a_run(rt: HostRuntime) -> Result<(), Fail> {
         made = image_of(rt.alloc(), SUM_OF_FOUR.as_bytes());
     }
     let image = made?;
-    is_over_or_refused(&rt, rt.alloc(), &image)?;
+    is_over_or_refused::<PlainStore, HostRuntime>(&rt, rt.alloc(), &image)?;
+    is_over_or_refused::<CachedBus, HostRuntime>(&rt, rt.alloc(), &image)?;
     Ok(())
 }
 
 /// The fault has this name, and prints it.
 fn is_named(rt: &impl Abort, alloc: Global, fault: RunFault, name: &str) -> Result<(), Fail> {
-    assert!(rt; fault.name() == name);
-    assert!(rt; format!(in alloc; "{fault}")?.as_str() == name);
+    assert!(rt; fault.name() == name && prints(alloc, fault, name)?);
     Ok(())
 }
 
@@ -234,6 +265,6 @@ fn names_are_printed(rt: HostRuntime) -> Result<(), Fail> {
     is_named(&rt, alloc, RunFault::NoThread, "NoThread")?;
     is_named(&rt, alloc, RunFault::Spent, "Spent")?;
     is_named(&rt, alloc, RunFault::Shut, "Shut")?;
-    assert!(rt; Shut.name() == "Shut");
+    assert!(rt; Shut.name() == "Shut" && prints(alloc, Shut, "Shut")?);
     Ok(())
 }

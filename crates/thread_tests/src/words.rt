@@ -1,6 +1,8 @@
 //! The words of a row: cells between bars, and numbers.
 
 use rv32_exec::End;
+use std::alloc::{AllocError, Global};
+use std::fmt::Display;
 
 /// An empty line is no row.
 pub fn is_row(line: &str) -> bool {
@@ -36,4 +38,9 @@ pub fn end_of(text: &str) -> End {
             pc: number(text, 3),
         }
     }
+}
+
+/// Whether an error prints this text.
+pub fn prints(alloc: Global, error: impl Display + Drop, text: &str) -> Result<bool, AllocError> {
+    Ok(format!(in alloc; "{error}")?.as_str() == text)
 }
