@@ -4,6 +4,7 @@ ghost use Rattle.std.specs.Prelude.{◌≡◌, true};
 ghost use Rattle.orb.specs.Lines.{IsLimit};
 
 use orb::{Orb, OrbFull};
+use std::test::Fail;
 
 /// A limit of version 1 and of version 2 of the images.
 fn is_limit(limit: usize) -> bool
@@ -103,6 +104,11 @@ fn lines_leave_in_any_order(rt: HostRuntime) {
 }
 
 #[test]
-fn error_name(rt: HostRuntime) {
-    assert!(rt; OrbFull.name() == "OrbFull");
+fn the_error_has_a_name_and_prints_what_it_is(rt: HostRuntime) -> Result<(), Fail> {
+    let error = OrbFull;
+    let text = format!(in rt.alloc(); "{error}")?;
+    assert!(rt;
+        error.name() == "OrbFull" && text.as_str() == "the ownership required buffer is full"
+    );
+    Ok(())
 }
