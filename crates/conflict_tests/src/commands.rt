@@ -173,7 +173,11 @@ impl Write for FailingWriter {
     }
 
     fn flush(&mut self) -> io::Result<()> {
-        match self.stops {
+        let stops = self.stops;
+        if self.fails == Fails::Once {
+            self.stops = Stops::Errs;
+        }
+        match stops {
             Stops::Unflushed => Err(Error::from(ErrorKind::BrokenPipe)),
             _ => Ok(()),
         }
@@ -247,19 +251,18 @@ fn stops_at_a_failed_write(rt: HostRuntime) {
 }
 
 /// Whether a flush that fails ends the command.
-fn is_unflushed(alloc: Global, which: Which) -> bool {
+fn is_unflushed(alloc: Global, which: Which, fails: Fails) -> bool {
     let answer = which.answer().as_bytes();
-    run_into(alloc, which, answer.len(), Stops::Unflushed, Fails::Always).is(
-        3,
-        answer,
-        "stopped Write\n",
-    )
+    run_into(alloc, which, answer.len(), Stops::Unflushed, fails).is(3, answer, "stopped Write\n")
 }
 
+/// A flush that fails ends the command, also where a second one would succeed.
 #[test]
 fn stops_at_a_failed_flush(rt: HostRuntime) {
-    assert!(rt; is_unflushed(rt.alloc(), Which::Seq));
-    assert!(rt; is_unflushed(rt.alloc(), Which::Audit));
+    for which in [Which::Seq, Which::Audit] {
+        assert!(rt; is_unflushed(rt.alloc(), which, Fails::Once));
+        assert!(rt; is_unflushed(rt.alloc(), which, Fails::Always));
+    }
 }
 
 /// A command's input into a writer with so much room.

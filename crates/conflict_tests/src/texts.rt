@@ -2,6 +2,8 @@
 
 use rv32_image::{NoMemory, Version};
 use spec_history::{Entry, What};
+use std::alloc::{AllocError, Global};
+use std::fmt::Display;
 use std::test::Fail;
 use trace_text::{TraceFault, TraceFaultKind, image_part, print_trace, read_trace};
 
@@ -62,4 +64,29 @@ fn tells_want_of_memory(rt: HostRuntime) {
             assert!(rt; fault == wanted && fault.name() == "NoMemory");
         }
     }
+}
+
+/// Whether an error prints this text.
+fn prints(alloc: Global, error: impl Display + Drop, text: &str) -> Result<bool, AllocError> {
+    Ok(format!(in alloc; "{error}")?.as_str() == text)
+}
+
+const KINDS: [(TraceFaultKind, &str); 5] = [
+    (TraceFaultKind::Head, "Head"),
+    (TraceFaultKind::Line, "Line"),
+    (TraceFaultKind::TooLong, "TooLong"),
+    (TraceFaultKind::Read, "Read"),
+    (TraceFaultKind::NoMemory, "NoMemory"),
+];
+
+/// A fault prints its line before the name of its kind.
+#[test]
+fn faults_print_their_names(rt: HostRuntime) -> Result<(), Fail> {
+    for (kind, name) in KINDS {
+        let fault = TraceFault { line: 7, kind };
+        let text = format!(in rt.alloc(); "7 {name}")?;
+        assert!(rt; kind.name() == name && prints(rt.alloc(), kind, name)?);
+        assert!(rt; fault.name() == name && prints(rt.alloc(), fault, text.as_str())?);
+    }
+    Ok(())
 }
