@@ -2,7 +2,7 @@
 ghost use Rattle.std.specs.Prelude.{◌≡◌};
 
 use rv32_exec::{Image, NoMemory};
-use std::alloc::Global;
+use std::alloc::{AllocError, Global};
 use violations::{CoreSet, EpochStore, Step};
 
 /// A store that makes room twice, and is refused memory from then on.
@@ -72,5 +72,9 @@ impl<S: EpochStore> EpochStore for Refusing<S> {
 
     fn committed_byte(&self, addr: u32) -> u8 {
         self.store.committed_byte(addr)
+    }
+
+    fn committed_memory(&self, alloc: Global) -> Result<Vec<u8>, AllocError> {
+        self.store.committed_memory(alloc)
     }
 }

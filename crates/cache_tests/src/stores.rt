@@ -1,6 +1,9 @@
 //! The plain store, and sets of cores.
 
+use crate::play::play;
 use rv32_image::image_of;
+use spec_bus::CachedBus;
+use std::alloc::Global;
 use std::test::Fail;
 use violations::{CoreSet, EpochStore, PlainStore, Waiting};
 
@@ -24,6 +27,34 @@ fn a_store_that_waits_has_the_memory_of_the_one_in_it(rt: HostRuntime) -> Result
     assert!(rt; store.reserve().is_ok());
     assert!(rt; image.size() > 64);
     assert!(rt; store.committed_byte(64) == 5);
+    Ok(())
+}
+
+/// Committed memory of a store of that image has 256 bytes, with this one at 64 and this one at 80.
+fn has_bytes<S: EpochStore>(alloc: Global, store: &S, first: u8, second: u8) -> Result<bool, Fail> {
+    let bytes = store.committed_memory(alloc)?;
+    Ok(
+        bytes.len() == 256
+            && bytes.get(64).copied() == Some(first)
+            && bytes.get(80).copied() == Some(second),
+    )
+}
+
+#[test]
+fn committed_memory_has_the_modified_lines_of_the_caches(rt: HostRuntime) -> Result<(), Fail> {
+    let alloc = rt.alloc();
+    let image = image_of(alloc, IMAGE.as_bytes())?;
+    let plain = PlainStore::fresh(alloc, &image, 2)?;
+    assert!(rt; has_bytes(alloc, &plain, 5, 0)?);
+    let waiting: Waiting<PlainStore> = Waiting::fresh(alloc, &image, 2)?;
+    assert!(rt; has_bytes(alloc, &waiting, 5, 0)?);
+    let mut bus = CachedBus::fresh(alloc, &image, 2)?;
+    play(
+        &rt,
+        &mut bus,
+        "begin 0 0 | store 0 80 4 9 | publish 0 | straight_store 0 64 4 7 | line 0 80 M . 0 | line 0 64 M . 0",
+    );
+    assert!(rt; has_bytes(alloc, &bus, 7, 9)?);
     Ok(())
 }
 

@@ -1,7 +1,8 @@
 //! What can be read of a book.
-ghost use Rattle.std.specs.Prelude.{◌≡◌, ℕ, length, Some, None, slice_get, nat_lt, if◌then◌else◌};
+ghost use Rattle.std.specs.Prelude.{◌≡◌, ℕ, IfOk, length, Some, None, slice_get, nat_lt, if◌then◌else◌};
 ghost use Rattle.spec_history.specs.FlatState.{FlatState};
 ghost use Rattle.spec_history.specs.Replay.{replay};
+ghost use Rattle.violations.specs.View.{IsCommitted};
 ghost use Rattle.homefree.specs.InStep.{InStep};
 
 use crate::answer::StopCause;
@@ -9,6 +10,7 @@ use crate::book::Book;
 use run_ledger::Counts;
 use rv32_exec::{End, Image};
 use spec_history::Entry;
+use std::alloc::{AllocError, Global};
 use violations::EpochStore;
 
 impl<S: EpochStore> Book<S> {
@@ -21,6 +23,16 @@ impl<S: EpochStore> Book<S> {
         } else {
             None
         }
+    }
+
+    /// Committed memory, byte for byte from address 0 on; the store is of the image's size. It is taken whole.
+    ///
+    /// `AllocError`: memory ran out.
+    pub fn committed_memory(&self, alloc: Global) -> Result<Vec<u8>, AllocError>
+        ensures memory { IfOk result (λ bytes. IsCommitted (S.view self.now.store) bytes.items) }
+        ensures size { (S.view self.now.store).shape.size ≡ self.now.image.size }
+    {
+        self.inside.parts.store.committed_memory(alloc)
     }
 
     /// The entry at a place of the history, counted from 0, if it is there.

@@ -6,7 +6,7 @@ use Rattle.spec_history.specs.FlatState.{FlatState}
 use Rattle.spec_history.specs.Laws.{IsPublished}
 use Rattle.spec_history.specs.Replay.{replay}
 use Rattle.spec_history.proofs.Replays.{replayed}
-use Rattle.violations.specs.View.{StoreView}
+use Rattle.violations.specs.View.{StoreView, IsCommitted}
 use Rattle.homefree.specs.BookView.{BookView}
 use Rattle.homefree.specs.Driven.{IsInOrder}
 use Rattle.homefree.specs.InStep.{InStep}
@@ -15,7 +15,6 @@ use Rattle.trace_commands.specs.declared.outcome.Outcome.{Outcome}
 use Rattle.trace_commands.specs.Report.{open_report, report_of}
 use Rattle.trace_text.specs.Laws.{AreEntries}
 use Rattle.trace_text.specs.Printing.{printed_trace}
-use Rattle.run_command.specs.Committed.{IsCommitted}
 use Rattle.run_command.specs.Run.{counts_line}
 use Rattle.run_command.proofs.Committing.{committed_is_memory}
 use Rattle.run_command.proofs.Printing.{result_is}
@@ -25,7 +24,7 @@ one_state : (o : Option FlatState) (s t : FlatState) → o ≡ Some s → o ≡ 
 one_state o s t p q = let e : Some s ≡ Some t = sym p ∙ q in cc
 
 module _ {S : Type 0} (view : S → StoreView) (image : LoadedImage) (b : BookView S) (i : InStep view b) (image_is : b.image ≡ image)
-    (bytes : List ℕ) (so : IsCommitted image.size (view b.store).committed bytes) (s : FlatState) (replays : replay b.image b.cores b.history ≡ Some s) where
+    (bytes : List ℕ) (so : IsCommitted (view b.store) bytes) (size : (view b.store).shape.size ≡ image.size) (s : FlatState) (replays : replay b.image b.cores b.history ≡ Some s) where
   state_is : i.state ≡ s
   state_is = one_state (replay b.image b.cores b.history) i.state s i.replays replays
 
@@ -35,20 +34,17 @@ module _ {S : Type 0} (view : S → StoreView) (image : LoadedImage) (b : BookVi
       let ends = in_order view b end i (ap (λ t. t.end) state_is ∙ sym over) in
       let ordered : IsInOrder image end (view b.store).committed = subst (λ (l : LoadedImage). IsInOrder l end (view b.store).committed) image_is ends in
       subst (λ (e : Option End). IsReport image s e (report_of image (record { end = end; bytes = bytes }))) over
-      (ordered.end_is, result_is image end (view b.store).committed bytes ordered so)
+      (ordered.end_is, result_is image end (view b.store) bytes ordered so size)
 
-  committed : IsCommitted image.size s.committed bytes
-  committed = record {
-    long = so.long;
-    byte = λ a below. so.byte a below ∙ (i.agrees.committed a ∙ ap (λ t. t.committed a) state_is);
-  }
+  committed : (a : ℕ) → (view b.store).committed a ≡ s.committed a
+  committed a = i.agrees.committed a ∙ ap (λ t. t.committed a) state_is
 
   -- it isn't
   pub of_open : (homefree : ℕ) → None ≡ s.end → homefree ≡ s.homefree → IsReport image s s.end (open_report image homefree bytes)
   of_open homefree going is =
-      let so : IsPublished image s = subst (λ (l : LoadedImage). IsPublished l s) image_is (replayed b.image b.cores b.history s i.is_image replays).published in
-      let same : bytes ≡ so.memory = committed_is_memory image s.committed bytes so.memory committed so.holds in
-      subst (λ (e : Option End). IsReport image s e (open_report image homefree bytes)) going (so, (λ k. open_report image (is k) (same k)))
+      let published : IsPublished image s = subst (λ (l : LoadedImage). IsPublished l s) image_is (replayed b.image b.cores b.history s i.is_image replays).published in
+      let same : bytes ≡ published.memory = committed_is_memory (view b.store) image s.committed bytes published.memory so size committed published.holds in
+      subst (λ (e : Option End). IsReport image s e (open_report image homefree bytes)) going (published, (λ k. open_report image (is k) (same k)))
 
 -- with the counts and the trace below the report
 pub shown : {S : Type 0} (view : S → StoreView) (image : LoadedImage) (cores : ℕ) (b : BookView S) (outcome : Outcome) (report text : List ℕ) → InStep view b

@@ -6,7 +6,7 @@ ghost use Rattle.homefree.specs.InStep.{InStep};
 ghost use Rattle.replay.specs.Replay as spec;
 
 use homefree::Book;
-use run_command::{committed_bytes, with_history};
+use run_command::with_history;
 use rv32_image::Image;
 use std::alloc::{AllocError, Global};
 use trace_commands::{Outcome, print_open_report, print_report};
@@ -43,7 +43,7 @@ fn report_of<S: EpochStore>(
     ensures report { (s : FlatState) → replay book.now.image book.now.cores book.now.history ≡ Some s
         → IfOk result (λ shown. spec.IsReport image.now s s.end shown.1.items) }
 {
-    let bytes = committed_bytes(alloc, book, image.size())?;
+    let bytes = book.committed_memory(alloc)?;
     match book.ended() {
         Some(end) => {
             let report = print_report(alloc, image, end, bytes.as_slice())?;

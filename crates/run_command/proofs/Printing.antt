@@ -5,7 +5,7 @@ use Rattle.rv32_exec.specs.declared.sequential.End.{End}
 use Rattle.rv32_exec.specs.Sequential.{sequential_result}
 use Rattle.run_ledger.specs.declared.counts.Counts.{Counts}
 use Rattle.spec_history.specs.Replay.{replay}
-use Rattle.violations.specs.View.{StoreView}
+use Rattle.violations.specs.View.{StoreView, IsCommitted}
 use Rattle.homefree.specs.BookView.{BookView}
 use Rattle.homefree.specs.Counted.{counted_in}
 use Rattle.homefree.specs.Driven.{IsInOrder}
@@ -17,7 +17,6 @@ use Rattle.trace_commands.specs.Report.{report_of}
 use Rattle.trace_text.specs.Laws.{AreEntries}
 use Rattle.trace_text.specs.Printing.{printed_trace}
 use Rattle.run_command.specs.declared.options.RunOptions.{RunOptions}
-use Rattle.run_command.specs.Committed.{IsCommitted}
 use Rattle.run_command.specs.Run.{IsBelow, IsMade, IsPrinted, IsWholeHistory, counts_line, loop_asked}
 use Rattle.run_command.proofs.Committing.{committed_is_memory}
 
@@ -36,10 +35,10 @@ on_is true off = refl
 on_is false off = sym off
 
 -- the end and the copy of committed memory are the sequential loop's
-pub result_is : (image : LoadedImage) (end : End) (f : ℕ → ℕ) (bytes : List ℕ) → IsInOrder image end f → IsCommitted image.size f bytes
+pub result_is : (image : LoadedImage) (end : End) (v : StoreView) (bytes : List ℕ) → IsInOrder image end v.committed → IsCommitted v bytes → v.shape.size ≡ image.size
     → report_of image (record { end = end; bytes = bytes }) ≡ report_of image (sequential_result image)
-result_is image end f bytes in_order so =
-    let same : bytes ≡ (sequential_result image).bytes = committed_is_memory image f bytes (sequential_result image).bytes so in_order.holds in
+result_is image end v bytes in_order so size =
+    let same : bytes ≡ (sequential_result image).bytes = committed_is_memory v image v.committed bytes (sequential_result image).bytes so size (λ a. refl) in_order.holds in
     (λ i. report_of image (record { end = in_order.end_is i; bytes = same i }))
 
 -- what is beside the sentence holds of the book's history

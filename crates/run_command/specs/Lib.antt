@@ -2,5 +2,3 @@
 pub mod Run
 -- What the law says.
 pub mod Laws
--- What the code keeps.
-pub mod Committed

@@ -2,12 +2,10 @@
 #![tactic(auto)]
 
 pub mod laws;
-mod memory;
 mod options;
 mod run;
 mod text;
 
-pub use memory::committed_bytes;
 pub use options::RunOptions;
 pub use run::do_run;
 pub use text::with_history;

@@ -8,7 +8,6 @@ ghost use Rattle.trace_text.specs.Printing.{printed_trace};
 ghost use Rattle.trace_commands.specs.Report as report_spec;
 ghost use Rattle.run_command.specs.Run as spec;
 
-use crate::memory::committed_bytes;
 use crate::options::RunOptions;
 use core_threads::Finished;
 use itoa::Buffer;
@@ -57,7 +56,7 @@ fn report_of<S: EpochStore>(
     requires in_order { IsInOrder image.now run.now.end (S.view run.now.book.store).committed }
     ensures { IfOk result (λ text. text.items ≡ report_spec.report_of image.now (sequential_result image.now)) }
 {
-    let bytes = committed_bytes(alloc, &run.book, image.size())?;
+    let bytes = run.book.committed_memory(alloc)?;
     print_report(alloc, image, run.end, bytes.as_slice())
 }
 

@@ -1,4 +1,5 @@
 mod CoreCopies
+mod CommittedMemory
 mod Bytes
 mod Surveys
 mod Tellings

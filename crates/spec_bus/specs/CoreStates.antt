@@ -1,9 +1,11 @@
 -- What a core of the machine holds, as a core of a bus.
-use Rattle.std.specs.Prelude.{◌≡◌, ℕ, ◌&&◌, Bool, true, false, if◌then◌else◌}
+use Rattle.std.specs.Prelude.{◌≡◌, ℕ, ◌+◌, ◌*◌, ◌/◌, ◌%◌, ◌≤◌, ◌==◌, ◌&&◌, Bool, true, false, if◌then◌else◌}
 use Rattle.spec_states.specs.declared.next.Next.{Next}
 use Rattle.spec_states.specs.Copies.{no_copy, IsMarked}
-use Rattle.spec_states.specs.States.{is_speculative}
+use Rattle.spec_states.specs.States.{is_speculative, is_modified}
+use Rattle.cache_lines.specs.declared.line.Line.{Line}
 use Rattle.cache_lines.specs.Changes.{way_at}
+use Rattle.cache_lines.specs.Lines.{Contents, way_count, line_in}
 use Rattle.cache_lines.specs.Protocol.{copy_at}
 use Rattle.orb.specs.Lines.{holds, is_full}
 use Rattle.bus_states.specs.Bus.{CoreState}
@@ -31,3 +33,17 @@ pub record MayHear (core : CoreState) (addr : ℕ) (violated : Bool) (next : Nex
   pub marked : is_speculative (core.copy addr).state ≡ true → IsMarked (core.copy addr).marks
   pub entry : violated ≡ false → next.enters ≡ true → holds core.buffer.lines addr ≡ false
   pub room : violated ≡ false → (next.enters && is_full core.buffer) ≡ false
+
+-- the line in this place of a cache, counted set by set, and in a set way by way
+abbrev pub line_in_place : Contents → ℕ → Line
+line_in_place cache place = line_in cache (place / way_count * cache.line_length) (place % way_count)
+
+-- is the line in this place M, and the one at this address?
+abbrev pub is_modified_in : Contents → ℕ → ℕ → Bool
+is_modified_in cache addr place =
+    is_modified (line_in_place cache place).state && ((line_in_place cache place).addr == addr)
+
+-- each line that is M in the cache lies in a memory of this size
+abbrev pub FitsMemory : Contents → ℕ → Type 0
+FitsMemory cache size =
+    (addr : ℕ) → is_modified (copy_at cache addr).state ≡ true → addr + cache.line_length ≤ size

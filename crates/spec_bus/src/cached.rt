@@ -17,7 +17,7 @@ use crate::parts::Parts;
 use orb::Orb;
 use rv32_image::{Image, NoMemory};
 use spec_states::LineState;
-use std::alloc::Global;
+use std::alloc::{AllocError, Global};
 use std::marker::Model;
 use violations::{Attempt, CoreSet, EpochStore, Step};
 
@@ -277,5 +277,9 @@ impl EpochStore for CachedBus {
         let line = self.line_of(addr);
         let offset = addr % self.parts.limits.line_length;
         self.parts.committed_line(line)[offset as usize]
+    }
+
+    fn committed_memory(&self, alloc: Global) -> Result<Vec<u8>, AllocError> {
+        self.parts.committed_memory(alloc)
     }
 }

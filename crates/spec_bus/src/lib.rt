@@ -4,6 +4,7 @@
 mod attempts;
 mod bus_core;
 mod cached;
+mod committed;
 mod cores;
 mod memory;
 mod messages;

@@ -19,22 +19,22 @@ use cache_lines::Line;
 use spec_states::{LONGEST_LINE, Next};
 use violations::CoreSet;
 
-/// Puts a line that leaves a cache into memory, where it is M.
-fn write_victim(memory: &mut Vec<u8>, line_length: usize, victim: Line)
-    requires inside { is_modified victim.state ≡ true → victim.addr + line_length ≤ length memory.old.items }
+/// Puts a line of a cache into memory, where it is M.
+pub(crate) fn write_back(memory: &mut Vec<u8>, line_length: usize, line: Line)
+    requires inside { is_modified line.state ≡ true → line.addr + line_length ≤ length memory.old.items }
     requires short { line_length ≤ LONGEST_LINE }
     ensures size { length memory.new.items ≡ length memory.old.items }
     ensures bytes { (p : ℕ) → slice_index memory.new.items p
-        ≡ (if is_modified victim.state then
-        message_spec.with_line line_length victim.addr (slice_index victim.cells) (slice_index memory.old.items)
+        ≡ (if is_modified line.state then
+        message_spec.with_line line_length line.addr (slice_index line.cells) (slice_index memory.old.items)
         else slice_index memory.old.items) p }
 {
     write_line_if(
-        victim.state.is_modified(),
+        line.state.is_modified(),
         memory,
-        victim.addr as usize,
+        line.addr as usize,
         line_length,
-        &victim.cells,
+        &line.cells,
     );
 }
 
@@ -116,7 +116,7 @@ impl Parts {
         self.tell(notice, core, addr, line, hurt);
         fill(&mut self.cores, core, addr, way, next, *line);
         let length = self.limits.line_length as usize;
-        write_victim(&mut self.memory, length, victim);
+        write_back(&mut self.memory, length, victim);
         write_line(&mut self.memory, addr as usize, length, line);
     }
 

@@ -2,7 +2,7 @@
 -- messages.
 -- Source: epochs, the homefree one, and violation are those of Steffan, Colohan, Zhai and Mowry, "A Scalable Approach to
 -- Thread-Level Speculation", ISCA 2000; what a core sees, owns and guards is this project's.
-use Rattle.std.specs.Prelude.{◌≡◌, ◌≢◌, ℕ, ◌+◌, ◌*◌, ◌/◌, ◌%◌, ◌^◌, ◌<◌, ◌≤◌, ◌&&◌, Bool, true, false, Option, Some, None, nat_le, nat_lt}
+use Rattle.std.specs.Prelude.{◌≡◌, ◌≢◌, ℕ, ◌+◌, ◌*◌, ◌/◌, ◌%◌, ◌^◌, ◌<◌, ◌≤◌, ◌&&◌, Bool, true, false, List, length, slice_index, Option, Some, None, nat_le, nat_lt}
 use Rattle.memory_bytes.specs.Bytes.{IsWidth}
 use Rattle.rv32_image.specs.declared.version.Limits.{Limits}
 use Rattle.violations.specs.declared.attempt.Attempt.{Attempt}
@@ -74,6 +74,11 @@ pub record IsSettled (v : StoreView) : Type 0 where
   pub straight : (k : ℕ) (x : Attempt) → v.attempt k ≡ Some x → x.straight ≡ true → IsClear v k
   -- caches guard whole lines
   pub whole_lines : v.cached ≡ true → (k a b : ℕ) → line_of v.shape a ≡ line_of v.shape b → v.guarded k a ≡ true → v.guarded k b ≡ true
+
+-- these are all bytes of committed memory, from address 0 on
+pub record IsCommitted (v : StoreView) (bytes : List ℕ) : Type 0 where
+  pub long : length bytes ≡ v.shape.size
+  pub byte : (a : ℕ) → a < v.shape.size → slice_index bytes a ≡ v.committed a
 
 -- ---- conditions of calls
 

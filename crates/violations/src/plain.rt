@@ -15,7 +15,7 @@ use crate::core_states::{
 use crate::step::Step;
 use crate::store::EpochStore;
 use rv32_image::{Image, Limits, NoMemory};
-use std::alloc::Global;
+use std::alloc::{AllocError, Global};
 use std::marker::Model;
 
 /// For how many accesses of each core room is made at once, where memory has as many words.
@@ -204,5 +204,9 @@ impl EpochStore for PlainStore {
 
     fn committed_byte(&self, addr: u32) -> u8 {
         self.committed[addr as usize]
+    }
+
+    fn committed_memory(&self, alloc: Global) -> Result<Vec<u8>, AllocError> {
+        Vec::from_slice(alloc, self.committed.as_slice())
     }
 }

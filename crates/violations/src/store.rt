@@ -8,7 +8,7 @@ ghost use Rattle.violations.specs.Answers.{MatchStep, wait_of};
 use crate::core_set::CoreSet;
 use crate::step::Step;
 use rv32_image::{Image, NoMemory};
-use std::alloc::Global;
+use std::alloc::{AllocError, Global};
 
 /// A store of speculative epochs. Each core runs at most one attempt of an epoch, which loads and stores speculatively
 /// until it publishes, and goes straight from then on.
@@ -113,4 +113,10 @@ pub trait EpochStore: Drop + Send {
     fn committed_byte(&self, addr: u32) -> u8
         requires { addr < (view self.now).shape.size }
         ensures { result ≡ (view self.now).committed addr };
+
+    /// Committed memory, byte for byte from address 0 on. It is taken whole, at a cost of memory and of what the store keeps beside it.
+    ///
+    /// `AllocError`: memory ran out.
+    fn committed_memory(&self, alloc: Global) -> Result<Vec<u8>, AllocError>
+        ensures { IfOk result (λ bytes. view_spec.IsCommitted (view self.now) bytes.items) };
 }

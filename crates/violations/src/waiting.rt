@@ -4,7 +4,7 @@ use crate::core_set::CoreSet;
 use crate::step::{Step, WaitCause};
 use crate::store::EpochStore;
 use rv32_image::{Image, NoMemory};
-use std::alloc::Global;
+use std::alloc::{AllocError, Global};
 
 /// A store whose every speculative access waits, so that all accesses are straight ones of the homefree core. It is for tests
 /// of what stands above a store.
@@ -71,5 +71,9 @@ impl<S: EpochStore> EpochStore for Waiting<S> {
 
     fn committed_byte(&self, addr: u32) -> u8 {
         self.store.committed_byte(addr)
+    }
+
+    fn committed_memory(&self, alloc: Global) -> Result<Vec<u8>, AllocError> {
+        self.store.committed_memory(alloc)
     }
 }

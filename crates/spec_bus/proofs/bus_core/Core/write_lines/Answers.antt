@@ -1,0 +1,29 @@
+use Rattle.std.proofs.Common.{◌≡◌, ◌∙◌, ◌*◌, arith, cond, refl, ap, slice_index}
+use Rattle.bus_states.specs.Bus.{line_of, offset_of, some_core}
+use Rattle.cache_lines.specs.Lines.{set_count, way_count}
+use Rattle.cache_lines.specs.Protocol.{copy_at}
+use Rattle.spec_bus.specs.CoreStates.{is_modified_in}
+use Rattle.spec_bus.proofs.CommittedMemory.{written_none, written_more, some_modified}
+use Rattle.spec_bus.proofs.bus_core.Core.write_lines.Goals as goal
+
+pub loop-place-init : goal.loop-place-init
+loop-place-init c = (refl, written_none c.args.self.now.cache (slice_index c.args.memory.now.items))
+
+pub write_place-requires-clause-fits : goal.write_place-requires-clause-fits
+write_place-requires-clause-fits c addr m = rw c.loop-place.invariant.0 (c.requires.fits addr m)
+
+pub loop-place-preserved : goal.loop-place-preserved
+loop-place-preserved c = (
+  c.write_place.ensures.size ∙ c.loop-place.invariant.0,
+  written_more c.args.self.now.cache c.loop-place.place (slice_index c.args.memory.now.items) (slice_index c.loop-place.memory.items) (slice_index c.write_place.new.memory.items)
+      c.loop-place.invariant.1 c.write_place.ensures.bytes,
+)
+
+pub returns-clause-bytes : goal.returns-clause-bytes
+returns-clause-bytes c p =
+    let n = c.args.self.now.cache.line_length in
+    let cache = c.args.self.now.cache in
+    let all : c.loop-place.place ≡ set_count * way_count = omega arith in
+    c.loop-place.invariant.1 p
+    ∙ ap (λ at. cond (some_core at (is_modified_in cache (line_of n p))) ((copy_at cache (line_of n p)).cell (offset_of n p)) (slice_index c.args.memory.now.items p)) all
+    ∙ ap (λ b. cond b ((copy_at cache (line_of n p)).cell (offset_of n p)) (slice_index c.args.memory.now.items p)) (some_modified cache (line_of n p) c.line-first.ensures.placed)

@@ -1,0 +1,67 @@
+//! Committed memory: the bus's memory, and over it the lines that are M in a cache.
+ghost use Rattle.std.specs.Prelude.{◌≡◌, ℕ, ◌+◌, ◌<◌, ◌≤◌, ◌*◌, true, if◌then◌else◌, length, slice_index, IfOk};
+ghost use Rattle.spec_states.specs.States.{is_modified};
+ghost use Rattle.cache_lines.specs.Lines.{set_count, way_count};
+ghost use Rattle.cache_lines.specs.Protocol.{copy_at};
+ghost use Rattle.violations.specs.View.{IsCommitted};
+ghost use Rattle.bus_states.specs.Bus as bus_spec;
+ghost use Rattle.bus_states.specs.Coherent.{IsCoherent};
+ghost use Rattle.bus_states.specs.Views.{view_of};
+ghost use Rattle.spec_bus.specs.CoreStates.{is_modified_in, FitsMemory};
+ghost use Rattle.spec_bus.specs.Parts.{bus_in};
+
+use crate::bus_core::Core;
+use crate::messages::write_back;
+use crate::parts::Parts;
+use cache_lines::{SETS, WAYS};
+use std::alloc::{AllocError, Global};
+
+impl Core {
+    /// Puts the line in a place of the cache into memory, where it is M. The places are counted set by set, and in a set way by way.
+    fn write_place(&self, place: usize, memory: &mut Vec<u8>)
+        requires place { place < set_count * way_count }
+        requires fits { FitsMemory self.now.cache (length memory.old.items) }
+        ensures size { length memory.new.items ≡ length memory.old.items }
+        ensures bytes { (p : ℕ) → slice_index memory.new.items p
+            ≡ (if is_modified_in self.now.cache (bus_spec.line_of self.now.cache.line_length p) place then
+            (copy_at self.now.cache (bus_spec.line_of self.now.cache.line_length p)).cell (bus_spec.offset_of self.now.cache.line_length p)
+            else slice_index memory.old.items p) }
+    {
+        let line_length = self.cache.line_length();
+        let line = *self
+            .cache
+            .line((place / WAYS * line_length) as u32, place % WAYS);
+        write_back(memory, line_length, line);
+    }
+
+    /// Puts every line of the cache that is M into memory.
+    fn write_lines(&self, memory: &mut Vec<u8>)
+        requires fits { FitsMemory self.now.cache (length memory.old.items) }
+        ensures size { length memory.new.items ≡ length memory.old.items }
+        ensures bytes { (p : ℕ) → slice_index memory.new.items p
+            ≡ (if is_modified (copy_at self.now.cache (bus_spec.line_of self.now.cache.line_length p)).state then
+            (copy_at self.now.cache (bus_spec.line_of self.now.cache.line_length p)).cell (bus_spec.offset_of self.now.cache.line_length p)
+            else slice_index memory.old.items p) }
+    {
+        let _first = self.cache.line(0, 0);
+        for place in 0..SETS * WAYS {
+            self.write_place(place, memory);
+        }
+    }
+}
+
+impl Parts {
+    /// Committed memory, byte for byte from address 0 on.
+    ///
+    /// `AllocError`: memory ran out.
+    pub(crate) fn committed_memory(&self, alloc: Global) -> Result<Vec<u8>, AllocError>
+        requires { IsCoherent (bus_in self.now) }
+        ensures { IfOk result (λ bytes. IsCommitted (view_of (bus_in self.now)) bytes.items) }
+    {
+        let mut memory = Vec::from_slice(alloc, self.memory.as_slice())?;
+        for k in 0..self.cores.len() {
+            self.core(k).write_lines(&mut memory);
+        }
+        Ok(memory)
+    }
+}
