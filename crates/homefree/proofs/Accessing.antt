@@ -1,5 +1,5 @@
 -- From what the register noted of an access and what the store did to a case of the turn.
-use Rattle.std.proofs.Common.{◌≡◌, ◌≢◌, ◌≤◌, ◌<◌, ◌*◌, ℕ, Bool, false, List, ◌++◌, length, Some, None, refl, sym, ap, subst, ◌∙◌, arith}
+use Rattle.std.proofs.Common.{◌≡◌, ◌≢◌, ◌≤◌, ◌<◌, ℕ, Bool, false, List, ◌++◌, length, Some, None, refl, sym, ap, subst, ◌∙◌, inl, arith}
 use Rattle.std.proofs.lemmas.List.{length-append}
 use Rattle.rv32_exec.specs.declared.stop.Stop.{Stop}
 use Rattle.rv32_exec.specs.declared.stop.Stop.TheVariants as stop
@@ -15,7 +15,7 @@ use Rattle.violations.specs.Rule.{Loads, Stores}
 use Rattle.homefree.specs.declared.answer.Answer.TheVariants.{Go, Again}
 use Rattle.homefree.specs.declared.register.Register.{Register}
 use Rattle.homefree.specs.declared.register.Running.{Running}
-use Rattle.homefree.specs.Acted.{Acted}
+use Rattle.homefree.specs.Acted.{Acted, AreFew}
 use Rattle.homefree.specs.Arms.{Arrives}
 use Rattle.homefree.specs.AtStop.{IsAtStop}
 use Rattle.homefree.specs.Hurts.{entry, hurts, with_hurts}
@@ -37,8 +37,8 @@ at_this r core now arrived at was is = record { runs = was.runs; unhurt = was.un
 pub one_more_entry : (xs : List Entry) (by : ℕ) (what : What) (n : ℕ) → length xs < n → length (xs ++ entry by what) ≤ n
 one_more_entry xs by what n less = rw (length-append xs (entry by what)) (omega (arith, less))
 
-twice : (m n : ℕ) → m ≤ n → m ≤ 2 * n
-twice m n less = omega (arith, less)
+pub are_few : (m n : ℕ) → m ≤ n → AreFew m n
+are_few m n less = inl (omega (arith, less))
 
 -- ---- of a core that isn't straight
 
@@ -61,7 +61,7 @@ loaded old new v w shares shares' core now arrived address width value signed rd
     let short = one_more_entry _ core (Load address width value) count (hurts_fewer old core hurt l.others.not_itself runs.there) in
     acted old new v w shares shares' core (Some arrived) (Go hart) (hurts count s core hurt ++ entry core (Load address width value)) (arm.loaded_state old.image (with_hurts hurt s) core st.c address width value) f
     (subst (λ xs. Steps old new shares shares' (xs ++ entry core (Load address width value))) same steps)
-    (twice _ count (subst (λ xs. length (xs ++ entry core (Load address width value)) ≤ count) same short)) comes l.shape
+    (are_few _ count (subst (λ xs. length (xs ++ entry core (Load address width value)) ≤ count) same short)) comes l.shape
     (turn.follows (turn.loads (record {
       core = st.c;
       address = address;
@@ -95,7 +95,7 @@ stored old new v w shares shares' core now arrived address width value hurt hart
     let short = one_more_entry _ core (Store address width value) count (hurts_fewer old core hurt l.others.not_itself runs.there) in
     acted old new v w shares shares' core (Some arrived) (Go hart) (hurts count s core hurt ++ entry core (Store address width value)) (arm.stored_state old.image (with_hurts hurt s) core st.c address width value) f
     (subst (λ xs. Steps old new shares shares' (xs ++ entry core (Store address width value))) same steps)
-    (twice _ count (subst (λ xs. length (xs ++ entry core (Store address width value)) ≤ count) same short)) comes l.shape
+    (are_few _ count (subst (λ xs. length (xs ++ entry core (Store address width value)) ≤ count) same short)) comes l.shape
     (turn.follows (turn.stores (record {
       core = st.c;
       address = address;

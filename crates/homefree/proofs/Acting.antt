@@ -1,5 +1,5 @@
 -- From what the register noted and what the store did to a case of the turn.
-use Rattle.std.proofs.Common.{◌≡◌, ◌≢◌, ◌≤◌, ◌<◌, ◌*◌, ℕ, true, false, List, [], length, Option, Some, None, option_copied, Bor, eq-eqb, true≢false, ◌&&◌, ◌∷◌, refl, sym, ap, subst, ◌∙◌, inl, inr, arith}
+use Rattle.std.proofs.Common.{◌≡◌, ◌≢◌, ◌≤◌, ◌<◌, ℕ, true, false, List, [], length, Option, Some, None, option_copied, Bor, eq-eqb, true≢false, ◌&&◌, ◌∷◌, refl, sym, ap, subst, ◌∙◌, inl, inr, arith}
 use lib.Pointwise.{pointwise}
 use Rattle.std.proofs.Math.Dec.{eqb}
 use Rattle.std.proofs.lemmas.Bool.{cases_Bool}
@@ -24,7 +24,7 @@ use Rattle.homefree.specs.declared.answer.Answer.TheVariants.{Go, Again}
 use Rattle.homefree.specs.declared.answer.Cause.TheVariants.{NoEpoch}
 use Rattle.homefree.specs.declared.register.Register.{Register}
 use Rattle.homefree.specs.declared.register.Running.{Running}
-use Rattle.homefree.specs.Acted.{Acted, turn_of}
+use Rattle.homefree.specs.Acted.{Acted, AreFew, turn_of}
 use Rattle.homefree.specs.Agrees.{AgreesAt}
 use Rattle.homefree.specs.Counted.{counted_in}
 use Rattle.homefree.specs.Hurts.{entry}
@@ -55,7 +55,7 @@ fits_then old new v w shares shares' entries t f steps comes shape = record {
 }
 
 pub acted_by : {waits : Waits} (old new : Register) (v w : StoreView) (shares shares' : Counts) (core : ℕ) (next : Option Arrival) (answer : Answer) (entries : List Entry) (f : Fits old v)
-    → Steps old new shares shares' entries → length entries ≤ 2 * length old.running.items → Fits new w → Acts (turn_of old waits f.state core next) v w (does entries answer)
+    → Steps old new shares shares' entries → AreFew (length entries) (length old.running.items) → Fits new w → Acts (turn_of old waits f.state core next) v w (does entries answer)
     → Acted old new waits v w shares shares' core next answer
 acted_by {waits} old new v w shares shares' core next answer entries f steps short fits acts = record {
   entries = entries;
@@ -67,7 +67,7 @@ acted_by {waits} old new v w shares shares' core next answer entries f steps sho
 }
 
 pub acted : {waits : Waits} (old new : Register) (v w : StoreView) (shares shares' : Counts) (core : ℕ) (next : Option Arrival) (answer : Answer) (entries : List Entry) (t : FlatState) (f : Fits old v)
-    → Steps old new shares shares' entries → length entries ≤ 2 * length old.running.items → arm.Comes old.image (length old.running.items) f.state entries t w
+    → Steps old new shares shares' entries → AreFew (length entries) (length old.running.items) → arm.Comes old.image (length old.running.items) f.state entries t w
     → w.shape ≡ v.shape → Acts (turn_of old waits f.state core next) v w (does entries answer)
     → Acted old new waits v w shares shares' core next answer
 acted old new v w shares shares' core next answer entries t f steps short comes shape acts =
@@ -77,7 +77,7 @@ acted old new v w shares shares' core next answer entries t f steps short comes 
 pub acted_nothing : {waits : Waits} (old : Register) (v : StoreView) (shares : Counts) (core : ℕ) (next : Option Arrival) (answer : Answer) (f : Fits old v)
     → Acts (turn_of old waits f.state core next) v v (does [] answer) → Acted old old waits v v shares shares core next answer
 acted_nothing old v shares core next answer f acts =
-    acted old old v v shares shares core next answer [] f.state f (steps_none old shares) (omega arith)
+    acted old old v v shares shares core next answer [] f.state f (steps_none old shares) (inl (omega arith))
     (record { replays = no_entry old.image (length old.running.items) f.state; agrees = f.agrees }) refl acts
 
 -- ---- idle cores
@@ -105,7 +105,7 @@ started old new v w shares shares' core next f settled going there idle left beg
     let left_s : s.next_epoch < old.image.epochs = subst (λ n. n < old.image.epochs) epoch left in
     let comes = arm.starts old.image (length old.running.items) s v w core (sym f.shows.end ∙ going) f.agrees none there left_s settled begins_s in
     acted old new v w shares shares' core next (Go (start_of old.image old.next_epoch)) (entry core (Start s.next_epoch)) (effect_idle old.image s core (Start s.next_epoch)) f
-    (subst (λ n. Steps old new shares shares' (entry core (Start n))) epoch steps) (omega (arith, there)) comes begins.shape
+    (subst (λ n. Steps old new shares shares' (entry core (Start n))) epoch steps) (inl (omega arith)) comes begins.shape
     (turn.starts (record {
       idle = none;
       left = left_s;
@@ -128,7 +128,7 @@ restarted old new v w shares shares' core next now f settled going there runs hu
     let begins_c : Begins v w core c.epoch = subst (Begins v w core) epoch begins in
     let comes = arm.restarts old.image (length old.running.items) s v w core c (sym f.shows.end ∙ going) f.agrees found.1 hurt_c settled begins_c in
     acted old new v w shares shares' core next (Go (start_of old.image now.epoch)) (entry core Restart) (effect_on old.image s core c Restart) f
-    steps (omega (arith, there)) comes begins.shape
+    steps (inl (omega arith)) comes begins.shape
     (turn.restarts (record {
       core = c;
       runs = found.1;

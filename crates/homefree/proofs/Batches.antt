@@ -65,6 +65,44 @@ batch_fewer by these what (suc n) j spared below = elim (cases_eq j n) [
   | inr other ↦ one_more_short (these n) _ (entry_for_each by these what n) n (batch_fewer by these what n j spared (omega arith))
 ]
 
+pair_most : (b c : Bool) (x y : Entry) (first later : List Entry) (n : ℕ) → (b ≡ true → c ≡ false) → length first + length later ≤ n
+    → length (first ++ cond b (x ∷ []) []) + length (later ++ cond c (y ∷ []) []) ≤ suc n
+pair_most true true x y first later n apart less = let clash = apart refl in absurd cc
+pair_most true false x y first later n apart less = rw (length-append first (x ∷ []), length-append later []) (omega (arith, less))
+pair_most false true x y first later n apart less = rw (length-append first [], length-append later (y ∷ [])) (omega (arith, less))
+pair_most false false x y first later n apart less = rw (length-append first [], length-append later []) (omega (arith, less))
+
+neither_here : (b c : Bool) (x y : Entry) (first later : List Entry) (n : ℕ) → b ≡ false → c ≡ false → length first + length later ≤ n
+    → length (first ++ cond b (x ∷ []) []) + length (later ++ cond c (y ∷ []) []) ≤ n
+neither_here true c x y first later n out absent less = absurd cc
+neither_here false true x y first later n out absent less = absurd cc
+neither_here false false x y first later n out absent less = rw (length-append first [], length-append later []) (omega (arith, less))
+
+pair_fewer : (b c : Bool) (x y : Entry) (first later : List Entry) (n : ℕ) → (b ≡ true → c ≡ false) → length first + length later < n
+    → length (first ++ cond b (x ∷ []) []) + length (later ++ cond c (y ∷ []) []) < suc n
+pair_fewer b c x y first later n apart less =
+    let grown = pair_most b c x y first later (length first + length later) apart (omega arith) in omega (arith, grown, less)
+
+batches_most : (by : ℕ) (these those : ℕ → Bool) (what also : ℕ → What) (n : ℕ) → ((k : ℕ) → these k ≡ true → those k ≡ false)
+    → length (entry_for_each by these what n) + length (entry_for_each by those also n) ≤ n
+batches_most by these those what also zero apart = omega arith
+batches_most by these those what also (suc n) apart =
+    pair_most (these n) (those n) (record { by = by; what = what n }) (record { by = by; what = also n }) (entry_for_each by these what n) (entry_for_each by those also n) n (apart n) (batches_most by these those what also n apart)
+
+-- where no core is in both of two batches, and one core in neither, they have fewer entries than there are cores
+pub batches_fewer : (by : ℕ) (these those : ℕ → Bool) (what also : ℕ → What) (n j : ℕ) → ((k : ℕ) → these k ≡ true → those k ≡ false)
+    → these j ≡ false → those j ≡ false → j < n → length (entry_for_each by these what n) + length (entry_for_each by those also n) < n
+batches_fewer by these those what also zero j apart first later below = absurd (omega arith)
+batches_fewer by these those what also (suc n) j apart first later below = elim (cases_eq j n) [
+  | inl e ↦
+      let most = neither_here (these n) (those n) (record { by = by; what = what n }) (record { by = by; what = also n }) (entry_for_each by these what n) (entry_for_each by those also n) n
+      (sym (ap these e) ∙ first) (sym (ap those e) ∙ later) (batches_most by these those what also n apart) in
+      omega (arith, most)
+  | inr other ↦
+      pair_fewer (these n) (those n) (record { by = by; what = what n }) (record { by = by; what = also n }) (entry_for_each by these what n) (entry_for_each by those also n) n (apart n)
+      (batches_fewer by these those what also n j apart first later (omega (arith, below, other)))
+]
+
 -- what a read of the list gave
 pub running_read : (running : List (Option Running)) (k : ℕ) (x : Option Running) → k < length running → x ≡ get_or running k x → running_at running k ≡ x
 running_read running k x there is = get_or_from_slice_get running k x None (slice_get_read running (length running) k x refl there is)

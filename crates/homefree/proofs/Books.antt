@@ -1,5 +1,5 @@
 -- A book's first state, and its turns: from what the parts did to a turn of the book.
-use Rattle.std.proofs.Common.{◌≡◌, ◌≤◌, ◌<◌, ◌*◌, ℕ, ◌+◌, ◌-◌, All, List, [], ◌++◌, length, Option, Some, None, Ok, Err, refl, sym, ap, subst, ◌∙◌, arith, length-append, append-nil, vec_len, vec_capacity}
+use Rattle.std.proofs.Common.{◌≡◌, ◌≤◌, ◌<◌, ◌*◌, ℕ, ◌+◌, ◌-◌, All, List, [], ◌++◌, length, Option, Some, None, Ok, Err, refl, sym, ap, subst, ◌∙◌, inl, inr, arith, length-append, append-nil, vec_len, vec_capacity}
 use Rattle.std.proofs.lemmas.List.Elements.{All-nil, All-append}
 use Rattle.rv32_exec.specs.declared.sequential.End.{End}
 use Rattle.rv32_exec.specs.Arrival.{Arrival}
@@ -25,7 +25,7 @@ use Rattle.homefree.specs.declared.answer.StopCause.TheVariants as stop
 use Rattle.homefree.specs.declared.fault.TurnFault.TheVariants.{HistoryFull, NoMemory}
 use Rattle.homefree.specs.declared.register.Register.{Register}
 use Rattle.homefree.specs.Agrees.{Agrees}
-use Rattle.homefree.specs.Acted.{Acted, MayNote, turn_of}
+use Rattle.homefree.specs.Acted.{Acted, AreFew, MayNote, turn_of}
 use Rattle.homefree.specs.Caused.{HasKinds}
 use Rattle.homefree.specs.BookInside.{IsBook, IsAsBefore, book_of}
 use Rattle.homefree.specs.BookView.{BookView}
@@ -224,6 +224,12 @@ most_entries : (version : Version) (cores : ℕ) → cores ≤ (limits_of versio
 most_entries One cores most = omega arith
 most_entries Two cores most = omega arith
 
+few_entries : (version : Version) (cores entries : ℕ) → cores ≤ (limits_of version).most_cores → AreFew entries cores → entries < (limits_of version).free_entries
+few_entries One cores entries most (inl few) = omega (arith, most, few)
+few_entries One cores entries most (inr few) = omega (arith, most, few)
+few_entries Two cores entries most (inl few) = omega (arith, most, few)
+few_entries Two cores entries most (inr few) = omega (arith, most, few)
+
 -- the counts of a book are small
 small_totals : {S : Type 0} (view : S → StoreView) (r : Register) (store : S) (room : ℕ) (cause : Option StopCause) → IsBook view r store room cause → IsAtMost 1048576 r.totals
 small_totals view r store room cause b =
@@ -265,8 +271,7 @@ pub book_acts : {S : Type 0} {waits : Waits} (view : S → StoreView) (r q new :
     → IsBook view new after room cause
 book_acts {S} {waits} view r q new store reserved after room core cause shares shares' next answer b going unstopped same there free settled f a =
     let cores : length q.running.items ≡ length r.running.items = ap (λ v. length v.items) same.running in
-    let enough = most_entries r.image.version (length r.running.items) b.fits.core_count.most in
-    let short : length a.entries ≤ 2 * length r.running.items = subst (λ n. length a.entries ≤ 2 * n) cores a.short in
+    let few = few_entries r.image.version (length r.running.items) (length a.entries) b.fits.core_count.most (subst (λ n. AreFew (length a.entries) n) cores a.short) in
     let acted = a.acts f.state f.replays in
     let mine = acts_by _ (view reserved) (view after) _ acted in
     let all_cores : All (λ (e : Entry). e.by < length r.running.items) (r.history.items ++ a.entries) =
@@ -287,24 +292,24 @@ book_acts {S} {waits} view r q new store reserved after room core cause shares s
       kinds = rw (a.steps.image, a.steps.cores, a.steps.history) (grown_kinds (IsOfCaches view) q.image count q.history.items a.entries f.state a.fits.state kinds f.replays goes known);
       passes = λ caches. rw (a.steps.image, a.steps.cores, a.steps.history)
           (grown_passes (IsOfCaches view) q.image count q.history.items a.entries f.state a.fits.state caches (passes caches) f.replays goes known);
-      within = rw (a.steps.history, same.history, length-append r.history.items a.entries) (omega (arith, free, enough, short));
+      within = rw (a.steps.history, same.history, length-append r.history.items a.entries) (omega (arith, free, few));
       most = b.most;
       full = λ is. absurd (still_none cause unstopped is);
     }
 
 -- ---- what the code's numbers say
 
--- the history has at most so many entries more as a turn asks for
+-- the history has fewer entries more than a turn asks for
 pub acts_most : {S : Type 0} {waits : Waits} (view : S → StoreView) (r q new : Register) (store reserved after : S) (room core : ℕ) (cause : Option StopCause) (shares shares' : Counts) (next : Option Arrival) (answer : Answer) → IsBook view r store room cause → IsAsBefore r q
-    → Acted q new waits (view reserved) (view after) shares shares' core next answer → length new.history.items ≤ length r.history.items + (limits_of r.image.version).free_entries
+    → Acted q new waits (view reserved) (view after) shares shares' core next answer → length new.history.items < length r.history.items + (limits_of r.image.version).free_entries
 acts_most view r q new store reserved after room core cause shares shares' next answer b same a =
     let cores : length q.running.items ≡ length r.running.items = ap (λ v. length v.items) same.running in
-    let enough = most_entries r.image.version (length r.running.items) b.fits.core_count.most in
-    let short : length a.entries ≤ 2 * length r.running.items = subst (λ n. length a.entries ≤ 2 * n) cores a.short in
-    rw (a.steps.history, same.history, length-append r.history.items a.entries) (omega (arith, enough, short))
+    let few = few_entries r.image.version (length r.running.items) (length a.entries) b.fits.core_count.most (subst (λ n. AreFew (length a.entries) n) cores a.short) in
+    rw (a.steps.history, same.history, length-append r.history.items a.entries) (omega (arith, few))
 
-pub same_most : (xs ys : List Entry) (n : ℕ) → ys ≡ xs → length ys ≤ length xs + n
-same_most xs ys n same = rw same (omega arith)
+pub same_most : (version : Version) (xs ys : List Entry) → ys ≡ xs → length ys < length xs + (limits_of version).free_entries
+same_most One xs ys same = rw same (omega arith)
+same_most Two xs ys same = rw same (omega arith)
 
 pub has_free : (r : Register) (free room count : ℕ) → free ≡ (limits_of r.image.version).free_entries → count ≡ vec_len r.history
     → free ≤ room - count → length r.history.items ≤ room → length r.history.items + (limits_of r.image.version).free_entries ≤ room

@@ -39,7 +39,7 @@ use Rattle.homefree.proofs.Batches.{hurts_same}
 use Rattle.homefree.proofs.Hurting.{hurts_fewer}
 use Rattle.homefree.proofs.Standing.{Stands, stands, is_at, homefree_is, runs_by}
 use Rattle.homefree.proofs.Acting.{acted, acted_nothing}
-use Rattle.homefree.proofs.Accessing.{at_this, one_more_entry}
+use Rattle.homefree.proofs.Accessing.{at_this, one_more_entry, are_few}
 
 -- ---- an epoch that isn't the homefree one
 
@@ -196,7 +196,7 @@ module _ (old mid : Register) (v x : StoreView) (core : ℕ) (now : Running) (ru
       end_is ∙ (ap (λ i. end_after i arrived.now mid.homefree) image ∙ (ap (end_after old.image arrived.now) home ∙ stays_answer old.image arrived.now s.homefree stays)) in
       acted old new v w shares shares' core (Some arrived) answer (hurts count s core g.hurt ++ entry core Commit) (effect_on old.image (with_hurts g.hurt s) core st.c Commit) runs.fits
       (steps_then old mid new shares shares shares' (hurts count s core g.hurt) (entry core Commit) (noted shares) steps)
-      (let short = one_more_entry (hurts count s core g.hurt) core Commit count fewer in omega (arith, short))
+      (are_few _ count (one_more_entry (hurts count s core g.hurt) core Commit count fewer))
       comes (l.shape ∙ same_shape)
       (turn.follows (turn.commits (record {
         core = st.c;
@@ -217,7 +217,7 @@ module _ (old mid : Register) (v x : StoreView) (core : ℕ) (now : Running) (ru
       acted old new v x shares shares core (Some arrived) (Over (end.Fault now.epoch cause pc)) (hurts count s core g.hurt ++ entry core (Fault cause pc))
       (effect_on old.image (with_hurts g.hurt s) core st.c (Fault cause pc)) runs.fits
       (steps_then old mid new shares shares shares (hurts count s core g.hurt) (entry core (Fault cause pc)) (noted shares) steps)
-      (let short = one_more_entry (hurts count s core g.hurt) core (Fault cause pc) count fewer in omega (arith, short))
+      (are_few _ count (one_more_entry (hurts count s core g.hurt) core (Fault cause pc) count fewer))
       comes same_shape
       (turn.follows (turn.faults (record {
         core = st.c;

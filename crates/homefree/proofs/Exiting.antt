@@ -1,5 +1,5 @@
 -- The homefree epoch exits the loop: the others are cancelled, in the register and in the store, and it commits.
-use Rattle.std.proofs.Common.{◌≡◌, ◌≢◌, ◌≤◌, ◌<◌, ◌+◌, ◌*◌, ◌^◌, ℕ, Bool, true, false, List, ◌++◌, length, Option, Some, None, option_map, vec_len, vec_capacity, refl, sym, ap, subst, ◌∙◌, arith, true≢false}
+use Rattle.std.proofs.Common.{◌≡◌, ◌≢◌, ◌≤◌, ◌<◌, ◌+◌, ◌*◌, ◌^◌, ℕ, Bool, true, false, List, ◌++◌, length, Option, Some, None, option_map, vec_len, vec_capacity, refl, sym, ap, subst, ◌∙◌, inr, arith, true≢false}
 use Rattle.std.proofs.lemmas.List.{length-append}
 use Rattle.rv32_exec.specs.declared.stop.Stop.TheVariants as stop
 use Rattle.rv32_exec.specs.declared.sequential.End.TheVariants as end
@@ -20,7 +20,7 @@ use Rattle.violations.specs.Rule.{Ends}
 use Rattle.homefree.specs.declared.answer.Answer.{Answer}
 use Rattle.homefree.specs.declared.register.Register.{Register}
 use Rattle.homefree.specs.declared.register.Running.{Running}
-use Rattle.homefree.specs.Acted.{Acted}
+use Rattle.homefree.specs.Acted.{Acted, AreFew}
 use Rattle.homefree.specs.Agrees.{AgreesAt}
 use Rattle.homefree.specs.Arms.{RunsEpoch, Settled, HasAttempt, HasAttemptUnless}
 use Rattle.homefree.specs.AtStop.{IsAtStop}
@@ -57,8 +57,8 @@ unhurt_was true None d is free = absurd cc
 unhurt_was true (Some e) d is free = let same : (let y : CoreState = record e { hurt = true } in y) ≡ d = cc in absurd (true≢false (ap (λ (y : CoreState). y.hurt) same ∙ free))
 unhurt_was false o d is free = is
 
-two_batches : (first later : List Entry) (n : ℕ) → length first < n → length later ≤ n → length (first ++ later) ≤ 2 * n
-two_batches first later n one two = rw (length-append first later) (omega (arith, one, two))
+two_batches : (first later : List Entry) (n : ℕ) → length first < n → length later ≤ n → AreFew (length (first ++ later)) n
+two_batches first later n one two = inr (rw (length-append first later) (omega (arith, one, two)))
 
 module _ (old mid : Register) (v x : StoreView) (core : ℕ) (now : Running) (runs : RunsEpoch old v core now) (homefree : now.epoch ≡ old.homefree) (g : Settled old mid v x core now) where
   abbrev s : FlatState

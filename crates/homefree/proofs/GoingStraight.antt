@@ -1,6 +1,6 @@
 -- The homefree core publishes unless it is straight, and accesses memory straight: two batches of hurts, in one case of the
 -- turn.
-use Rattle.std.proofs.Common.{◌≡◌, ◌≤◌, ◌<◌, ◌+◌, ◌*◌, ℕ, Bool, true, false, cond, List, [], ◌++◌, length, Option, Some, IsSome, vec_len, vec_capacity, refl, sym, ap, subst, ◌∙◌, inl, inr, arith, eq-eqb, ne_eqb}
+use Rattle.std.proofs.Common.{◌≡◌, ◌≤◌, ◌+◌, ◌*◌, ℕ, Bool, true, false, cond, List, [], ◌++◌, length, Option, Some, None, IsSome, true≢false, vec_len, vec_capacity, refl, sym, ap, subst, ◌∙◌, inl, inr, arith, eq-eqb, ne_eqb}
 use Rattle.std.proofs.Math.Path.{fun_ext}
 use Rattle.std.proofs.lemmas.Bool.{cases_eq}
 use Rattle.std.proofs.lemmas.List.{length-append}
@@ -17,11 +17,11 @@ use Rattle.spec_history.specs.declared.entry.What.TheVariants.{Load, Store, Hurt
 use Rattle.spec_history.specs.FlatState.{CoreState, FlatState}
 use Rattle.spec_history.specs.Effect.{by_core, effect_on, with_core}
 use Rattle.violations.specs.View.{StoreView, Waits, IsSettled}
-use Rattle.violations.specs.Rule.{Publishes, LoadsStraight, StoresStraight}
+use Rattle.violations.specs.Rule.{HurtsLater, IsHurt, Publishes, LoadsStraight, StoresStraight}
 use Rattle.homefree.specs.declared.answer.Answer.TheVariants.{Go}
 use Rattle.homefree.specs.declared.register.Register.{Register}
 use Rattle.homefree.specs.declared.register.Running.{Running}
-use Rattle.homefree.specs.Acted.{Acted, turn_of}
+use Rattle.homefree.specs.Acted.{Acted, AreFew, turn_of}
 use Rattle.homefree.specs.Arms.{RunsEpoch, WentStraight, publish_noted}
 use Rattle.homefree.specs.AtStop.{IsAtStop}
 use Rattle.homefree.specs.Hurts.{entry, entry_for_each, hurts, hurt_if, with_hurts, epoch_on}
@@ -34,7 +34,7 @@ use Rattle.homefree.proofs.Arms as arm
 use Rattle.homefree.proofs.Ends.{hurt_epoch}
 use Rattle.homefree.proofs.Steps.{steps_none, steps_then}
 use Rattle.homefree.proofs.Noting.{hart_is, stored_is}
-use Rattle.homefree.proofs.Batches.{epochs_same, hurts_same}
+use Rattle.homefree.proofs.Batches.{batches_fewer, epochs_same, hurts_same}
 use Rattle.homefree.proofs.Hurting.{hurts_fewer}
 use Rattle.homefree.proofs.Standing.{Stands, stands, is_at, event_is, homefree_is}
 use Rattle.homefree.proofs.Acting.{fits_then, acted_by}
@@ -156,12 +156,36 @@ module _ (waits : Waits) (old mid : Register) (v x : StoreView) (core : ℕ) (no
       (subst (λ xs. Steps old new shares shares' (publish_noted old core now g.hurt ++ (xs ++ entry core what))) (later_hurts hurt)
       (steps_then old mid new shares shares shares' _ _ (g.steps shares) steps))
 
-  short_both : (next : Option Arrival) (hurt : ℕ → Bool) (what : What) → hurt core ≡ false → length (entries next hurt what) ≤ 2 * count
-  short_both next hurt what spared =
-      let first : length (turn.publish_of (turn_of old waits s core next) st.c g.hurt) ≤ count = subst (λ (xs : List Entry). length xs ≤ count) (first_hurts next) g.short in
-      let fewer = subst (λ (xs : List Entry). length xs < count) (hurts_same old s core hurt runs.fits.shows) (hurts_fewer old core hurt spared runs.there) in
-      let later = one_more_entry (hurts count s core hurt) core what count fewer in
-      rw (length-append (turn.publish_of (turn_of old waits s core next) st.c g.hurt) (hurts count s core hurt ++ entry core what)) (omega (arith, first, later))
+  -- who was hurt by the publish has no attempt that the access could hurt
+  hurt_once : (w : StoreView) (hurt : ℕ → Bool) → HurtsLater x w core hurt → (k : ℕ) → g.hurt k ≡ true → hurt k ≡ false
+  hurt_once w hurt others k first = never (hurt k) (λ later. twice (first_hurt now.straight g.publishes) (others.hurts k later))
+    where
+      never : (b : Bool) → (b ≡ true → ⊥) → b ≡ false
+      never true not = absurd (not refl)
+      never false not = refl
+
+      twice : x.attempt k ≡ None → IsHurt x w core k → ⊥
+      twice none again = let had = again.had in cc
+
+      first_hurt : (b : Bool) → publishes_unless b v x core g.hurt → x.attempt k ≡ None
+      first_hurt true p = let none = p.1 k in absurd (true≢false (sym first ∙ none))
+      first_hurt false p = (p.others.hurts k first).none
+
+  spared_first : (b : Bool) → publishes_unless b v x core g.hurt → g.hurt core ≡ false
+  spared_first true p = p.1 core
+  spared_first false p = p.others.not_itself
+
+  publish_short : (b : Bool) (xs : List Entry) → length (cond b [] (xs ++ entry core Publish)) ≤ length xs + 1
+  publish_short true xs = omega arith
+  publish_short false xs = rw (length-append xs (entry core Publish)) (omega arith)
+
+  short_both : (next : Option Arrival) (w : StoreView) (hurt : ℕ → Bool) (what : What) → HurtsLater x w core hurt → AreFew (length (entries next hurt what)) count
+  short_both next w hurt what others =
+      let fewer = batches_fewer core g.hurt hurt (λ k. Hurt (epoch_on s.cores k)) (λ k. Hurt (epoch_on s.cores k)) count core (hurt_once w hurt others)
+      (spared_first now.straight g.publishes) others.not_itself runs.there in
+      let first = publish_short st.c.straight (hurts count s core g.hurt) in
+      inl (rw (length-append (turn.publish_of (turn_of old waits s core next) st.c g.hurt) (hurts count s core hurt ++ entry core what), length-append (hurts count s core hurt) (entry core what))
+      (omega (arith, first, fewer)))
 
   publishing : (arrived : Arrival) (at : Stop) → IsAtStop old core now arrived at → turn.Publishing (turn_of old waits s core (Some arrived)) st.c at v x g.hurt
   publishing arrived at at_stop = record {
@@ -190,7 +214,7 @@ module _ (waits : Waits) (old mid : Register) (v x : StoreView) (core : ℕ) (no
       let comes = arm.loads_straight mid.image (length mid.running.items) g.running.fits.state x core then_at.c then_at.going then_at.kept g.running.fits.agrees then_at.at then_at.unhurt
       w hurt l.shape l.others address width value signed rd settled is_straight event l in
       acted_by old new v w shares shares' core (Some arrived) (Go hart) (entries (Some arrived) hurt (Load address width value)) runs.fits
-      (steps_both new shares shares' (Some arrived) hurt (Load address width value) steps) (short_both (Some arrived) hurt (Load address width value) l.others.not_itself)
+      (steps_both new shares shares' (Some arrived) hurt (Load address width value) steps) (short_both (Some arrived) w hurt (Load address width value) l.others)
       (fits_then mid new x w shares shares' _ _ g.running.fits (later_noted new shares shares' hurt (Load address width value) steps) comes l.shape)
       (turn.follows (turn.loads_straight (record {
         core = st.c;
@@ -218,7 +242,7 @@ module _ (waits : Waits) (old mid : Register) (v x : StoreView) (core : ℕ) (no
       let comes = arm.stores_straight mid.image (length mid.running.items) g.running.fits.state x core then_at.c then_at.going then_at.kept g.running.fits.agrees then_at.at then_at.unhurt
       w hurt l.shape l.others address width value settled is_straight event l in
       acted_by old new v w shares shares' core (Some arrived) (Go hart) (entries (Some arrived) hurt (Store address width value)) runs.fits
-      (steps_both new shares shares' (Some arrived) hurt (Store address width value) steps) (short_both (Some arrived) hurt (Store address width value) l.others.not_itself)
+      (steps_both new shares shares' (Some arrived) hurt (Store address width value) steps) (short_both (Some arrived) w hurt (Store address width value) l.others)
       (fits_then mid new x w shares shares' _ _ g.running.fits (later_noted new shares shares' hurt (Store address width value) steps) comes l.shape)
       (turn.follows (turn.stores_straight (record {
         core = st.c;

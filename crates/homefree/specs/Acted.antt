@@ -1,5 +1,5 @@
 -- What a method of the book's parts did: a case of a turn, after which the fields and the store agree again.
-use Rattle.std.specs.Prelude.{◌≡◌, ℕ, ◌+◌, ◌*◌, ◌<◌, ◌≤◌, ◌^◌, List, length, Option, Some, None, vec_len, vec_capacity}
+use Rattle.std.specs.Prelude.{◌≡◌, ◌⊎◌, ℕ, ◌+◌, ◌*◌, ◌<◌, ◌≤◌, ◌^◌, List, length, Option, Some, None, vec_len, vec_capacity}
 use Rattle.rv32_image.specs.Image.{LoadedImage}
 use Rattle.rv32_exec.specs.Arrival.{Arrival}
 use Rattle.rv32_exec.specs.NextEvent.{next_event}
@@ -18,11 +18,15 @@ abbrev pub turn_of : Register → Waits → FlatState → ℕ → Option Arrival
 turn_of r waits s core next =
     record { image = r.image; cores = length r.running.items; waits = waits; state = s; core = core; next = next }
 
+-- so many entries: one for each core and one more, as no core is hurt twice, or of an exit two for each other core, as those that
+-- it hurts are cancelled too, and its commit
+abbrev pub AreFew : ℕ → ℕ → Type 0
+AreFew entries cores = (entries ≤ cores + 1) ⊎ (entries < 2 * cores)
+
 pub record Acted (old new : Register) (waits : Waits) (v w : StoreView) (shares shares' : Counts) (core : ℕ) (next : Option Arrival) (answer : Answer) : Type 0 where
   pub entries : List Entry
   pub steps : Steps old new shares shares' entries
-  -- a batch of hurts or cancels has fewer entries than there are cores, and there are at most two batches
-  pub short : length entries ≤ 2 * length old.running.items
+  pub short : AreFew (length entries) (length old.running.items)
   pub acts : (s : FlatState) → replay old.image (length old.running.items) old.history.items ≡ Some s → Acts (turn_of old waits s core next) v w (does entries answer)
   pub fits : Fits new w
 

@@ -136,8 +136,8 @@ impl<S: EpochStore> Book<S> {
         let _ = &self.inside;
     }
 
-    /// One turn of a core, with the hart that it has in hand gone on to its next access, end or fault. It makes no more entries than it
-    /// has to find free.
+    /// One turn of a core, with the hart that it has in hand gone on to its next access, end or fault. It makes at most 15
+    /// entries, or 31 in version 2: fewer than it has to find free.
     ///
     /// `HistoryFull`: the history has fewer free entries than the image's version asks for, and nothing has changed. `NoMemory`:
     /// memory ran out, and nothing has changed but what the store can do without asking for it.
@@ -161,7 +161,7 @@ impl<S: EpochStore> Book<S> {
         ensures over { (end : End) (s : FlatState) → result ≡ Ok (Answer.Over end) → replay self.new.image self.new.cores self.new.history ≡ Some s
             → s.end ≡ Some end }
         ensures full { result ≡ Err TurnFault.HistoryFull → IsFull self.new }
-        ensures most { length self.new.history ≤ length self.old.history + (limits_of self.old.image.version).free_entries }
+        ensures most { length self.new.history < length self.old.history + (limits_of self.old.image.version).free_entries }
     {
         self.look();
         self.take_turn(core, next, shares)
@@ -179,7 +179,7 @@ impl<S: EpochStore> Book<S> {
         requires shares { IsNoMore shares.old self.old.totals }
         ensures turned { (s : FlatState) → replay self.old.image self.old.cores self.old.history ≡ Some s
             → Turned S.view S.waits self.old s shares.old core (option_copied next.entry) result self.new shares.new }
-        ensures most { length self.new.history ≤ length self.old.history + (limits_of self.old.image.version).free_entries }
+        ensures most { length self.new.history < length self.old.history + (limits_of self.old.image.version).free_entries }
     {
         let inside = &mut *self.inside;
         turn_within(
@@ -225,7 +225,7 @@ fn turn_within<S: EpochStore>(
     ensures turned { (s : FlatState) → replay parts.old.register.image (length parts.old.register.running.items) parts.old.register.history.items ≡ Some s
         → Turned S.view S.waits (book_of parts.old.register parts.old.store room stopped) s shares.old core (option_copied next.entry) result
         (book_of parts.new.register parts.new.store room stopped) shares.new }
-    ensures most { length parts.new.register.history.items ≤ length parts.old.register.history.items + (limits_of parts.old.register.image.version).free_entries }
+    ensures most { length parts.new.register.history.items < length parts.old.register.history.items + (limits_of parts.old.register.image.version).free_entries }
 {
     if let Some(end) = parts.register.end {
         return Ok(Answer::Over(end));

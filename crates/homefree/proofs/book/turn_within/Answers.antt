@@ -52,7 +52,7 @@ returns-clause-turned g c =
 pub returns-in_default-make_room-clause-most : goal.returns-in_default-make_room-clause-most
 returns-in_default-make_room-clause-most g c =
     let p = c.args.parts.now in
-    same_most p.register.history.items c.make_room.new.parts.register.history.items _ c.make_room.ensures.register.history
+    same_most p.register.image.version p.register.history.items c.make_room.new.parts.register.history.items c.make_room.ensures.register.history
 
 pub returns-clause-most : goal.returns-clause-most
 returns-clause-most g c =
