@@ -1,5 +1,6 @@
 mod CoreCopies
 mod CommittedMemory
+mod SameRooms
 mod Bytes
 mod Surveys
 mod Tellings

@@ -2,6 +2,8 @@
 pub mod Fresh
 pub mod Cached
 pub mod Answers
+-- What the law says
+pub mod Laws
 -- What the code keeps: the machine's parts as a bus
 pub mod CoreStates
 pub mod Parts

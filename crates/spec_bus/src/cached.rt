@@ -10,6 +10,7 @@ ghost use Rattle.bus_states.specs.Speculative as speculative;
 ghost use Rattle.bus_states.specs.Straight as straight;
 ghost use Rattle.spec_bus.specs.Cached as spec;
 ghost use Rattle.spec_bus.specs.Fresh.{fresh_bus};
+ghost use Rattle.spec_bus.specs.Laws.{IsPlacedCore};
 ghost use Rattle.spec_bus.specs.Answers.{MatchAnswer, IsLoaded, IsStored};
 
 use crate::cores::idle_cores;
@@ -105,6 +106,14 @@ impl CachedBus {
         ensures { result.now ≡ ((spec.bus self.now).core core).buffer }
     {
         &self.parts.core(core as usize).orb
+    }
+
+    /// In a core's cache each line stands in its place: this call does nothing, and its contract is the law.
+    pub fn look_cache(&self, core: u32)
+        requires { core < (spec.bus self.now).shape.cores }
+        ensures { IsPlacedCore self.now.cores core }
+    {
+        let _first = self.parts.core(core as usize).cache.line(0, 0);
     }
 }
 

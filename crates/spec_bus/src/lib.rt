@@ -6,6 +6,7 @@ mod bus_core;
 mod cached;
 mod committed;
 mod cores;
+pub mod laws;
 mod memory;
 mod messages;
 mod parts;

@@ -1,0 +1,286 @@
+-- Two caches that hold the same copies in the same ways have the same room for each line, so the same calls make the same of
+-- their buses.
+use Rattle.std.proofs.Common.{◌≡◌, ℕ, ◌<◌, ◌==◌, ◌&&◌, Bool, true, false, cond, not, List, [], ◌∷◌, Option, Some, None, option_map, slice_get, true≢false, refl, sym, ap, subst, ◌∙◌, arith}
+use Rattle.std.specs.Option.{option_or}
+use Rattle.spec_states.specs.declared.line.LineState.{LineState}
+use Rattle.spec_states.specs.declared.line.LineState.TheVariants.{I, S, E, M, SpS, SpE}
+use Rattle.spec_states.specs.declared.next.Next.{Next}
+use Rattle.spec_states.specs.Copies.{LineCopy, no_copy}
+use Rattle.spec_states.specs.States.{is_valid, is_modified, is_speculative}
+use Rattle.cache_lines.specs.declared.line.Line.{Line}
+use Rattle.cache_lines.specs.Cells.{cell_of}
+use Rattle.cache_lines.specs.Changes.{way_at, victim_of, is_invalid, is_unmarked}
+use Rattle.cache_lines.specs.Lines.{Contents, is_line_length, way_count, set_of, line_in, is_copy_of}
+use Rattle.cache_lines.specs.Placed.{IsPlaced}
+use Rattle.cache_lines.specs.Protocol.{copy_at, copy_of_line, changed_copy, copy_with_number}
+use Rattle.cache_lines.proofs.CopyLaws.{copy_at-line, copy_at-own}
+use Rattle.cache_lines.proofs.LineLaws.{is_copy_of-true, is_copy_of-own, line_in-same_set}
+use Rattle.cache_lines.proofs.Ways.{way_at-own}
+use Rattle.violations.specs.declared.step.WaitCause.TheVariants.{NoWay, OrbFull, OrbBusy}
+use Rattle.orb.specs.Lines.{is_full}
+use Rattle.bus_states.specs.declared.notice.Notice.TheVariants as notice
+use Rattle.bus_states.specs.Bus.{CoreState, Bus, line_of, offset_of}
+use Rattle.bus_states.specs.Messages.{Room, Message, message_of, is_alone, is_busy, heard_core, changed_core, with_copy, without_line, with_line, with_victim, after_message}
+use Rattle.bus_states.specs.Attempts.{with_core}
+use Rattle.bus_states.specs.Speculative.{own, holds_line, room_for, no_room, kept_line, load_next, after_load, load_wait, store_next, owns, after_claim, with_bytes, after_store, store_wait}
+use Rattle.bus_states.specs.Straight.{after_straight_load, after_straight_store, straight_store_message, unmarked_next, stores_alone}
+use Rattle.spec_bus.specs.declared.bus_core.Core.{Core}
+use Rattle.spec_bus.specs.Cached.{CachedView, bus, room}
+use Rattle.spec_bus.specs.Parts.{room_in, state_or_none, line_or_none, victim_or_none}
+use Rattle.spec_bus.specs.Laws.{Call, Begin, Load, Store, Publish, StraightLoad, StraightStore, Leave, Cancel, after_call, unless_waiting, IsPlacedCore, Lead, AreAlike}
+
+-- ---- one line
+
+-- both are invalid, or both are the same copy of one line
+pub record IsOneLine (l m : Line) : Type 0 where
+  pub valid : is_valid l.state ≡ is_valid m.state
+  pub addr : is_valid l.state ≡ true → l.addr ≡ m.addr
+  pub copy : is_valid l.state ≡ true → copy_of_line l ≡ copy_of_line m
+
+-- a way of a line has its copy
+way_is : (cache : Contents) (x w : ℕ) → way_at cache x ≡ Some w → is_copy_of (line_in cache x w) x ≡ true
+way_is cache x w = pick (is_copy_of (line_in cache x 0) x) (is_copy_of (line_in cache x 1) x) refl refl
+  where
+    pick : (j k : Bool) → is_copy_of (line_in cache x 0) x ≡ j → is_copy_of (line_in cache x 1) x ≡ k
+        → cond j (Some 0) (cond k (Some 1) None) ≡ Some w → is_copy_of (line_in cache x w) x ≡ true
+    pick true k e f found = let is : 0 ≡ w = cc in subst (λ (v : ℕ). is_copy_of (line_in cache x v) x ≡ true) is e
+    pick false true e f found = let is : 1 ≡ w = cc in subst (λ (v : ℕ). is_copy_of (line_in cache x v) x ≡ true) is f
+    pick false false e f found = absurd cc
+
+module _ (c d : Contents) (placed : IsPlaced c) (placed2 : IsPlaced d) (length : c.line_length ≡ d.line_length)
+    (copies : (x : ℕ) → copy_at c x ≡ copy_at d x) (ways : (x : ℕ) → way_at c x ≡ way_at d x) where
+  -- a valid line stands in the other cache too
+  there : (a w : ℕ) → w < way_count → is_valid (line_in c a w).state ≡ true → is_copy_of (line_in d a w) (line_in c a w).addr ≡ true
+  there a w lt valid =
+      let x : ℕ = (line_in c a w).addr in
+      let set : set_of c.line_length x ≡ set_of c.line_length a = placed.in_set a w lt valid in
+      let set2 : set_of d.line_length x ≡ set_of d.line_length a = subst (λ (n : ℕ). set_of n x ≡ set_of n a) length set in
+      let here : is_copy_of (line_in c x w) x ≡ true =
+      ap (λ (l : Line). is_copy_of l x) (sym (line_in-same_set c x a w set)) ∙ is_copy_of-own (line_in c a w) valid in
+      let found = way_is d x w (sym (ways x) ∙ way_at-own c placed x w lt here) in
+      ap (λ (l : Line). is_copy_of l x) (line_in-same_set d x a w set2) ∙ found
+
+  pub same_copy : (a w : ℕ) → w < way_count → is_valid (line_in c a w).state ≡ true → copy_of_line (line_in c a w) ≡ copy_of_line (line_in d a w)
+  same_copy a w lt valid =
+      sym (copy_at-own c placed a w lt valid)
+      ∙ (copies (line_in c a w).addr ∙ copy_at-line d placed2 a w (line_in c a w).addr lt (there a w lt valid))
+
+one_line : (c d : Contents) → IsPlaced c → IsPlaced d → c.line_length ≡ d.line_length → ((x : ℕ) → copy_at c x ≡ copy_at d x)
+    → ((x : ℕ) → way_at c x ≡ way_at d x) → (a w : ℕ) → w < way_count → IsOneLine (line_in c a w) (line_in d a w)
+one_line c d p q length copies ways a w lt = record {
+  valid = both (is_valid (line_in c a w).state) (is_valid (line_in d a w).state) refl refl;
+  addr = λ v. sym (is_copy_of-true (line_in d a w) (line_in c a w).addr (there c d p q length copies ways a w lt v)).1;
+  copy = same_copy c d p q length copies ways a w lt;
+}
+  where
+    both : (j k : Bool) → is_valid (line_in c a w).state ≡ j → is_valid (line_in d a w).state ≡ k → j ≡ k
+    both true true e f = refl
+    both false false e f = refl
+    both true false e f =
+        let valid = (is_copy_of-true (line_in d a w) (line_in c a w).addr (there c d p q length copies ways a w lt e)).0 in
+        absurd (true≢false (sym valid ∙ f))
+    both false true e f =
+        let valid = (is_copy_of-true (line_in c a w) (line_in d a w).addr (there d c q p (sym length) (λ x. sym (copies x)) (λ x. sym (ways x)) a w lt f)).0 in
+        absurd (true≢false (sym valid ∙ e))
+
+invalid_unmodified : (s : LineState) → is_valid s ≡ false → is_modified s ≡ false
+invalid_unmodified I e = refl
+invalid_unmodified S e = absurd (true≢false e)
+invalid_unmodified E e = absurd (true≢false e)
+invalid_unmodified M e = absurd (true≢false e)
+invalid_unmodified SpS e = absurd (true≢false e)
+invalid_unmodified SpE e = absurd (true≢false e)
+
+invalid_unmarked : (s : LineState) → is_valid s ≡ false → is_speculative s ≡ false
+invalid_unmarked I e = refl
+invalid_unmarked S e = absurd (true≢false e)
+invalid_unmarked E e = absurd (true≢false e)
+invalid_unmarked M e = absurd (true≢false e)
+invalid_unmarked SpS e = absurd (true≢false e)
+invalid_unmarked SpE e = absurd (true≢false e)
+
+same_marked : (l m : Line) → IsOneLine l m → is_speculative l.state ≡ is_speculative m.state
+same_marked l m h = by (is_valid l.state) refl
+  where
+    by : (b : Bool) → is_valid l.state ≡ b → is_speculative l.state ≡ is_speculative m.state
+    by true e = ap (λ (x : LineCopy). is_speculative x.state) (h.copy e)
+    by false e = invalid_unmarked l.state e ∙ sym (invalid_unmarked m.state (sym h.valid ∙ e))
+
+same_is_copy : (l m : Line) → IsOneLine l m → (a : ℕ) → is_copy_of l a ≡ is_copy_of m a
+same_is_copy l m h a = by (is_valid l.state) refl
+  where
+    by : (b : Bool) → is_valid l.state ≡ b → is_copy_of l a ≡ is_copy_of m a
+    by true e = (λ i. h.valid i && (h.addr e i == a))
+    by false e = ap (λ b. b && (l.addr == a)) e ∙ sym (ap (λ b. b && (m.addr == a)) (sym h.valid ∙ e))
+
+-- ---- one room
+
+abbrev pub IsOneRoom : Option Room → Option Room → Type 0
+IsOneRoom None None = Unit {0}
+IsOneRoom None (Some s) = ⊥
+IsOneRoom (Some r) None = ⊥
+IsOneRoom (Some r) (Some s) = (r.way ≡ s.way) × IsOneLine r.line s.line
+
+-- the victim, by what the two lines of a set are
+abbrev pub picked : Bool → Bool → Bool → Bool → Option ℕ
+picked i j u v = option_or (cond i (Some 0) (cond j (Some 1) None)) (cond u (Some 0) (cond v (Some 1) None))
+
+picked_lt : (i j u v : Bool) (w : ℕ) → picked i j u v ≡ Some w → w < way_count
+picked_lt true j u v w e = let is : 0 ≡ w = cc in omega (arith, is)
+picked_lt false true u v w e = let is : 1 ≡ w = cc in omega (arith, is)
+picked_lt false false true v w e = let is : 0 ≡ w = cc in omega (arith, is)
+picked_lt false false false true w e = let is : 1 ≡ w = cc in omega (arith, is)
+picked_lt false false false false w e = absurd cc
+
+cache_room : (c d : Contents) → IsPlaced c → IsPlaced d → c.line_length ≡ d.line_length → ((x : ℕ) → copy_at c x ≡ copy_at d x)
+    → ((x : ℕ) → way_at c x ≡ way_at d x) → (a : ℕ) → IsOneRoom (option_map (room_in c a) (victim_of c a)) (option_map (room_in d a) (victim_of d a))
+cache_room c d p q length copies ways a =
+    let first = one_line c d p q length copies ways a 0 (omega arith) in
+    let second = one_line c d p q length copies ways a 1 (omega arith) in
+    let victims : victim_of c a ≡ victim_of d a =
+    (λ i. picked (not (first.valid i)) (not (second.valid i)) (not (same_marked (line_in c a 0) (line_in d a 0) first i)) (not (same_marked (line_in c a 1) (line_in d a 1) second i))) in
+    subst (λ (o : Option ℕ). IsOneRoom (option_map (room_in c a) (victim_of c a)) (option_map (room_in d a) o)) victims
+    (of_way (victim_of c a) (λ w e. picked_lt (is_invalid (line_in c a 0)) (is_invalid (line_in c a 1)) (is_unmarked (line_in c a 0)) (is_unmarked (line_in c a 1)) w e))
+  where
+    of_way : (o : Option ℕ) → ((w : ℕ) → o ≡ Some w → w < way_count) → IsOneRoom (option_map (room_in c a) o) (option_map (room_in d a) o)
+    of_way None within = tt
+    of_way (Some w) within = (refl, one_line c d p q length copies ways a w (within w refl))
+
+no_length : (n : ℕ) → is_line_length n ≡ true → n ≡ 0 → ⊥
+no_length n is none = true≢false (sym is ∙ ap is_line_length none)
+
+core_room : (o u : Option Core) → ((core : Core) → o ≡ Some core → IsPlaced core.cache) → ((core : Core) → u ≡ Some core → IsPlaced core.cache)
+    → state_or_none o ≡ state_or_none u → (a : ℕ) → IsOneRoom (line_or_none o a (victim_or_none o a)) (line_or_none u a (victim_or_none u a))
+core_room None None p q same a = tt
+core_room (Some c) None p q same a = absurd (no_length c.cache.line_length (p c refl).length_is (ap (λ (s : CoreState). s.line_length) same))
+core_room None (Some d) p q same a = absurd (no_length d.cache.line_length (q d refl).length_is (sym (ap (λ (s : CoreState). s.line_length) same)))
+core_room (Some c) (Some d) p q same a =
+    cache_room c.cache d.cache (p c refl) (q d refl) (ap (λ (s : CoreState). s.line_length) same) (λ x. ap (λ (s : CoreState). s.copy x) same)
+    (λ x. ap (λ (s : CoreState). s.way x) same) a
+
+-- ---- what depends on the room
+
+same_without : (addr : ℕ) (r s : Option Room) (core : CoreState) → IsOneRoom r s → without_line addr r core ≡ without_line addr s core
+same_without addr None None core one = refl
+same_without addr None (Some s) core one = absurd one
+same_without addr (Some r) None core one = absurd one
+same_without addr (Some r) (Some s) core one =
+    (λ i. record core {
+      copy = λ a. cond (same_is_copy r.line s.line one.1 a i) no_copy (core.copy a);
+      way = λ a. cond (addr == a) (Some (one.0 i)) (core.way a);
+    })
+
+same_victim : (length : ℕ) (r s : Option Room) (memory : ℕ → ℕ) → IsOneRoom r s → with_victim length r memory ≡ with_victim length s memory
+same_victim length None None memory one = refl
+same_victim length None (Some s) memory one = absurd one
+same_victim length (Some r) None memory one = absurd one
+same_victim length (Some r) (Some s) memory one = by (is_valid r.line.state) refl
+  where
+    by : (b : Bool) → is_valid r.line.state ≡ b → with_victim length (Some r) memory ≡ with_victim length (Some s) memory
+    by true e = (λ i. cond (is_modified (one.1.copy e i).state) (with_line length (one.1.addr e i) (one.1.copy e i).cell memory) memory)
+    by false e =
+        ap (λ b. cond b (with_line length r.line.addr (cell_of r.line) memory) memory) (invalid_unmodified r.line.state e)
+        ∙ sym (ap (λ b. cond b (with_line length s.line.addr (cell_of s.line) memory) memory) (invalid_unmodified s.line.state (sym one.1.valid ∙ e)))
+
+same_none : (r s : Option Room) → IsOneRoom r s → no_room r ≡ no_room s
+same_none None None one = refl
+same_none None (Some s) one = absurd one
+same_none (Some r) None one = absurd one
+same_none (Some r) (Some s) one = refl
+
+same_for : (b : Bus) (core addr : ℕ) (r s : Option Room) → IsOneRoom r s → IsOneRoom (room_for b core addr r) (room_for b core addr s)
+same_for b core addr r s one = by (holds_line b core addr)
+  where
+    by : (held : Bool) → IsOneRoom (cond held None r) (cond held None s)
+    by true = tt
+    by false = one
+
+same_message : (b : Bus) (m : Message) (r s : Option Room) (next : Next) → IsOneRoom r s → after_message b m r next ≡ after_message b m s next
+same_message b m r s next one =
+    (λ i. record b {
+      core = λ k. cond (k == m.sender) (changed_core m.addr next m.line (same_without m.addr r s (b.core m.sender) one i)) (heard_core b m k);
+      memory = with_line b.line_length m.addr m.line (same_victim b.line_length r s b.memory one i);
+    })
+
+-- ---- the calls
+
+module _ (b : Bus) (core addr offset width : ℕ) (r s : Option Room) (one : IsOneRoom r s) where
+  same_load : after_load b core addr offset width r ≡ after_load b core addr offset width s
+  same_load =
+      ap (λ (after : Bus). cond (holds_line b core addr) (kept_line b core addr (load_next b core addr offset width)) after)
+      (same_message b (message_of b notice.Load core addr) r s (load_next b core addr offset width) one)
+
+  same_load_wait : load_wait b core addr r ≡ load_wait b core addr s
+  same_load_wait =
+      ap (λ none. cond (holds_line b core addr) None (cond none (Some NoWay) (cond (is_busy b (message_of b notice.Load core addr)) (Some OrbBusy) None))) (same_none r s one)
+
+  same_claim : after_claim b core addr offset width r ≡ after_claim b core addr offset width s
+  same_claim =
+      ap (λ (after : Bus). cond (owns b core addr) (kept_line b core addr (store_next b core addr offset width)) after)
+      (same_message b (message_of b notice.Store core addr) (room_for b core addr r) (room_for b core addr s) (store_next b core addr offset width) (same_for b core addr r s one))
+
+  same_store : (value : ℕ) → after_store b core addr offset width value r ≡ after_store b core addr offset width value s
+  same_store value = ap (λ (claimed : Bus). with_bytes claimed core addr offset width value) same_claim
+
+  same_store_wait : store_wait b core addr offset width r ≡ store_wait b core addr offset width s
+  same_store_wait =
+      ap (λ none. cond (owns b core addr) None (cond (not (holds_line b core addr) && none) (Some NoWay)
+      (cond ((store_next b core addr offset width).enters && is_full (b.core core).buffer) (Some OrbFull)
+      (cond (is_busy b (message_of b notice.Store core addr)) (Some OrbBusy) None)))) (same_none r s one)
+
+  same_straight_load : after_straight_load b core addr r ≡ after_straight_load b core addr s
+  same_straight_load =
+      ap (λ (after : Bus). cond (holds_line b core addr) b after)
+      (same_message b (message_of b notice.Load core addr) r s (unmarked_next (cond (is_alone b (message_of b notice.Load core addr)) E S)) one)
+
+  same_straight_store : (value : ℕ) → after_straight_store b core addr offset width value r ≡ after_straight_store b core addr offset width value s
+  same_straight_store value =
+      let message = straight_store_message b core addr offset width value in
+      ap (λ (after : Bus). cond (stores_alone (own b core addr).state)
+      (with_core core (with_copy addr (changed_copy (copy_with_number offset width value (own b core addr)) (unmarked_next M)) (b.core core)) b) after)
+      (same_message b message (room_for b core addr r) (room_for b core addr s) (unmarked_next (cond (is_alone b message) M S)) (same_for b core addr r s one))
+
+same_call : (call : Call) (b : Bus) (f g : ℕ → ℕ → Option Room) → ((k a : ℕ) → IsOneRoom (f k a) (g k a)) → after_call call b f ≡ after_call call b g
+same_call (Begin core epoch) b f g one = refl
+same_call (Load core addr width) b f g one =
+    let n = line_of b.line_length addr in
+    let x = offset_of b.line_length addr in
+    (λ i. unless_waiting (same_load_wait b core n x width (f core n) (g core n) (one core n) i) (same_load b core n x width (f core n) (g core n) (one core n) i) b)
+same_call (Store core addr width value) b f g one =
+    let n = line_of b.line_length addr in
+    let x = offset_of b.line_length addr in
+    (λ i. unless_waiting (same_store_wait b core n x width (f core n) (g core n) (one core n) i) (same_store b core n x width (f core n) (g core n) (one core n) value i) b)
+same_call (Publish core) b f g one = refl
+same_call (StraightLoad core addr width) b f g one =
+    let n = line_of b.line_length addr in same_straight_load b core n (offset_of b.line_length addr) width (f core n) (g core n) (one core n)
+same_call (StraightStore core addr width value) b f g one =
+    let n = line_of b.line_length addr in same_straight_store b core n (offset_of b.line_length addr) width (f core n) (g core n) (one core n) value
+same_call (Leave core) b f g one = refl
+same_call (Cancel core) b f g one = refl
+
+-- ---- lists of calls
+
+same_rooms : (v w : CachedView) → ((k : ℕ) → IsPlacedCore v.cores k) → ((k : ℕ) → IsPlacedCore w.cores k) → bus v ≡ bus w
+    → (k a : ℕ) → IsOneRoom (room v k a) (room w k a)
+same_rooms v w p q same k a = core_room (slice_get v.cores k) (slice_get w.cores k) (p k) (q k) (ap (λ (b : Bus). b.core k) same) a
+
+alike : (v w : CachedView) → ((k : ℕ) → IsPlacedCore v.cores k) → ((k : ℕ) → IsPlacedCore w.cores k) → bus v ≡ bus w → AreAlike v w
+alike v w p q same = record {
+  holds = same;
+  load = λ core addr width.
+      let n = line_of (bus v).line_length addr in
+      same_load_wait (bus v) core n 0 width (room v core n) (room w core n) (same_rooms v w p q same core n)
+      ∙ ap (λ (b : Bus). load_wait b core (line_of b.line_length addr) (room w core (line_of b.line_length addr))) same;
+  store = λ core addr width.
+      let n = line_of (bus v).line_length addr in
+      same_store_wait (bus v) core n (offset_of (bus v).line_length addr) width (room v core n) (room w core n) (same_rooms v w p q same core n)
+      ∙ ap (λ (b : Bus). store_wait b core (line_of b.line_length addr) (offset_of b.line_length addr) width (room w core (line_of b.line_length addr))) same;
+}
+
+pub calls_fixed : (calls : List Call) (v v' w w' : CachedView) → bus v ≡ bus v' → Lead calls v w → Lead calls v' w' → AreAlike w w'
+calls_fixed [] v v' w w' same one two = rw (one.1, two.1) (alike v v' one.0 two.0 same)
+calls_fixed (call ∷ calls) v v' w w' same one two =
+    let next : bus one.1 ≡ bus two.1 =
+    one.2 ∙ (same_call call (bus v) (room v) (room v') (same_rooms v v' one.0 two.0 same)
+    ∙ (ap (λ (b : Bus). after_call call b (room v')) same ∙ sym two.2)) in
+    calls_fixed calls one.1 two.1 w w' next one.3 two.3

@@ -1,0 +1,67 @@
+-- What the law of the caches says: their contracts fix what they hold after any calls.
+use Rattle.std.specs.Prelude.{◌≡◌, ℕ, List, [], ◌∷◌, Option, Some, None, slice_get}
+use Rattle.cache_lines.specs.Placed.{IsPlaced}
+use Rattle.violations.specs.declared.step.WaitCause.{WaitCause}
+use Rattle.bus_states.specs.Attempts.{after_begin, after_leave, after_cancel}
+use Rattle.bus_states.specs.Bus.{Bus, line_of, offset_of}
+use Rattle.bus_states.specs.Messages.{Room}
+use Rattle.bus_states.specs.Speculative.{after_load, load_wait, after_store, store_wait}
+use Rattle.bus_states.specs.Straight.{after_publish, after_straight_load, after_straight_store}
+use Rattle.spec_bus.specs.Cached.{CachedView, bus, room, waits}
+use Rattle.spec_bus.specs.declared.bus_core.Core.{Core}
+
+-- a call: its core, and its epoch, or its address, width and value
+pub data Call : Type 0 where
+  Begin : ℕ → ℕ → Call
+  Load : ℕ → ℕ → ℕ → Call
+  Store : ℕ → ℕ → ℕ → ℕ → Call
+  Publish : ℕ → Call
+  StraightLoad : ℕ → ℕ → ℕ → Call
+  StraightStore : ℕ → ℕ → ℕ → ℕ → Call
+  Leave : ℕ → Call
+  Cancel : ℕ → Call
+
+-- where an access waits, the bus is as it was
+abbrev pub unless_waiting : Option WaitCause → Bus → Bus → Bus
+unless_waiting None done before = done
+unless_waiting (Some cause) done before = before
+
+-- the bus that the contract of the call names, where the lines take these rooms
+abbrev pub after_call : Call → Bus → (ℕ → ℕ → Option Room) → Bus
+after_call (Begin core epoch) b room = after_begin b core epoch
+after_call (Load core addr width) b room =
+    let line = line_of b.line_length addr in
+    unless_waiting (load_wait b core line (room core line)) (after_load b core line (offset_of b.line_length addr) width (room core line)) b
+after_call (Store core addr width value) b room =
+    let line = line_of b.line_length addr in
+    unless_waiting (store_wait b core line (offset_of b.line_length addr) width (room core line))
+    (after_store b core line (offset_of b.line_length addr) width value (room core line)) b
+after_call (Publish core) b room = after_publish b core
+after_call (StraightLoad core addr width) b room =
+    let line = line_of b.line_length addr in after_straight_load b core line (room core line)
+after_call (StraightStore core addr width value) b room =
+    let line = line_of b.line_length addr in
+    after_straight_store b core line (offset_of b.line_length addr) width value (room core line)
+after_call (Leave core) b room = after_leave b core
+after_call (Cancel core) b room = after_cancel b core
+
+-- in this core's cache each line stands in its place
+abbrev pub IsPlacedCore : List Core → ℕ → Type 0
+IsPlacedCore cores k = (core : Core) → slice_get cores k ≡ Some core → IsPlaced core.cache
+
+-- these calls, one after another, lead from the one to the other
+abbrev pub Lead : List Call → CachedView → CachedView → Type 0
+Lead [] v w = ((k : ℕ) → IsPlacedCore v.cores k) × (w ≡ v)
+Lead (call ∷ calls) v w =
+    ((k : ℕ) → IsPlacedCore v.cores k) × (u : CachedView) × (bus u ≡ after_call call (bus v) (room v)) × Lead calls u w
+
+-- they hold the same copies in the same ways, and the same accesses wait, for the same causes
+pub record AreAlike (v w : CachedView) : Type 0 where
+  pub holds : bus v ≡ bus w
+  pub load : (core addr width : ℕ) → (waits v).load core addr width ≡ (waits w).load core addr width
+  pub store : (core addr width : ℕ) → (waits v).store core addr width ≡ (waits w).store core addr width
+
+-- from two that are seen equal, the same calls lead to two that are alike, however long the list
+abbrev pub CallsAreFixed : Type 0
+CallsAreFixed =
+    (calls : List Call) (v v' w w' : CachedView) → bus v ≡ bus v' → Lead calls v w → Lead calls v' w' → AreAlike w w'
