@@ -231,7 +231,11 @@ impl Core {
     {
         let line = self.line_at(addr);
         let next = answer(notice, line.state, line.marks, later);
-        let cells = memory::bytes_after(notice, next.marks, &line.cells, sent);
+        let marked = Line {
+            marks: next.marks,
+            ..line
+        };
+        let cells = memory::bytes_after(notice, &marked, sent);
         self.change(addr, next, cells);
     }
 }

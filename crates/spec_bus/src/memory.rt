@@ -1,11 +1,11 @@
 ghost use Rattle.std.specs.Prelude.{◌≡◌, ℕ, ◌+◌, ◌≤◌, length, slice_index, true, if◌then◌else◌};
 ghost use Rattle.spec_states.specs.declared.line.TheConstants.{LONGEST_LINE};
-ghost use Rattle.spec_states.specs.Copies.{merged_line};
 ghost use Rattle.bus_states.specs.Bus as spec;
 ghost use Rattle.bus_states.specs.Messages as message_spec;
 
 use bus_states::Notice;
-use spec_states::{LONGEST_LINE, Marks};
+use cache_lines::Line;
+use spec_states::LONGEST_LINE;
 
 /// The line of memory at `addr`, of so many bytes.
 pub(crate) fn memory_line(memory: &[u8], addr: usize, line_length: usize) -> [u8; LONGEST_LINE]
@@ -57,31 +57,17 @@ pub(crate) fn write_line_if(
     }
 }
 
-/// The bytes of the mask from the cells, the others from the line.
-fn merged(marks: Marks, cells: &[u8; LONGEST_LINE], line: &[u8; LONGEST_LINE]) -> [u8; LONGEST_LINE]
-    ensures { (x : ℕ) → slice_index result x ≡ merged_line marks.bytes (slice_index cells.now) (slice_index line.now) x }
-{
-    let mut bytes = *line;
-    for x in 0..LONGEST_LINE {
-        if marks.has(x as u32) {
-            bytes[x] = cells[x];
-        }
-    }
-    bytes
-}
-
 /// The bytes that a copy with this mask has after a notice of another core, for which the line has these bytes.
 pub(crate) fn bytes_after(
     notice: Notice,
-    marks: Marks,
-    cells: &[u8; LONGEST_LINE],
+    copy: &Line,
     line: &[u8; LONGEST_LINE],
 ) -> [u8; LONGEST_LINE]
     ensures { (x : ℕ) → slice_index result x
-        ≡ message_spec.bytes_after notice marks.bytes (slice_index cells.now) (slice_index line.now) x }
+        ≡ message_spec.bytes_after notice copy.now.marks.bytes (slice_index copy.now.cells) (slice_index line.now) x }
 {
     match notice {
-        Notice::Load | Notice::Store => *cells,
-        Notice::Publish => merged(marks, cells, line),
+        Notice::Load | Notice::Store => copy.cells,
+        Notice::Publish => copy.refreshed(line).cells,
     }
 }
