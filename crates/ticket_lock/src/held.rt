@@ -10,6 +10,14 @@ use crate::plays::HandBack;
 use crate::rule::{HOME, NEXT, Place, SERVING, Words};
 use std::marker::Model;
 use std::snapshot::Snapshot;
+use std::sync::Wait;
+use std::time::Duration;
+
+/// How often `wait_for_others` looks. With its sleeps it takes about a second.
+const MOST_LOOKS: u32 = 10_000;
+
+/// The sleep between two such looks, in microseconds.
+const BETWEEN_LOOKS: u64 = 50;
 
 /// The value, with the pass that took it. It can't be dropped: it has to be released.
 ///
@@ -45,6 +53,20 @@ impl<'a, T: Kept> Held<'a, T> {
     {
         let slot = self.seat.slot_mut(self.words, HOME);
         &mut slot.value
+    }
+
+    /// Waits until so many other threads have drawn tickets, but not for long: it may return before. No clause speaks of it.
+    pub fn wait_for_others<R: Wait>(&self, rt: &R, others: u64) {
+        for _ in 0..MOST_LOOKS {
+            let served = self.words.peek(SERVING);
+            if self.words.peek(NEXT).wrapping_sub(served) > others {
+                return;
+            }
+            // while the value is held this word doesn't change, so nobody wakes who sleeps here
+            let pause = Duration::from_micros(BETWEEN_LOOKS);
+            self.words
+                .park_timeout(rt, SERVING, (served % (1 << 32)) as u32, pause);
+        }
     }
 
     /// Gives the value back to the lock, and serves the next ticket. The fixed part is to be as it was, and the past to have
