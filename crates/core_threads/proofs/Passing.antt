@@ -1,14 +1,16 @@
 -- Passes that go on, that are split and joined, and what they have counted.
-use Rattle.std.proofs.Common.{◌≡◌, ℕ, ◌≤◌, ◌^◌, Bool, true, false, cond, List, [], length, refl, sym, ap, ◌∙◌, subst, arith}
+use Rattle.std.proofs.Common.{◌≡◌, ℕ, ◌<◌, ◌≤◌, ◌^◌, Bool, true, false, cond, List, [], length, refl, sym, ap, ◌∙◌, subst, arith}
 use Rattle.std.specs.Prelude.{nat_lt}
 use Rattle.run_ledger.specs.declared.counts.Counts.{Counts}
 use Rattle.run_ledger.specs.Counts.{no_counts, sum_of, IsAtMost}
 use Rattle.spec_history.specs.declared.entry.What.{What}
 use Rattle.spec_history.specs.Replay.{counts_of}
 use Rattle.ticket_lock.specs.Past.{StartsWith, entries_of}
-use Rattle.ticket_lock.specs.Known.{mine, joined_pass}
+use Rattle.ticket_lock.specs.Known.{LockOf, mine, joined_pass}
 use Rattle.ticket_lock.proofs.Pasts.{starts_itself, starts_trans, entries_of-entries_of}
+use Rattle.homefree.specs.declared.book.Loop.{Loop}
 use Rattle.core_threads.specs.Passes.{Knows, IsLater, IsCounted, counts_in}
+use Rattle.core_threads.specs.Starting.{IsNew, IsNewOf}
 use Rattle.core_threads.proofs.Counting.{few_in, own_no_more, counts_of_both}
 
 abbrev Past : Type 0
@@ -34,54 +36,42 @@ part_below p k high none = sym (entries_of-entries_of p.lo k p.lo p.hi (omega ar
 part_from : (p : Knows) (k : ℕ) → p.lo ≤ k → mine p ≡ [] → entries_of k p.hi p.seen ≡ []
 part_from p k low none = sym (entries_of-entries_of k p.hi p.lo p.hi low (omega arith) p.seen) ∙ ap (λ (l : Past). entries_of k p.hi l) none
 
--- the first part of such a pass, and the rest
-pub first_counted : (p q : Knows) (k : ℕ) (c : Counts) → q ≡ record p { hi = k } → k ≤ p.hi → mine p ≡ [] → length p.seen ≤ 1048576 → c ≡ no_counts → IsCounted q c
-first_counted p q k c is high none few zero =
-    let r : Knows = record p { hi = k } in
-    subst (λ (z : Knows). IsCounted z c) (sym is) (new_counted r c (part_below p k high none) few zero)
+module _ (l : LockOf Loop) where
+  -- the numbers below k of a pass that has made no entry, and those from k on
+  pub new_below : (p q : Knows) (k : ℕ) → q ≡ record p { hi = k } → p.lo < k → k ≤ p.hi → IsNew l p → IsNewOf l p.lo k q
+  new_below p q k is low high n =
+      let r : Knows = record p { hi = k } in
+      let new : IsNewOf l p.lo k r = (record { lock = n.lock; some = low; none = part_below p k high n.none; few = n.few }, refl, refl) in
+      subst (λ (z : Knows). IsNewOf l p.lo k z) (sym is) new
 
-pub rest_new : (p q : Knows) (k : ℕ) → q ≡ record p { lo = k } → p.lo ≤ k → mine p ≡ [] → length p.seen ≤ 1048576 → (mine q ≡ []) × (length q.seen ≤ 1048576)
-rest_new p q k is low none few =
-    let r : Knows = record p { lo = k } in
-    subst (λ (z : Knows). (mine z ≡ []) × (length z.seen ≤ 1048576)) (sym is) (part_from p k low none, few)
+  pub new_from : (p q : Knows) (k : ℕ) → q ≡ record p { lo = k } → p.lo ≤ k → k < p.hi → IsNew l p → IsNewOf l k p.hi q
+  new_from p q k is low high n =
+      let r : Knows = record p { lo = k } in
+      let new : IsNewOf l k p.hi r = (record { lock = n.lock; some = high; none = part_from p k low n.none; few = n.few }, refl, refl) in
+      subst (λ (z : Knows). IsNewOf l k p.hi z) (sym is) new
 
-longer_starts : (a b s : Past) → StartsWith a s → StartsWith b s → (t : Bool) → StartsWith (cond t b a) s
-longer_starts a b s x y true = y
-longer_starts a b s x y false = x
+  pub new_shares : (p : Knows) (c : Counts) → IsNew l p → c ≡ no_counts → IsCounted p c
+  new_shares p c n zero = new_counted p c n.none n.few zero
 
 few_longer : (a b : Past) (n : ℕ) → length a ≤ n → length b ≤ n → (t : Bool) → length (cond t b a) ≤ n
 few_longer a b n x y true = y
 few_longer a b n x y false = x
 
--- two passes that were one, with what each has counted, are one again
-pub both_counted : (p p1 p2 a b r : Knows) (k : ℕ) (c d : Counts) → p1 ≡ record p { hi = k } → p2 ≡ record p { lo = k } → p.lo ≤ k → k ≤ p.hi
-    → IsLater p1 a → IsCounted a c → IsLater p2 b → IsCounted b d → r ≡ joined_pass a b → entries_of a.lo a.hi (mine r) ≡ mine a → entries_of b.lo b.hi (mine r) ≡ mine b
-    → IsLater p r × IsCounted r (sum_of c d)
-both_counted p p1 p2 a b r k c d is1 is2 low high la ca lb cb is ma mb =
-    let alo : a.lo ≡ p.lo = la.lo ∙ ap (λ (z : Knows). z.lo) is1 in
-    let ahi : a.hi ≡ k = la.hi ∙ ap (λ (z : Knows). z.hi) is1 in
-    let blo : b.lo ≡ k = lb.lo ∙ ap (λ (z : Knows). z.lo) is2 in
-    let bhi : b.hi ≡ p.hi = lb.hi ∙ ap (λ (z : Knows). z.hi) is2 in
-    let rlo : r.lo ≡ p.lo = ap (λ (z : Knows). z.lo) is ∙ alo in
-    let rhi : r.hi ≡ p.hi = ap (λ (z : Knows). z.hi) is ∙ bhi in
+-- two passes side by side, with what each has counted, in one
+pub both_counted : (a b r : Knows) (c d : Counts) → a.hi ≡ b.lo → a.lo ≤ a.hi → b.lo ≤ b.hi → IsCounted a c → IsCounted b d
+    → r ≡ joined_pass a b → entries_of a.lo a.hi (mine r) ≡ mine a → entries_of b.lo b.hi (mine r) ≡ mine b → IsCounted r (sum_of c d)
+both_counted a b r c d beside low high ca cb is ma mb =
+    let rlo : r.lo ≡ a.lo = ap (λ (z : Knows). z.lo) is in
+    let rhi : r.hi ≡ b.hi = ap (λ (z : Knows). z.hi) is in
     let M : Past = mine r in
-    let whole : counts_in (entries_of p.lo p.hi M) ≡ sum_of (counts_in (entries_of p.lo k M)) (counts_in (entries_of k p.hi M)) = counts_of_both p.lo k p.hi low high M in
-    let again : entries_of p.lo p.hi M ≡ M = (λ i. entries_of p.lo p.hi (entries_of (rlo i) (rhi i) r.seen)) ∙ (entries_of-entries_of p.lo p.hi p.lo p.hi (omega arith) (omega arith) r.seen ∙ (λ i. entries_of (sym rlo i) (sym rhi i) r.seen)) in
-    let one : entries_of p.lo k M ≡ mine a = (λ i. entries_of (sym alo i) (sym ahi i) M) ∙ ma in
-    let two : entries_of k p.hi M ≡ mine b = (λ i. entries_of (sym blo i) (sym bhi i) M) ∙ mb in
-    let sums : counts_in M ≡ sum_of c d = ap (λ (l : Past). counts_in l) (sym again) ∙ (whole ∙ (λ i. sum_of ((ap (λ (l : Past). counts_in l) one ∙ sym ca.counted) i) ((ap (λ (l : Past). counts_in l) two ∙ sym cb.counted) i))) in (
-      record {
-        lock = ap (λ (z : Knows). z.lock) is ∙ (la.lock ∙ ap (λ (z : Knows). z.lock) is1);
-        lo = rlo;
-        hi = rhi;
-        seen = subst (λ (z : Knows). StartsWith z.seen p.seen) (sym is)
-            (longer_starts a.seen b.seen p.seen (subst (λ (z : Knows). StartsWith a.seen z.seen) is1 la.seen) (subst (λ (z : Knows). StartsWith b.seen z.seen) is2 lb.seen) (nat_lt (length a.seen) (length b.seen)));
-      },
-      record {
-        counted = sym sums;
-        few = subst (λ (z : Knows). length z.seen ≤ 1048576) (sym is) (few_longer a.seen b.seen 1048576 ca.few cb.few (nat_lt (length a.seen) (length b.seen)));
-      },
-    )
+    let whole : counts_in (entries_of a.lo b.hi M) ≡ sum_of (counts_in (entries_of a.lo a.hi M)) (counts_in (entries_of a.hi b.hi M)) = counts_of_both a.lo a.hi b.hi low (omega arith) M in
+    let again : entries_of a.lo b.hi M ≡ M = (λ i. entries_of a.lo b.hi (entries_of (rlo i) (rhi i) r.seen)) ∙ (entries_of-entries_of a.lo b.hi a.lo b.hi (omega arith) (omega arith) r.seen ∙ (λ i. entries_of (sym rlo i) (sym rhi i) r.seen)) in
+    let two : entries_of a.hi b.hi M ≡ mine b = (λ i. entries_of (beside i) b.hi M) ∙ mb in
+    let sums : counts_in M ≡ sum_of c d = ap (λ (l : Past). counts_in l) (sym again) ∙ (whole ∙ (λ i. sum_of ((ap (λ (l : Past). counts_in l) ma ∙ sym ca.counted) i) ((ap (λ (l : Past). counts_in l) two ∙ sym cb.counted) i))) in
+    record {
+      counted = sym sums;
+      few = subst (λ (z : Knows). length z.seen ≤ 1048576) (sym is) (few_longer a.seen b.seen 1048576 ca.few cb.few (nat_lt (length a.seen) (length b.seen)));
+    }
 
 -- no sum of two shares is large
 pub may_gather : (r : Knows) (c d : Counts) → IsCounted r (sum_of c d) → IsAtMost (2 ^ 63) (sum_of c d)

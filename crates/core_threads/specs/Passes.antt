@@ -2,7 +2,6 @@
 use Rattle.std.specs.Prelude.{◌≡◌, ◌≤◌, ℕ, List, [], length, Some, None}
 use Rattle.rv32_exec.specs.declared.sequential.End.{End}
 use Rattle.run_ledger.specs.declared.counts.Counts.{Counts}
-use Rattle.run_ledger.specs.Counts.{no_counts}
 use Rattle.spec_history.specs.declared.entry.What.{What}
 use Rattle.spec_history.specs.FlatState.{FlatState}
 use Rattle.spec_history.specs.Replay.{replay}
@@ -31,12 +30,6 @@ counts_in past = counted_in (history_of past)
 pub record IsCounted (p : Knows) (c : Counts) : Type 0 where
   pub counted : c ≡ counts_in (mine p)
   pub few : length p.seen ≤ 1048576
-
--- the pass has made no entry, and the shares are empty
-pub record IsNew (p : Knows) (c : Counts) : Type 0 where
-  pub none : mine p ≡ []
-  pub few : length p.seen ≤ 1048576
-  pub empty : c ≡ no_counts
 
 -- the loop is over after this past: it replays to a state with an end
 pub record IsOver (l : Loop) (past : List (ℕ × What)) : Type 0 where

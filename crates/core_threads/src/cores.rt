@@ -1,18 +1,20 @@
-//! One thread for each core, by a recursion over the pass and the shares.
-ghost use Rattle.std.specs.Prelude.{◌≡◌, ◌+◌, ◌<◌, ◌≤◌, Some, [], length};
+//! One thread for each core, by a recursion over the pass and the shares. The starting thread holds the book until all have drawn a
+//! ticket, so that each core has its first turn before any has its second.
+ghost use Rattle.std.specs.Prelude.{◌≡◌, ◌+◌, ◌<◌, ◌≤◌, Some, MatchOption, MatchResult};
 ghost use denote.Param.Send.{IsSync, IsSend};
-ghost use Rattle.ticket_lock.specs.Known.{mine};
-ghost use Rattle.core_threads.specs.Passes.{IsLater, IsCounted, IsNew};
+ghost use Rattle.run_ledger.specs.Counts.{no_counts};
+ghost use Rattle.core_threads.specs.Passes.{IsLater, IsCounted};
+ghost use Rattle.core_threads.specs.Starting.{Covers, HasBookAs, IsNew, IsNewOf};
 
 use crate::gate::Gate;
-use crate::turns::{LoopEnd, core_loop, halt};
+use crate::turns::{LoopEnd, core_loop, stop};
 use homefree::{Book, StopCause};
 use run_ledger::{Shares, gather};
 use rv32_exec::Image;
 use std::snapshot::Snapshot;
 use std::sync::Wait;
 use std::thread::{self, Promise, Scope, Threads};
-use ticket_lock::{Pass, TicketLock};
+use ticket_lock::{Held, Pass, TicketLock};
 use violations::EpochStore;
 
 /// What the thread of a core gives back: its pass, later, and shares that are the counts of the pass's own entries.
@@ -37,6 +39,9 @@ struct Run<'s, S: EpochStore, G, R> {
     ghost all_cores: { (cores ≡ lock.now.fixed.cores) × (cores ≤ 16) },
 }
 
+/// The starting thread: it holds the book with the last number, or it has let it go.
+type Starter<'s, S> = Result<Held<'s, Book<S>>, Pass<Book<S>>>;
+
 /// A thread for each core, in a scope of their own, and their passes and shares together once all are joined.
 pub(crate) fn run_threads<'x, S: EpochStore, G: Gate, R: Threads + Wait + Sync>(
     rt: &'x R,
@@ -47,13 +52,13 @@ pub(crate) fn run_threads<'x, S: EpochStore, G: Gate, R: Threads + Wait + Sync>(
     gate: &'x G,
     cores: u32,
 ) -> (Pass<Book<S>>, Shares)
-    requires own { pass.lock ≡ Some lock.now }
+    requires new { IsNewOf lock.now 0 (cores + 1) pass × (shares ≡ no_counts) }
     requires image { lock.now.fixed.image ≡ image.now }
-    requires cores { (pass.lo < pass.hi) × (pass.hi ≡ cores + 1) × (cores ≡ lock.now.fixed.cores) × (cores ≤ 16) }
-    requires new { IsNew pass shares }
-    ensures later { IsLater pass result.0 }
+    requires cores { (0 < cores) × (cores ≡ lock.now.fixed.cores) × (cores ≤ 16) }
+    ensures covers { Covers lock.now 0 (cores + 1) result.0 }
     ensures counted { IsCounted result.0 result.1 }
 {
+    let (rest, last) = split_new(lock, pass, cores as u64);
     let run = Run {
         rt,
         lock,
@@ -66,84 +71,158 @@ pub(crate) fn run_threads<'x, S: EpochStore, G: Gate, R: Threads + Wait + Sync>(
         thread::scope_env(),
         rt,
         move |scope| -> (Pass<Book<S>>, Shares)
-            requires own { (pass.lock ≡ Some run.now.lock.now) × (pass.lo < pass.hi) × (pass.hi ≡ run.now.cores + 1) }
-            requires new { IsNew pass shares }
+            requires rest { IsNewOf run.now.lock.now 0 run.now.cores rest × (shares ≡ no_counts) }
+            requires last { IsNewOf run.now.lock.now run.now.cores (run.now.cores + 1) last }
             requires sync { IsSync R.row × IsSync G.row × IsSend S.row }
-            ensures later { IsLater pass result.0 }
+            ensures covers { Covers run.entry.now.lock.now 0 (run.entry.now.cores + 1) result.0 }
             ensures counted { IsCounted result.0 result.1 }
-        { start(scope, run, pass, shares) },
+        { start(scope, run, 0, Some(rest), shares, take_book(run, last)) },
     )
 }
 
-/// Starts a thread for each number of the pass but its last, and joins them. Where a thread is refused, the book is stopped, and
-/// what the thread was to run is run here, so that its pass and its shares come back.
+/// Starts the threads of the cores from this one on, and joins them. Where a thread is refused, the book is stopped, and what the
+/// thread was to run is run here, so that its pass and its shares come back.
 fn start<'s, E, S: EpochStore + 's, G: Gate + 's, R: Threads + Wait + Sync>(
     scope: &Scope<'s, E>,
     run: &'s Run<'s, S, G, R>,
-    pass: Pass<Book<S>>,
+    core: u64,
+    rest: Option<Pass<Book<S>>>,
     shares: Shares,
+    starter: Starter<'s, S>,
 ) -> (Pass<Book<S>>, Shares)
-    requires own { (pass.lock ≡ Some run.now.lock.now) × (pass.lo < pass.hi) × (pass.hi ≡ run.now.cores + 1) }
-    requires new { IsNew pass shares }
-    ensures later { IsLater pass result.0 }
+    requires rest { MatchOption rest (core ≡ run.now.cores) (IsNewOf run.now.lock.now core run.now.cores) × (shares ≡ no_counts) }
+    requires starter { MatchResult starter (HasBookAs run.now.lock.now run.now.cores) (IsNewOf run.now.lock.now run.now.cores (run.now.cores + 1)) }
+    ensures covers { Covers run.now.lock.now core (run.now.cores + 1) result.0 }
     ensures counted { IsCounted result.0 result.1 }
 {
-    if pass.who() >= run.cores as u64 {
-        return (pass, shares);
-    }
-    let whole = Snapshot::of(&pass);
-    let (first, ours, rest, theirs) = split_off(run.lock, pass, shares);
+    let Some(pass) = rest else {
+        return last_part(run, starter, shares);
+    };
+    let (first, ours, rest, theirs) = split_first(run, core, pass, shares);
     let promise = Counted(Snapshot::of(&first));
     let job = move || -> (Pass<Book<S>>, Shares, LoopEnd)
         requires { (first.lock ≡ Some run.now.lock.now) × (first.lo < run.now.cores) × IsCounted first ours }
         ensures { IsLater first result.0 × IsCounted result.0 result.1 }
     { core_loop(run.rt, run.lock, first, ours, run.image, run.gate) };
-    match scope.spawn_with(promise, job) {
-        Ok(thread) => {
-            let (rest, theirs) = start(scope, run, rest, theirs);
-            let (first, ours, _) = thread.join(run.rt);
-            rejoin(run.lock, whole, (first, ours), (rest, theirs))
-        }
-        Err(refused) => {
-            let (rest, _) = halt(run.rt, run.lock, rest, StopCause::NoThread);
-            let (first, ours, _) = (refused.value)();
-            let (rest, theirs) = start(scope, run, rest, theirs);
-            rejoin(run.lock, whole, (first, ours), (rest, theirs))
-        }
+    let started = scope.spawn_with(promise, job);
+    let starter = match &started {
+        Ok(_) => starter,
+        Err(_) => Err(stop_all(run, starter)),
+    };
+    let (rest, theirs) = start(scope, run, core + 1, rest, theirs, starter);
+    let (first, ours, _) = match started {
+        Ok(thread) => thread.join(run.rt),
+        Err(refused) => (refused.value)(),
+    };
+    rejoin(run.lock, (first, ours), (rest, theirs))
+}
+
+/// Takes the book with the last number. Err: no ticket is left.
+fn take_book<'s, S: EpochStore, G, R: Wait>(
+    run: &'s Run<'s, S, G, R>,
+    last: Pass<Book<S>>,
+) -> Starter<'s, S>
+    requires { IsNewOf run.now.lock.now run.now.cores (run.now.cores + 1) last }
+    ensures { MatchResult result (HasBookAs run.now.lock.now run.now.cores) (IsNewOf run.now.lock.now run.now.cores (run.now.cores + 1)) }
+{
+    match run.lock.lock(run.rt, last) {
+        Ok(held) => Ok(held),
+        Err((_, last)) => Err(last),
     }
 }
 
-/// The first number of a pass that has made no entry, with its part of the shares, and the rest of both.
-fn split_off<S: EpochStore>(
-    lock: &TicketLock<Book<S>>,
-    pass: Pass<Book<S>>,
+/// The pass of the starting thread, and the shares, which are empty, once the book is let go.
+fn last_part<S: EpochStore, G, R: Wait>(
+    run: &Run<'_, S, G, R>,
+    starter: Starter<'_, S>,
     shares: Shares,
-) -> (Pass<Book<S>>, Shares, Pass<Book<S>>, Shares)
-    requires own { pass.lock ≡ Some lock.now }
-    requires more { (pass.lo + 1 < pass.hi) × (pass.hi ≤ 17) }
-    requires new { IsNew pass shares }
-    ensures first { result.0 ≡ record pass { hi = pass.lo + 1 } }
+) -> (Pass<Book<S>>, Shares)
+    requires starter { MatchResult starter (HasBookAs run.now.lock.now run.now.cores) (IsNewOf run.now.lock.now run.now.cores (run.now.cores + 1)) }
+    requires empty { shares ≡ no_counts }
+    ensures covers { Covers run.now.lock.now run.now.cores (run.now.cores + 1) result.0 }
     ensures counted { IsCounted result.0 result.1 }
-    ensures rest { result.2 ≡ record pass { lo = pass.lo + 1 } }
-    ensures new { IsNew result.2 result.3 }
 {
-    let at = pass.who() + 1;
-    let (first, rest) = lock.split(pass, at);
-    let (ours, theirs) = shares.split();
-    (first, ours, rest, theirs)
+    let last = let_go(run, starter);
+    (last, shares)
 }
 
-/// What a pass was split into, each part later and with what it has counted, together again.
+/// Waits for as many threads as there are cores, but not for long, and gives the book back as it was.
+fn let_go<S: EpochStore, G, R: Wait>(
+    run: &Run<'_, S, G, R>,
+    starter: Starter<'_, S>,
+) -> Pass<Book<S>>
+    requires { MatchResult starter (HasBookAs run.now.lock.now run.now.cores) (IsNewOf run.now.lock.now run.now.cores (run.now.cores + 1)) }
+    ensures { IsNewOf run.now.lock.now run.now.cores (run.now.cores + 1) result }
+{
+    match starter {
+        Ok(mut held) => {
+            held.wait_for_others(run.rt, run.cores as u64);
+            held.value().look();
+            held.release()
+        }
+        Err(last) => last,
+    }
+}
+
+/// Stops the book, since a thread was refused, and gives it back. Where it isn't held any more, it is stopped, or no ticket is left.
+fn stop_all<S: EpochStore, G, R>(run: &Run<'_, S, G, R>, starter: Starter<'_, S>) -> Pass<Book<S>>
+    requires { MatchResult starter (HasBookAs run.now.lock.now run.now.cores) (IsNewOf run.now.lock.now run.now.cores (run.now.cores + 1)) }
+    ensures { IsNewOf run.now.lock.now run.now.cores (run.now.cores + 1) result }
+{
+    match starter {
+        Ok(mut held) => {
+            stop(held.value(), StopCause::NoThread);
+            held.release()
+        }
+        Err(last) => last,
+    }
+}
+
+/// The first number of a pass that has made no entry, with its part of the shares, and the rest of both, if there is more.
+fn split_first<S: EpochStore, G, R>(
+    run: &Run<'_, S, G, R>,
+    core: u64,
+    pass: Pass<Book<S>>,
+    shares: Shares,
+) -> (Pass<Book<S>>, Shares, Option<Pass<Book<S>>>, Shares)
+    requires { IsNewOf run.now.lock.now core run.now.cores pass × (shares ≡ no_counts) }
+    ensures first { Covers run.now.lock.now core (core + 1) result.0 }
+    ensures counted { IsCounted result.0 result.1 }
+    ensures rest { MatchOption result.2 (core + 1 ≡ run.now.cores) (IsNewOf run.now.lock.now (core + 1) run.now.cores) }
+    ensures empty { result.3 ≡ no_counts }
+{
+    let (ours, theirs) = shares.split();
+    if core + 1 == run.cores as u64 {
+        return (pass, ours, None, theirs);
+    }
+    let (first, rest) = split_new(run.lock, pass, core + 1);
+    (first, ours, Some(rest), theirs)
+}
+
+/// Two passes in place of one that has made no entry.
+fn split_new<S: EpochStore>(
+    lock: &TicketLock<Book<S>>,
+    pass: Pass<Book<S>>,
+    at: u64,
+) -> (Pass<Book<S>>, Pass<Book<S>>)
+    requires new { IsNew lock.now pass }
+    requires inside { (pass.lo < at) × (at < pass.hi) }
+    ensures first { IsNewOf lock.now pass.lo at result.0 }
+    ensures second { IsNewOf lock.now at pass.hi result.1 }
+{
+    lock.split(pass, at)
+}
+
+/// Two passes side by side, each with what it has counted, in one.
 fn rejoin<S: EpochStore>(
     lock: &TicketLock<Book<S>>,
-    whole: Snapshot<Pass<Book<S>>>,
     first: (Pass<Book<S>>, Shares),
     rest: (Pass<Book<S>>, Shares),
 ) -> (Pass<Book<S>>, Shares)
-    requires own { (whole.value.lock ≡ Some lock.now) × (whole.value.lo + 1 ≤ whole.value.hi) }
-    requires first { IsLater (record whole.value { hi = whole.value.lo + 1 }) first.0 × IsCounted first.0 first.1 }
-    requires rest { IsLater (record whole.value { lo = whole.value.lo + 1 }) rest.0 × IsCounted rest.0 rest.1 }
-    ensures later { IsLater whole.value result.0 }
+    requires own { (first.0.lock ≡ Some lock.now) × (rest.0.lock ≡ Some lock.now) }
+    requires beside { (first.0.hi ≡ rest.0.lo) × (first.0.lo ≤ first.0.hi) × (rest.0.lo ≤ rest.0.hi) }
+    requires counted { IsCounted first.0 first.1 × IsCounted rest.0 rest.1 }
+    ensures covers { Covers lock.now first.0.lo rest.0.hi result.0 }
     ensures counted { IsCounted result.0 result.1 }
 {
     let (first, ours) = first;

@@ -189,7 +189,7 @@ fn stop_for<S: EpochStore>(book: &mut Book<S>, fault: TurnFault)
 }
 
 /// Takes the lock once more to stop the book, and adds no entry.
-pub(crate) fn halt<S: EpochStore, R: Wait>(
+fn halt<S: EpochStore, R: Wait>(
     rt: &R,
     lock: &TicketLock<Book<S>>,
     pass: Pass<Book<S>>,
@@ -215,7 +215,7 @@ pub(crate) fn halt<S: EpochStore, R: Wait>(
 }
 
 /// Stops the book, unless its loop is over.
-fn stop<S: EpochStore>(book: &mut Book<S>, cause: StopCause) -> LoopEnd
+pub(crate) fn stop<S: EpochStore>(book: &mut Book<S>, cause: StopCause) -> LoopEnd
     requires { cause ≢ StopCause.HistoryFull }
     ensures same { IsOfSameLoop book.old book.new }
     ensures history { book.new.history ≡ book.old.history }
