@@ -92,3 +92,45 @@ impl Gate for Meeting {
         Err(Shut)
     }
 }
+
+/// How long the late cores count before their first turn.
+const STEPS: u64 = 200_000;
+
+/// Lets each core but the first count for a while before its first turn.
+#[derive(Drop)]
+pub struct Late {
+    pub counted: AtomicU64,
+}
+
+impl Gate for Late {
+    fn pass(&self, core: u32, turn: u64, _next: Option<&Arrived>) -> Result<(), Shut> {
+        if core > 0 && turn == 0 {
+            for _ in 0..STEPS {
+                self.counted.fetch_add(1, Ordering::SeqCst);
+            }
+        }
+        Ok(())
+    }
+}
+
+/// Holds each core but the first before its first turn, until the first has had one.
+#[derive(Drop)]
+pub struct After {
+    pub turns: AtomicU64,
+}
+
+impl Gate for After {
+    fn pass(&self, core: u32, turn: u64, _next: Option<&Arrived>) -> Result<(), Shut> {
+        if core == 0 {
+            self.turns.fetch_max(turn, Ordering::SeqCst);
+            return Ok(());
+        }
+        for _ in 0..LOOKS {
+            if self.turns.load(Ordering::SeqCst) > 0 {
+                return Ok(());
+            }
+            thread::yield_now();
+        }
+        Err(Shut)
+    }
+}

@@ -1,8 +1,8 @@
 //! Runs whose loops are over.
 
-use crate::gates::Meeting;
+use crate::gates::{After, Late, Meeting};
 use crate::look::{is_in_order, look, run, word_at};
-use crate::programs::{WORDS_OF_EIGHT, WORDS_OF_TWO, text_named};
+use crate::programs::{SUM_OF_FOUR, WORDS_OF_EIGHT, WORDS_OF_TWO, text_named};
 use crate::words::{cell, end_of, is_row, number};
 use core_threads::{Finished, Gate, Open};
 use homefree::Book;
@@ -11,7 +11,7 @@ use spec_bus::CachedBus;
 use std::alloc::Global;
 use std::process::Abort;
 use std::sync::Wait;
-use std::sync::atomic::Ordering;
+use std::sync::atomic::{AtomicU64, Ordering};
 use std::test::Fail;
 use std::thread::Threads;
 use violations::{EpochStore, PlainStore, Waiting};
@@ -127,4 +127,62 @@ fn all_cores_meet_in_the_gate(rt: HostRuntime) -> Result<(), Fail> {
     meet::<PlainStore, HostRuntime>(&rt, rt.alloc(), WORDS_OF_EIGHT, 8)?;
     meet::<CachedBus, HostRuntime>(&rt, rt.alloc(), WORDS_OF_TWO, 2)?;
     meet::<CachedBus, HostRuntime>(&rt, rt.alloc(), WORDS_OF_EIGHT, 8)
+}
+
+/// A core has made one of so many first entries.
+fn is_among_the_first<S: EpochStore>(book: &Book<S>, count: u32, core: u32) -> bool {
+    for entry in book.history().iter().take(count as usize) {
+        if entry.by == core {
+            return true;
+        }
+    }
+    false
+}
+
+/// Each of so many cores has made one of as many first entries.
+fn begin_in_turn<R: Abort + Threads + Wait + Sync>(
+    rt: &R,
+    alloc: Global,
+    text: &str,
+    cores: u32,
+) -> Result<(), Fail> {
+    let image = image_of(alloc, text.as_bytes())?;
+    let gate = Late {
+        counted: AtomicU64::new(0),
+    };
+    match run::<PlainStore, Late, R>(rt, alloc, &image, cores, 64, &gate) {
+        Ok(whole) => {
+            for core in 0..cores {
+                assert!(rt; is_among_the_first(&whole.book, cores, core));
+            }
+            Ok(())
+        }
+        Err(_) => Err("it is halted".into()),
+    }
+}
+
+/// No core has its second turn before each has had its first, though all but one are late: the book is free only when all have
+/// drawn a ticket.
+#[test]
+fn each_core_begins_in_the_first_round(rt: HostRuntime) -> Result<(), Fail> {
+    begin_in_turn(&rt, rt.alloc(), WORDS_OF_TWO, 2)?;
+    begin_in_turn(&rt, rt.alloc(), SUM_OF_FOUR, 4)?;
+    begin_in_turn(&rt, rt.alloc(), WORDS_OF_EIGHT, 8)
+}
+
+/// A gate may hold cores back until another has had a turn: the book is free then after a while.
+#[test]
+fn a_core_that_waits_for_a_turn_of_another_is_not_waited_for(rt: HostRuntime) -> Result<(), Fail> {
+    let gate = After {
+        turns: AtomicU64::new(0),
+    };
+    ends::<PlainStore, After, HostRuntime>(
+        &rt,
+        rt.alloc(),
+        WORDS_OF_TWO,
+        2,
+        &gate,
+        End::Done(2),
+        "0 1",
+    )
 }
