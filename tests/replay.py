@@ -39,6 +39,8 @@ FIVE_LOADS_FIRST = image("630e05002320a0042328a0042320a0062328a0062320a008678000
 CALL = image("83220004938212002320500473000000", epochs=2, limit=50)
 # Nothing is to be run.
 NOTHING = image("67800000", epochs=0, limit=50)
+# A byte longer than an image may be.
+LONG_IMAGE = SIGNAL + "#" * (1_048_576 - len(SIGNAL)) + "\n"
 
 PLAIN, CACHES = ["plain", "2"], ["caches", "2"]
 
@@ -233,8 +235,15 @@ ROWS = [
     (["all", "plain", "2", "17"], BYTES, "", 2, "", "usage\n"),
     # 65,536 schedules, and more
     (["all", "plain", "4", "8"], NOTHING, "", 0, MOST_SCHEDULES, ""),
-    (["all", "plain", "4", "9"], NOTHING, "", 2, "", "usage\n"),
+    (["all", "plain", "5", "7"], NOTHING, "", 2, "", "usage\n"),
     (["all", "caches", "3", "11"], NOTHING, "", 2, "", "usage\n"),
+    # words that are no UTF-8
+    ([b"plain\xff", "2"], SIGNAL, "turns 0\n", 2, "", "usage\n"),
+    (["plain", b"2\xc3"], SIGNAL, "turns 0\n", 2, "", "usage\n"),
+    (["all", "plain", "2", b"\xff"], SIGNAL, "", 2, "", "usage\n"),
+    # an image that is a byte too long
+    (PLAIN, LONG_IMAGE, "turns 0\n", 2, "", "image 0 TooLong\n"),
+    (["all", "plain", "2", "2"], LONG_IMAGE, "", 2, "", "image 0 TooLong\n"),
     (["all", "plain", "2", "2"], BYTES, "turns 0\n", 2, "", "image 5 Line\n"),
 ]
 
@@ -354,7 +363,7 @@ def main():
     if not program or not program.is_file():
         print("SKIPPED: replay, since no such program was built beside the one that is tested")
         return 0
-    results = [(f"{words} on {below!r}", run([str(program)], words, text + below), (output, errors, status))
+    results = [(f"{words} on {len(text)} bytes and {below!r}", run([str(program)], words, text + below), (output, errors, status))
                for words, text, below, status, output, errors in ROWS]
     with tempfile.TemporaryDirectory() as directory:
         shim = None
