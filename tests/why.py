@@ -25,6 +25,8 @@ REFUSED = [
     ("an image without its code", "size 256\ntrace 2\n", "", "image 0 MissingOrRepeated\n", 2),
     ("a trace without its head", WAITS, "", "trace 0 Head\n", 2),
     ("a line that is none", WAITS + "trace 2\n0 begin 0\n", "", "trace 6 Line\n", 2),
+    ("an input that is a byte too long", WAITS + "trace 2\n" + "#" * (33_554_433 - len(WAITS) - len("trace 2\n")), "", "trace 0 TooLong\n", 2),
+    ("an image that is a byte too long", WAITS + "#" * (1_048_576 - len(WAITS)) + "\ntrace 2\n", "", "image 0 TooLong\n", 2),
     ("an entry that is refused", WAITS + "trace 2\n0 start 1\n", "illegal 0 NotNext\n", "", 4),
     ("no entry", WAITS + "trace 2\n", "total epochs 2 committed 0 useful 0 rollbacks 0 lost 0 cancelled 0 dropped 0 open 0 unsettled 0\n", "", 0),
 ]
@@ -156,8 +158,9 @@ def refused(why):
     for name, text, output, errors, status in REFUSED:
         got = outcome([why], text)
         yield name, None if got == (output, errors, status) else f"got {got}"
-    got = outcome([why, "seq"], WAITS)
-    yield "a word", None if got == ("", "usage\n", 2) else f"got {got}"
+    for name, word in ("a word", "seq"), ("a word that is no UTF-8", "\udcff"):
+        got = outcome([why, word], WAITS)
+        yield name, None if got == ("", "usage\n", 2) else f"got {got}"
 
 
 def main():
