@@ -14,6 +14,8 @@ use Rattle.spec_history.specs.Replay.{replay}
 use Rattle.violations.specs.View.{StoreView, Waits}
 use Rattle.violations.specs.Rule.{IsCoreCount}
 use Rattle.homefree.specs.declared.book.Loop.{Loop}
+use Rattle.homefree.specs.declared.fault.TurnFault.{TurnFault}
+use Rattle.homefree.specs.declared.fault.TurnFault.TheVariants as fault
 use Rattle.homefree.specs.Counted.{counted_in}
 use Rattle.trace_text.specs.declared.fault.TraceFault.{TraceFault}
 use Rattle.trace_text.specs.declared.fault.TraceFaultKind.{TraceFaultKind}
@@ -59,6 +61,11 @@ pub record IsShown (image : LoadedImage) (cores : ℕ) (history : List Entry) (o
 abbrev pub IsReplay : {S : Type 0} → (S → StoreView) → (S → Waits) → Loop → List ℕ → Outcome → List ℕ → Type 0
 IsReplay view waits l schedule outcome text = (result : Option End) × (history : List Entry)
     × Makes view waits l schedule (Ok result) history × IsShown l.image l.cores history outcome text
+
+-- the cause of a turn's fault
+abbrev pub cause_of : TurnFault → StopCause
+cause_of fault.HistoryFull = HistoryFull
+cause_of fault.NoMemory = NoMemory
 
 -- turns may stop so
 abbrev pub IsStop : {S : Type 0} → (S → StoreView) → (S → Waits) → Loop → List ℕ → StopCause → Type 0

@@ -7,8 +7,8 @@ ghost use Rattle.violations.specs.Rule.{IsCoreCount};
 ghost use Rattle.all_schedules.specs.Made.{loop_on};
 ghost use Rattle.replay.specs.AllSchedules as spec;
 
+use crate::schedule::cause_of;
 use all_schedules::{every_schedule, print_survey, survey_schedules};
-use homefree::TurnFault;
 use rv32_image::{Image, read_image};
 use std::alloc::{AllocError, Global};
 use std::io::{Read, Write};
@@ -117,7 +117,6 @@ fn print_all<S: EpochStore>(
             Ok(text) => Ok(text),
             Err(AllocError) => Err(StopCause::NoMemory),
         },
-        Err(TurnFault::HistoryFull) => Err(StopCause::HistoryFull),
-        Err(TurnFault::NoMemory) => Err(StopCause::NoMemory),
+        Err(fault) => Err(cause_of(fault)),
     }
 }

@@ -139,7 +139,16 @@ fn replay_turns<S: EpochStore>(
             Ok(shown) => Ok(shown),
             Err(AllocError) => Err(StopCause::NoMemory),
         },
-        Err(TurnFault::HistoryFull) => Err(StopCause::HistoryFull),
-        Err(TurnFault::NoMemory) => Err(StopCause::NoMemory),
+        Err(fault) => Err(cause_of(fault)),
+    }
+}
+
+/// The cause that has the fault's name.
+pub fn cause_of(fault: TurnFault) -> StopCause
+    ensures { result ≡ spec.cause_of fault }
+{
+    match fault {
+        TurnFault::HistoryFull => StopCause::HistoryFull,
+        TurnFault::NoMemory => StopCause::NoMemory,
     }
 }
