@@ -181,6 +181,7 @@ fn a_core_that_waits_for_a_turn_of_another_is_not_waited_for(rt: HostRuntime) ->
         rt.alloc(),
         WORDS_OF_TWO,
         2,
+        64,
         &gate,
         End::Done(2),
         "0 1",
