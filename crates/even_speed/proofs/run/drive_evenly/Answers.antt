@@ -1,0 +1,216 @@
+use Rattle.std.proofs.Common.{None, Ok, Err, Some, List, ℕ, ◌≡◌, ◌+◌, ◌∷◌, [], length, cond, ◌==◌, ◌≢◌, not, refl, sym, ap, subst, ◌∙◌, arith}
+use Rattle.std.proofs.lemmas.Result.{err_from_is_err_and}
+use Rattle.rv32_exec.specs.declared.sequential.End.{End}
+use Rattle.run_ledger.specs.declared.counts.Counts.{Counts}
+use Rattle.homefree.specs.declared.answer.Answer.{Answer}
+use Rattle.homefree.specs.declared.answer.Answer.TheVariants.{Again, Over, Stopped}
+use Rattle.homefree.specs.declared.answer.Cause.{Cause}
+use Rattle.homefree.specs.declared.answer.StopCause.{StopCause}
+use Rattle.homefree.specs.Acted.{IfArrived}
+use Rattle.homefree.specs.Driven.{Driver, driver}
+use Rattle.homefree.specs.Held.{harts_of}
+use Rattle.homefree.proofs.Drives.{in_order, none_held, no_harts}
+use Rattle.violations.proofs.Opening.{most_few}
+use Rattle.even_speed.specs.declared.clock.Clock.{Clock}
+use Rattle.even_speed.specs.declared.clocks.Turn.{Turn}
+use Rattle.even_speed.specs.Clocks.{IsFirst, account_of, answered, clock_at}
+use Rattle.even_speed.specs.Even.{at_first, clocks_after, executed_by}
+use Rattle.even_speed.specs.Kept.{AreSound}
+use Rattle.even_speed.proofs.Sounding.{all_first, turned_all, turned_end, turned_sound, woken_all}
+use Rattle.even_speed.proofs.Evening.{at_start, ends_fault, ends_over, ends_stopped, goes_on, is_driven, last_are, no_more, unless_driven, waits_are, woken_are}
+use Rattle.even_speed.proofs.run.drive_evenly.Goals.{in-Again, in_default-answer}
+use Rattle.even_speed.proofs.run.drive_evenly.Goals as goal
+
+first_of : (clocks : List Clock) (cores : ℕ) (t : Turn) → length clocks ≡ cores → IsFirst (clock_at clocks) (length clocks) t → IsFirst (clock_at clocks) cores t
+first_of clocks cores t count first = subst (λ n. IsFirst (clock_at clocks) n t) count first
+
+each_by : (clocks clocks' : List Clock) (core : ℕ) (set now : Clock) → ((k : ℕ) → clock_at clocks' k ≡ cond (k == core) set (clock_at clocks k)) → set ≡ now
+    → (k : ℕ) → clock_at clocks' k ≡ cond (k == core) now (clock_at clocks k)
+each_by clocks clocks' core set now each is k = each k ∙ ap (λ c. cond (k == core) c (clock_at clocks k)) is
+
+same_restarts : (a b x y : Counts) → a ≡ x → b ≡ y → not (a.restarts == b.restarts) ≡ not (x.restarts == y.restarts)
+same_restarts a b x y this that = rw (this, that) refl
+
+again_not_over : (answer : Answer) (cause : Cause) (end : End) → answer ≡ Again cause → answer ≢ Over end
+again_not_over answer cause end is over = absurd cc
+
+again_not_stopped : (answer : Answer) (cause : Cause) (stop : StopCause) → answer ≡ Again cause → answer ≢ Stopped stop
+again_not_stopped answer cause stop is stopped = absurd cc
+
+-- what a turn leaves that doesn't end the run
+record GoesOn {S : Type 0} (old mid : Driver S) (before : ℕ → Clock) (t : Turn) (answer : Answer) (taken cores : ℕ) (clocks : List Clock) : Type 0 where
+  sound : AreSound (taken + 1) cores clocks
+  are : (k : ℕ) → clock_at clocks k ≡ clocks_after old mid before t answer k
+  going : (end : End) → answer ≢ Over end
+  unstopped : (cause : StopCause) → answer ≢ Stopped cause
+
+pub loop-taken-init : goal.loop-taken-init
+loop-taken-init g c = record {
+  same = record { image = refl; cores = refl; room = refl };
+  held = λ k. subst (λ o. IfArrived c.args.book.now.image o) (sym (none_held 16 k)) tt;
+  shares = c.requires.shares;
+  sound = all_first c.args.book.now.cores c.in-Ok.clocks.items (c.in-Ok.ensures.count ∙ sym c.requires.cores)
+      (omega (arith, c.look.ensures.core_count.most, most_few c.args.book.now.image.version)) c.in-Ok.ensures.first;
+  drives = at_start g.S.EpochStore.view g.S.EpochStore.waits
+      (record { held = harts_of (None ∷ None ∷ None ∷ None ∷ None ∷ None ∷ None ∷ None ∷ None ∷ None ∷ None ∷ None ∷ None ∷ None ∷ None ∷ None ∷ []); clocks = clock_at c.in-Ok.clocks.items })
+      (driver c.args.book.now c.args.shares.now) c.args.schedule.now.items (λ k. ap (λ f. f k) (no_harts 16)) c.in-Ok.ensures.first c.requires.schedule;
+}
+
+pub returns-in_default-next_turn-clause-evenly : goal.returns-in_default-next_turn-clause-evenly
+returns-in_default-next_turn-clause-evenly g c =
+    (no_more g.S.EpochStore.view g.S.EpochStore.waits at_first (record { held = harts_of c.loop-taken.held; clocks = clock_at c.loop-taken.clocks.items })
+    (driver c.args.book.now c.args.shares.now) (driver c.loop-taken.book c.loop-taken.shares) c.loop-taken.schedule.items c.loop-taken.invariant.drives)
+
+pub returns-in_default-next_turn-clause-driven : goal.returns-in_default-next_turn-clause-driven
+returns-in_default-next_turn-clause-driven g c =
+    is_driven g.S.EpochStore.view g.S.EpochStore.waits at_first (driver c.args.book.now c.args.shares.now) (driver c.loop-taken.book c.loop-taken.shares) c.loop-taken.schedule.items (Ok None)
+    (no_more g.S.EpochStore.view g.S.EpochStore.waits at_first (record { held = harts_of c.loop-taken.held; clocks = clock_at c.loop-taken.clocks.items })
+    (driver c.args.book.now c.args.shares.now) (driver c.loop-taken.book c.loop-taken.shares) c.loop-taken.schedule.items c.loop-taken.invariant.drives)
+
+pub returns-in_err-answer-clause-evenly : goal.returns-in_err-answer-clause-evenly
+returns-in_err-answer-clause-evenly g c =
+    let p = err_from_is_err_and c.from_residual.result c.from_residual.ensures.1 in
+    rw (p.1, p.2) (ends_fault g.S.EpochStore.view g.S.EpochStore.waits at_first (record { held = harts_of c.loop-taken.held; clocks = clock_at c.loop-taken.clocks.items }) (driver c.args.book.now c.args.shares.now)
+    (driver c.loop-taken.book c.loop-taken.shares) (driver c.step.new.book c.step.new.shares) c.loop-taken.schedule.items c.push.new.self.items c.in-Some.turn c.loop-taken.invariant.drives
+    (first_of c.loop-taken.clocks.items c.loop-taken.book.cores c.in-Some.turn c.loop-taken.invariant.sound.count c.in-Some.ensures) c.in-Ok-push.ensures.items
+    c.in_err-answer.field-0.0 c.in_err-answer.ensures.turned)
+
+pub returns-in_err-answer-clause-driven : goal.returns-in_err-answer-clause-driven
+returns-in_err-answer-clause-driven g c =
+    let p = err_from_is_err_and c.from_residual.result c.from_residual.ensures.1 in
+    rw (p.1, p.2) (unless_driven g.S.EpochStore.view g.S.EpochStore.waits at_first (driver c.args.book.now c.args.shares.now) (driver c.step.new.book c.step.new.shares) c.push.new.self.items (Err c.in_err-answer.field-0.0)
+    (ends_fault g.S.EpochStore.view g.S.EpochStore.waits at_first (record { held = harts_of c.loop-taken.held; clocks = clock_at c.loop-taken.clocks.items }) (driver c.args.book.now c.args.shares.now)
+    (driver c.loop-taken.book c.loop-taken.shares) (driver c.step.new.book c.step.new.shares) c.loop-taken.schedule.items c.push.new.self.items c.in-Some.turn c.loop-taken.invariant.drives
+    (first_of c.loop-taken.clocks.items c.loop-taken.book.cores c.in-Some.turn c.loop-taken.invariant.sound.count c.in-Some.ensures) c.in-Ok-push.ensures.items
+    c.in_err-answer.field-0.0 c.in_err-answer.ensures.turned))
+
+pub account_of-account-requires-clause-sound : goal.account_of-account-requires-clause-sound
+account_of-account-requires-clause-sound g c =
+    turned_end c.loop-taken._taken c.loop-taken.book.cores c.loop-taken.clocks.items c.loop-taken.invariant.sound c.in-Some.turn
+    (first_of c.loop-taken.clocks.items c.loop-taken.book.cores c.in-Some.turn c.loop-taken.invariant.sound.count c.in-Some.ensures) (not (c.totals.result.restarts == c.totals-restarts.result.restarts))
+    c.executed_by-executed.result c.in_ok-answer.answer c.executed_by-executed.ensures.few c.set_clock.new.clocks.items c.set_clock.ensures.len
+    (each_by c.loop-taken.clocks.items c.set_clock.new.clocks.items c.in-Some.turn.core c.answered-clock.result
+    (answered c.in-Some.turn.at (not (c.totals.result.restarts == c.totals-restarts.result.restarts)) c.executed_by-executed.result c.in_ok-answer.answer (clock_at c.loop-taken.clocks.items c.in-Some.turn.core)) c.set_clock.ensures.each
+    (c.answered-clock.ensures ∙ ap (answered c.in-Some.turn.at (not (c.totals.result.restarts == c.totals-restarts.result.restarts)) c.executed_by-executed.result c.in_ok-answer.answer) c.clock_of-clock.ensures))
+
+pub returns-in-Over-clause-evenly : goal.returns-in-Over-clause-evenly
+returns-in-Over-clause-evenly g c =
+    (ends_over g.S.EpochStore.view g.S.EpochStore.waits at_first (record { held = harts_of c.loop-taken.held; clocks = clock_at c.loop-taken.clocks.items }) (driver c.args.book.now c.args.shares.now)
+    (driver c.loop-taken.book c.loop-taken.shares) (driver c.step.new.book c.step.new.shares) c.loop-taken.schedule.items c.push.new.self.items c.in-Some.turn c.loop-taken.invariant.drives
+    (first_of c.loop-taken.clocks.items c.loop-taken.book.cores c.in-Some.turn c.loop-taken.invariant.sound.count c.in-Some.ensures) c.in-Ok-push.ensures.items
+    c.in_ok-answer.answer c.in-Over.end (clock_at c.set_clock.new.clocks.items) c.account_of-account.result c.in-Over.is
+    (last_are (driver c.loop-taken.book c.loop-taken.shares) (driver c.step.new.book c.step.new.shares) (clock_at c.loop-taken.clocks.items) (clock_at c.set_clock.new.clocks.items) c.in-Some.turn c.in_ok-answer.answer (not (c.totals.result.restarts == c.totals-restarts.result.restarts))
+    c.executed_by-executed.result (same_restarts c.totals.result c.totals-restarts.result c.step.new.book.totals c.loop-taken.book.totals c.totals.ensures c.totals-restarts.ensures)
+    (c.executed_by-executed.ensures.is ∙ ap (λ m. executed_by m c.in_ok-answer.answer) (sym (c.loop-taken.invariant.same.image ∙ c.requires.image)))
+    (each_by c.loop-taken.clocks.items c.set_clock.new.clocks.items c.in-Some.turn.core c.answered-clock.result
+    (answered c.in-Some.turn.at (not (c.totals.result.restarts == c.totals-restarts.result.restarts)) c.executed_by-executed.result c.in_ok-answer.answer (clock_at c.loop-taken.clocks.items c.in-Some.turn.core)) c.set_clock.ensures.each
+    (c.answered-clock.ensures ∙ ap (answered c.in-Some.turn.at (not (c.totals.result.restarts == c.totals-restarts.result.restarts)) c.executed_by-executed.result c.in_ok-answer.answer) c.clock_of-clock.ensures)) c.in-Over.end c.in-Over.is)
+    (c.account_of-account.ensures.is ∙ ap (account_of (c.in-Some.turn.at + 1) (clock_at c.set_clock.new.clocks.items)) (c.set_clock.ensures.len ∙ c.loop-taken.invariant.sound.count))
+    c.in_ok-answer.ensures.turned)
+
+pub returns-in-Over-clause-driven : goal.returns-in-Over-clause-driven
+returns-in-Over-clause-driven g c =
+    is_driven g.S.EpochStore.view g.S.EpochStore.waits at_first (driver c.args.book.now c.args.shares.now) (driver c.step.new.book c.step.new.shares) c.push.new.self.items
+    (Ok (Some (record { end = c.in-Over.end; steps = c.in-Some.turn.at + 1; account = c.account_of-account.result })))
+    (ends_over g.S.EpochStore.view g.S.EpochStore.waits at_first (record { held = harts_of c.loop-taken.held; clocks = clock_at c.loop-taken.clocks.items }) (driver c.args.book.now c.args.shares.now)
+    (driver c.loop-taken.book c.loop-taken.shares) (driver c.step.new.book c.step.new.shares) c.loop-taken.schedule.items c.push.new.self.items c.in-Some.turn c.loop-taken.invariant.drives
+    (first_of c.loop-taken.clocks.items c.loop-taken.book.cores c.in-Some.turn c.loop-taken.invariant.sound.count c.in-Some.ensures) c.in-Ok-push.ensures.items
+    c.in_ok-answer.answer c.in-Over.end (clock_at c.set_clock.new.clocks.items) c.account_of-account.result c.in-Over.is
+    (last_are (driver c.loop-taken.book c.loop-taken.shares) (driver c.step.new.book c.step.new.shares) (clock_at c.loop-taken.clocks.items) (clock_at c.set_clock.new.clocks.items) c.in-Some.turn c.in_ok-answer.answer (not (c.totals.result.restarts == c.totals-restarts.result.restarts))
+    c.executed_by-executed.result (same_restarts c.totals.result c.totals-restarts.result c.step.new.book.totals c.loop-taken.book.totals c.totals.ensures c.totals-restarts.ensures)
+    (c.executed_by-executed.ensures.is ∙ ap (λ m. executed_by m c.in_ok-answer.answer) (sym (c.loop-taken.invariant.same.image ∙ c.requires.image)))
+    (each_by c.loop-taken.clocks.items c.set_clock.new.clocks.items c.in-Some.turn.core c.answered-clock.result
+    (answered c.in-Some.turn.at (not (c.totals.result.restarts == c.totals-restarts.result.restarts)) c.executed_by-executed.result c.in_ok-answer.answer (clock_at c.loop-taken.clocks.items c.in-Some.turn.core)) c.set_clock.ensures.each
+    (c.answered-clock.ensures ∙ ap (answered c.in-Some.turn.at (not (c.totals.result.restarts == c.totals-restarts.result.restarts)) c.executed_by-executed.result c.in_ok-answer.answer) c.clock_of-clock.ensures)) c.in-Over.end c.in-Over.is)
+    (c.account_of-account.ensures.is ∙ ap (account_of (c.in-Some.turn.at + 1) (clock_at c.set_clock.new.clocks.items)) (c.set_clock.ensures.len ∙ c.loop-taken.invariant.sound.count))
+    c.in_ok-answer.ensures.turned)
+
+pub returns-in-Over-clause-end : goal.returns-in-Over-clause-end
+returns-in-Over-clause-end g c = in_order g.S.EpochStore.view c.step.new.book c.in-Over.end c.look-in-Over.ensures
+    (c.step.ensures.over c.in-Over.end c.look-in-Over.ensures.state (c.in_ok-answer.was ∙ ap Ok c.in-Over.is) c.look-in-Over.ensures.replays)
+
+pub returns-in-Stopped-clause-evenly : goal.returns-in-Stopped-clause-evenly
+returns-in-Stopped-clause-evenly g c =
+    ends_stopped g.S.EpochStore.view g.S.EpochStore.waits at_first (record { held = harts_of c.loop-taken.held; clocks = clock_at c.loop-taken.clocks.items }) (driver c.args.book.now c.args.shares.now)
+    (driver c.loop-taken.book c.loop-taken.shares) (driver c.step.new.book c.step.new.shares) c.loop-taken.schedule.items c.push.new.self.items c.in-Some.turn c.loop-taken.invariant.drives
+    (first_of c.loop-taken.clocks.items c.loop-taken.book.cores c.in-Some.turn c.loop-taken.invariant.sound.count c.in-Some.ensures) c.in-Ok-push.ensures.items
+    c.in_ok-answer.answer c.in-Stopped.field-0 c.in-Stopped.is c.in_ok-answer.ensures.turned
+
+pub returns-in-Stopped-clause-driven : goal.returns-in-Stopped-clause-driven
+returns-in-Stopped-clause-driven g c =
+    is_driven g.S.EpochStore.view g.S.EpochStore.waits at_first (driver c.args.book.now c.args.shares.now) (driver c.step.new.book c.step.new.shares) c.push.new.self.items (Ok None)
+    (ends_stopped g.S.EpochStore.view g.S.EpochStore.waits at_first (record { held = harts_of c.loop-taken.held; clocks = clock_at c.loop-taken.clocks.items }) (driver c.args.book.now c.args.shares.now)
+    (driver c.loop-taken.book c.loop-taken.shares) (driver c.step.new.book c.step.new.shares) c.loop-taken.schedule.items c.push.new.self.items c.in-Some.turn c.loop-taken.invariant.drives
+    (first_of c.loop-taken.clocks.items c.loop-taken.book.cores c.in-Some.turn c.loop-taken.invariant.sound.count c.in-Some.ensures) c.in-Ok-push.ensures.items
+    c.in_ok-answer.answer c.in-Stopped.field-0 c.in-Stopped.is c.in_ok-answer.ensures.turned)
+
+pub wake_all-requires-clause-sound : goal.wake_all-requires-clause-sound
+wake_all-requires-clause-sound g c =
+    turned_all c.loop-taken._taken c.loop-taken.book.cores c.loop-taken.clocks.items c.loop-taken.invariant.sound c.in-Some.turn
+    (first_of c.loop-taken.clocks.items c.loop-taken.book.cores c.in-Some.turn c.loop-taken.invariant.sound.count c.in-Some.ensures) (not (c.totals.result.restarts == c.totals-restarts.result.restarts))
+    c.executed_by-executed.result c.in_ok-answer.answer c.executed_by-executed.ensures.few c.set_clock.new.clocks.items c.set_clock.ensures.len
+    (each_by c.loop-taken.clocks.items c.set_clock.new.clocks.items c.in-Some.turn.core c.answered-clock.result
+    (answered c.in-Some.turn.at (not (c.totals.result.restarts == c.totals-restarts.result.restarts)) c.executed_by-executed.result c.in_ok-answer.answer (clock_at c.loop-taken.clocks.items c.in-Some.turn.core)) c.set_clock.ensures.each
+    (c.answered-clock.ensures ∙ ap (answered c.in-Some.turn.at (not (c.totals.result.restarts == c.totals-restarts.result.restarts)) c.executed_by-executed.result c.in_ok-answer.answer) c.clock_of-clock.ensures))
+
+pub loop-taken-preserved : goal.loop-taken-preserved
+loop-taken-preserved g c =
+    let same = c.step.ensures.same in
+    let before = c.loop-taken.invariant.same in
+    let on : GoesOn (driver c.loop-taken.book c.loop-taken.shares) (driver c.step.new.book c.step.new.shares) (clock_at c.loop-taken.clocks.items) c.in-Some.turn c.in_ok-answer.answer c.loop-taken._taken c.loop-taken.book.cores c.match-answer.clocks.items = elim c.match-answer.branch [
+      | in-Again w ↦ subst (λ (clocks : List Clock). GoesOn (driver c.loop-taken.book c.loop-taken.shares) (driver c.step.new.book c.step.new.shares) (clock_at c.loop-taken.clocks.items) c.in-Some.turn c.in_ok-answer.answer c.loop-taken._taken c.loop-taken.book.cores clocks)
+          (sym (ap (λ v. v.items) w.clocks-is)) (record {
+            sound = turned_sound c.loop-taken._taken c.loop-taken.book.cores c.loop-taken.clocks.items c.loop-taken.invariant.sound c.in-Some.turn
+                (first_of c.loop-taken.clocks.items c.loop-taken.book.cores c.in-Some.turn c.loop-taken.invariant.sound.count c.in-Some.ensures) (not (c.totals.result.restarts == c.totals-restarts.result.restarts))
+                c.executed_by-executed.result c.in_ok-answer.answer c.executed_by-executed.ensures.few c.set_clock.new.clocks.items c.set_clock.ensures.len
+                (each_by c.loop-taken.clocks.items c.set_clock.new.clocks.items c.in-Some.turn.core c.answered-clock.result
+                (answered c.in-Some.turn.at (not (c.totals.result.restarts == c.totals-restarts.result.restarts)) c.executed_by-executed.result c.in_ok-answer.answer (clock_at c.loop-taken.clocks.items c.in-Some.turn.core)) c.set_clock.ensures.each
+                (c.answered-clock.ensures ∙ ap (answered c.in-Some.turn.at (not (c.totals.result.restarts == c.totals-restarts.result.restarts)) c.executed_by-executed.result c.in_ok-answer.answer) c.clock_of-clock.ensures));
+            are = waits_are (driver c.loop-taken.book c.loop-taken.shares) (driver c.step.new.book c.step.new.shares) (clock_at c.loop-taken.clocks.items) (clock_at c.set_clock.new.clocks.items) c.in-Some.turn c.in_ok-answer.answer (not (c.totals.result.restarts == c.totals-restarts.result.restarts))
+                c.executed_by-executed.result (same_restarts c.totals.result c.totals-restarts.result c.step.new.book.totals c.loop-taken.book.totals c.totals.ensures c.totals-restarts.ensures)
+                (c.executed_by-executed.ensures.is ∙ ap (λ m. executed_by m c.in_ok-answer.answer) (sym (c.loop-taken.invariant.same.image ∙ c.requires.image)))
+                (each_by c.loop-taken.clocks.items c.set_clock.new.clocks.items c.in-Some.turn.core c.answered-clock.result
+                (answered c.in-Some.turn.at (not (c.totals.result.restarts == c.totals-restarts.result.restarts)) c.executed_by-executed.result c.in_ok-answer.answer (clock_at c.loop-taken.clocks.items c.in-Some.turn.core)) c.set_clock.ensures.each
+                (c.answered-clock.ensures ∙ ap (answered c.in-Some.turn.at (not (c.totals.result.restarts == c.totals-restarts.result.restarts)) c.executed_by-executed.result c.in_ok-answer.answer) c.clock_of-clock.ensures)) w.in-Again.field-0 w.in-Again.is;
+            going = λ end over. again_not_over c.in_ok-answer.answer w.in-Again.field-0 end w.in-Again.is over;
+            unstopped = λ cause stopped. again_not_stopped c.in_ok-answer.answer w.in-Again.field-0 cause w.in-Again.is stopped;
+          })
+      | in_default-answer w ↦ subst (λ (clocks : List Clock). GoesOn (driver c.loop-taken.book c.loop-taken.shares) (driver c.step.new.book c.step.new.shares) (clock_at c.loop-taken.clocks.items) c.in-Some.turn c.in_ok-answer.answer c.loop-taken._taken c.loop-taken.book.cores clocks)
+          (sym (ap (λ v. v.items) w.clocks-is)) (record {
+            sound = woken_all c.loop-taken._taken c.loop-taken.book.cores c.loop-taken.clocks.items c.loop-taken.invariant.sound c.in-Some.turn
+                (first_of c.loop-taken.clocks.items c.loop-taken.book.cores c.in-Some.turn c.loop-taken.invariant.sound.count c.in-Some.ensures) (not (c.totals.result.restarts == c.totals-restarts.result.restarts))
+                c.executed_by-executed.result c.in_ok-answer.answer c.executed_by-executed.ensures.few c.set_clock.new.clocks.items c.set_clock.ensures.len
+                (each_by c.loop-taken.clocks.items c.set_clock.new.clocks.items c.in-Some.turn.core c.answered-clock.result
+                (answered c.in-Some.turn.at (not (c.totals.result.restarts == c.totals-restarts.result.restarts)) c.executed_by-executed.result c.in_ok-answer.answer (clock_at c.loop-taken.clocks.items c.in-Some.turn.core)) c.set_clock.ensures.each
+                (c.answered-clock.ensures ∙ ap (answered c.in-Some.turn.at (not (c.totals.result.restarts == c.totals-restarts.result.restarts)) c.executed_by-executed.result c.in_ok-answer.answer) c.clock_of-clock.ensures)) w.wake_all.new.clocks.items w.wake_all.ensures.len w.wake_all.ensures.each;
+            are = woken_are (driver c.loop-taken.book c.loop-taken.shares) (driver c.step.new.book c.step.new.shares) (clock_at c.loop-taken.clocks.items) (clock_at c.set_clock.new.clocks.items) c.in-Some.turn c.in_ok-answer.answer (not (c.totals.result.restarts == c.totals-restarts.result.restarts))
+                c.executed_by-executed.result (same_restarts c.totals.result c.totals-restarts.result c.step.new.book.totals c.loop-taken.book.totals c.totals.ensures c.totals-restarts.ensures)
+                (c.executed_by-executed.ensures.is ∙ ap (λ m. executed_by m c.in_ok-answer.answer) (sym (c.loop-taken.invariant.same.image ∙ c.requires.image)))
+                (each_by c.loop-taken.clocks.items c.set_clock.new.clocks.items c.in-Some.turn.core c.answered-clock.result
+                (answered c.in-Some.turn.at (not (c.totals.result.restarts == c.totals-restarts.result.restarts)) c.executed_by-executed.result c.in_ok-answer.answer (clock_at c.loop-taken.clocks.items c.in-Some.turn.core)) c.set_clock.ensures.each
+                (c.answered-clock.ensures ∙ ap (answered c.in-Some.turn.at (not (c.totals.result.restarts == c.totals-restarts.result.restarts)) c.executed_by-executed.result c.in_ok-answer.answer) c.clock_of-clock.ensures)) (clock_at w.wake_all.new.clocks.items) w.in_default-answer.not-Again w.in_default-answer.not-Over w.in_default-answer.not-Stopped w.wake_all.ensures.each;
+            going = w.in_default-answer.not-Over;
+            unstopped = w.in_default-answer.not-Stopped;
+          })
+    ] in record {
+      same = record { image = same.image ∙ before.image; cores = same.cores ∙ before.cores; room = same.room ∙ before.room };
+      held = c.step.ensures.held;
+      shares = c.step.ensures.shares;
+      sound = subst (λ n. AreSound (c.loop-taken._taken + 1) n c.match-answer.clocks.items) (sym same.cores) on.sound;
+      drives = goes_on g.S.EpochStore.view g.S.EpochStore.waits at_first (record { held = harts_of c.loop-taken.held; clocks = clock_at c.loop-taken.clocks.items }) (driver c.args.book.now c.args.shares.now)
+          (driver c.loop-taken.book c.loop-taken.shares) (driver c.step.new.book c.step.new.shares) c.loop-taken.schedule.items c.push.new.self.items c.in-Some.turn c.loop-taken.invariant.drives
+          (first_of c.loop-taken.clocks.items c.loop-taken.book.cores c.in-Some.turn c.loop-taken.invariant.sound.count c.in-Some.ensures) c.in-Ok-push.ensures.items
+          c.in_ok-answer.answer (record { held = harts_of c.step.new.held; clocks = clock_at c.match-answer.clocks.items }) on.going on.unstopped c.in_ok-answer.ensures.harts on.are
+          c.in_ok-answer.ensures.turned;
+    }
+
+pub returns-clause-evenly : goal.returns-clause-evenly
+returns-clause-evenly g c =
+    (no_more g.S.EpochStore.view g.S.EpochStore.waits at_first (record { held = harts_of c.loop-taken.held; clocks = clock_at c.loop-taken.clocks.items })
+    (driver c.args.book.now c.args.shares.now) (driver c.loop-taken.book c.loop-taken.shares) c.loop-taken.schedule.items c.loop-taken.invariant.drives)
+
+pub returns-clause-driven : goal.returns-clause-driven
+returns-clause-driven g c =
+    is_driven g.S.EpochStore.view g.S.EpochStore.waits at_first (driver c.args.book.now c.args.shares.now) (driver c.loop-taken.book c.loop-taken.shares) c.loop-taken.schedule.items (Ok None)
+    (no_more g.S.EpochStore.view g.S.EpochStore.waits at_first (record { held = harts_of c.loop-taken.held; clocks = clock_at c.loop-taken.clocks.items })
+    (driver c.args.book.now c.args.shares.now) (driver c.loop-taken.book c.loop-taken.shares) c.loop-taken.schedule.items c.loop-taken.invariant.drives)

@@ -1,0 +1,22 @@
+use Rattle.std.proofs.Common.{ℕ, List, ◌++◌, Option, Result}
+use Rattle.homefree.specs.declared.fault.TurnFault.{TurnFault}
+use Rattle.homefree.specs.BookView.{IsOfSameLoop}
+use Rattle.homefree.specs.Counted.{IsNoMore}
+use Rattle.homefree.specs.Driven.{Driver, driver}
+use Rattle.homefree.specs.Held.{HaveArrived, harts_of}
+use Rattle.even_speed.specs.declared.run.Ran.{Ran}
+use Rattle.even_speed.specs.Clocks.{clock_at}
+use Rattle.even_speed.specs.Even.{Evenly, at_first}
+use Rattle.even_speed.specs.Kept.{AreSound}
+use Rattle.even_speed.proofs.run.drive_evenly.Given as goal
+
+abbrev pub invariant-loop-taken : goal.invariant-loop-taken
+invariant-loop-taken g l = record {
+  same : IsOfSameLoop l.initial.book l.book;
+  held : HaveArrived l.book.image l.held;
+  shares : IsNoMore l.shares l.book.totals;
+  sound : AreSound l._taken l.book.cores l.clocks.items;
+  drives : (rest : List ℕ) (result : Result (Option Ran) TurnFault) (new : Driver g.row.S.Denot)
+      → Evenly g.S.EpochStore.view g.S.EpochStore.waits (record { held = harts_of l.held; clocks = clock_at l.clocks.items }) (driver l.book l.shares) rest result new
+      → Evenly g.S.EpochStore.view g.S.EpochStore.waits at_first (driver l.initial.book l.initial.shares) (l.schedule.items ++ rest) result new;
+}

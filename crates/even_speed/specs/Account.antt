@@ -1,0 +1,48 @@
+-- Where the steps of cores went.
+-- Source: this project.
+use Rattle.std.specs.Prelude.{ℕ, ◌+◌}
+use Rattle.homefree.specs.declared.answer.Cause.{Cause}
+use Rattle.homefree.specs.declared.answer.Cause.TheVariants.{NoEpoch, NotHomefree, NoWay, OrbFull, OrbBusy}
+use Rattle.even_speed.specs.declared.account.Account.{Account}
+
+abbrev pub no_steps : Account
+no_steps = record { useful = 0; lost = 0; dropped = 0; idle = 0; not_homefree = 0; no_way = 0; orb_full = 0; orb_busy = 0 }
+
+abbrev pub waiting_of : Account → ℕ
+waiting_of a = a.not_homefree + a.no_way + a.orb_full + a.orb_busy
+
+-- all steps
+abbrev pub steps_of : Account → ℕ
+steps_of a = a.useful + a.lost + a.dropped + waiting_of a + a.idle
+
+abbrev pub sum_of : Account → Account → Account
+sum_of a b = record {
+  useful = a.useful + b.useful;
+  lost = a.lost + b.lost;
+  dropped = a.dropped + b.dropped;
+  idle = a.idle + b.idle;
+  not_homefree = a.not_homefree + b.not_homefree;
+  no_way = a.no_way + b.no_way;
+  orb_full = a.orb_full + b.orb_full;
+  orb_busy = a.orb_busy + b.orb_busy;
+}
+
+-- so many steps more, waited for this cause; who waits for an epoch has none
+abbrev pub with_waited : Cause → ℕ → Account → Account
+with_waited NoEpoch n a = record a { idle = a.idle + n }
+with_waited NotHomefree n a = record a { not_homefree = a.not_homefree + n }
+with_waited NoWay n a = record a { no_way = a.no_way + n }
+with_waited OrbFull n a = record a { orb_full = a.orb_full + n }
+with_waited OrbBusy n a = record a { orb_busy = a.orb_busy + n }
+
+abbrev pub with_useful : ℕ → Account → Account
+with_useful n a = record a { useful = a.useful + n }
+
+abbrev pub with_lost : ℕ → Account → Account
+with_lost n a = record a { lost = a.lost + n }
+
+abbrev pub with_dropped : ℕ → Account → Account
+with_dropped n a = record a { dropped = a.dropped + n }
+
+abbrev pub with_idle : ℕ → Account → Account
+with_idle n a = record a { idle = a.idle + n }

@@ -1,0 +1,55 @@
+-- What is kept of the clocks along a run.
+use Rattle.std.specs.Prelude.{◌≡◌, ℕ, ◌+◌, ◌*◌, ◌<◌, ◌≤◌, List, length, Option, Some, None}
+use Rattle.even_speed.specs.declared.clock.Clock.{Clock}
+use Rattle.even_speed.specs.declared.clock.Next.{Next}
+use Rattle.even_speed.specs.declared.clock.Next.TheVariants.{Due, Waits, Gone}
+use Rattle.even_speed.specs.declared.clocks.Turn.{Turn}
+use Rattle.even_speed.specs.Account.{steps_of}
+use Rattle.even_speed.specs.Clocks.{IsFirst, clock_at, due_of}
+
+-- the time up to which all its steps are told
+abbrev pub told : Clock → ℕ
+told c = c.since + c.waited
+
+-- it is due at this time or later, or it waits since this time or sooner
+abbrev pub IsSoundNext : ℕ → ℕ → Next → Type 0
+IsSoundNext now told (Due at) = (now ≤ at) × (told ≤ at)
+IsSoundNext now told (Waits since cause) = (since ≤ now) × (told ≤ since)
+IsSoundNext now told Gone = Unit {0}
+
+-- at the time of the last turn
+pub record IsSound (now : ℕ) (c : Clock) : Type 0 where
+  pub whole : steps_of c.account ≡ told c
+  pub so_far : told c ≤ now + 1
+  pub next : IsSoundNext now (told c) c.next
+
+-- it may be woken at this time
+abbrev pub IsWaitBefore : ℕ → Next → Type 0
+IsWaitBefore at (Due due) = Unit {0}
+IsWaitBefore at (Waits since cause) = since ≤ at
+IsWaitBefore at Gone = Unit {0}
+
+pub record MayWake (at : ℕ) (c : Clock) : Type 0 where
+  pub whole : steps_of c.account ≡ told c
+  pub so_far : told c ≤ at + 1
+  pub before : IsWaitBefore at c.next
+
+-- where it is due, it is due at this time or sooner
+abbrev pub IsDueBy : ℕ → Next → Type 0
+IsDueBy bound (Due at) = at ≤ bound
+IsDueBy bound (Waits since cause) = since ≤ bound
+IsDueBy bound Gone = Unit {0}
+
+-- after so many turns the clocks of so many cores are sound at a time, and due by the steps that turns take at the most
+pub record AreSound (taken cores : ℕ) (clocks : List Clock) : Type 0 where
+  pub count : length clocks ≡ cores
+  pub few : cores ≤ 16
+  pub now : ℕ
+  pub each : (k : ℕ) → k < cores → IsSound now (clock_at clocks k)
+  pub due : (k : ℕ) → k < cores → IsDueBy (taken * 1000003) (clock_at clocks k).next
+  pub soon : now ≤ taken * 1000003
+
+-- none is due, or this one is the first
+abbrev pub IsNext : (ℕ → Clock) → ℕ → Option Turn → Type 0
+IsNext clocks n (Some t) = IsFirst clocks n t
+IsNext clocks n None = (k : ℕ) → k < n → due_of (clocks k).next ≡ None

@@ -1,0 +1,12 @@
+//! The run of a loop at even speed: one schedule of turns, exactly defined, and where the steps of its cores went.
+#![tactic(auto)]
+
+mod account;
+mod clock;
+mod clocks;
+mod run;
+
+pub use account::Account;
+pub use clock::{Clock, Next};
+pub use clocks::Turn;
+pub use run::{Ran, drive_evenly};

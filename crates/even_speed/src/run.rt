@@ -1,0 +1,178 @@
+//! The turns of a run at even speed.
+ghost use Rattle.std.specs.Prelude.{◌≡◌, ◌≤◌, ◌<◌, ◌-◌, ◌+◌, ◌*◌, ◌^◌, [], ℕ, None, Some, Ok, length, ◌==◌, if◌then◌else◌};
+ghost use Rattle.rv32_image.specs.Image.{IsImage};
+ghost use Rattle.rv32_exec.specs.Hart.{HartState};
+ghost use Rattle.rv32_exec.specs.NextEvent.{next_event};
+ghost use Rattle.spec_history.specs.FlatState.{FlatState};
+ghost use Rattle.spec_history.specs.Replay.{replay};
+ghost use Rattle.homefree.specs.Acted.{IfArrived};
+ghost use Rattle.homefree.specs.BookView.{IsOfSameLoop};
+ghost use Rattle.homefree.specs.Counted.{IsNoMore};
+ghost use Rattle.homefree.specs.Driven.{Driven, IsInOrder, TurnedWith, driver, with_held};
+ghost use Rattle.homefree.specs.Held.{HaveArrived, harts_of, held_at, held_by};
+ghost use Rattle.even_speed.specs.Even as spec;
+
+use crate::account::Account;
+use crate::clocks::{account_of, clock_of, first_clocks, next_turn, set_clock, wake_all};
+use homefree::{Answer, Book, TurnFault};
+use run_ledger::Shares;
+use rv32_exec::{Arrived, End, Image, advance};
+use std::alloc::Global;
+use violations::{EpochStore, MAX_CORES};
+
+/// The most turns that a run takes. Each turn that isn't answered `Again` makes an entry, of which there are at most 1,048,576, and
+/// between two of them each core asks at most once in vain.
+const MOST_TURNS: u32 = 17_825_809;
+
+/// A run that came to the end of its loop.
+#[derive(Clone, Copy, Debug, PartialEq, Eq)]
+pub struct Ran {
+    /// The end of the loop.
+    pub end: End,
+    /// How many steps the run took.
+    pub steps: u64,
+    /// Where the steps of its cores went.
+    pub account: Account,
+}
+
+/// Takes turns at even speed, up to the one that ends the loop: each of the core that is due first. It writes whose turns it took
+/// into the schedule, which is empty before.
+///
+/// It answers what the run came to; or None where the book was stopped, or no turn was due, or there were too many. A fault is that
+/// of the last turn, and leaves the book of the turns before; `NoMemory` may also be that there was none for the schedule.
+pub fn drive_evenly<S: EpochStore>(
+    alloc: Global,
+    book: &mut Book<S>,
+    image: &Image,
+    cores: u32,
+    schedule: &mut Vec<u32>,
+    shares: &mut Shares,
+) -> Result<Option<Ran>, TurnFault>
+    requires image { book.old.image ≡ image.now }
+    requires cores { book.old.cores ≡ cores }
+    requires schedule { schedule.old.items ≡ [] }
+    requires shares { IsNoMore shares.old book.old.totals }
+    ensures evenly { spec.UnlessRefused result (spec.Evenly S.view S.waits spec.at_first (driver book.old shares.old) schedule.new.items result (driver book.new shares.new)) }
+    ensures driven { spec.UnlessRefused result (Driven S.view S.waits (λ _. None) (driver book.old shares.old) schedule.new.items (spec.end_in result) (driver book.new shares.new)) }
+    ensures same { IsOfSameLoop book.old book.new }
+    ensures shares { IsNoMore shares.new book.new.totals }
+    ensures end { spec.IfRan result (λ ran. IsInOrder book.new.image ran.end (S.view book.new.store).committed) }
+    ensures whole { spec.IfRan result (spec.IsWhole book.old.cores) }
+    ensures short { spec.IfRan result spec.IsShort }
+{
+    let Ok(mut clocks) = first_clocks(alloc, cores) else {
+        return Err(TurnFault::NoMemory);
+    };
+    book.look();
+    let mut held = [None; MAX_CORES];
+    for _taken in 0..MOST_TURNS {
+        let Some(turn) = next_turn(&clocks) else {
+            return Ok(None);
+        };
+        let Ok(()) = schedule.push(turn.core) else {
+            return Err(TurnFault::NoMemory);
+        };
+        let clock = clock_of(&clocks, turn.core);
+        let restarts = book.totals().restarts;
+        let answer = step(book, &mut held, turn.core, image, shares)?;
+        let restarted = book.totals().restarts != restarts;
+        let executed = executed_by(image, &held, turn.core, &answer);
+        let clock = clock.answered(turn.at, restarted, executed, &answer);
+        set_clock(&mut clocks, turn.core, clock);
+        match answer {
+            Answer::Over(end) => {
+                book.look();
+                let steps = turn.at + 1;
+                let account = account_of(&clocks, steps);
+                return Ok(Some(Ran {
+                    end,
+                    steps,
+                    account,
+                }));
+            }
+            Answer::Stopped(_) => return Ok(None),
+            Answer::Again(_) => (),
+            _ => wake_all(&mut clocks, turn.at),
+        }
+    }
+    Ok(None)
+}
+
+/// One turn of a core with what it has in hand, and what it has in hand then.
+fn step<S: EpochStore>(
+    book: &mut Book<S>,
+    held: &mut [Option<Arrived>; MAX_CORES],
+    core: u32,
+    image: &Image,
+    shares: &mut Shares,
+) -> Result<Answer, TurnFault>
+    requires image { book.old.image ≡ image.now }
+    requires core { core < book.old.cores }
+    requires held { HaveArrived book.old.image held.old }
+    requires shares { IsNoMore shares.old book.old.totals }
+    ensures turned { TurnedWith S.view S.waits (driver book.old shares.old) core (harts_of held.old core) result (driver book.new shares.new) }
+    ensures same { IsOfSameLoop book.old book.new }
+    ensures shares { IsNoMore shares.new book.new.totals }
+    ensures over { (end : End) (s : FlatState) → result ≡ Ok (Answer.Over end) → replay book.new.image book.new.cores book.new.history ≡ Some s → s.end ≡ Some end }
+    ensures held { HaveArrived book.new.image held.new }
+    ensures harts { (k : ℕ) → harts_of held.new k ≡ with_held (harts_of held.old) core (held_by result (harts_of held.old core)) k }
+{
+    book.look();
+    let answer = book.turn(core, held[core as usize].as_ref(), shares)?;
+    take(held, core, image, &answer);
+    Ok(answer)
+}
+
+/// What a core has in hand after an answer.
+fn take(held: &mut [Option<Arrived>; MAX_CORES], core: u32, image: &Image, answer: &Answer)
+    requires core { core < 16 }
+    requires held { HaveArrived image.now held.old }
+    ensures held { HaveArrived image.now held.new }
+    ensures harts { (k : ℕ) → harts_of held.new k ≡ with_held (harts_of held.old) core (held_by (Ok answer.now) (harts_of held.old core)) k }
+{
+    match answer {
+        Answer::Go(hart) => hold(held, core, Some(advance(image, *hart))),
+        Answer::Again(_) => (),
+        _ => hold(held, core, None),
+    }
+}
+
+/// Sets what a core has in hand.
+fn hold(held: &mut [Option<Arrived>; MAX_CORES], core: u32, now: Option<Arrived>)
+    requires { core < 16 }
+    ensures { (k : ℕ) → held_at held.new k ≡ (if k == core then now else held_at held.old k) }
+{
+    held[core as usize] = now;
+}
+
+/// What a core has in hand.
+fn held_of(held: &[Option<Arrived>; MAX_CORES], core: u32) -> Option<Arrived>
+    requires { core < 16 }
+    ensures { result ≡ held_at held.now core }
+{
+    held[core as usize]
+}
+
+/// How many instructions the core executes from its hart to its next event, after this answer.
+fn executed_by(
+    image: &Image,
+    held: &[Option<Arrived>; MAX_CORES],
+    core: u32,
+    answer: &Answer,
+) -> u64
+    requires core { core < 16 }
+    requires image { IsImage image.now }
+    requires arrived { HaveArrived image.now held.now }
+    requires base { (hart : HartState) → answer.now ≡ Answer.Go hart → harts_of held.now core ≡ Some hart }
+    ensures is { result ≡ spec.executed_by image.now answer.now }
+    ensures few { result ≤ 1000001 }
+{
+    let _ = image;
+    match answer {
+        Answer::Go(hart) => match held_of(held, core) {
+            Some(arrived) => arrived.now().done() - hart.done(),
+            None => 0,
+        },
+        _ => 0,
+    }
+}
