@@ -1,16 +1,18 @@
 -- Passes that go on, that are split and joined, and what they have counted.
-use Rattle.std.proofs.Common.{◌≡◌, ℕ, ◌<◌, ◌≤◌, ◌^◌, Bool, true, false, cond, List, [], length, refl, sym, ap, ◌∙◌, subst, arith}
+use Rattle.std.proofs.Common.{◌≡◌, ℕ, ◌<◌, ◌≤◌, ◌+◌, ◌^◌, Bool, true, false, cond, List, [], length, refl, sym, ap, ◌∙◌, subst, arith}
 use Rattle.std.specs.Prelude.{nat_lt}
 use Rattle.run_ledger.specs.declared.counts.Counts.{Counts}
 use Rattle.run_ledger.specs.Counts.{no_counts, sum_of, IsAtMost}
 use Rattle.spec_history.specs.declared.entry.What.{What}
 use Rattle.spec_history.specs.Replay.{counts_of}
-use Rattle.ticket_lock.specs.Past.{StartsWith, entries_of}
-use Rattle.ticket_lock.specs.Known.{LockOf, mine, joined_pass}
+use Rattle.ticket_lock.specs.Past.{entries_of}
+use Rattle.ticket_lock.specs.Known.{LockOf, Hold, mine, joined_pass}
 use Rattle.ticket_lock.proofs.Pasts.{starts_itself, starts_trans, entries_of-entries_of}
 use Rattle.homefree.specs.declared.book.Loop.{Loop}
+use Rattle.homefree.specs.BookView.{BookView}
+use Rattle.homefree.specs.LockView.{loop_of, past_of}
 use Rattle.core_threads.specs.Passes.{Knows, IsLater, IsCounted, counts_in}
-use Rattle.core_threads.specs.Starting.{IsNew, IsNewOf}
+use Rattle.core_threads.specs.Starting.{IsNew, IsNewOf, HasBook, HasBookAs}
 use Rattle.core_threads.proofs.Counting.{few_in, own_no_more, counts_of_both}
 
 abbrev Past : Type 0
@@ -21,6 +23,10 @@ later_itself p = record { lock = refl; lo = refl; hi = refl; seen = starts_itsel
 
 pub later_trans : (p q r : Knows) → IsLater p q → IsLater q r → IsLater p r
 later_trans p q r a b = record { lock = b.lock ∙ a.lock; lo = b.lo ∙ a.lo; hi = b.hi ∙ a.hi; seen = starts_trans b.seen a.seen }
+
+-- the counts of a pass that has seen more, and has made no entry
+pub later_counted : (p q : Knows) (c : Counts) → mine q ≡ mine p → length q.seen ≤ 1048576 → IsCounted p c → IsCounted q c
+later_counted p q c same few k = record { counted = k.counted ∙ sym (ap (λ (l : Past). counts_in l) same); few = few }
 
 counts-empty : counts_in [] ≡ no_counts
 unfolding counts_of
@@ -52,6 +58,27 @@ module _ (l : LockOf Loop) where
 
   pub new_shares : (p : Knows) (c : Counts) → IsNew l p → c ≡ no_counts → IsCounted p c
   new_shares p c n zero = new_counted p c n.none n.few zero
+
+  -- such a pass that has taken the book, and one that could not
+  pub takes_new : {S : Type 0} (n : ℕ) (p : Knows) (h : Hold Loop What (BookView S)) → IsNewOf l n (n + 1) p → h.pass ≡ record p { seen = past_of h.value.history } → loop_of h.value ≡ l.fixed
+      → mine h.pass ≡ mine p → HasBookAs l n h
+  takes_new n p h (new, lo, hi) is fixed own =
+      let same_lo : h.pass.lo ≡ p.lo = ap (λ (z : Knows). z.lo) is in
+      let same_hi : h.pass.hi ≡ p.hi = ap (λ (z : Knows). z.hi) is in
+      let held : HasBook l h = record {
+        lock = ap (λ (z : Knows). z.lock) is ∙ new.lock;
+        some = subst (λ (z : Knows). z.lo < z.hi) (sym is) new.some;
+        none = own ∙ new.none;
+        seen = ap (λ (z : Knows). z.seen) is;
+        fixed = fixed;
+      } in
+      (held, same_lo ∙ lo, same_hi ∙ hi)
+
+  pub stays_new : (n k : ℕ) (p q : Knows) → IsNewOf l n k p → q ≡ record p { out = true } → IsNewOf l n k q
+  stays_new n k p q (new, lo, hi) is =
+      let r : Knows = record p { out = true } in
+      let still : IsNewOf l n k r = (record { lock = new.lock; some = new.some; none = new.none; few = new.few }, lo, hi) in
+      subst (λ (z : Knows). IsNewOf l n k z) (sym is) still
 
 few_longer : (a b : Past) (n : ℕ) → length a ≤ n → length b ≤ n → (t : Bool) → length (cond t b a) ≤ n
 few_longer a b n x y true = y

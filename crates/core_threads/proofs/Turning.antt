@@ -1,7 +1,11 @@
 -- A turn under the lock: what the shares are before and after it, and what may be released.
-use Rattle.std.proofs.Common.{◌≡◌, ℕ, ◌<◌, ◌≤◌, true, List, [], ◌∷◌, ◌++◌, All, Some, None, Option, is_some, length, sym, ap, ◌∙◌, subst, arith}
+use Rattle.std.proofs.Common.{◌≡◌, ℕ, ◌<◌, ◌≤◌, Bool, true, false, cond, List, [], ◌∷◌, ◌++◌, All, Some, None, Option, is_some, length, sym, ap, ◌∙◌, subst, arith}
 use Rattle.std.proofs.lemmas.List.Elements.{All-nil, All-cons, All-head, All-tail}
+use Rattle.rv32_image.specs.Image.{LoadedImage}
 use Rattle.rv32_exec.specs.declared.sequential.End.{End}
+use Rattle.rv32_exec.specs.Arrival.{Arrival}
+use Rattle.rv32_exec.specs.Hart.{HartState}
+use Rattle.rv32_exec.specs.NextEvent.{Event, next_event}
 use Rattle.run_ledger.specs.declared.counts.Counts.{Counts}
 use Rattle.run_ledger.specs.Counts.{sum_of}
 use Rattle.spec_history.specs.declared.entry.Entry.{Entry}
@@ -11,6 +15,8 @@ use Rattle.spec_history.specs.Replay.{replay}
 use Rattle.ticket_lock.specs.Past.{GrowsBy, entries_of}
 use Rattle.ticket_lock.specs.Known.{mine}
 use Rattle.ticket_lock.proofs.Turns.{mine-grown, grows-none}
+use Rattle.homefree.specs.Acted.{IfArrived}
+use Rattle.homefree.specs.declared.answer.StopCause.{StopCause}
 use Rattle.homefree.specs.BookView.{BookView, IsOfSameLoop}
 use Rattle.homefree.specs.Counted.{counted_in, IsNoMore}
 use Rattle.homefree.specs.LockView.{loop_of, past_of}
@@ -25,6 +31,13 @@ Past = List (ℕ × What)
 by_past : (core : ℕ) (entries : List Entry) → All (λ (e : Entry). e.by ≡ core) entries → All (λ (e : ℕ × What). e.0 ≡ core) (past_of entries)
 by_past core [] by = All-nil (λ (e : ℕ × What). e.0 ≡ core)
 by_past core (e ∷ es) by = All-cons (λ (e : ℕ × What). e.0 ≡ core) (e.by, e.what) (past_of es) (All-head (λ (e : Entry). e.by ≡ core) e es by) (by_past core es (All-tail (λ (e : Entry). e.by ≡ core) e es by))
+
+-- where `advance` came to, with the image that the lock keeps
+pub arrived_at : (kept image : LoadedImage) (hart : HartState) (at : Arrival) → kept ≡ image → at.base ≡ hart
+    → at.now ≡ (next_event image hart).now → at.at ≡ (next_event image hart).at → IfArrived kept (Some at)
+arrived_at kept image hart at same base now stop =
+    let next : next_event image hart ≡ next_event kept at.base = λ i. next_event (sym same i) (sym base i) in
+    (now ∙ ap (λ (e : Event). e.now) next, stop ∙ ap (λ (e : Event). e.at) next)
 
 module _ {S : Type 0} where
   pub same_loop : (old new : BookView S) → IsOfSameLoop old new → loop_of new ≡ loop_of old
@@ -93,6 +106,16 @@ module _ {S : Type 0} where
   stopped_grows p hp v b n pass shows same =
       let seen : hp.seen ≡ past_of n.history = ap (λ (k : Knows). k.seen) pass ∙ (ap (λ (x : BookView S). past_of x.history) (sym shows) ∙ ap (λ h. past_of h) (sym same)) in
       subst (λ (l : Past). GrowsBy hp.lo l (past_of n.history)) (sym seen) (grows-none hp.lo (past_of n.history))
+
+  -- whether or not it is stopped, the book is of the same loop and has the same history
+  pub stopped_same : (b n : BookView S) (stops : Bool) (cause : StopCause) → n ≡ cond stops (record b { stopped = Some cause }) b → IsOfSameLoop b n × (n.history ≡ b.history)
+  stopped_same b n true cause is =
+      (record { image = ap (λ (x : BookView S). x.image) is; cores = ap (λ (x : BookView S). x.cores) is; room = ap (λ (x : BookView S). x.room) is }, ap (λ (x : BookView S). x.history) is)
+  stopped_same b n false cause is =
+      (record { image = ap (λ (x : BookView S). x.image) is; cores = ap (λ (x : BookView S). x.cores) is; room = ap (λ (x : BookView S). x.room) is }, ap (λ (x : BookView S). x.history) is)
+
+  pub still_few : (b n : BookView S) → n.history ≡ b.history → length b.history ≤ b.room → b.room ≤ 1048576 → length n.history ≤ 1048576
+  still_few b n same within most = subst (λ (h : List Entry). length h ≤ 1048576) (sym same) (omega arith)
 
   -- ---- an end
 

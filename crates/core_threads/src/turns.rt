@@ -214,11 +214,13 @@ fn halt<S: EpochStore, R: Wait>(
     }
 }
 
-/// Stops the book, unless its loop is over.
+/// Stops the book for this cause, unless its loop is over or it is stopped already.
 pub(crate) fn stop<S: EpochStore>(book: &mut Book<S>, cause: StopCause) -> LoopEnd
     requires { cause ≢ StopCause.HistoryFull }
     ensures same { IsOfSameLoop book.old book.new }
     ensures history { book.new.history ≡ book.old.history }
+    ensures book { (s : FlatState) → replay book.old.image book.old.cores book.old.history ≡ Some s
+        → book.new ≡ (if is_none s.end && is_none book.old.stopped then record book.old { stopped = Some cause } else book.old) }
     ensures few { length book.new.history ≤ 1048576 }
     ensures over { result ≡ LoopEnd.Over → IsOver (loop_of book.new) (past_of book.new.history) }
     ensures stopped { result ≡ LoopEnd.Stopped → IsGoing (loop_of book.new) (past_of book.new.history) }

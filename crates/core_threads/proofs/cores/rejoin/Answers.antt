@@ -1,6 +1,3 @@
-use Rattle.std.proofs.Common.{arith, rules}
-use Rattle.core_threads.specs.Passes.{IsCounted}
-use Rattle.run_ledger.specs.Counts.{sum_of}
 use Rattle.core_threads.proofs.Passing.{both_counted, may_gather, all_gathered}
 use Rattle.core_threads.proofs.cores.rejoin.Goals as goal
 

@@ -1,5 +1,4 @@
-use Rattle.std.proofs.Common.{Ok, Err, ap, ◌∙◌, sym, refl, rules}
-use Rattle.homefree.specs.declared.answer.Answer.TheVariants.{Stopped}
+use Rattle.std.proofs.Common.{Ok, ap, ◌∙◌, sym, refl}
 use Rattle.core_threads.specs.Answered.{cause_for}
 use Rattle.core_threads.proofs.Turning.{over_past}
 use Rattle.core_threads.proofs.Taking.{over_answer, stopped_answer, takes_answer, takes_fault, failed, stopped_going, stopped_so, going_stopped}
