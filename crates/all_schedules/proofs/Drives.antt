@@ -16,10 +16,10 @@ use Rattle.homefree.specs.LockView.{loop_of}
 use Rattle.all_schedules.specs.Made.{IsFault, IsOfTurns, Makes, loop_on}
 
 -- what holds of every book
-of_step : {S : Type 0} (view : S → StoreView) (b : BookView S) → InStep view b → IsOfTurns view (loop_of b) b.history
+pub of_step : {S : Type 0} (view : S → StoreView) (b : BookView S) → InStep view b → IsOfTurns view (loop_of b) b.history
 of_step view b step = record { caused = step.caused; kinds = step.kinds; passes = step.passes; within = step.within }
 
-pub makes : {S : Type 0} (view : S → StoreView) (waits : S → Waits) (image : LoadedImage) (cores room : ℕ) (schedule : List ℕ) (first last : BookView S) (shares shares' : Counts)
+unfoldable pub makes : {S : Type 0} (view : S → StoreView) (waits : S → Waits) (image : LoadedImage) (cores room : ℕ) (schedule : List ℕ) (first last : BookView S) (shares shares' : Counts)
     (result : Result (Option End) TurnFault) → first.image ≡ image → first.cores ≡ cores → first.room ≡ room → first.history ≡ [] → first.totals ≡ no_counts
     → IsFresh image cores (view first.store) → first.stopped ≡ None → shares ≡ no_counts → loop_of last ≡ loop_on image cores room → InStep view last
     → Driven view waits (λ _. None) (driver first shares) schedule result (driver last shares') → Makes view waits (loop_on image cores room) schedule result last.history

@@ -67,8 +67,10 @@ fn push_extreme(
     push_turns(text, schedules[extreme.place].as_slice())
 }
 
-/// A line of turns.
-fn push_turns(text: &mut Vec<u8>, schedule: &[u32]) -> Result<(), AllocError>
+/// Adds a line of turns.
+///
+/// `AllocError`: memory ran out.
+pub fn push_turns(text: &mut Vec<u8>, schedule: &[u32]) -> Result<(), AllocError>
     ensures { OnOk result (text.new.items ≡ text.old.items ++ spec.turns_line schedule.now) }
 {
     text.extend_from_slice(b"turns")?;

@@ -1,0 +1,56 @@
+//! What the run at even speed makes.
+ghost use Rattle.std.specs.Prelude.{◌≤◌, IfOk, IfErr};
+ghost use Rattle.violations.specs.Rule.{IsCoreCount};
+ghost use Rattle.all_schedules.specs.Made.{loop_on};
+ghost use Rattle.all_schedules.specs.Evenly as spec;
+
+use even_speed::{Ran, drive_evenly};
+use homefree::{Book, TurnFault};
+use run_ledger::Shares;
+use rv32_exec::Image;
+use std::alloc::Global;
+use violations::EpochStore;
+
+/// A run at even speed.
+#[derive(Drop)]
+pub struct EvenRun<S: EpochStore> {
+    /// The book with its history.
+    pub book: Book<S>,
+    /// Whose turns were taken, in order.
+    pub schedule: Vec<u32>,
+    /// What the run came to, where the loop is over.
+    pub ran: Option<Ran>,
+}
+
+/// Runs a loop at even speed from an empty history on, over a fresh store. The cores are at least 1, and the room is 16 to 1,048,576
+/// entries.
+///
+/// `HistoryFull`: a turn found too few free entries. `NoMemory`: memory ran out.
+pub fn run_evenly<S: EpochStore>(
+    alloc: Global,
+    image: &Image,
+    cores: u32,
+    room: u32,
+) -> Result<EvenRun<S>, TurnFault>
+    requires cores { IsCoreCount image.now cores }
+    requires least { 16 ≤ room }
+    requires most { room ≤ 1048576 }
+    ensures made { IfOk result (λ run. spec.IsEvenRun S.view S.waits (loop_on image.now cores room) run.schedule.items run.ran run.book) }
+    ensures fault { IfErr result (spec.IsEvenFault S.view S.waits (loop_on image.now cores room)) }
+{
+    let made: Result<(Book<S>, Shares), _> = Book::new(alloc, image, cores, room);
+    let Ok((mut book, mut shares)) = made else {
+        return Err(TurnFault::NoMemory);
+    };
+    let mut schedule = Vec::new(alloc);
+    let driven = drive_evenly(alloc, &mut book, image, cores, &mut schedule, &mut shares);
+    book.look();
+    match driven {
+        Ok(ran) => Ok(EvenRun {
+            book,
+            schedule,
+            ran,
+        }),
+        Err(fault) => Err(fault),
+    }
+}
