@@ -4,3 +4,4 @@ pub mod Shows
 pub mod Outcomes
 pub mod Works
 pub mod Alls
+pub mod Evens

@@ -1,5 +1,5 @@
 -- What the program answers.
-use Rattle.std.specs.Prelude.{◌≡◌, ◌⊎◌, ℕ, ◌+◌, ◌^◌, ◌≤◌, List, Option, Some, None}
+use Rattle.std.specs.Prelude.{◌≡◌, ◌⊎◌, ℕ, ◌+◌, ◌^◌, ◌≤◌, List}
 use Rattle.std.specs.Io.KnownBytes.{Keeps}
 use Rattle.rv32_image.specs.ImageText.{longest_image_text}
 use Rattle.rv32_image.specs.Input.{TakesAtMost}
@@ -11,30 +11,43 @@ use Rattle.trace_commands.specs.declared.outcome.Outcome.TheVariants.{Usage}
 use Rattle.trace_commands.specs.Outcome.{Conclusion}
 use Rattle.replay.specs.declared.words.Store.{Store}
 use Rattle.replay.specs.declared.words.Store.TheVariants.{Caches, Plain}
+use Rattle.replay.specs.declared.words.Turns.{Turns}
+use Rattle.replay.specs.declared.words.Turns.TheVariants.{Given, Every, Even}
 use Rattle.replay.specs.declared.words.Request.{Request}
 use Rattle.replay.specs.AllSchedules.{AllAnswers}
+use Rattle.replay.specs.Even.{IsEvenOutcome}
 use Rattle.replay.specs.Replay.{IsReplayOutcome}
 use Rattle.replay.specs.Streams.{Stream}
 
--- every schedule of 1 to 16 turns, of which there are at most 65,536; or the schedule of the input
-abbrev pub AreFew : ℕ → Option ℕ → Type 0
-AreFew cores (Some turns) = (1 ≤ turns) × (turns ≤ 16) × (cores ^ turns ≤ 65536)
-AreFew cores None = Unit {0}
+-- 1 to 16 turns, where every schedule of so many is driven
+abbrev pub IsUpTo16 : Turns → Type 0
+IsUpTo16 Given = Unit {0}
+IsUpTo16 (Every turns) = (1 ≤ turns) × (turns ≤ 16)
+IsUpTo16 Even = Unit {0}
+
+-- and of such schedules there are at most 65,536
+abbrev pub AreFew : ℕ → Turns → Type 0
+AreFew cores Given = Unit {0}
+AreFew cores (Every turns) = (1 ≤ turns) × (turns ≤ 16) × (cores ^ turns ≤ 65536)
+AreFew cores Even = Unit {0}
 
 -- 1 to 16 cores, and no more schedules than that
 abbrev pub IsRequest : Request → Type 0
 IsRequest request = (1 ≤ request.cores) × (request.cores ≤ 16) × AreFew request.cores request.turns
 
--- over a store, on so many cores: the schedule of the input was replayed, or every schedule of so many turns was driven; and of the input
--- no more than it may be long, and one byte, was taken
-abbrev pub TurnsAnswer : {S : Type 0} → (S → StoreView) → (S → Waits) → ℕ → ℕ → Option ℕ → List ℕ → Stream → Stream → Stream → ℕ → Type 0
-TurnsAnswer view waits cores room None text input output errors status =
+-- over a store, on so many cores: the schedule of the input was replayed, every schedule of so many turns was driven, or the run was at
+-- even speed; and of the input no more than it may be long, and one byte, was taken
+abbrev pub TurnsAnswer : {S : Type 0} → (S → StoreView) → (S → Waits) → ℕ → ℕ → Turns → List ℕ → Stream → Stream → Stream → ℕ → Type 0
+TurnsAnswer view waits cores room Given text input output errors status =
     Conclusion (IsReplayOutcome view waits cores room text output.old output.new) errors.old errors.new status
     × TakesAtMost input.old input.new (longest_trace_text + 1)
-TurnsAnswer view waits cores room (Some turns) text input output errors status =
+TurnsAnswer view waits cores room (Every turns) text input output errors status =
     AllAnswers view waits cores room turns text output errors status × TakesAtMost input.old input.new (longest_image_text + 1)
+TurnsAnswer view waits cores room Even text input output errors status =
+    Conclusion (IsEvenOutcome view waits cores room text output.old output.new) errors.old errors.new status
+    × TakesAtMost input.old input.new (longest_image_text + 1)
 
-abbrev pub StoreAnswers : Store → ℕ → ℕ → Option ℕ → List ℕ → Stream → Stream → Stream → ℕ → Type 0
+abbrev pub StoreAnswers : Store → ℕ → ℕ → Turns → List ℕ → Stream → Stream → Stream → ℕ → Type 0
 StoreAnswers Caches cores room turns text input output errors status = TurnsAnswer caches.store_view caches.waits cores room turns text input output errors status
 StoreAnswers Plain cores room turns text input output errors status = TurnsAnswer plain.store_view (λ _. never_waits) cores room turns text input output errors status
 

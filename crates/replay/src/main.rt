@@ -9,6 +9,7 @@ use trace_commands::{Outcome, StopCause};
 use work::work;
 
 mod all;
+mod even;
 mod print;
 mod schedule;
 mod turns;

@@ -1,5 +1,5 @@
 ghost use Rattle.std.specs.Prelude.{◌≡◌, ◌≤◌, ◌↔◌, IfSome, IsTrue};
-ghost use Rattle.replay.specs.Work.{AreFew, IsRequest};
+ghost use Rattle.replay.specs.Work.{AreFew, IsRequest, IsUpTo16};
 
 use rv32_image::number_in;
 use std::convert::AsStr;
@@ -13,32 +13,45 @@ pub enum Store {
     Plain,
 }
 
+/// Whose turns are taken.
+#[derive(Clone, Copy, Debug, PartialEq, Eq)]
+pub enum Turns {
+    /// Those of the schedule of the input.
+    Given,
+    /// Those of every schedule of so many.
+    Every(u32),
+    /// Those of the run at even speed.
+    Even,
+}
+
 /// What the words of a command line ask for: a store, and 1 to 16 cores.
 #[derive(Clone, Copy, Debug, PartialEq, Eq)]
 pub struct Request {
     pub store: Store,
     pub cores: u32,
-    /// Every schedule of so many turns. None: the schedule of the input.
-    pub turns: Option<u32>,
+    pub turns: Turns,
 }
 
-/// What these words ask for, `STORE CORES` or `all STORE CORES TURNS` below the program's name. None: other words.
+/// What these words ask for, `STORE CORES`, `even STORE CORES` or `all STORE CORES TURNS` below the program's name. None: other words.
 pub fn request_of<S: AsStr>(words: &[S]) -> Option<Request>
     ensures { IfSome result IsRequest }
 {
     if words.len() == 3 {
-        return asked(words[1].as_str(), words[2].as_str(), None);
+        return asked(words[1].as_str(), words[2].as_str(), Turns::Given);
+    }
+    if words.len() == 4 && words[1].as_str() == "even" {
+        return asked(words[2].as_str(), words[3].as_str(), Turns::Even);
     }
     if words.len() != 5 || words[1].as_str() != "all" {
         return None;
     }
     let turns = number_up_to_16(words[4].as_str())?;
-    asked(words[2].as_str(), words[3].as_str(), Some(turns))
+    asked(words[2].as_str(), words[3].as_str(), Turns::Every(turns))
 }
 
 /// The request of these words. None: they name no store or number, or there are more than 65,536 schedules of so many turns.
-fn asked(store: &str, cores: &str, turns: Option<u32>) -> Option<Request>
-    requires { IfSome turns (λ n. (1 ≤ n) × (n ≤ 16)) }
+fn asked(store: &str, cores: &str, turns: Turns) -> Option<Request>
+    requires { IsUpTo16 turns }
     ensures { IfSome result IsRequest }
 {
     let store = store_named(store)?;
@@ -54,15 +67,15 @@ fn asked(store: &str, cores: &str, turns: Option<u32>) -> Option<Request>
 }
 
 /// Whether there are at most 65,536 schedules of so many turns.
-fn is_small(cores: u32, turns: Option<u32>) -> bool
-    requires { IfSome turns (λ n. (1 ≤ n) × (n ≤ 16)) }
+fn is_small(cores: u32, turns: Turns) -> bool
+    requires { IsUpTo16 turns }
     ensures { IsTrue result ↔ AreFew cores turns }
 {
     match turns {
-        Some(turns) => cores
+        Turns::Every(turns) => cores
             .checked_pow(turns)
             .is_some_and(|count| count <= 65_536),
-        None => true,
+        Turns::Given | Turns::Even => true,
     }
 }
 

@@ -3,8 +3,9 @@ ghost use Rattle.rv32_image.specs.Reading.{ForText};
 ghost use Rattle.replay.specs.Work as spec;
 
 use crate::all::do_all;
+use crate::even::do_even;
 use crate::schedule::do_replay;
-use crate::words::{Request, Store, request_of};
+use crate::words::{Request, Store, Turns, request_of};
 use spec_bus::CachedBus;
 use std::alloc::Global;
 use std::convert::AsStr;
@@ -13,7 +14,7 @@ use trace_commands::Outcome;
 use violations::{EpochStore, PlainStore};
 
 /// The whole program: replays over the store and on the cores that the words ask for, the first of which is the program's name, or
-/// drives every schedule of so many turns, and answers its status.
+/// drives every schedule of so many turns, or runs at even speed, and answers its status.
 ///
 /// Other words are refused as `usage`, with status 2, and nothing is read or written. The room is 16 to 1,048,576 entries.
 pub fn work<S: AsStr, R: Read, W: Write, E: Write>(
@@ -63,7 +64,10 @@ fn answer<S: EpochStore, R: Read, W: Write, E: Write>(
 {
     let cores = request.cores;
     match request.turns {
-        Some(turns) => { do_all::<S, R, W, E>(alloc, cores, room, turns, reader, writer, errors) }
-        None => do_replay::<S, R, W, E>(alloc, cores, room, reader, writer, errors),
+        Turns::Given => do_replay::<S, R, W, E>(alloc, cores, room, reader, writer, errors),
+        Turns::Every(turns) => {
+            do_all::<S, R, W, E>(alloc, cores, room, turns, reader, writer, errors)
+        }
+        Turns::Even => do_even::<S, R, W, E>(alloc, cores, room, reader, writer, errors),
     }
 }
