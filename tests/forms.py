@@ -3,7 +3,7 @@
 
 Usage: tests/forms.py [COMMAND ..]
 
-COMMAND is a command of `trace_cli` that ends with the word `seq`; `why` and `replay` are the programs that were built beside it. Without it those of this
+COMMAND is a command of `trace_cli` that ends with the word `seq`; `why`, `replay` and `gain` are the programs that were built beside it. Without it those of this
 repository are tested. Texts worked by hand are tried first, which need no program; then all images of examples/, with what the programs print of them. Each
 document is held to tools/loops/schema.json where python3-jsonschema is installed. What isn't there is left out, and a line says so. Exits with 1 where a check failed.
 """
@@ -138,7 +138,7 @@ def printed(program, words, text):
 def examples(command):
     """All examples, and what the programs print of them."""
     programs = beside(command)
-    for name in ("why", "replay"):
+    for name in ("why", "replay", "gain"):
         if name not in programs:
             print(f"SKIPPED: what {name} prints, since it wasn't built beside the program that is tested")
     for path in sorted((ROOT / "examples").glob("*.image")):
@@ -161,13 +161,16 @@ def examples(command):
             yield f"{path.name}: its conflicts", wrong_with("conflicts", printed(programs["why"], [], traced))
         if "replay" in programs:
             yield f"{path.name}: every schedule", wrong_with("survey", printed(programs["replay"], ["all", "plain", "2", "6"], text))
+            yield f"{path.name}: a run at even speed", wrong_with("output", printed(programs["replay"], ["even", "caches", "4"], text))
+        if "gain" in programs:
+            yield f"{path.name}: its gains", wrong_with("gains", printed(programs["gain"], ["4"], text))
 
 
 def beside(command):
     """The programs that were built beside a command of `trace_cli`."""
     given = Path(command[0]).resolve()
     folder = ROOT if given == ROOT / "trace_cli" else given.parents[2] if len(given.parents) > 2 else given.parent
-    found = {name: ROOT / name if folder == ROOT else folder / name / "out" / name for name in ("why", "replay")}
+    found = {name: ROOT / name if folder == ROOT else folder / name / "out" / name for name in ("why", "replay", "gain")}
     return {name: path for name, path in found.items() if path.is_file()}
 
 

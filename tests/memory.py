@@ -1,5 +1,5 @@
 #!/usr/bin/env python3
-"""Refuses each allocation of `trace_cli seq`, `trace_cli run` and `trace_cli audit`, of `why` and of `replay` in turn, and each thread of a run.
+"""Refuses each allocation of `trace_cli seq`, `trace_cli run` and `trace_cli audit`, of `why`, `replay` and `gain` in turn, and each thread of a run.
 
 Usage: tests/memory.py [COMMAND ..]
 
@@ -10,7 +10,7 @@ refused one says `stopped NoMemory`, writes nothing on standard output and has
 status 3, and the last one answers as if nothing was refused. A run on threads
 may say `stopped NoThread` too, or go to its end although a thread was refused; so may one
 whose second and so on thread is refused. Where the first is refused no core has taken a turn, so there
-is no end. There is a thread for each core. `why` and `replay` are the
+is no end. There is a thread for each core. `why`, `replay` and `gain` are the
 programs that were built beside the one that is tested; a line says where one isn't there. Where the C
 compiler `cc` isn't installed the test is skipped, and a line says so. Exits
 with 1 where a run differs.
@@ -109,11 +109,15 @@ CRATES = ROOT / "crates"
 OTHERS = [
     ("why of a worked history", "why", [], (CRATES / "why" / "stdin").read_text(), ((CRATES / "why" / "stdout").read_text(), "", 0)),
     ("a worked schedule", "replay", ["caches", "2"], (CRATES / "replay" / "stdin").read_text(), ((CRATES / "replay" / "stdout").read_text(), "", 0)),
+    # A start, a load, an addition, a store, a return and a commit. The second core has no epoch.
+    ("the gains of an epoch", "gain", ["2"], (CRATES / "gain" / "stdin").read_text(), ((CRATES / "gain" / "stdout").read_text(), "", 0)),
     ("one schedule", "replay", ["all", "plain", "1", "4"], image(COUNTER),
      ("schedules 1\nover 1\nhistories 1\nleast 0\nturns 0 0 0 0\nmost 0\nturns 0 0 0 0\nend done 1\n", "", 0)),
     # The core that is first takes the epoch, and needs three of the other four turns to start, load, store and commit.
     ("32 schedules", "replay", ["all", "caches", "2", "5"], image(COUNTER),
      ("schedules 32\nover 10\nhistories 8\nleast 0\nturns 0 0 0 0 0\nmost 0\nturns 0 0 0 0 0\nend done 1\n", "", 0)),
+    ("a run at even speed", "replay", ["even", "plain", "1"], image(COUNTER),
+     ("turns 0 0 0 0\nend done 1\ncounts 1 1 0 1\ntrace 1\n0 start 0\n0 load 00000040 4 00000000\n0 store 00000040 4 00000000\n0 commit\n", "", 0)),
 ]
 
 

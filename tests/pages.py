@@ -3,11 +3,11 @@
 
 Usage: tests/pages.py [COMMAND ..]
 
-COMMAND is a command of `trace_cli` that ends with the word `seq`, as for the other tests; `why` and `replay` are the programs that
-were built beside it. Without it ./trace_cli, ./why and ./replay are tested. A command with nothing below it has to end well and to say
+COMMAND is a command of `trace_cli` that ends with the word `seq`, as for the other tests; `why`, `replay` and `gain` are the programs
+that were built beside it. Without it those of this tree are tested. A command with nothing below it has to end well and to say
 nothing on standard error. The commands of a page are run in one new folder, in which the tree's folders are found by their names; the
 word `--unproved` of ./trace_cli is dropped, since the program is there. A line of a block that begins as a command does, and has no
-`$ `, is told as failed. What NOT_RUN names is left out. So is what calls `why` or `replay` where they aren't built, what makes an
+`$ `, is told as failed. What NOT_RUN names is left out. So is what calls a program that isn't built, what makes an
 image where tools/image-of lacks something or no gcc for RISC-V is installed, and what reads a file that so wasn't made. A line says
 each that is left out. Exits with 1 where a check failed.
 """
@@ -45,10 +45,10 @@ def blocks(page):
 def programs(command):
     """The built programs by their names, where they are there."""
     if not command:
-        return {name: ROOT / name for name in ("trace_cli", "why", "replay")}
+        return {name: ROOT / name for name in ("trace_cli", "why", "replay", "gain")}
     given = Path(command[0]).resolve()
     crates = given.parents[2] if len(given.parents) > 2 else given.parent
-    beside = {name: crates / name / "out" / name for name in ("why", "replay")}
+    beside = {name: crates / name / "out" / name for name in ("why", "replay", "gain")}
     return {"trace_cli": given} | {name: path for name, path in beside.items() if path.is_file()}
 
 
@@ -61,7 +61,7 @@ def can_compile():
 
 def lacks(command, found):
     """What a command needs that isn't there, or None."""
-    for name in ("why", "replay"):
+    for name in ("why", "replay", "gain"):
         if re.search(rf"\./{name}\b", command) and name not in found:
             return f"the program {name}"
     for tool in ("named", "picture"):

@@ -36,7 +36,7 @@ EXAMPLES = {
                      "42 rollbacks by false sharing lost 1,050 instructions", "give counter, counter+4, counter+8 and counter+12 lines of 16 bytes of their own"],
     "padded_counters": ["gains 4.00 on 4 cores", "Nothing holds it back."],
     "list_walk": ["gains 0.99 on 4 cores", "18 rollbacks by true sharing lost"],
-    "histogram": ["gains 2.29 on 4 cores", "plain store of bytes it gains 3.25"],
+    "histogram": ["gains 2.28 on 4 cores", "plain store of bytes it gains 3.25"],
     "queens": ["gains 1.39 on 4 cores", "wait for a way in a full set"],
 }
 

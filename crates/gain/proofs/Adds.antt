@@ -1,0 +1,60 @@
+-- A line more for each number of cores.
+use Rattle.std.proofs.Common.{◌≡◌, ℕ, ◌+◌, ◌<◌, ◌≤◌, Bool, true, false, nat_lt, List, [], ◌∷◌, ◌++◌, length, get_or, drop, All, Option, Result, Ok, Err, OnOk, refl, sym, subst, ◌∙◌, arith, add-one, drop-cons}
+use Rattle.std.proofs.lemmas.Bool.Decides.{nat_tests}
+use Rattle.std.proofs.lemmas.List.Elements.{All-nil, All-cons, All-append}
+use Rattle.rv32_image.specs.Image.{LoadedImage}
+use Rattle.rv32_image.specs.Version.{limits_of}
+use Rattle.violations.specs.View.{StoreView, Waits}
+use Rattle.violations.specs.Rule.{IsCoreCount}
+use Rattle.all_schedules.specs.Made.{loop_on}
+use Rattle.gain.specs.declared.measure.Measured.{Measured}
+use Rattle.gain.specs.Measured.{IsMeasured}
+use Rattle.gain.specs.Text.{line_text}
+use Rattle.gain.specs.Lines.{AddEach, AddLines, count_if, more_counts}
+
+-- the first of the rest
+rest_is : (xs : List ℕ) (i : ℕ) → i < length xs → drop i xs ≡ get_or xs i 0 ∷ drop (i + 1) xs
+rest_is xs i there = rw (add-one, drop-cons xs i 0) refl
+
+module _ {S : Type 0} (view : S → StoreView) (waits : S → Waits) (image : LoadedImage) (room : ℕ) (store : List ℕ) (first : Option Measured) (counts start : List ℕ) where
+  pub adds_more : (i : ℕ) (text text' : List ℕ) (told : Option Measured) → i < length counts
+      → ((new : List ℕ) → AddEach view waits image room store first (drop i counts) text new → AddEach view waits image room store first counts start new)
+      → IsMeasured view waits (loop_on image (get_or counts i 0) room) told → text' ≡ text ++ line_text store (get_or counts i 0) first told
+      → (new : List ℕ) → AddEach view waits image room store first (drop (i + 1) counts) text' new → AddEach view waits image room store first counts start new
+  adds_more i text text' told there adds measured longer new more =
+      adds new (subst (λ ks. AddEach view waits image room store first ks text new) (sym (rest_is counts i there))
+      (told, measured, subst (λ t. AddEach view waits image room store first (drop (i + 1) counts) t new) longer more))
+
+-- the line of one core, and those of more
+pub lines_of : {S T E : Type 0} (view : S → StoreView) (waits : S → Waits) (image : LoadedImage) (room cores : ℕ) (store : List ℕ) (first : Option Measured)
+    (counts old mid new : List ℕ) (result : Result T E) → counts ≡ more_counts cores → mid ≡ old ++ line_text store 1 first first → IsMeasured view waits (loop_on image 1 room) first
+    → OnOk result (AddEach view waits image room store first counts mid new) → OnOk result (AddLines view waits image room store cores old new)
+lines_of view waits image room cores store first counts old mid new (Ok done) are longer measured each = (
+  first,
+  measured,
+  subst (λ ks. AddEach view waits image room store first ks (old ++ line_text store 1 first first) new) are
+      (subst (λ t. AddEach view waits image room store first counts t new) longer each),
+)
+lines_of view waits image room cores store first counts old mid new (Err fault) are longer measured each = each
+
+-- each number of cores is allowed where the most is
+allowed_if : (image : LoadedImage) (cores count : ℕ) (b : Bool) → (b ≡ true → IsCoreCount image count) → All (λ k. IsCoreCount image k) (count_if b count)
+allowed_if image cores count true is = All-cons (λ k. IsCoreCount image k) count [] (is refl) (All-nil (λ k. IsCoreCount image k))
+allowed_if image cores count false is = All-nil (λ k. IsCoreCount image k)
+
+fewer : (image : LoadedImage) (cores count : ℕ) → 1 ≤ count → IsCoreCount image cores → nat_lt count cores ≡ true → IsCoreCount image count
+fewer image cores count least most less =
+    let below : count < cores = grind (arith, nat_tests) in record { least = least; most = omega (arith, below, most.most) }
+
+pub are_allowed : (image : LoadedImage) (cores : ℕ) → IsCoreCount image cores → All (λ k. IsCoreCount image k) (more_counts cores)
+are_allowed image cores allowed =
+    let P : ℕ → Type 0 = λ k. IsCoreCount image k in
+    let two = count_if (nat_lt 2 cores) 2 in
+    let four = count_if (nat_lt 4 cores) 4 in
+    let eight = count_if (nat_lt 8 cores) 8 in
+    All-append P ((two ++ four) ++ eight) (count_if (nat_lt 1 cores) cores)
+    (All-append P (two ++ four) eight
+    (All-append P two four (allowed_if image cores 2 (nat_lt 2 cores) (fewer image cores 2 (omega arith) allowed))
+    (allowed_if image cores 4 (nat_lt 4 cores) (fewer image cores 4 (omega arith) allowed)))
+    (allowed_if image cores 8 (nat_lt 8 cores) (fewer image cores 8 (omega arith) allowed)))
+    (allowed_if image cores cores (nat_lt 1 cores) (λ more. allowed))

@@ -1,0 +1,66 @@
+-- What the program answers, from what its parts do.
+use Rattle.std.proofs.Common.{◌≡◌, ℕ, ◌+◌, List, [], Option, Some, None, Result, Ok, Err, MatchResult, refl, sym, subst, inl, inr}
+use Rattle.std.specs.Io.KnownBytes.{Keeps}
+use Rattle.rv32_image.specs.declared.fault.ImageFault.{ImageFault}
+use Rattle.rv32_image.specs.declared.fault.ImageFaultKind.{ImageFaultKind}
+use Rattle.rv32_image.specs.declared.fault.ImageFaultKind.TheVariants as kind
+use Rattle.rv32_image.specs.Image.{LoadedImage}
+use Rattle.rv32_image.specs.ImageText.{image_text, longest_image_text}
+use Rattle.rv32_image.specs.Input.{TakesAtMost}
+use Rattle.rv32_image.specs.Reading.{ForText, IsReadFaultOf}
+use Rattle.trace_commands.specs.declared.outcome.Outcome.{Outcome}
+use Rattle.trace_commands.specs.declared.outcome.Outcome.TheVariants.{BadImage, Stopped, Usage}
+use Rattle.trace_commands.specs.declared.outcome.StopCause.TheVariants.{NoMemory}
+use Rattle.trace_commands.specs.Outcome.{AppendsPrefix, error_line, outcome_of_fault, status_of}
+use Rattle.trace_commands.proofs.Audits.{for_each, keeps_itself}
+use Rattle.gain.specs.Gains.{GainAnswers, IsUnwritten, IsUnwrittenOf, IsWritten, IsWrittenOf, Stream}
+use Rattle.gain.specs.Work.{IsUpTo16, WorkAnswers}
+
+-- ---- of an image
+
+module _ (cores room : ℕ) (text : List ℕ) (image : LoadedImage) (old new : Option (List ℕ)) (said : image_text text ≡ Ok image) where
+  by_image : (P : LoadedImage → Type 0) → P image → MatchResult (image_text text) P (λ fault. ⊥)
+  by_image P is = subst (λ (r : Result LoadedImage ImageFault). MatchResult r P (λ fault. ⊥)) (sym said) is
+
+  unwritten_of : (outcome : Outcome) → IsUnwrittenOf image cores room old new outcome → IsUnwritten cores room text old new outcome
+  unwritten_of (BadImage fault) is = absurd is
+  unwritten_of (Stopped NoMemory) is = is
+  unwritten_of outcome is = by_image (λ i. IsUnwrittenOf i cores room old new outcome) is
+
+  pub of_image : {A : Type 0} (result : Result A Outcome)
+      → MatchResult result (λ _. IsWrittenOf image cores room old new) (IsUnwrittenOf image cores room old new)
+      → MatchResult result (λ _. IsWritten cores room text old new) (IsUnwritten cores room text old new)
+  of_image (Ok done) is = by_image (λ i. IsWrittenOf i cores room old new) is
+  of_image (Err outcome) is = unwritten_of outcome is
+
+-- the image is refused
+pub refused : (cores room : ℕ) (text : List ℕ) (output : Option (List ℕ)) (line : ℕ) (kind : ImageFaultKind)
+    → IsReadFaultOf kind (record { line = line; kind = kind }) (image_text text)
+    → IsUnwritten cores room text output output (outcome_of_fault kind (record { line = line; kind = kind }))
+refused cores room text output line kind.NoMemory is = keeps_itself output
+refused cores room text output line other is = (is, keeps_itself output)
+
+pub unwritten_answers : (cores room : ℕ) (output errors : Stream) (text : List ℕ) (outcome : Outcome) (status : ℕ) → status ≡ status_of outcome
+    → AppendsPrefix errors.old errors.new (error_line outcome) → IsUnwritten cores room text output.old output.new outcome
+    → GainAnswers cores room text output errors status
+unwritten_answers cores room output errors text outcome status is line so = inr (record { outcome = outcome; output = so; status = is; line = line })
+
+-- ---- of the words
+
+pub gain_answers : (cores room : ℕ) (input output errors : Stream) (status : ℕ) → IsUpTo16 cores → TakesAtMost input.old input.new (longest_image_text + 1)
+    → ForText input.old (λ text. GainAnswers cores room text output errors status) → ForText input.old (λ text. WorkAnswers room text input output errors status)
+gain_answers cores room input output errors status few taken =
+    for_each (λ text. GainAnswers cores room text output errors status) (λ text. WorkAnswers room text input output errors status) input.old
+    (λ text answers. inl (cores, few, answers, taken))
+
+abbrev kept : Option (List ℕ) → Stream
+kept known = record { old = known; new = known }
+
+-- they ask for nothing
+pub refused_answers : (room : ℕ) (input output : Option (List ℕ)) (errors : Stream) (status : ℕ)
+    → status ≡ status_of Usage → AppendsPrefix errors.old errors.new (error_line Usage)
+    → ForText input (λ text. WorkAnswers room text (kept input) (kept output) errors status)
+refused_answers room None output errors status is line =
+    ([], inr (record { outcome = Usage; output = (refl, keeps_itself None, keeps_itself output); status = is; line = line }))
+refused_answers room (Some text) output errors status is line =
+    inr (record { outcome = Usage; output = (refl, keeps_itself (Some text), keeps_itself output); status = is; line = line })

@@ -1,0 +1,34 @@
+-- What is measured of a run.
+-- Source: this project.
+use Rattle.std.specs.Prelude.{◌≡◌, ◌⊎◌, ℕ, ◌<◌, ◌^◌, List, Option, Some, None, Ok}
+use Rattle.spec_history.specs.declared.entry.Entry.{Entry}
+use Rattle.violations.specs.View.{StoreView, Waits}
+use Rattle.homefree.specs.declared.book.Loop.{Loop}
+use Rattle.homefree.specs.declared.fault.TurnFault.TheVariants.{HistoryFull}
+use Rattle.homefree.specs.Counted.{counted_in}
+use Rattle.even_speed.specs.Account.{steps_of}
+use Rattle.even_speed.specs.Even.{IsShort}
+use Rattle.all_schedules.specs.Evenly.{IsEvenFault, MakesEvenly}
+use Rattle.gain.specs.declared.measure.Measured.{Measured}
+use Rattle.gain.specs.Kinds.{AreKinds}
+
+-- of a run at even speed up to the end of its loop: how long it took and where the steps went, and the restarts and violations of its history
+pub record IsOf {S : Type 0} (view : S → StoreView) (waits : S → Waits) (l : Loop) (m : Measured) : Type 0 where
+  pub schedule : List ℕ
+  pub history : List Entry
+  pub makes : MakesEvenly view waits l schedule (Ok (Some m.ran)) history
+  pub restarts : m.restarts ≡ (counted_in history).restarts
+  pub kinds : AreKinds l.image l.cores history m.kinds
+
+-- the run ended before: its history was full, or the book was stopped
+abbrev pub IsUnfinished : {S : Type 0} → (S → StoreView) → (S → Waits) → Loop → Type 0
+IsUnfinished view waits l =
+    IsEvenFault view waits l HistoryFull ⊎ ((schedule : List ℕ) × (history : List Entry) × MakesEvenly view waits l schedule (Ok None) history)
+
+abbrev pub IsMeasured : {S : Type 0} → (S → StoreView) → (S → Waits) → Loop → Option Measured → Type 0
+IsMeasured view waits l (Some m) = IsOf view waits l m
+IsMeasured view waits l None = IsUnfinished view waits l
+
+-- so few that their sums are numbers of 64 bits
+abbrev pub HasFewSteps : Measured → Type 0
+HasFewSteps m = IsShort m.ran × (steps_of m.ran.account < 2 ^ 63)

@@ -1,0 +1,54 @@
+-- The text of a line.
+-- Source: this project.
+use Rattle.std.specs.Prelude.{ℕ, ◌<◌, ◌*◌, ◌/◌, ◌%◌, ◌^◌, ◌++◌, List, codes, Option, Some, None}
+use Rattle.std.specs.Fmt.{decimal}
+use Rattle.even_speed.specs.declared.account.Account.{Account}
+use Rattle.even_speed.specs.Account.{steps_of, waiting_of}
+use Rattle.gain.specs.declared.kinds.Kinds.{Kinds}
+use Rattle.gain.specs.declared.measure.Measured.{Measured}
+
+-- a name and a number
+abbrev pub number : List ℕ → ℕ → List ℕ
+number name n = name ++ decimal n
+
+abbrev pub HasFew : Account → Type 0
+HasFew a = steps_of a < 2 ^ 63
+
+-- with two decimals
+abbrev pub hundredths_text : ℕ → List ℕ
+hundredths_text n = number (codes " gain ") (n / 100) ++ number (codes ".") (n / 10 % 10) ++ number (codes "") (n % 10)
+
+-- steps on one core divided by these, rounded down
+abbrev pub gain_text : Option Measured → ℕ → List ℕ
+gain_text (Some first) steps = hundredths_text (first.ran.steps * 100 / steps)
+gain_text None steps = codes " gain -"
+
+abbrev pub account_text : Account → List ℕ
+account_text a =
+    number (codes " useful ") a.useful ++ number (codes " lost ") a.lost ++ number (codes " dropped ") a.dropped
+    ++ number (codes " waiting ") (waiting_of a) ++ number (codes " idle ") a.idle
+
+abbrev pub kinds_text : Kinds → List ℕ
+kinds_text k =
+    number (codes " true ") k.true_sharing ++ number (codes " silent ") k.silent_store ++ number (codes " false ") k.false_sharing
+    ++ number (codes " buffer ") k.full_buffer
+
+abbrev pub waits_text : Account → List ℕ
+waits_text a =
+    number (codes " nothomefree ") a.not_homefree ++ number (codes " noway ") a.no_way ++ number (codes " orbfull ") a.orb_full
+    ++ number (codes " orbbusy ") a.orb_busy
+
+unfoldable pub run_text : Option Measured → Measured → List ℕ
+run_text first m =
+    number (codes " steps ") m.ran.steps ++ gain_text first m.ran.steps ++ account_text m.ran.account
+    ++ number (codes " restarts ") m.restarts ++ kinds_text m.kinds ++ waits_text m.ran.account
+
+-- the history of a run that isn't over is full
+abbrev pub told_text : Option Measured → Option Measured → List ℕ
+told_text first (Some m) = run_text first m
+told_text first None = codes " full"
+
+-- of a run over this store on so many cores, beside the one on one core
+unfoldable pub line_text : List ℕ → ℕ → Option Measured → Option Measured → List ℕ
+line_text store cores first measured =
+    codes "store " ++ store ++ number (codes " cores ") cores ++ told_text first measured ++ codes "\n"

@@ -1,0 +1,78 @@
+//! The lines of one store.
+ghost use Rattle.std.specs.Prelude.{◌≡◌, ◌≤◌, ◌++◌, All, IfOk, IfSome, OnOk};
+ghost use Rattle.violations.specs.Rule.{IsCoreCount};
+ghost use Rattle.gain.specs.Measured.{HasFewSteps};
+ghost use Rattle.gain.specs.Lines as spec;
+
+use crate::measure::{Measured, measure};
+use crate::text::push_line;
+use rv32_exec::Image;
+use std::alloc::{AllocError, Global};
+use violations::EpochStore;
+
+/// Adds a line for each of 1, 2, 4 and 8 cores that are fewer than these, and one for these. The cores are at least 1, and the room
+/// is 16 to 1,048,576 entries.
+///
+/// `AllocError`: memory ran out.
+pub fn push_lines<S: EpochStore>(
+    alloc: Global,
+    text: &mut Vec<u8>,
+    store: &[u8],
+    image: &Image,
+    cores: u32,
+    room: u32,
+) -> Result<(), AllocError>
+    requires cores { IsCoreCount image.now cores }
+    requires least { 16 ≤ room }
+    requires most { room ≤ 1048576 }
+    ensures { OnOk result (spec.AddLines S.view S.waits image.now room store.now cores text.old.items text.new.items) }
+{
+    let first = measure::<S>(alloc, image, 1, room)?;
+    push_line(text, store, 1, &first, &first)?;
+    let more = more_counts(alloc, cores)?;
+    push_each::<S>(alloc, text, store, image, room, &first, more.as_slice())
+}
+
+/// Adds a line for each of these numbers of cores, beside the run on one core.
+fn push_each<S: EpochStore>(
+    alloc: Global,
+    text: &mut Vec<u8>,
+    store: &[u8],
+    image: &Image,
+    room: u32,
+    first: &Option<Measured>,
+    counts: &[u32],
+) -> Result<(), AllocError>
+    requires counts { All (λ k. IsCoreCount image.now k) counts.now }
+    requires least { 16 ≤ room }
+    requires most { room ≤ 1048576 }
+    requires first { IfSome first.now HasFewSteps }
+    ensures { OnOk result (spec.AddEach S.view S.waits image.now room store.now first.now counts.now text.old.items text.new.items) }
+{
+    for cores in counts {
+        let measured = measure::<S>(alloc, image, *cores, room)?;
+        push_line(text, store, *cores, first, &measured)?;
+    }
+    Ok(())
+}
+
+/// The numbers of cores below the first line.
+fn more_counts(alloc: Global, cores: u32) -> Result<Vec<u32>, AllocError>
+    ensures { IfOk result (λ counts. counts.items ≡ spec.more_counts cores) }
+{
+    let mut counts = Vec::new(alloc);
+    push_if(&mut counts, 2 < cores, 2)?;
+    push_if(&mut counts, 4 < cores, 4)?;
+    push_if(&mut counts, 8 < cores, 8)?;
+    push_if(&mut counts, 1 < cores, cores)?;
+    Ok(counts)
+}
+
+fn push_if(counts: &mut Vec<u32>, wanted: bool, count: u32) -> Result<(), AllocError>
+    ensures { OnOk result (counts.new.items ≡ counts.old.items ++ spec.count_if wanted count) }
+{
+    if wanted {
+        counts.push(count)?;
+    }
+    Ok(())
+}

@@ -1,0 +1,57 @@
+//! What is measured of one run.
+ghost use Rattle.std.specs.Prelude.{◌≤◌, IfOk, IfSome};
+ghost use Rattle.violations.specs.Rule.{IsCoreCount};
+ghost use Rattle.all_schedules.specs.Made.{loop_on};
+ghost use Rattle.gain.specs.Measured as spec;
+
+use crate::kinds::{Kinds, kinds_of};
+use all_schedules::{EvenRun, run_evenly};
+use even_speed::Ran;
+use homefree::TurnFault;
+use rv32_exec::Image;
+use std::alloc::{AllocError, Global};
+use violations::EpochStore;
+
+/// What is told of a run whose loop is over.
+#[derive(Clone, Copy)]
+pub struct Measured {
+    /// How long it took, and where the steps went.
+    pub ran: Ran,
+    /// How many restarts its history has.
+    pub restarts: u64,
+    /// How many violations of each kind.
+    pub kinds: Kinds,
+}
+
+/// Runs the loop at even speed over a fresh store, and answers what is told of the run. None: its history was full before the loop
+/// was over. The cores are at least 1, and the room is 16 to 1,048,576 entries.
+///
+/// `AllocError`: memory ran out.
+pub fn measure<S: EpochStore>(
+    alloc: Global,
+    image: &Image,
+    cores: u32,
+    room: u32,
+) -> Result<Option<Measured>, AllocError>
+    requires cores { IsCoreCount image.now cores }
+    requires least { 16 ≤ room }
+    requires most { room ≤ 1048576 }
+    ensures is { IfOk result (spec.IsMeasured S.view S.waits (loop_on image.now cores room)) }
+    ensures few { IfOk result (λ told. IfSome told spec.HasFewSteps) }
+{
+    let run: EvenRun<S> = match run_evenly(alloc, image, cores, room) {
+        Ok(run) => run,
+        Err(TurnFault::HistoryFull) => return Ok(None),
+        Err(TurnFault::NoMemory) => return Err(AllocError),
+    };
+    let Some(ran) = run.ran else {
+        return Ok(None);
+    };
+    run.book.look();
+    let kinds = kinds_of(alloc, image, cores, run.book.history())?;
+    Ok(Some(Measured {
+        ran,
+        restarts: run.book.totals().restarts,
+        kinds,
+    }))
+}

@@ -1,0 +1,115 @@
+//! The text of a line.
+ghost use Rattle.std.specs.Prelude.{◌≡◌, ◌≤◌, ◌++◌, OnOk, IfSome};
+ghost use Rattle.gain.specs.Measured.{HasFewSteps};
+ghost use Rattle.gain.specs.Text as spec;
+
+use crate::kinds::Kinds;
+use crate::measure::Measured;
+use even_speed::Account;
+use itoa::Buffer;
+use std::alloc::AllocError;
+
+/// Adds the line of a run on so many cores over the store of this name, beside the run on one core.
+#[tactic(auto, unfolding(crate::specs::Text::line_text))]
+pub fn push_line(
+    text: &mut Vec<u8>,
+    store: &[u8],
+    cores: u32,
+    first: &Option<Measured>,
+    measured: &Option<Measured>,
+) -> Result<(), AllocError>
+    requires first { IfSome first.now HasFewSteps }
+    requires measured { IfSome measured.now HasFewSteps }
+    ensures { OnOk result (text.new.items ≡ text.old.items ++ spec.line_text store.now cores first.now measured.now) }
+{
+    text.extend_from_slice(b"store ")?;
+    text.extend_from_slice(store)?;
+    push_number(text, b" cores ", cores as u64)?;
+    push_told(text, first, measured)?;
+    text.extend_from_slice(b"\n")
+}
+
+fn push_told(
+    text: &mut Vec<u8>,
+    first: &Option<Measured>,
+    measured: &Option<Measured>,
+) -> Result<(), AllocError>
+    requires first { IfSome first.now HasFewSteps }
+    requires measured { IfSome measured.now HasFewSteps }
+    ensures { OnOk result (text.new.items ≡ text.old.items ++ spec.told_text first.now measured.now) }
+{
+    match measured {
+        Some(run) => push_run(text, first, run),
+        None => text.extend_from_slice(b" full"),
+    }
+}
+
+#[tactic(auto, unfolding(crate::specs::Text::run_text))]
+fn push_run(text: &mut Vec<u8>, first: &Option<Measured>, run: &Measured) -> Result<(), AllocError>
+    requires first { IfSome first.now HasFewSteps }
+    requires run { HasFewSteps run.now }
+    ensures { OnOk result (text.new.items ≡ text.old.items ++ spec.run_text first.now run.now) }
+{
+    push_number(text, b" steps ", run.ran.steps)?;
+    push_gain(text, first, run.ran.steps)?;
+    push_account(text, &run.ran.account)?;
+    push_number(text, b" restarts ", run.restarts)?;
+    push_kinds(text, &run.kinds)?;
+    push_waits(text, &run.ran.account)
+}
+
+/// How much faster than on one core, with two decimals, rounded down.
+fn push_gain(text: &mut Vec<u8>, first: &Option<Measured>, steps: u64) -> Result<(), AllocError>
+    requires first { IfSome first.now HasFewSteps }
+    requires steps { 1 ≤ steps }
+    ensures { OnOk result (text.new.items ≡ text.old.items ++ spec.gain_text first.now steps) }
+{
+    match first {
+        Some(first) => push_hundredths(text, first.ran.steps * 100 / steps),
+        None => text.extend_from_slice(b" gain -"),
+    }
+}
+
+fn push_hundredths(text: &mut Vec<u8>, n: u64) -> Result<(), AllocError>
+    ensures { OnOk result (text.new.items ≡ text.old.items ++ spec.hundredths_text n) }
+{
+    push_number(text, b" gain ", n / 100)?;
+    push_number(text, b".", n / 10 % 10)?;
+    push_number(text, b"", n % 10)
+}
+
+fn push_account(text: &mut Vec<u8>, account: &Account) -> Result<(), AllocError>
+    requires { spec.HasFew account.now }
+    ensures { OnOk result (text.new.items ≡ text.old.items ++ spec.account_text account.now) }
+{
+    push_number(text, b" useful ", account.useful)?;
+    push_number(text, b" lost ", account.lost)?;
+    push_number(text, b" dropped ", account.dropped)?;
+    push_number(text, b" waiting ", account.waiting())?;
+    push_number(text, b" idle ", account.idle)
+}
+
+fn push_kinds(text: &mut Vec<u8>, kinds: &Kinds) -> Result<(), AllocError>
+    ensures { OnOk result (text.new.items ≡ text.old.items ++ spec.kinds_text kinds.now) }
+{
+    push_number(text, b" true ", kinds.true_sharing)?;
+    push_number(text, b" silent ", kinds.silent_store)?;
+    push_number(text, b" false ", kinds.false_sharing)?;
+    push_number(text, b" buffer ", kinds.full_buffer)
+}
+
+fn push_waits(text: &mut Vec<u8>, account: &Account) -> Result<(), AllocError>
+    ensures { OnOk result (text.new.items ≡ text.old.items ++ spec.waits_text account.now) }
+{
+    push_number(text, b" nothomefree ", account.not_homefree)?;
+    push_number(text, b" noway ", account.no_way)?;
+    push_number(text, b" orbfull ", account.orb_full)?;
+    push_number(text, b" orbbusy ", account.orb_busy)
+}
+
+fn push_number(text: &mut Vec<u8>, name: &[u8], n: u64) -> Result<(), AllocError>
+    ensures { OnOk result (text.new.items ≡ text.old.items ++ spec.number name.now n) }
+{
+    text.extend_from_slice(name)?;
+    text.extend_from_slice(Buffer::new().format(n).as_bytes())
+}

@@ -1,0 +1,47 @@
+ghost use Rattle.std.specs.Prelude.{◌≤◌, IfSome};
+ghost use Rattle.rv32_image.specs.Reading.{ForText};
+ghost use Rattle.gain.specs.Work as spec;
+
+use crate::gains::do_gain;
+use rv32_image::number_in;
+use std::alloc::Global;
+use std::convert::AsStr;
+use std::io::{Read, Write};
+use trace_commands::Outcome;
+
+/// The whole program: what the loop gains on as many cores as the words ask for, the first of which is the program's name.
+///
+/// Other words are refused as `usage`, with status 2, and nothing is read or written. The room is 16 to 1,048,576 entries.
+pub fn work<S: AsStr, R: Read, W: Write, E: Write>(
+    alloc: Global,
+    words: &[S],
+    room: u32,
+    reader: &mut R,
+    writer: &mut W,
+    errors: &mut E,
+) -> u8
+    requires least { 16 ≤ room }
+    requires most { room ≤ 1048576 }
+    ensures { ForText (R.remaining reader.old) (λ text. spec.WorkAnswers room text
+        (record { old = R.remaining reader.old; new = R.remaining reader.new })
+        (record { old = W.contents writer.old; new = W.contents writer.new })
+        (record { old = E.contents errors.old; new = E.contents errors.new }) result) }
+{
+    match cores_asked(words) {
+        Some(cores) => do_gain(alloc, cores, room, reader, writer, errors),
+        None => Outcome::Usage.conclude(errors),
+    }
+}
+
+/// How many cores these words ask for, 1 to 16. None: other words.
+fn cores_asked<S: AsStr>(words: &[S]) -> Option<u32>
+    ensures { IfSome result spec.IsUpTo16 }
+{
+    if words.len() != 2 {
+        return None;
+    }
+    match number_in(words[1].as_str().as_bytes()) {
+        Ok(n) if 1 <= n && n <= 16 => Some(n as u32),
+        _ => None,
+    }
+}
