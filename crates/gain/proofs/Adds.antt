@@ -1,9 +1,8 @@
 -- A line more for each number of cores.
-use Rattle.std.proofs.Common.{◌≡◌, ℕ, ◌+◌, ◌<◌, ◌≤◌, Bool, true, false, nat_lt, List, [], ◌∷◌, ◌++◌, length, get_or, drop, All, Option, Result, Ok, Err, OnOk, refl, sym, subst, ◌∙◌, arith, add-one, drop-cons}
+use Rattle.std.proofs.Common.{◌≡◌, ℕ, ◌+◌, ◌<◌, ◌≤◌, Bool, true, false, nat_lt, List, [], ◌∷◌, ◌++◌, length, get_or, drop, All, Option, Result, Ok, Err, OnOk, refl, sym, subst, arith, add-one, drop-cons}
 use Rattle.std.proofs.lemmas.Bool.Decides.{nat_tests}
 use Rattle.std.proofs.lemmas.List.Elements.{All-nil, All-cons, All-append}
 use Rattle.rv32_image.specs.Image.{LoadedImage}
-use Rattle.rv32_image.specs.Version.{limits_of}
 use Rattle.violations.specs.View.{StoreView, Waits}
 use Rattle.violations.specs.Rule.{IsCoreCount}
 use Rattle.all_schedules.specs.Made.{loop_on}

@@ -1,6 +1,5 @@
 -- What the program answers, from what its parts do.
 use Rattle.std.proofs.Common.{◌≡◌, ℕ, ◌+◌, List, [], Option, Some, None, Result, Ok, Err, MatchResult, refl, sym, subst, inl, inr}
-use Rattle.std.specs.Io.KnownBytes.{Keeps}
 use Rattle.rv32_image.specs.declared.fault.ImageFault.{ImageFault}
 use Rattle.rv32_image.specs.declared.fault.ImageFaultKind.{ImageFaultKind}
 use Rattle.rv32_image.specs.declared.fault.ImageFaultKind.TheVariants as kind

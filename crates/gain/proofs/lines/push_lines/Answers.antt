@@ -1,4 +1,4 @@
-use Rattle.std.proofs.Common.{◌≡◌, ℕ, List, All, sym, subst, ◌∙◌}
+use Rattle.std.proofs.Common.{ℕ, List, All, sym, subst, ◌∙◌}
 use Rattle.violations.specs.Rule.{IsCoreCount}
 use Rattle.gain.proofs.Adds.{are_allowed, lines_of}
 use Rattle.gain.proofs.lines.push_lines.Goals as goal

@@ -1,4 +1,3 @@
-use Rattle.gain.specs.Gains.{Stream}
 use Rattle.gain.proofs.Answering.{gain_answers, refused_answers}
 use Rattle.gain.proofs.work.work.Goals as goal
 
