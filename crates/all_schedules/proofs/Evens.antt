@@ -14,7 +14,7 @@ use Rattle.homefree.specs.Driven.{Driven, IsInOrder, driver}
 use Rattle.homefree.specs.InStep.{InStep}
 use Rattle.homefree.specs.LockView.{loop_of}
 use Rattle.even_speed.specs.declared.run.Ran.{Ran}
-use Rattle.even_speed.specs.Even.{Evenly, IfRan, IsShort, IsWhole, UnlessRefused, at_first, end_in}
+use Rattle.even_speed.specs.Even.{AccountsFor, Evenly, IfRan, IsShort, IsWhole, UnlessRefused, at_first, end_in}
 use Rattle.all_schedules.specs.Made.{loop_on}
 use Rattle.all_schedules.specs.Evenly.{IsEvenFault, MakesEvenly}
 use Rattle.all_schedules.proofs.Drives.{makes}
@@ -30,14 +30,15 @@ module _ {S : Type 0} (view : S → StoreView) (waits : S → Waits) (image : Lo
     (fresh : IsFresh image cores (view first.store)) (stopped : first.stopped ≡ None) (none : shares ≡ no_counts) (same : loop_of last ≡ loop_on image cores room)
     (step : InStep view last) where
   pub makes_evenly : (result : Result (Option Ran) TurnFault) → Driven view waits (λ _. None) (driver first shares) schedule (end_in result) (driver last shares')
-      → Evenly view waits at_first (driver first shares) schedule result (driver last shares') → IfRan result (IsWhole first.cores) → IfRan result IsShort
+      → Evenly view waits at_first (driver first shares) schedule result (driver last shares') → IfRan result (IsWhole first.cores) → IfRan result IsShort → IfRan result (AccountsFor first)
       → IfRan result (λ ran. IsInOrder last.image ran.end (view last.store).committed) → MakesEvenly view waits (loop_on image cores room) schedule result last.history
   unfolding makes
-  makes_evenly result driven evenly whole short ends = record {
+  makes_evenly result driven evenly whole short accounts ends = record {
     makes = makes view waits image cores room schedule first last shares shares' (end_in result) image_is cores_are room_is history totals fresh stopped none same step driven;
     evenly = subst (λ (c : Counts). Evenly view waits at_first (driver first c) schedule result (driver last shares')) none evenly;
     whole = subst (λ n. IfRan result (IsWhole n)) cores_are whole;
     short = short;
+    accounts = accounts;
     end_is = ran_weaker result (λ ran. IsInOrder last.image ran.end (view last.store).committed) (λ ran. ran.end ≡ (sequential_result image).end)
         (λ ran ordered. ordered.end_is ∙ ap (λ (l : Loop). (sequential_result l.image).end) same) ends;
   }
@@ -46,5 +47,5 @@ module _ {S : Type 0} (view : S → StoreView) (waits : S → Waits) (image : Lo
       → UnlessRefused (Err fault) (Evenly view waits at_first (driver first shares) schedule (Err fault) (driver last shares'))
       → UnlessRefused (Err fault) (Driven view waits (λ _. None) (driver first shares) schedule (Err fault) (driver last shares'))
       → IsEvenFault view waits (loop_on image cores room) fault
-  faults_evenly HistoryFull evenly driven = (schedule, last.history, makes_evenly (Err HistoryFull) driven evenly tt tt tt)
+  faults_evenly HistoryFull evenly driven = (schedule, last.history, makes_evenly (Err HistoryFull) driven evenly tt tt tt tt)
   faults_evenly NoMemory evenly driven = tt

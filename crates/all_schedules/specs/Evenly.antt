@@ -12,16 +12,17 @@ use Rattle.homefree.specs.BookView.{BookView}
 use Rattle.homefree.specs.Driven.{driver}
 use Rattle.homefree.specs.LockView.{loop_of}
 use Rattle.even_speed.specs.declared.run.Ran.{Ran}
-use Rattle.even_speed.specs.Even.{Evenly, IfRan, IsShort, IsWhole, at_first, end_in}
+use Rattle.even_speed.specs.Even.{AccountsFor, Evenly, IfRan, IsShort, IsWhole, at_first, end_in}
 use Rattle.all_schedules.specs.Made.{Makes}
 
--- the schedule makes this history, and is that of the run at even speed: each step of each core is counted once, and the end is that of the
--- sequential loop
+-- the schedule makes this history, and is that of the run at even speed: each step of each core is counted once, on one core none is lost, dropped
+-- or waited, the useful ones of a loop that is done are those that it takes in order, and the end is that of the sequential loop
 pub record MakesEvenly {S : Type 0} (view : S → StoreView) (waits : S → Waits) (l : Loop) (schedule : List ℕ) (result : Result (Option Ran) TurnFault) (history : List Entry) : Type 0 where
   pub makes : Makes view waits l schedule (end_in result) history
   pub evenly : Evenly view waits at_first (driver makes.first no_counts) schedule result makes.last
   pub whole : IfRan result (IsWhole l.cores)
   pub short : IfRan result IsShort
+  pub accounts : IfRan result (AccountsFor makes.first)
   pub end_is : IfRan result (λ ran. ran.end ≡ (sequential_result l.image).end)
 
 -- the run may end in this fault

@@ -54,7 +54,7 @@ unless_fault NoMemory P p = tt
 
 -- ---- the start
 
-is_at_first : (p : Pace) → ((k : ℕ) → p.held k ≡ None) → ((k : ℕ) → p.clocks k ≡ first_clock) → p ≡ at_first
+pub is_at_first : (p : Pace) → ((k : ℕ) → p.held k ≡ None) → ((k : ℕ) → p.clocks k ≡ first_clock) → p ≡ at_first
 is_at_first p held clocks = let h = fun_ext held in let c = fun_ext clocks in λ i. record { held = h i; clocks = c i }
 
 pub at_start : {S : Type 0} (view : S → StoreView) (waits : S → Waits) (p : Pace) (d : Driver S) (xs : List ℕ) → ((k : ℕ) → p.held k ≡ None) → ((k : ℕ) → p.clocks k ≡ first_clock) → xs ≡ []

@@ -1,6 +1,6 @@
 -- Where the steps of cores went.
 -- Source: this project.
-use Rattle.std.specs.Prelude.{ℕ, ◌+◌}
+use Rattle.std.specs.Prelude.{◌≡◌, ℕ, ◌+◌}
 use Rattle.homefree.specs.declared.answer.Cause.{Cause}
 use Rattle.homefree.specs.declared.answer.Cause.TheVariants.{NoEpoch, NotHomefree, NoWay, OrbFull, OrbBusy}
 use Rattle.even_speed.specs.declared.account.Account.{Account}
@@ -14,6 +14,12 @@ waiting_of a = a.not_homefree + a.no_way + a.orb_full + a.orb_busy
 -- all steps
 abbrev pub steps_of : Account → ℕ
 steps_of a = a.useful + a.lost + a.dropped + waiting_of a + a.idle
+
+-- all went to epochs that committed, or went by without one
+pub record WastesNone (a : Account) : Type 0 where
+  pub lost : a.lost ≡ 0
+  pub dropped : a.dropped ≡ 0
+  pub waiting : waiting_of a ≡ 0
 
 abbrev pub sum_of : Account → Account → Account
 sum_of a b = record {

@@ -1,8 +1,9 @@
 -- The run at even speed: each turn is that of the core which is due first, and of several the one with the lowest number.
 -- Source: this project; Oplinger, Heine and Lam, as the clocks.
-use Rattle.std.specs.Prelude.{◌≡◌, ℕ, ◌+◌, ◌-◌, ◌*◌, ◌^◌, ◌<◌, ◌≤◌, Bool, ◌==◌, not, List, [], ◌∷◌, Option, Some, None, Result, Ok, Err, if◌then◌else◌}
+use Rattle.std.specs.Prelude.{◌≡◌, ℕ, suc, ◌+◌, ◌-◌, ◌*◌, ◌^◌, ◌<◌, ◌≤◌, Bool, ◌==◌, not, List, [], ◌∷◌, Option, Some, None, Result, Ok, Err, if◌then◌else◌}
 use Rattle.rv32_image.specs.Image.{LoadedImage}
 use Rattle.rv32_exec.specs.declared.sequential.End.{End}
+use Rattle.rv32_exec.specs.declared.sequential.End.TheVariants.{Done}
 use Rattle.rv32_exec.specs.Hart.{HartState}
 use Rattle.rv32_exec.specs.NextEvent.{next_event}
 use Rattle.violations.specs.View.{StoreView, Waits}
@@ -10,11 +11,13 @@ use Rattle.homefree.specs.declared.answer.Answer.{Answer}
 use Rattle.homefree.specs.declared.answer.Answer.TheVariants.{Go, Again, Left, Over, Stopped}
 use Rattle.homefree.specs.declared.fault.TurnFault.{TurnFault}
 use Rattle.homefree.specs.declared.fault.TurnFault.TheVariants.{HistoryFull, NoMemory}
+use Rattle.homefree.specs.BookView.{BookView}
 use Rattle.homefree.specs.Driven.{Driver, TurnedWith, held_after, with_held}
 use Rattle.even_speed.specs.declared.clock.Clock.{Clock}
 use Rattle.even_speed.specs.declared.clocks.Turn.{Turn}
 use Rattle.even_speed.specs.declared.run.Ran.{Ran}
-use Rattle.even_speed.specs.Account.{steps_of}
+use Rattle.even_speed.specs.Account.{WastesNone, steps_of}
+use Rattle.even_speed.specs.InOrder.{steps_in_order}
 use Rattle.even_speed.specs.Clocks.{IsFirst, account_of, answered, first_clock, woken_by}
 
 -- what each core has in hand, and its clock
@@ -102,3 +105,12 @@ IsWhole cores ran = steps_of ran.account ≡ cores * ran.steps
 -- it took a step at least, and not too many for sums of them
 abbrev pub IsShort : Ran → Type 0
 IsShort ran = (1 ≤ ran.steps) × (ran.steps < 2 ^ 56)
+
+-- what its account says of the loop that began with this book
+pub record AccountsFor {S : Type 0} (b : BookView S) (ran : Ran) : Type 0 where
+  -- on one core nothing is lost, dropped or waited
+  pub alone : b.cores ≡ 1 → WastesNone ran.account
+  -- where the loop is done, the useful steps are those that it takes in order, on any number of cores and over any store
+  pub useful : b.history ≡ [] → (n : ℕ) → ran.end ≡ Done n → ran.account.useful ≡ steps_in_order b.image n
+  -- and one core takes so many, where there is an epoch
+  pub steps : b.cores ≡ 1 → b.history ≡ [] → (n : ℕ) → ran.end ≡ Done (suc n) → ran.steps ≡ steps_in_order b.image (suc n)

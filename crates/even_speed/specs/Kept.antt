@@ -1,10 +1,14 @@
 -- What is kept of the clocks along a run.
-use Rattle.std.specs.Prelude.{◌≡◌, ℕ, ◌+◌, ◌*◌, ◌<◌, ◌≤◌, List, length, Option, Some, None}
+use Rattle.std.specs.Prelude.{◌≡◌, ℕ, ◌+◌, ◌*◌, ◌<◌, ◌≤◌, List, length, Option, Some, None, Result, Ok, Err}
+use Rattle.homefree.specs.declared.answer.Answer.{Answer}
+use Rattle.homefree.specs.declared.answer.Answer.TheVariants.{Go, Again, Left, Over, Stopped}
+use Rattle.homefree.specs.declared.answer.Cause.TheVariants.{NoEpoch, NotHomefree, NoWay, OrbFull, OrbBusy}
+use Rattle.homefree.specs.declared.fault.TurnFault.{TurnFault}
 use Rattle.even_speed.specs.declared.clock.Clock.{Clock}
 use Rattle.even_speed.specs.declared.clock.Next.{Next}
 use Rattle.even_speed.specs.declared.clock.Next.TheVariants.{Due, Waits, Gone}
 use Rattle.even_speed.specs.declared.clocks.Turn.{Turn}
-use Rattle.even_speed.specs.Account.{steps_of}
+use Rattle.even_speed.specs.Account.{WastesNone, steps_of}
 use Rattle.even_speed.specs.Clocks.{IsFirst, clock_at, due_of}
 
 -- the time up to which all its steps are told
@@ -53,3 +57,26 @@ pub record AreSound (taken cores : ℕ) (clocks : List Clock) : Type 0 where
 abbrev pub IsNext : (ℕ → Clock) → ℕ → Option Turn → Type 0
 IsNext clocks n (Some t) = IsFirst clocks n t
 IsNext clocks n None = (k : ℕ) → k < n → due_of (clocks k).next ≡ None
+
+-- it doesn't wait for another core
+abbrev pub NeverWaits : Result Answer TurnFault → Type 0
+NeverWaits (Ok (Go hart)) = Unit {0}
+NeverWaits (Ok (Again NoEpoch)) = Unit {0}
+NeverWaits (Ok (Again NotHomefree)) = ⊥
+NeverWaits (Ok (Again NoWay)) = ⊥
+NeverWaits (Ok (Again OrbFull)) = ⊥
+NeverWaits (Ok (Again OrbBusy)) = ⊥
+NeverWaits (Ok Left) = Unit {0}
+NeverWaits (Ok (Over end)) = Unit {0}
+NeverWaits (Ok (Stopped cause)) = Unit {0}
+NeverWaits (Err fault) = Unit {0}
+
+abbrev pub NeverWaitsAt : Next → Type 0
+NeverWaitsAt (Due at) = Unit {0}
+NeverWaitsAt (Waits since cause) = ⊥
+NeverWaitsAt Gone = Unit {0}
+
+-- the clock of the one core that there is
+pub record IsAloneClock (c : Clock) : Type 0 where
+  pub account : WastesNone c.account
+  pub next : NeverWaitsAt c.next

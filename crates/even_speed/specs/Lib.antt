@@ -1,6 +1,8 @@
--- Definitions to believe: where steps go, what a core's clock does, and the run of turns.
+-- Definitions to believe: where steps go, what a core's clock does, the run of turns, and how many steps the loop takes in order.
 pub mod Account
 pub mod Clocks
 pub mod Even
--- Words of contracts: what is kept of the clocks along a run.
+pub mod InOrder
+-- Words of contracts: what is kept of the clocks along a run, and what a turn makes of the cores.
 pub mod Kept
+pub mod Timed

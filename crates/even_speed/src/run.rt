@@ -11,6 +11,8 @@ ghost use Rattle.homefree.specs.Counted.{IsNoMore};
 ghost use Rattle.homefree.specs.Driven.{Driven, IsInOrder, TurnedWith, driver, with_held};
 ghost use Rattle.homefree.specs.Held.{HaveArrived, harts_of, held_at, held_by};
 ghost use Rattle.even_speed.specs.Even as spec;
+ghost use Rattle.even_speed.specs.Kept.{NeverWaits};
+ghost use Rattle.even_speed.specs.Timed.{Leads};
 
 use crate::account::Account;
 use crate::clocks::{account_of, clock_of, first_clocks, next_turn, set_clock, wake_all};
@@ -59,6 +61,7 @@ pub fn drive_evenly<S: EpochStore>(
     ensures end { spec.IfRan result (λ ran. IsInOrder book.new.image ran.end (S.view book.new.store).committed) }
     ensures whole { spec.IfRan result (spec.IsWhole book.old.cores) }
     ensures short { spec.IfRan result spec.IsShort }
+    ensures accounts { spec.IfRan result (spec.AccountsFor book.old) }
 {
     let Ok(mut clocks) = first_clocks(alloc, cores) else {
         return Err(TurnFault::NoMemory);
@@ -116,9 +119,13 @@ fn step<S: EpochStore>(
     ensures over { (end : End) (s : FlatState) → result ≡ Ok (Answer.Over end) → replay book.new.image book.new.cores book.new.history ≡ Some s → s.end ≡ Some end }
     ensures held { HaveArrived book.new.image held.new }
     ensures harts { (k : ℕ) → harts_of held.new k ≡ with_held (harts_of held.old) core (held_by result (harts_of held.old core)) k }
+    ensures alone { book.old.cores ≡ 1 → (book.new.totals.restarts ≡ 0) × NeverWaits result }
+    ensures leads { Leads (driver book.old shares.old) (driver book.new shares.new) core (harts_of held.old core) result }
 {
     book.look();
-    let answer = book.turn(core, held[core as usize].as_ref(), shares)?;
+    let answer = book.turn(core, held[core as usize].as_ref(), shares);
+    book.look();
+    let answer = answer?;
     take(held, core, image, &answer);
     Ok(answer)
 }

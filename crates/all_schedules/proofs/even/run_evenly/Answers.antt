@@ -15,7 +15,7 @@ returns-in-Ok-driven-clause-made g c =
       makes = makes_evenly g.S.EpochStore.view g.S.EpochStore.waits c.args.image.now c.args.cores c.args.room c.drive_evenly-driven.new.schedule.items
           c.in-Ok.book c.drive_evenly-driven.new.book c.in-Ok.shares c.drive_evenly-driven.new.shares new.image new.cores new.room new.history new.totals new.store new.stopped
           new.shares loop c.look.ensures
-          (Ok c.in-Ok-driven.ran) run.driven run.evenly run.whole run.short run.end;
+          (Ok c.in-Ok-driven.ran) run.driven run.evenly run.whole run.short run.accounts run.end;
     }
 
 pub returns-in-Err-clause-fault : goal.returns-in-Err-clause-fault

@@ -1,4 +1,4 @@
-use Rattle.std.proofs.Common.{None, Ok, Err, Some, List, ℕ, ◌≡◌, ◌+◌, ◌∷◌, [], length, cond, ◌==◌, ◌≢◌, not, refl, sym, ap, subst, ◌∙◌, arith}
+use Rattle.std.proofs.Common.{◌*◌, suc, ◌<◌, None, Ok, Err, Some, List, ℕ, ◌≡◌, ◌+◌, ◌∷◌, [], length, cond, false, ◌==◌, ◌≢◌, not, refl, sym, ap, subst, ◌∙◌, arith}
 use Rattle.std.proofs.lemmas.Result.{err_from_is_err_and}
 use Rattle.rv32_exec.specs.declared.sequential.End.{End}
 use Rattle.run_ledger.specs.declared.counts.Counts.{Counts}
@@ -13,11 +13,17 @@ use Rattle.homefree.proofs.Drives.{in_order, none_held, no_harts}
 use Rattle.violations.proofs.Opening.{most_few}
 use Rattle.even_speed.specs.declared.clock.Clock.{Clock}
 use Rattle.even_speed.specs.declared.clocks.Turn.{Turn}
+use Rattle.even_speed.specs.Account.{WastesNone}
 use Rattle.even_speed.specs.Clocks.{IsFirst, account_of, answered, clock_at}
-use Rattle.even_speed.specs.Even.{at_first, clocks_after, executed_by}
-use Rattle.even_speed.specs.Kept.{AreSound}
+use Rattle.even_speed.specs.Even.{Pace, at_first, clocks_after, executed_by, restarts}
+use Rattle.even_speed.specs.InOrder.{steps_in_order}
+use Rattle.even_speed.specs.Timed.{IsNeverIdle, Leads}
+use Rattle.even_speed.specs.Kept.{AreSound, IsAloneClock, IsSound, NeverWaits}
+use Rattle.even_speed.proofs.Alone.{no_restarts_in}
+use Rattle.even_speed.proofs.OneCore.{first_alone, over_none, turn_alone}
 use Rattle.even_speed.proofs.Sounding.{all_first, turned_all, turned_end, turned_sound, woken_all}
-use Rattle.even_speed.proofs.Evening.{at_start, ends_fault, ends_over, ends_stopped, goes_on, is_driven, last_are, no_more, unless_driven, waits_are, woken_are}
+use Rattle.even_speed.proofs.OnTime.{busy_on, first_busy, over_steps, over_timed, start_on_time, timed_on}
+use Rattle.even_speed.proofs.Evening.{at_start, ends_fault, ends_over, ends_stopped, goes_on, is_at_first, is_driven, last_are, no_more, turned_are, unless_driven, waits_are, woken_are}
 use Rattle.even_speed.proofs.run.drive_evenly.Goals.{in-Again, in_default-answer}
 use Rattle.even_speed.proofs.run.drive_evenly.Goals as goal
 
@@ -37,12 +43,19 @@ again_not_over answer cause end is over = absurd cc
 again_not_stopped : (answer : Answer) (cause : Cause) (stop : StopCause) → answer ≡ Again cause → answer ≢ Stopped stop
 again_not_stopped answer cause stop is stopped = absurd cc
 
+the_first : (core cores : ℕ) → core < cores → cores ≡ 1 → core ≡ 0
+the_first core cores below one = omega (arith, below, one)
+
+no_restart : (before after : ℕ) → before ≡ 0 → after ≡ 0 → not (after == before) ≡ false
+no_restart before after none still = rw (none, still) refl
+
 -- what a turn leaves that doesn't end the run
 record GoesOn {S : Type 0} (old mid : Driver S) (before : ℕ → Clock) (t : Turn) (answer : Answer) (taken cores : ℕ) (clocks : List Clock) : Type 0 where
   sound : AreSound (taken + 1) cores clocks
   are : (k : ℕ) → clock_at clocks k ≡ clocks_after old mid before t answer k
   going : (end : End) → answer ≢ Over end
   unstopped : (cause : StopCause) → answer ≢ Stopped cause
+  turned : (k : ℕ) → k < cores → IsSound t.at (cond (k == t.core) (answered t.at (restarts old mid) (executed_by old.book.image answer) answer (before k)) (before k))
 
 pub loop-taken-init : goal.loop-taken-init
 loop-taken-init g c = record {
@@ -54,6 +67,15 @@ loop-taken-init g c = record {
   drives = at_start g.S.EpochStore.view g.S.EpochStore.waits
       (record { held = harts_of (None ∷ None ∷ None ∷ None ∷ None ∷ None ∷ None ∷ None ∷ None ∷ None ∷ None ∷ None ∷ None ∷ None ∷ None ∷ None ∷ []); clocks = clock_at c.in-Ok.clocks.items })
       (driver c.args.book.now c.args.shares.now) c.args.schedule.now.items (λ k. ap (λ f. f k) (no_harts 16)) c.in-Ok.ensures.first c.requires.schedule;
+  timed = λ none. (
+    c.look.ensures.state,
+    c.look.ensures.replays,
+    start_on_time c.args.book.now.image c.args.book.now.cores c.args.book.now.history c.look.ensures.state
+        (record { held = harts_of (None ∷ None ∷ None ∷ None ∷ None ∷ None ∷ None ∷ None ∷ None ∷ None ∷ None ∷ None ∷ None ∷ None ∷ None ∷ None ∷ []); clocks = clock_at c.in-Ok.clocks.items })
+        none c.look.ensures.replays (is_at_first _ (λ k. ap (λ f. f k) (no_harts 16)) c.in-Ok.ensures.first),
+  );
+  busy = λ fresh one. subst IsNeverIdle (sym (c.in-Ok.ensures.first 0)) first_busy;
+  alone = λ one. (no_restarts_in g.S.EpochStore.view c.args.book.now c.look.ensures one, subst IsAloneClock (sym (c.in-Ok.ensures.first 0)) first_alone);
 }
 
 pub returns-in_default-next_turn-clause-evenly : goal.returns-in_default-next_turn-clause-evenly
@@ -129,6 +151,36 @@ pub returns-in-Over-clause-end : goal.returns-in-Over-clause-end
 returns-in-Over-clause-end g c = in_order g.S.EpochStore.view c.step.new.book c.in-Over.end c.look-in-Over.ensures
     (c.step.ensures.over c.in-Over.end c.look-in-Over.ensures.state (c.in_ok-answer.was ∙ ap Ok c.in-Over.is) c.look-in-Over.ensures.replays)
 
+pub returns-in-Over-clause-accounts : goal.returns-in-Over-clause-accounts
+returns-in-Over-clause-accounts g c =
+    let old = driver c.loop-taken.book c.loop-taken.shares in
+    let mid = driver c.step.new.book c.step.new.shares in
+    let pace : Pace = record { held = harts_of c.loop-taken.held; clocks = clock_at c.loop-taken.clocks.items } in
+    let turn = c.in-Some.turn in
+    let end = c.in-Over.end in
+    let clocks = clock_at c.set_clock.new.clocks.items in
+    let account = c.account_of-account.result in
+    let first = first_of c.loop-taken.clocks.items c.loop-taken.book.cores turn c.loop-taken.invariant.sound.count c.in-Some.ensures in
+    let are = (last_are (driver c.loop-taken.book c.loop-taken.shares) (driver c.step.new.book c.step.new.shares) (clock_at c.loop-taken.clocks.items) (clock_at c.set_clock.new.clocks.items) c.in-Some.turn c.in_ok-answer.answer (not (c.totals.result.restarts == c.totals-restarts.result.restarts)) c.executed_by-executed.result (same_restarts c.totals.result c.totals-restarts.result c.step.new.book.totals c.loop-taken.book.totals c.totals.ensures c.totals-restarts.ensures) (c.executed_by-executed.ensures.is ∙ ap (λ m. executed_by m c.in_ok-answer.answer) (sym (c.loop-taken.invariant.same.image ∙ c.requires.image))) (each_by c.loop-taken.clocks.items c.set_clock.new.clocks.items c.in-Some.turn.core c.answered-clock.result (answered c.in-Some.turn.at (not (c.totals.result.restarts == c.totals-restarts.result.restarts)) c.executed_by-executed.result c.in_ok-answer.answer (clock_at c.loop-taken.clocks.items c.in-Some.turn.core)) c.set_clock.ensures.each (c.answered-clock.ensures ∙ ap (answered c.in-Some.turn.at (not (c.totals.result.restarts == c.totals-restarts.result.restarts)) c.executed_by-executed.result c.in_ok-answer.answer) c.clock_of-clock.ensures)) c.in-Over.end c.in-Over.is) in
+    let sum = (c.account_of-account.ensures.is ∙ ap (account_of (c.in-Some.turn.at + 1) (clock_at c.set_clock.new.clocks.items)) (c.set_clock.ensures.len ∙ c.loop-taken.invariant.sound.count)) in
+    let leads : Leads old mid turn.core (harts_of c.loop-taken.held turn.core) (Ok (Over end)) =
+    subst (λ a. Leads old mid turn.core (harts_of c.loop-taken.held turn.core) (Ok a)) c.in-Over.is c.in_ok-answer.ensures.leads in
+    let image = c.loop-taken.invariant.same.image in
+    let only : c.args.book.now.cores ≡ 1 → c.loop-taken.book.cores ≡ 1 = λ one. c.loop-taken.invariant.same.cores ∙ one in
+    let wastes : c.args.book.now.cores ≡ 1 → WastesNone account = λ one.
+    over_none old mid pace.clocks turn (the_first turn.core c.loop-taken.book.cores first.core (only one))
+    (no_restart c.loop-taken.book.totals.restarts c.step.new.book.totals.restarts (c.loop-taken.invariant.alone (only one)).0 (c.step.ensures.alone (only one)).0)
+    end clocks are account c.loop-taken.book.cores (only one) sum (c.loop-taken.invariant.alone (only one)).1 in record {
+      alone = wastes;
+      useful = λ fresh n done.
+          over_timed old mid pace turn c.step.ensures.same first (c.loop-taken.invariant.timed fresh) end n clocks account leads done are sum ∙ ap (λ i. steps_in_order i n) image;
+      steps = λ one fresh n done.
+          let long = c.set_clock.ensures.len ∙ (c.loop-taken.invariant.sound.count ∙ only one) in
+          over_steps old mid pace turn c.step.ensures.same first (c.loop-taken.invariant.timed fresh) end n clocks account leads done are sum
+          (the_first turn.core c.loop-taken.book.cores first.core (only one)) (only one) (c.loop-taken.invariant.busy fresh (only one)) (wastes one)
+          (c.account_of-account.ensures.whole ∙ ap (λ k. k * (turn.at + 1)) long) ∙ ap (λ i. steps_in_order i (suc n)) image;
+    }
+
 pub returns-in-Stopped-clause-evenly : goal.returns-in-Stopped-clause-evenly
 returns-in-Stopped-clause-evenly g c =
     ends_stopped g.S.EpochStore.view g.S.EpochStore.waits at_first (record { held = harts_of c.loop-taken.held; clocks = clock_at c.loop-taken.clocks.items }) (driver c.args.book.now c.args.shares.now)
@@ -157,6 +209,12 @@ pub loop-taken-preserved : goal.loop-taken-preserved
 loop-taken-preserved g c =
     let same = c.step.ensures.same in
     let before = c.loop-taken.invariant.same in
+    let turned_before : (k : ℕ) → k < c.loop-taken.book.cores → IsSound c.in-Some.turn.at (cond (k == c.in-Some.turn.core)
+    (answered c.in-Some.turn.at (restarts (driver c.loop-taken.book c.loop-taken.shares) (driver c.step.new.book c.step.new.shares)) (executed_by c.loop-taken.book.image c.in_ok-answer.answer)
+    c.in_ok-answer.answer (clock_at c.loop-taken.clocks.items k)) (clock_at c.loop-taken.clocks.items k)) =
+    λ k below. subst (IsSound c.in-Some.turn.at) (turned_are (driver c.loop-taken.book c.loop-taken.shares) (driver c.step.new.book c.step.new.shares) (clock_at c.loop-taken.clocks.items) (clock_at c.set_clock.new.clocks.items) c.in-Some.turn c.in_ok-answer.answer (not (c.totals.result.restarts == c.totals-restarts.result.restarts)) c.executed_by-executed.result (same_restarts c.totals.result c.totals-restarts.result c.step.new.book.totals c.loop-taken.book.totals c.totals.ensures c.totals-restarts.ensures) (c.executed_by-executed.ensures.is ∙ ap (λ m. executed_by m c.in_ok-answer.answer) (sym (c.loop-taken.invariant.same.image ∙ c.requires.image))) (each_by c.loop-taken.clocks.items c.set_clock.new.clocks.items c.in-Some.turn.core c.answered-clock.result (answered c.in-Some.turn.at (not (c.totals.result.restarts == c.totals-restarts.result.restarts)) c.executed_by-executed.result c.in_ok-answer.answer (clock_at c.loop-taken.clocks.items c.in-Some.turn.core)) c.set_clock.ensures.each (c.answered-clock.ensures ∙ ap (answered c.in-Some.turn.at (not (c.totals.result.restarts == c.totals-restarts.result.restarts)) c.executed_by-executed.result c.in_ok-answer.answer) c.clock_of-clock.ensures)) k)
+    (turned_all c.loop-taken._taken c.loop-taken.book.cores c.loop-taken.clocks.items c.loop-taken.invariant.sound c.in-Some.turn (first_of c.loop-taken.clocks.items c.loop-taken.book.cores c.in-Some.turn c.loop-taken.invariant.sound.count c.in-Some.ensures) (not (c.totals.result.restarts == c.totals-restarts.result.restarts)) c.executed_by-executed.result c.in_ok-answer.answer c.executed_by-executed.ensures.few c.set_clock.new.clocks.items c.set_clock.ensures.len (each_by c.loop-taken.clocks.items c.set_clock.new.clocks.items c.in-Some.turn.core c.answered-clock.result (answered c.in-Some.turn.at (not (c.totals.result.restarts == c.totals-restarts.result.restarts)) c.executed_by-executed.result c.in_ok-answer.answer (clock_at c.loop-taken.clocks.items c.in-Some.turn.core)) c.set_clock.ensures.each (c.answered-clock.ensures ∙ ap (answered c.in-Some.turn.at (not (c.totals.result.restarts == c.totals-restarts.result.restarts)) c.executed_by-executed.result c.in_ok-answer.answer) c.clock_of-clock.ensures)) k
+    (subst (λ n. k < n) (sym (c.set_clock.ensures.len ∙ c.loop-taken.invariant.sound.count)) below)) in
     let on : GoesOn (driver c.loop-taken.book c.loop-taken.shares) (driver c.step.new.book c.step.new.shares) (clock_at c.loop-taken.clocks.items) c.in-Some.turn c.in_ok-answer.answer c.loop-taken._taken c.loop-taken.book.cores c.match-answer.clocks.items = elim c.match-answer.branch [
       | in-Again w ↦ subst (λ (clocks : List Clock). GoesOn (driver c.loop-taken.book c.loop-taken.shares) (driver c.step.new.book c.step.new.shares) (clock_at c.loop-taken.clocks.items) c.in-Some.turn c.in_ok-answer.answer c.loop-taken._taken c.loop-taken.book.cores clocks)
           (sym (ap (λ v. v.items) w.clocks-is)) (record {
@@ -174,6 +232,7 @@ loop-taken-preserved g c =
                 (c.answered-clock.ensures ∙ ap (answered c.in-Some.turn.at (not (c.totals.result.restarts == c.totals-restarts.result.restarts)) c.executed_by-executed.result c.in_ok-answer.answer) c.clock_of-clock.ensures)) w.in-Again.field-0 w.in-Again.is;
             going = λ end over. again_not_over c.in_ok-answer.answer w.in-Again.field-0 end w.in-Again.is over;
             unstopped = λ cause stopped. again_not_stopped c.in_ok-answer.answer w.in-Again.field-0 cause w.in-Again.is stopped;
+            turned = turned_before;
           })
       | in_default-answer w ↦ subst (λ (clocks : List Clock). GoesOn (driver c.loop-taken.book c.loop-taken.shares) (driver c.step.new.book c.step.new.shares) (clock_at c.loop-taken.clocks.items) c.in-Some.turn c.in_ok-answer.answer c.loop-taken._taken c.loop-taken.book.cores clocks)
           (sym (ap (λ v. v.items) w.clocks-is)) (record {
@@ -191,6 +250,7 @@ loop-taken-preserved g c =
                 (c.answered-clock.ensures ∙ ap (answered c.in-Some.turn.at (not (c.totals.result.restarts == c.totals-restarts.result.restarts)) c.executed_by-executed.result c.in_ok-answer.answer) c.clock_of-clock.ensures)) (clock_at w.wake_all.new.clocks.items) w.in_default-answer.not-Again w.in_default-answer.not-Over w.in_default-answer.not-Stopped w.wake_all.ensures.each;
             going = w.in_default-answer.not-Over;
             unstopped = w.in_default-answer.not-Stopped;
+            turned = turned_before;
           })
     ] in record {
       same = record { image = same.image ∙ before.image; cores = same.cores ∙ before.cores; room = same.room ∙ before.room };
@@ -202,6 +262,27 @@ loop-taken-preserved g c =
           (first_of c.loop-taken.clocks.items c.loop-taken.book.cores c.in-Some.turn c.loop-taken.invariant.sound.count c.in-Some.ensures) c.in-Ok-push.ensures.items
           c.in_ok-answer.answer (record { held = harts_of c.step.new.held; clocks = clock_at c.match-answer.clocks.items }) on.going on.unstopped c.in_ok-answer.ensures.harts on.are
           c.in_ok-answer.ensures.turned;
+      timed = λ fresh. timed_on (driver c.loop-taken.book c.loop-taken.shares) (driver c.step.new.book c.step.new.shares)
+          (record { held = harts_of c.loop-taken.held; clocks = clock_at c.loop-taken.clocks.items }) c.in-Some.turn same
+          (first_of c.loop-taken.clocks.items c.loop-taken.book.cores c.in-Some.turn c.loop-taken.invariant.sound.count c.in-Some.ensures) (c.loop-taken.invariant.timed fresh)
+          c.in_ok-answer.answer (record { held = harts_of c.step.new.held; clocks = clock_at c.match-answer.clocks.items }) c.in_ok-answer.ensures.leads on.going on.unstopped
+          c.in_ok-answer.ensures.harts on.are on.turned;
+      busy = λ fresh one. let was = sym same.cores ∙ one in
+          busy_on (driver c.loop-taken.book c.loop-taken.shares) (driver c.step.new.book c.step.new.shares)
+          (record { held = harts_of c.loop-taken.held; clocks = clock_at c.loop-taken.clocks.items }) c.in-Some.turn same
+          (first_of c.loop-taken.clocks.items c.loop-taken.book.cores c.in-Some.turn c.loop-taken.invariant.sound.count c.in-Some.ensures) (c.loop-taken.invariant.timed fresh)
+          c.in_ok-answer.answer (record { held = harts_of c.step.new.held; clocks = clock_at c.match-answer.clocks.items }) c.in_ok-answer.ensures.leads on.going on.are
+          (the_first c.in-Some.turn.core c.loop-taken.book.cores
+          (first_of c.loop-taken.clocks.items c.loop-taken.book.cores c.in-Some.turn c.loop-taken.invariant.sound.count c.in-Some.ensures).core was) (c.loop-taken.invariant.busy fresh was);
+      alone = λ one. let was = sym same.cores ∙ one in (
+        (c.step.ensures.alone was).0,
+        subst IsAloneClock (sym (on.are 0))
+            (turn_alone (driver c.loop-taken.book c.loop-taken.shares) (driver c.step.new.book c.step.new.shares) (clock_at c.loop-taken.clocks.items) c.in-Some.turn c.in_ok-answer.answer
+            (the_first c.in-Some.turn.core c.loop-taken.book.cores
+            (first_of c.loop-taken.clocks.items c.loop-taken.book.cores c.in-Some.turn c.loop-taken.invariant.sound.count c.in-Some.ensures).core was)
+            (no_restart c.loop-taken.book.totals.restarts c.step.new.book.totals.restarts (c.loop-taken.invariant.alone was).0 (c.step.ensures.alone was).0)
+            (subst NeverWaits c.in_ok-answer.was (c.step.ensures.alone was).1) (c.loop-taken.invariant.alone was).1),
+      );
     }
 
 pub returns-clause-evenly : goal.returns-clause-evenly

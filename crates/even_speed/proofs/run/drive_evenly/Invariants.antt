@@ -1,4 +1,6 @@
-use Rattle.std.proofs.Common.{ℕ, List, ◌++◌, Option, Result}
+use Rattle.std.proofs.Common.{◌≡◌, ℕ, List, [], ◌++◌, Option, Some, Result}
+use Rattle.spec_history.specs.FlatState.{FlatState}
+use Rattle.spec_history.specs.Replay.{replay}
 use Rattle.homefree.specs.declared.fault.TurnFault.{TurnFault}
 use Rattle.homefree.specs.BookView.{IsOfSameLoop}
 use Rattle.homefree.specs.Counted.{IsNoMore}
@@ -7,7 +9,8 @@ use Rattle.homefree.specs.Held.{HaveArrived, harts_of}
 use Rattle.even_speed.specs.declared.run.Ran.{Ran}
 use Rattle.even_speed.specs.Clocks.{clock_at}
 use Rattle.even_speed.specs.Even.{Evenly, at_first}
-use Rattle.even_speed.specs.Kept.{AreSound}
+use Rattle.even_speed.specs.Kept.{AreSound, IsAloneClock}
+use Rattle.even_speed.specs.Timed.{AreOnTime, IsNeverIdle}
 use Rattle.even_speed.proofs.run.drive_evenly.Given as goal
 
 abbrev pub invariant-loop-taken : goal.invariant-loop-taken
@@ -19,4 +22,8 @@ invariant-loop-taken g l = record {
   drives : (rest : List ℕ) (result : Result (Option Ran) TurnFault) (new : Driver g.row.S.Denot)
       → Evenly g.S.EpochStore.view g.S.EpochStore.waits (record { held = harts_of l.held; clocks = clock_at l.clocks.items }) (driver l.book l.shares) rest result new
       → Evenly g.S.EpochStore.view g.S.EpochStore.waits at_first (driver l.initial.book l.initial.shares) (l.schedule.items ++ rest) result new;
+  timed : l.initial.book.history ≡ [] → (s : FlatState) × (replay l.book.image l.book.cores l.book.history ≡ Some s)
+      × AreOnTime l.book.image l.book.cores s (record { held = harts_of l.held; clocks = clock_at l.clocks.items });
+  busy : l.initial.book.history ≡ [] → l.book.cores ≡ 1 → IsNeverIdle (clock_at l.clocks.items 0);
+  alone : l.book.cores ≡ 1 → (l.book.totals.restarts ≡ 0) × IsAloneClock (clock_at l.clocks.items 0);
 }
