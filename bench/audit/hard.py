@@ -1,7 +1,7 @@
 #!/usr/bin/env python3
 """Seconds and memory of `why` against those of `trace_cli audit`, on traces that are hard to explain.
 
-    bench/audit/hard.py [FORM ..]            measures the forms, all but bytes, or those that are named
+    bench/audit/hard.py [FORM ..]            measures the forms, or those that are named
     bench/audit/hard.py FORM ENTRIES > FILE  writes the image of a form, and a trace of so many entries below it
 
 Build the programs first, by calling ./trace_cli and ./why. Both take turns, three times. The status is 1 where `why` takes more than MOST times
@@ -94,7 +94,7 @@ def both(count):
 
 
 def bytes_of(count):
-    """One violation with many bytes: an epoch publishes bytes that the one after it had read one by one."""
+    """One violation with many bytes: an epoch publishes bytes that the one after it had read one by one. The limit of an epoch bounds them."""
     words = [lui(5, DATA >> 12), addi(6, 0, 1), bne(10, 0, 16), sb(6, 5, 0), addi(5, 5, 1), jal(-8), lb(7, 5, 0), addi(5, 5, 1), jal(-8)]
     half = min((count - 4) // 2, 330_000)
     entries = ["0 start 0", "1 start 1", *(f"1 load {DATA + i:08x} 1 00000000" for i in range(half)), *(f"0 store {DATA + i:08x} 1 00000001" for i in range(half))]
@@ -125,8 +125,6 @@ def notices(count):
 
 
 FORMS = {"stores": stores, "both": both, "bytes": bytes_of, "pairs": pairs, "notices": notices}
-# one violation with many bytes still takes time that grows as the square of these
-MEASURED = [form for form in FORMS if form != "bytes"]
 
 
 def text_of(form, count):
@@ -145,13 +143,15 @@ def measured(file, *command):
 def measure(form, count, folder):
     """A row of the table, and whether it may be so."""
     file = pathlib.Path(folder, "trace")
-    file.write_text(text_of(form, count))
+    text = text_of(form, count)
+    file.write_text(text)
+    entries = text.partition("\ntrace ")[2].count("\n") - 1
     runs = [(measured(file, AUDIT, "audit"), measured(file, WHY)) for _ in range(ROUNDS)]
     audited, told = (statistics.median(seconds for _, seconds, _ in one) for one in zip(*runs))
     audit_most, why_most = (max(most for *_, most in one) for one in zip(*runs))
     sound = all(status == 0 for both_runs in runs for status, *_ in both_runs)
     size = file.stat().st_size / 1e6
-    print(f"{form:8}{count:10,}{size:7.1f}{audited:10.2f}{told:9.2f}{told / max(audited, 0.01):9.1f}{audit_most / 1024:12.1f}{why_most / 1024:10.1f}", flush=True)
+    print(f"{form:8}{entries:10,}{size:7.1f}{audited:10.2f}{told:9.2f}{told / max(audited, 0.01):9.1f}{audit_most / 1024:12.1f}{why_most / 1024:10.1f}", flush=True)
     return sound and told <= MOST * max(audited, 0.01)
 
 
@@ -161,7 +161,7 @@ def main(words):
         return 0
     print("form       entries     MB  audit, s   why, s    ratio   audit, MB   why, MB")
     with tempfile.TemporaryDirectory() as folder:
-        fine = [measure(form, count, folder) for form in words or MEASURED for count in SIZES]
+        fine = [measure(form, count, folder) for form in words or FORMS for count in SIZES]
     return 0 if all(fine) else 1
 
 

@@ -32,7 +32,7 @@ begins n alike = either_way (alike n) (alike n ≡ not (after (last_below (suc n
     (λ isnt. rw isnt (sym (ap not (eq-eqb (n + 1) (suc n) (omega arith)))))
 
 -- none below the first that passes does
-abbrev IsLeast : ℕ → (ℕ → Bool) → Option ℕ → Type 0
+abbrev pub IsLeast : ℕ → (ℕ → Bool) → Option ℕ → Type 0
 IsLeast n test None = (k : ℕ) → k < n → test k ≡ false
 IsLeast n test (Some found) = (k : ℕ) → k < found → test k ≡ false
 
@@ -45,7 +45,7 @@ one_more n test None was = either_way (test n) (IsLeast (suc n) test (if test n 
       | inr other ↦ was k (omega (arith, below, other))
     ]))
 
-is_least : (n : ℕ) (test : ℕ → Bool) → IsLeast n test (first_below n test)
+pub is_least : (n : ℕ) (test : ℕ → Bool) → IsLeast n test (first_below n test)
 unfolding first_below
 is_least zero test = λ k below. absurd (omega (arith, below))
 is_least (suc n) test = one_more n test (first_below n test) (is_least n test)

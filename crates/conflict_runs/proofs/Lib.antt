@@ -1,5 +1,6 @@
 mod Beginning
 mod Listing
+mod Loading
 mod Running
 mod Searching
 pub mod Telling

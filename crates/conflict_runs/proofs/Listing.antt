@@ -36,3 +36,15 @@ one_more from found runs first old new after none before grown =
     ∙ (ap (λ xs. xs ++ option_to_list (runs found)) (before ∙ ap (λ xs. first ++ xs) (sym (runs_past from found runs after none)))
     ∙ (append_assoc first (runs_below found runs) (option_to_list (runs found))
     ∙ ap (λ xs. first ++ xs) (sym (ap (λ k. runs_below k runs) (add-one found) ∙ one_below found runs))))
+
+-- the next one is told, and none up to another
+pub told_past : (from found next : ℕ) (runs : ℕ → Option Run) (first old new : List Run) → from ≤ found → ((j : ℕ) → from ≤ j → j < found → runs j ≡ None)
+    → old ≡ first ++ runs_below from runs → new ≡ old ++ option_to_list (runs found) → found < next → ((j : ℕ) → found < j → j < next → runs j ≡ None) → new ≡ first ++ runs_below next runs
+told_past from found next runs first old new after none before grown past rest =
+    one_more from found runs first old new after none before grown
+    ∙ ap (λ xs. first ++ xs) (sym (runs_past (found + 1) next runs (omega (arith, past)) (λ j above below. rest j (omega (arith, above)) below)))
+
+-- all are told
+pub told_all : (from size : ℕ) (runs : ℕ → Option Run) (first items : List Run) → from ≤ size → ((j : ℕ) → from ≤ j → j < size → runs j ≡ None) → items ≡ first ++ runs_below from runs
+    → items ≡ first ++ runs_below size runs
+told_all from size runs first items most none told = told ∙ ap (λ xs. first ++ xs) (sym (runs_past from size runs most none))

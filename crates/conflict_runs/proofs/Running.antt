@@ -11,14 +11,12 @@ use Rattle.conflicts.specs.declared.explanation.Blame.{Blame}
 use Rattle.conflicts.specs.declared.explanation.ByteRange.{ByteRange}
 use Rattle.conflicts.specs.declared.explanation.Explanation.{Explanation}
 use Rattle.spec_history.specs.declared.kind.Kind.TheVariants.{TrueSharing, SilentStore, FalseSharing}
-use Rattle.conflicts.specs.Attempts.{attempt_place, covers, is_after, reads_outside}
+use Rattle.conflicts.specs.Attempts.{covers}
 use Rattle.conflicts.specs.Blame.{Violation, blamed_range, read_at}
 use Rattle.spec_history.specs.Conflict.{is_changed, is_shared, what_at}
 use Rattle.spec_history.proofs.Searches.{first_none}
 use Rattle.conflict_runs.specs.declared.run.Run.{Run}
 use Rattle.conflict_runs.specs.Runs.{begins_blamed, byte_in, is_falsely_shared, line_run, load_in, only, run_from, run_at, run_in, run_kind, run_of, run_with, runs_by, shared_run, violation_of}
-use Rattle.conflict_runs.proofs.Listing.{no_runs}
-use Rattle.conflict_runs.proofs.Searching.{unread}
 
 -- the run that was made
 pub made : (image : LoadedImage) (entries : List Entry) (v : Violation) (load a store : ℕ) (bytes : ByteRange) (changes : Bool)
@@ -51,45 +49,6 @@ shared_told image entries blame v a run kept shared told by =
     by
     ∙ (ap (λ (o : Option Run). if not (begins_blamed blame a) then only (λ r. r.bytes.first == a) o else None) told
     ∙ ap (λ (b : Bool). if b && not (begins_blamed blame a) then run_from image entries v a else None) (sym shared))
-
--- where no attempt began
-no_read : (entries : List Entry) (core before a place : ℕ) → attempt_place entries core before ≡ None → reads_outside entries core before a place ≡ false
-no_read entries core before a place is = unread entries core before a place (ap (λ (o : Option ℕ). is_after o place) is)
-
-never_read : (entries : List Entry) (v : Violation) (a : ℕ) → attempt_place entries v.victim v.place ≡ None → read_at entries v a ≡ None
-never_read entries v a is = first_none v.place (reads_outside entries v.victim v.place a) (λ k below. no_read entries v.victim v.place a k is)
-
-no_shared : (image : LoadedImage) (entries : List Entry) (blame : Option Blame) (v : Violation) (a : ℕ) → attempt_place entries v.victim v.place ≡ None → shared_run image entries blame v a ≡ None
-no_shared image entries blame v a is =
-    either_none (is_shared v.bytes a && not (begins_blamed blame a)) (run_from image entries v a)
-    (ap (λ (o : Option ℕ). only (λ run. run.bytes.first == a) (option_and_then (λ load. run_of image entries v load a) o)) (never_read entries v a is))
-
-never_in : (image : LoadedImage) (entries : List Entry) (v : Violation) (line : ℕ) → attempt_place entries v.victim v.place ≡ None → load_in image entries v.victim v.place line ≡ None
-never_in image entries v line is =
-    let long = (limits_of image.version).line_length in
-    first_none v.place (λ j. is_some (byte_in image entries v.victim v.place line j)) (λ k below.
-    ap (λ (o : Option ℕ). is_some (option_map (λ (x : ℕ). line * long + x) o))
-    (first_none long (λ x. reads_outside entries v.victim v.place (line * long + x) k) (λ x inside. no_read entries v.victim v.place (line * long + x) k is)))
-
-no_in : (image : LoadedImage) (entries : List Entry) (blame : Option Blame) (v : Violation) (line : ℕ) → attempt_place entries v.victim v.place ≡ None → line_run image entries blame v line ≡ None
-no_in image entries blame v line is =
-    either_none (is_falsely_shared image v.bytes line) (only (λ run. not (begins_blamed blame run.bytes.first)) (run_in image entries v line))
-    (ap (λ (o : Option ℕ). only (λ run. not (begins_blamed blame run.bytes.first)) (option_and_then (λ load. option_and_then (run_of image entries v load) (byte_in image entries v.victim v.place line load)) o)) (never_in image entries v line is))
-
-both_none : (xs ys : List Run) → xs ≡ [] → ys ≡ [] → xs ++ ys ≡ []
-both_none xs ys first second = rw (first, second) refl
-
-by_cause : (image : LoadedImage) (s : FlatState) (entries : List Entry) (e : Explanation) (cause : Option ℕ) (what : Option What) → attempt_place entries e.victim.core e.place ≡ None
-    → runs_by image s entries e cause what ≡ []
-by_cause image s entries e None what is = refl
-by_cause image s entries e (Some cause) None is = refl
-by_cause image s entries e (Some cause) (Some what) is = both_none _ _
-    (no_runs image.size (shared_run image entries e.blame (violation_of s e cause what SilentStore)) (λ a below. no_shared image entries e.blame (violation_of s e cause what SilentStore) a is))
-    (no_runs (image.size / (limits_of image.version).line_length) (line_run image entries e.blame (violation_of s e cause what FalseSharing)) (λ line below. no_in image entries e.blame (violation_of s e cause what FalseSharing) line is))
-
-pub without_attempt : (image : LoadedImage) (s : FlatState) (entries : List Entry) (e : Explanation) → attempt_place entries e.victim.core e.place ≡ None
-    → runs_by image s entries e e.cause (what_at entries e.cause) ≡ []
-without_attempt image s entries e is = by_cause image s entries e e.cause (what_at entries e.cause) is
 
 no_what : (image : LoadedImage) (s : FlatState) (entries : List Entry) (e : Explanation) (cause : Option ℕ) → runs_by image s entries e cause None ≡ []
 no_what image s entries e None = refl

@@ -1,36 +1,21 @@
--- What a load reads first.
-use Rattle.std.proofs.Common.{◌≡◌, ℕ, ◌+◌, ◌*◌, ◌/◌, ◌<◌, ◌≤◌, ◌&&◌, Bool, true, false, is_some, nat_le, nat_lt, List, length, slice_index, Option, Some, None, option_map, refl, ap, ◌∙◌, arith, le-ltb}
+-- Which addresses were read, and those in order.
+use Rattle.std.proofs.Common.{◌≡◌, ℕ, ◌+◌, ◌*◌, ◌/◌, ◌<◌, ◌≤◌, ◌==◌, Bool, true, false, cond, is_some, nat_lt, List, length, slice_index, Option, Some, None, refl, ap, subst, ◌∙◌, arith, ltb-true, ltb-false}
+use Rattle.std.specs.List.Sorted.{IsPermutation, IsSorted}
+use Rattle.std.specs.Ordering.{is_lt, nat_cmp}
+use Rattle.std.specs.declared.cmp.Ordering.TheVariants.{Less, Equal, Greater}
+use Rattle.std.proofs.lemmas.Cmp.{nat_cmp_total}
+use Rattle.std.proofs.lemmas.List.{get_or_default}
+use Rattle.std.proofs.lemmas.List.Elements.{Contains-get_or}
+use Rattle.std.proofs.lemmas.List.Sorted.{Contains-permutation, IsPermutation-sym, ranks_by, sorted_far}
 use Rattle.memory_bytes.specs.Shadow.{IsAmong}
 use Rattle.rv32_image.specs.Image.{LoadedImage}
 use Rattle.rv32_image.specs.declared.version.Version.{Version}
 use Rattle.rv32_image.specs.declared.version.Version.TheVariants.{One, Two}
 use Rattle.rv32_image.specs.Version.{limits_of}
-use Rattle.spec_history.specs.declared.entry.Entry.{Entry}
 use Rattle.spec_history.proofs.Legal.{and_true, some_below}
-use Rattle.conflicts.specs.Attempts.{attempt_place, is_after, reads_outside}
 use Rattle.spec_history.specs.Conflict.{Meeting, is_shared, line_has, line_of}
-use Rattle.spec_history.proofs.Searches.{first_none}
-use Rattle.conflict_runs.specs.Runs.{byte_in, is_falsely_shared}
-
-by_after : (after loads unstored : Bool) → after ≡ false → ((after && loads) && unstored) ≡ false
-by_after true loads unstored is = absurd cc
-by_after false loads unstored is = refl
-
--- nothing is read by what does not stand after the attempt's start
-pub unread : (entries : List Entry) (core before a place : ℕ) → is_after (attempt_place entries core before) place ≡ false → reads_outside entries core before a place ≡ false
-unread entries core before a place is = by_after _ _ _ is
-
-pub unread_until : (entries : List Entry) (core before start a place : ℕ) → attempt_place entries core before ≡ Some start → place < start → reads_outside entries core before a place ≡ false
-unread_until entries core before start a place is early =
-    unread entries core before a place (ap (λ (o : Option ℕ). is_after o place) is ∙ le-ltb start place (omega (arith, early)))
-
--- no byte of a line is read before the start
-pub none_until : (image : LoadedImage) (entries : List Entry) (core before start line place : ℕ) → attempt_place entries core before ≡ Some start → place < start
-    → is_some (byte_in image entries core before line place) ≡ false
-none_until image entries core before start line place is early =
-    let long = (limits_of image.version).line_length in
-    ap (λ o. is_some (option_map (λ (x : ℕ). line * long + x) o))
-    (first_none long (λ x. reads_outside entries core before (line * long + x) place) (λ x below. unread_until entries core before start (line * long + x) place is early))
+use Rattle.conflicts.proofs.Blaming.{either_way}
+use Rattle.conflict_runs.specs.Runs.{AreRead, is_falsely_shared}
 
 -- ---- addresses that were read
 
@@ -66,17 +51,50 @@ pub byte_within : (v : Version) (size line x : ℕ) → line < size / (limits_of
 byte_within One size line x below inside = omega (arith, below, inside)
 byte_within Two size line x below inside = omega (arith, below, inside)
 
-pub line_room : (v : Version) (size line : ℕ) → line < size / (limits_of v).line_length → size ≤ 1048576 → line * (limits_of v).line_length + (limits_of v).line_length < 4294967296
-line_room One size line below most = omega (arith, below, most)
-line_room Two size line below most = omega (arith, below, most)
+-- ---- those in order
 
--- ---- one that was just tried
+not_less : (t e : Bool) → is_lt (cond t Less (cond e Equal Greater)) ≡ false → t ≡ false
+not_less true e is = absurd cc
+not_less false e is = refl
 
-none_between : (a c : Bool) → (a && (false && c)) ≡ false
-none_between true c = refl
-none_between false c = refl
+rise : (xs : List ℕ) → IsSorted nat_cmp xs → (i j : ℕ) → i ≤ j → j < length xs → slice_index xs i ≤ slice_index xs j
+rise xs sorted i j up below =
+    let a = slice_index xs j in
+    let b = slice_index xs i in
+    ltb-false a b (not_less (nat_lt a b) (a == b) (sorted_far (λ x y. is_lt (nat_cmp x y)) (ranks_by nat_cmp_total (λ p. p)) xs sorted i j 0 up below))
 
--- none is nearer than itself
-pub no_nearer_itself : (from line next : ℕ) (passes : Bool) → next ≡ line → (nat_le from line && (nat_lt line next && passes)) ≡ false
-no_nearer_itself from line next passes same =
-    ap (λ b. nat_le from line && (b && passes)) (le-ltb line next (omega (arith, same))) ∙ none_between (nat_le from line) passes
+-- those that were listed, put in order
+pub ordered : (size : ℕ) (reads : ℕ → Option ℕ) (old mid new : List ℕ) → mid ≡ old → ((place : ℕ) → place < length old → slice_index old place < size) → ((a byte : ℕ) → reads a ≡ Some byte → IsAmong a old)
+    → IsPermutation mid new → IsSorted nat_cmp new → AreRead size reads new
+ordered size reads old mid new same within each rank sorted = let moved = subst (λ xs. IsPermutation xs new) same rank in record {
+  ordered = sorted;
+  within = λ place below.
+      let a = slice_index new place in
+      let at = Contains-permutation new old a (IsPermutation-sym old new moved) (Contains-get_or new place 0 below) in
+      subst (λ n. n < size) (get_or_default old at.0 0 a at.1 ∙ at.2) (within at.0 at.1);
+  each = λ a byte is.
+      let among = each a byte is in
+      let at = Contains-permutation old new a moved (among.place, among.within, get_or_default old among.place a 0 among.within ∙ among.is) in
+      record { place = at.0; within = at.1; is = get_or_default new at.0 0 a at.1 ∙ at.2 };
+}
+
+-- a byte that was read and stands before the one with an index is among those before it
+pub not_between : (size : ℕ) (reads : ℕ → Option ℕ) (addresses : List ℕ) (index from j k : ℕ) → AreRead size reads addresses → index < length addresses
+    → ((k : ℕ) → k < index → slice_index addresses k < from) → from ≤ j → j < slice_index addresses index → k < length addresses → slice_index addresses k ≡ j → ⊥
+not_between size reads addresses index from j k are inside passed after before within is = either_way (nat_lt k index) ⊥
+    (λ early. let less = passed k (ltb-true k index early) in omega (arith, less, is, after))
+    (λ late. let more = rise addresses are.ordered index k (ltb-false k index late) within in omega (arith, more, is, before))
+
+line_up : (v : Version) (a b : ℕ) → a ≤ b → a / (limits_of v).line_length ≤ b / (limits_of v).line_length
+line_up One a b up = omega (arith, up)
+line_up Two a b up = omega (arith, up)
+
+-- and so is a line
+pub no_line_between : (image : LoadedImage) (reads : ℕ → Option ℕ) (addresses : List ℕ) (index from j k : ℕ) → AreRead image.size reads addresses → index < length addresses
+    → ((k : ℕ) → k < index → line_of image (slice_index addresses k) < from) → from ≤ j → j < line_of image (slice_index addresses index) → k < length addresses
+    → line_of image (slice_index addresses k) ≡ j → ⊥
+no_line_between image reads addresses index from j k are inside passed after before within is = either_way (nat_lt k index) ⊥
+    (λ early. let less = passed k (ltb-true k index early) in omega (arith, less, is, after))
+    (λ late.
+    let more = line_up image.version (slice_index addresses index) (slice_index addresses k) (rise addresses are.ordered index k (ltb-false k index late) within) in
+    omega (arith, more, is, before))

@@ -1,7 +1,10 @@
 -- The further runs of bytes at which two epochs met in a violation, beside the one that is blamed.
 -- Source: this project.
-use Rattle.std.specs.Prelude.{ℕ, zero, suc, ◌+◌, ◌*◌, ◌/◌, ◌==◌, ◌&&◌, not, nat_lt, Bool, false, List, [], ◌++◌, map, Option, Some, None, is_some, option_and_then, option_map, option_to_list, Vec, if◌then◌else◌}
+use Rattle.std.specs.Prelude.{◌≡◌, ◌<◌, ℕ, zero, suc, ◌+◌, ◌*◌, ◌/◌, ◌==◌, ◌&&◌, not, nat_lt, Bool, false, length, slice_index, List, [], ◌++◌, map, Option, Some, None, is_some, option_and_then, option_map, option_to_list, Vec, if◌then◌else◌}
+use Rattle.std.specs.List.Sorted.{IsSorted}
+use Rattle.std.specs.Ordering.{nat_cmp}
 use Rattle.std.specs.declared.alloc.Global.{Global}
+use Rattle.memory_bytes.specs.Shadow.{IsAmong}
 use Rattle.rv32_image.specs.Image.{LoadedImage}
 use Rattle.rv32_image.specs.Version.{limits_of}
 use Rattle.spec_history.specs.declared.entry.Entry.{Entry}
@@ -127,3 +130,15 @@ lists_of vectors = map (λ (v : Vec Run Global). v.items) vectors
 abbrev pub is_below_end : Option Run → ℕ → Bool
 is_below_end None a = false
 is_below_end (Some run) a = nat_lt a (run.bytes.first + run.bytes.length)
+
+-- these are the bytes of memory that were read, ascending
+pub record AreRead (size : ℕ) (reads : ℕ → Option ℕ) (addresses : List ℕ) : Type 0 where
+  pub ordered : IsSorted nat_cmp addresses
+  pub within : (place : ℕ) → place < length addresses → slice_index addresses place < size
+  pub each : (a byte : ℕ) → reads a ≡ Some byte → IsAmong a addresses
+
+-- the earlier of two loads, the one that is known before the other, each with the byte that it read first
+abbrev pub earlier : Option (ℕ × ℕ) → Option ℕ → ℕ → Option (ℕ × ℕ)
+earlier known None a = known
+earlier None (Some load) a = Some (load, a)
+earlier (Some first) (Some load) a = if nat_lt load first.0 then Some (load, a) else Some first

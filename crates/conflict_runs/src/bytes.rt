@@ -1,51 +1,36 @@
 //! The runs of bytes that the cause writes and the victim had read.
 
-ghost use Rattle.std.specs.Prelude.{◌≡◌, ◌<◌, ◌≤◌, ◌++◌, ◌^◌, ◌==◌, ◌&&◌, not, ℕ, nat_le, nat_lt, OnOk, None, Some, if◌then◌else◌, true};
+ghost use Rattle.std.specs.Prelude.{◌≡◌, ◌<◌, ◌≤◌, ◌+◌, ◌++◌, ◌^◌, ◌==◌, not, ℕ, IfOk, OnOk, None, option_to_list, if◌then◌else◌, true};
 ghost use Rattle.spec_history.specs.declared.kind.Kind.TheVariants.{SilentStore};
-ghost use Rattle.conflicts.specs.Attempts as attempts;
-ghost use Rattle.spec_history.specs.Conflict as conflict;
+ghost use Rattle.conflicts.specs.Behind.{IsBehind};
 ghost use Rattle.conflicts.specs.Parties.{meeting_in};
-ghost use Rattle.spec_history.specs.Searches.{IsNext};
 ghost use Rattle.conflicts.specs.Violated.{violation_in};
 ghost use Rattle.conflict_runs.specs.Runs as spec;
 
 use crate::run::{Run, Told, end_of, keep};
+use conflicts::{Behind, Violated};
 use rv32_exec::Image;
 use spec_history::{Entry, Flat};
 use std::alloc::AllocError;
 
 impl Told {
-    /// It is such a byte, from `from` on and before `next`.
-    fn is_nearer(&self, flat: &Flat, from: u32, next: u32, addr: u32) -> bool
-        ensures { result ≡ (nat_le from addr && (nat_lt addr next && conflict.is_shared (meeting_in flat.now self.now.violated.parties) addr)) }
-    {
-        from <= addr && addr < next && self.violated.parties.is_shared(flat, addr)
-    }
-
-    /// The first such byte from this one on; the size of memory, where there is none. One that was read is among those that the
-    /// victim has read, so no other is tried.
-    fn next_shared(&self, image: &Image, flat: &Flat, from: u32) -> u32
-        requires { flat.now.image ≡ image.now }
-        ensures { IsNext (conflict.is_shared (meeting_in flat.now self.now.violated.parties)) from image.now.size result }
-    {
-        let mut next = image.size();
-        for addr in flat.read_addresses(self.violated.parties.victim) {
-            if self.is_nearer(flat, from, next, *addr) {
-                next = *addr;
-            }
-        }
-        next
-    }
-
     /// The run of a byte.
-    fn run_at(&self, image: &Image, flat: &Flat, entries: &[Entry], addr: u32) -> Option<Run>
+    fn run_at(
+        &self,
+        image: &Image,
+        flat: &Flat,
+        entries: &[Entry],
+        behind: &Behind,
+        addr: u32,
+    ) -> Option<Run>
         requires image { flat.now.image ≡ image.now }
-        requires start { attempts.attempt_place entries.now self.now.violated.parties.victim self.now.violated.place ≡ Some self.now.start }
+        requires known { IsBehind image.now.size entries.now behind.now }
         requires within { addr < image.now.size }
         ensures { result ≡ spec.run_at image.now entries.now (violation_in flat.now self.now.violated) addr }
     {
-        let load = self.read_at(entries, addr)?;
-        self.run_of(image, flat, entries, load, addr)
+        let Violated { parties, place, .. } = self.violated;
+        let load = behind.first_read(entries, parties.victim, place, addr)?;
+        self.run_of(image, flat, entries, behind, load, addr)
     }
 
     /// The run of a byte, if it begins there and isn't the blamed one.
@@ -63,33 +48,71 @@ impl Told {
         }
     }
 
-    /// The further runs of bytes, in ascending order, at the end of a list. No other begins within a run, so its bytes are passed over.
+    /// Adds the run that begins at a byte to the end of a list, if there is a further one. Gives the first address above the byte that is not
+    /// of its run: no other begins within.
+    fn tell_at(
+        &self,
+        runs: &mut Vec<Run>,
+        image: &Image,
+        flat: &Flat,
+        entries: &[Entry],
+        behind: &Behind,
+        addr: u32,
+    ) -> Result<u32, AllocError>
+        requires image { flat.now.image ≡ image.now }
+        requires known { IsBehind image.now.size entries.now behind.now }
+        requires kind { self.now.violated.kind ≡ SilentStore }
+        requires within { addr < image.now.size }
+        ensures told { OnOk result (runs.new.items ≡ runs.old.items
+            ++ option_to_list (spec.shared_run image.now entries.now self.now.blame (violation_in flat.now self.now.violated) addr)) }
+        ensures next { IfOk result (λ next. (addr < next) × (next ≤ image.now.size)) }
+        ensures none { IfOk result (λ next. (j : ℕ) → addr < j → j < next
+            → spec.shared_run image.now entries.now self.now.blame (violation_in flat.now self.now.violated) j ≡ None) }
+    {
+        let next = after_byte(image, addr);
+        if !self.violated.parties.is_shared(flat, addr) {
+            return Ok(next);
+        }
+        let run = self.run_at(image, flat, entries, behind, addr);
+        keep(runs, self.further(run, addr))?;
+        Ok(end_after(image, run, addr))
+    }
+
+    /// The further runs of bytes, in ascending order, at the end of a list. It takes the bytes that the victim has read, in that order.
     pub(crate) fn push_shared(
         &self,
         runs: &mut Vec<Run>,
         image: &Image,
         flat: &Flat,
         entries: &[Entry],
+        behind: &Behind,
+        read: &[u32],
     ) -> Result<(), AllocError>
         requires image { flat.now.image ≡ image.now }
-        requires start { attempts.attempt_place entries.now self.now.violated.parties.victim self.now.violated.place ≡ Some self.now.start }
+        requires known { IsBehind image.now.size entries.now behind.now }
+        requires read { spec.AreRead image.now.size (meeting_in flat.now self.now.violated.parties).reads read.now }
         requires kind { self.now.violated.kind ≡ SilentStore }
         ensures { OnOk result (runs.new.items ≡ runs.old.items
             ++ spec.runs_below image.now.size (spec.shared_run image.now entries.now self.now.blame (violation_in flat.now self.now.violated))) }
     {
-        let size = image.size();
         let mut from = 0;
-        while from < size {
-            let addr = self.next_shared(image, flat, from);
-            if addr >= size {
-                return Ok(());
+        for addr in read {
+            if *addr >= from {
+                from = self.tell_at(runs, image, flat, entries, behind, *addr)?;
             }
-            let run = self.run_at(image, flat, entries, addr);
-            keep(runs, self.further(run, addr))?;
-            from = end_after(image, run, addr);
         }
         Ok(())
     }
+}
+
+/// The address after a byte of memory.
+fn after_byte(image: &Image, addr: u32) -> u32
+    requires { addr < image.now.size }
+    ensures after { result ≡ addr + 1 }
+    ensures room { image.now.size < 2 ^ 32 }
+{
+    let size = image.size();
+    size.min(addr + 1)
 }
 
 /// The first address above a byte that is not of its run.

@@ -3,16 +3,17 @@
 ghost use Rattle.std.specs.Prelude.{◌≡◌, IfOk, OnOk, Some, ◌++◌};
 ghost use Rattle.spec_history.specs.View.{state_in};
 ghost use Rattle.spec_history.specs.Conflict as conflict;
+ghost use Rattle.conflicts.specs.Behind.{IsBehind};
 ghost use Rattle.conflict_runs.specs.Runs as spec;
 
 use crate::run::{Run, Told};
-use conflicts::{Explanation, Kind, Parties, Violated, attempt_place};
+use conflicts::{Behind, Explanation, Kind, Parties, Violated};
 use rv32_exec::Image;
 use spec_history::{Entry, Flat, What};
 use std::alloc::{AllocError, Global};
 
-/// The further runs of bytes at which the epochs of a violation met. It takes the machine before the violation, the whole history, and
-/// the explanation.
+/// The further runs of bytes at which the epochs of a violation met. It takes the machine before the violation, the whole history, what
+/// is known of attempts, and the explanation.
 ///
 /// First those of bytes that the cause writes and the victim had read, by their addresses; then one for each line of which both
 /// have a byte but share none, by their addresses. The blamed run is left out.
@@ -21,14 +22,26 @@ pub fn further_runs(
     image: &Image,
     flat: &Flat,
     entries: &[Entry],
+    behind: &Behind,
     e: Explanation,
 ) -> Result<Vec<Run>, AllocError>
-    requires { flat.now.image ≡ image.now }
+    requires image { flat.now.image ≡ image.now }
+    requires known { IsBehind image.now.size entries.now behind.now }
     ensures { IfOk result (λ runs. runs.items ≡ spec.runs_in image.now entries.now e (Some (state_in flat.now))) }
 {
     let mut runs = Vec::new(alloc);
-    push_runs(&mut runs, image, flat, entries, e)?;
+    push_runs(alloc, &mut runs, image, flat, entries, behind, e)?;
     Ok(runs)
+}
+
+/// The addresses of the bytes that a core has read from outside, ascending.
+fn in_order(alloc: Global, flat: &Flat, core: u32) -> Result<Vec<u32>, AllocError>
+    ensures { IfOk result (λ read. spec.AreRead flat.now.image.size (conflict.read_bytes ((state_in flat.now).cores core)) read.items) }
+{
+    let mut read = Vec::new(alloc);
+    read.extend_from_slice(flat.read_addresses(core))?;
+    read.sort_unstable();
+    Ok(read)
 }
 
 /// What the entry at a place says, if there is one.
@@ -41,13 +54,16 @@ fn what_at(entries: &[Entry], place: Option<usize>) -> Option<What>
 
 /// The same, at the end of a list.
 fn push_runs(
+    alloc: Global,
     runs: &mut Vec<Run>,
     image: &Image,
     flat: &Flat,
     entries: &[Entry],
+    behind: &Behind,
     e: Explanation,
 ) -> Result<(), AllocError>
-    requires { flat.now.image ≡ image.now }
+    requires image { flat.now.image ≡ image.now }
+    requires known { IsBehind image.now.size entries.now behind.now }
     ensures { OnOk result (runs.new.items ≡ runs.old.items ++ spec.runs_in image.now entries.now e (Some (state_in flat.now))) }
 {
     let Some(cause) = e.cause else {
@@ -56,9 +72,7 @@ fn push_runs(
     let Some(what) = what_at(entries, e.cause) else {
         return Ok(());
     };
-    let Some(start) = attempt_place(entries, e.victim.core, e.place) else {
-        return Ok(());
-    };
+    let read = in_order(alloc, flat, e.victim.core)?;
     let shared = Told {
         violated: Violated {
             parties: Parties {
@@ -70,9 +84,9 @@ fn push_runs(
             place: e.place,
             cause,
         },
-        start,
         blame: e.blame,
     };
-    shared.push_shared(runs, image, flat, entries)?;
-    shared.beside().push_lines(runs, image, flat, entries)
+    shared.push_shared(runs, image, flat, entries, behind, read.as_slice())?;
+    let lines = shared.beside();
+    lines.push_lines(runs, image, flat, entries, behind, read.as_slice())
 }

@@ -1,27 +1,18 @@
 //! The runs of lines of which the cause writes a byte and the victim had read one, but none is both.
 
-ghost use Rattle.std.specs.Prelude.{◌≡◌, ◌<◌, ◌+◌, ◌*◌, ◌/◌, ◌^◌, ◌++◌, ◌&&◌, ℕ, nat_le, nat_lt, is_some, IfSome, OnOk, Some};
+ghost use Rattle.std.specs.Prelude.{◌≡◌, ◌<◌, ◌+◌, ◌*◌, ◌/◌, ◌^◌, ◌++◌, is_some, IfNone, IfSome, OnOk, None, Some};
 ghost use Rattle.rv32_image.specs.Version.{limits_of};
-ghost use Rattle.conflicts.specs.Attempts as attempts;
+ghost use Rattle.conflicts.specs.Behind.{IsBehind};
 ghost use Rattle.spec_history.specs.Conflict as conflict;
 ghost use Rattle.conflicts.specs.Parties.{meeting_in};
-ghost use Rattle.spec_history.specs.Searches.{IsNext};
 ghost use Rattle.conflicts.specs.Violated.{violation_in};
 ghost use Rattle.conflict_runs.specs.Runs as spec;
 
 use crate::run::{Run, Told, keep};
-use conflicts::{line_of, reads_outside};
+use conflicts::{Behind, Violated, line_of};
 use rv32_exec::Image;
 use spec_history::{Entry, Flat};
 use std::alloc::AllocError;
-
-/// How many lines of the caches memory has.
-fn lines_of(image: &Image) -> u32
-    ensures lines { result ≡ image.now.size / (limits_of image.now.version).line_length }
-    ensures room { (line : ℕ) → line < result → line * (limits_of image.now.version).line_length + (limits_of image.now.version).line_length < 2 ^ 32 }
-{
-    image.size() / image.version().limits().line_length
-}
 
 impl Told {
     /// The victim has read a byte of the line.
@@ -69,57 +60,36 @@ impl Told {
             && !self.has_shared(image, flat, line)
     }
 
-    /// It is such a line, from `from` on and before `next`.
-    fn is_nearer_line(&self, image: &Image, flat: &Flat, from: u32, next: u32, line: u32) -> bool
-        requires { line * (limits_of image.now.version).line_length + (limits_of image.now.version).line_length < 2 ^ 32 }
-        ensures { result ≡ (nat_le from line && (nat_lt line next && spec.is_falsely_shared image.now (meeting_in flat.now self.now.violated.parties) line)) }
-    {
-        from <= line && line < next && self.is_falsely_shared(image, flat, line)
-    }
-
-    /// The first such line from this one on; the number of lines, where there is none. It is that of a byte that the victim has
-    /// read, so no other is tried, and one that was just tried isn't tried once more.
-    fn next_line(&self, image: &Image, flat: &Flat, from: u32) -> u32
-        requires { flat.now.image ≡ image.now }
-        ensures { IsNext (spec.is_falsely_shared image.now (meeting_in flat.now self.now.violated.parties)) from
-            (image.now.size / (limits_of image.now.version).line_length) result }
-    {
-        let mut next = lines_of(image);
-        let mut tried = next;
-        for addr in flat.read_addresses(self.violated.parties.victim) {
-            let line = line_of(image, *addr);
-            if line != tried && self.is_nearer_line(image, flat, from, next, line) {
-                next = line;
-            }
-            tried = line;
-        }
-        next
-    }
-
     /// The run that the first load of the line read.
-    fn run_in(&self, image: &Image, flat: &Flat, entries: &[Entry], line: u32) -> Option<Run>
+    fn run_in(
+        &self,
+        image: &Image,
+        flat: &Flat,
+        entries: &[Entry],
+        behind: &Behind,
+        line: u32,
+    ) -> Option<Run>
         requires image { flat.now.image ≡ image.now }
-        requires start { attempts.attempt_place entries.now self.now.violated.parties.victim self.now.violated.place ≡ Some self.now.start }
+        requires known { IsBehind image.now.size entries.now behind.now }
         requires within { line < image.now.size / (limits_of image.now.version).line_length }
         ensures { result ≡ spec.run_in image.now entries.now (violation_in flat.now self.now.violated) line }
     {
-        let victim = self.violated.parties.victim;
-        let load = load_in(
-            image,
-            entries,
-            victim,
-            self.start,
-            self.violated.place,
-            line,
-        )?;
-        let addr = byte_in(image, entries, victim, self.start, line, load)?;
-        self.run_of(image, flat, entries, load, addr)
+        let Violated { parties, place, .. } = self.violated;
+        let (load, addr) = first_in(image, entries, behind, parties.victim, place, line)?;
+        self.run_of(image, flat, entries, behind, load, addr)
     }
 
     /// The further run of a line.
-    fn line_run(&self, image: &Image, flat: &Flat, entries: &[Entry], line: u32) -> Option<Run>
+    fn line_run(
+        &self,
+        image: &Image,
+        flat: &Flat,
+        entries: &[Entry],
+        behind: &Behind,
+        line: u32,
+    ) -> Option<Run>
         requires image { flat.now.image ≡ image.now }
-        requires start { attempts.attempt_place entries.now self.now.violated.parties.victim self.now.violated.place ≡ Some self.now.start }
+        requires known { IsBehind image.now.size entries.now behind.now }
         requires within { line < image.now.size / (limits_of image.now.version).line_length }
         requires room { line * (limits_of image.now.version).line_length + (limits_of image.now.version).line_length < 2 ^ 32 }
         ensures { result ≡ spec.line_run image.now entries.now self.now.blame (violation_in flat.now self.now.violated) line }
@@ -127,7 +97,7 @@ impl Told {
         if !self.is_falsely_shared(image, flat, line) {
             return None;
         }
-        let run = self.run_in(image, flat, entries, line)?;
+        let run = self.run_in(image, flat, entries, behind, line)?;
         if self.begins_blamed(run.bytes.first) {
             None
         } else {
@@ -135,73 +105,74 @@ impl Told {
         }
     }
 
-    /// The further runs of lines, in ascending order, at the end of a list.
+    /// The further runs of lines, in ascending order, at the end of a list. It takes the bytes that the victim has read, in that order.
     pub(crate) fn push_lines(
         &self,
         runs: &mut Vec<Run>,
         image: &Image,
         flat: &Flat,
         entries: &[Entry],
+        behind: &Behind,
+        read: &[u32],
     ) -> Result<(), AllocError>
         requires image { flat.now.image ≡ image.now }
-        requires start { attempts.attempt_place entries.now self.now.violated.parties.victim self.now.violated.place ≡ Some self.now.start }
+        requires known { IsBehind image.now.size entries.now behind.now }
+        requires read { spec.AreRead image.now.size (meeting_in flat.now self.now.violated.parties).reads read.now }
         ensures { OnOk result (runs.new.items ≡ runs.old.items
             ++ spec.runs_below (image.now.size / (limits_of image.now.version).line_length)
             (spec.line_run image.now entries.now self.now.blame (violation_in flat.now self.now.violated))) }
     {
-        let lines = lines_of(image);
         let mut from = 0;
-        while from < lines {
-            let line = self.next_line(image, flat, from);
-            if line >= lines {
-                return Ok(());
+        for addr in read {
+            let line = line_of(image, *addr);
+            if line >= from {
+                keep(runs, self.line_run(image, flat, entries, behind, line))?;
+                from = line + 1;
             }
-            keep(runs, self.line_run(image, flat, entries, line))?;
-            from = line + 1;
         }
         Ok(())
     }
 }
 
-/// The lowest byte of a line that the load at a place read from outside, of an attempt of a core that began at `start`.
-fn byte_in(
-    image: &Image,
-    entries: &[Entry],
-    core: u32,
-    start: usize,
-    line: u32,
-    load: usize,
-) -> Option<u32>
-    requires { line < image.now.size / (limits_of image.now.version).line_length }
-    ensures byte { (before : ℕ) → attempts.attempt_place entries.now core before ≡ Some start → result ≡ spec.byte_in image.now entries.now core before line load }
-    ensures within { IfSome result (λ addr. addr < image.now.size) }
+/// The earlier of two loads, the one that is known before the other, each with the byte that it read first.
+fn earlier(known: Option<(usize, u32)>, load: Option<usize>, addr: u32) -> Option<(usize, u32)>
+    ensures { result ≡ spec.earlier known load addr }
 {
-    let long = image.version().limits().line_length;
-    for x in 0..long {
-        if reads_outside(entries, core, start, line * long + x, load) {
-            return Some(line * long + x);
+    match (known, load) {
+        (known, None) => known,
+        (None, Some(load)) => Some((load, addr)),
+        (Some(first), Some(load)) => {
+            if load < first.0 {
+                Some((load, addr))
+            } else {
+                Some(first)
+            }
         }
     }
-    None
 }
 
-/// The first load that read one, of the attempt that a core runs before a place, which began at `start`.
-fn load_in(
+/// The first load that read a byte of a line from outside, of the attempt that a core runs before a place, and the lowest byte of the line that
+/// it read.
+fn first_in(
     image: &Image,
     entries: &[Entry],
+    behind: &Behind,
     core: u32,
-    start: usize,
     before: usize,
     line: u32,
-) -> Option<usize>
-    requires start { attempts.attempt_place entries.now core before ≡ Some start }
+) -> Option<(usize, u32)>
+    requires known { IsBehind image.now.size entries.now behind.now }
     requires within { line < image.now.size / (limits_of image.now.version).line_length }
-    ensures { result ≡ spec.load_in image.now entries.now core before line }
+    ensures none { IfNone result (spec.load_in image.now entries.now core before line ≡ None) }
+    ensures some { IfSome result (λ found. (spec.load_in image.now entries.now core before line ≡ Some found.0)
+        × (spec.byte_in image.now entries.now core before line found.0 ≡ Some found.1)) }
+    ensures within { IfSome result (λ found. found.1 < image.now.size) }
 {
-    for load in start..before {
-        if byte_in(image, entries, core, start, line, load).is_some() {
-            return Some(load);
-        }
+    let long = image.version().limits().line_length;
+    let mut first = None;
+    for x in 0..long {
+        let addr = line * long + x;
+        first = earlier(first, behind.first_read(entries, core, before, addr), addr);
     }
-    None
+    first
 }

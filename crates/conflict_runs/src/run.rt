@@ -4,13 +4,14 @@ ghost use Rattle.std.specs.Prelude.{◌≡◌, ◌<◌, ◌≤◌, ◌+◌, ◌+
 ghost use Rattle.spec_history.specs.Refusal.{any_below};
 ghost use Rattle.spec_history.specs.declared.kind.Kind.TheVariants.{FalseSharing};
 ghost use Rattle.conflicts.specs.Attempts as attempts;
+ghost use Rattle.conflicts.specs.Behind.{IsBehind};
 ghost use Rattle.conflicts.specs.Blame as blame;
 ghost use Rattle.spec_history.specs.Conflict as conflict;
 ghost use Rattle.conflicts.specs.Parties.{meeting_in};
 ghost use Rattle.conflicts.specs.Violated.{violation_in};
 ghost use Rattle.conflict_runs.specs.Runs as spec;
 
-use conflicts::{Blame, BlamedByte, ByteRange, Kind, Violated, reads_outside};
+use conflicts::{Behind, Blame, BlamedByte, ByteRange, Kind, Violated};
 use rv32_exec::Image;
 use spec_history::{Entry, Flat};
 use std::alloc::AllocError;
@@ -35,8 +36,6 @@ pub struct Run {
 #[derive(Clone, Copy)]
 pub(crate) struct Told {
     pub violated: Violated,
-    /// Where the victim's attempt began.
-    pub start: usize,
     /// The blamed pair.
     pub blame: Option<Blame>,
 }
@@ -48,19 +47,6 @@ pub(crate) fn end_of(image: &Image, bytes: ByteRange) -> u32
     ensures covered { (a : ℕ) → attempts.covers bytes.first bytes.length a ≡ true → a < image.now.size → a < result }
 {
     image.size().min(bytes.first.saturating_add(bytes.length))
-}
-
-/// The first load that read a byte from outside, of the attempt that a core runs before a place, which began at `start`.
-fn first_read(entries: &[Entry], core: u32, start: usize, before: usize, addr: u32) -> Option<usize>
-    requires { attempts.attempt_place entries.now core before ≡ Some start }
-    ensures { result ≡ attempts.first_read entries.now core before addr }
-{
-    for place in start..before {
-        if reads_outside(entries, core, start, addr, place) {
-            return Some(place);
-        }
-    }
-    None
 }
 
 /// The list with a run at its end, if there is one.
@@ -78,7 +64,6 @@ impl Told {
     pub(crate) fn beside(self) -> Told
         ensures { result ≡ record {
           violated = record { parties = self.violated.parties; kind = FalseSharing; place = self.violated.place; cause = self.violated.cause };
-          start = self.start;
           blame = self.blame;
         } }
     {
@@ -89,7 +74,6 @@ impl Told {
                 place: self.violated.place,
                 cause: self.violated.cause,
             },
-            start: self.start,
             blame: self.blame,
         }
     }
@@ -109,14 +93,21 @@ impl Told {
     }
 
     /// The run of a byte that this load read first, and this store gave its value.
-    fn run_with(&self, image: &Image, flat: &Flat, entries: &[Entry], pair: BlamedByte) -> Run
+    fn run_with(
+        &self,
+        image: &Image,
+        flat: &Flat,
+        entries: &[Entry],
+        behind: &Behind,
+        pair: BlamedByte,
+    ) -> Run
         requires image { flat.now.image ≡ image.now }
-        requires start { attempts.attempt_place entries.now self.now.violated.parties.victim self.now.violated.place ≡ Some self.now.start }
+        requires known { IsBehind image.now.size entries.now behind.now }
         requires stored { blame.blamed_store image.now entries.now (violation_in flat.now self.now.violated) pair.byte ≡ Some pair.store }
         requires within { pair.byte < image.now.size }
         ensures { result ≡ spec.run_with image.now entries.now (violation_in flat.now self.now.violated) pair.load pair.byte pair.store }
     {
-        let bytes = self.violated.range(image, flat, entries, self.start, pair);
+        let bytes = self.violated.range(image, flat, entries, behind, pair);
         let kind = if self.changes(image, flat, bytes) {
             Kind::TrueSharing
         } else {
@@ -136,21 +127,22 @@ impl Told {
         image: &Image,
         flat: &Flat,
         entries: &[Entry],
+        behind: &Behind,
         load: usize,
         addr: u32,
     ) -> Option<Run>
         requires image { flat.now.image ≡ image.now }
-        requires start { attempts.attempt_place entries.now self.now.violated.parties.victim self.now.violated.place ≡ Some self.now.start }
+        requires known { IsBehind image.now.size entries.now behind.now }
         requires within { addr < image.now.size }
         ensures { result ≡ spec.run_of image.now entries.now (violation_in flat.now self.now.violated) load addr }
     {
-        let store = self.violated.store(image, flat, entries, addr)?;
+        let store = self.violated.store(image, flat, entries, behind, addr)?;
         let pair = BlamedByte {
             load,
             store,
             byte: addr,
         };
-        Some(self.run_with(image, flat, entries, pair))
+        Some(self.run_with(image, flat, entries, behind, pair))
     }
 
     /// The blamed run begins at this byte.
@@ -161,19 +153,5 @@ impl Told {
             Some(pair) => pair.bytes.first == addr,
             None => false,
         }
-    }
-
-    /// The first load that read a byte from outside.
-    pub(crate) fn read_at(&self, entries: &[Entry], addr: u32) -> Option<usize>
-        requires { attempts.attempt_place entries.now self.now.violated.parties.victim self.now.violated.place ≡ Some self.now.start }
-        ensures { result ≡ attempts.first_read entries.now self.now.violated.parties.victim self.now.violated.place addr }
-    {
-        first_read(
-            entries,
-            self.violated.parties.victim,
-            self.start,
-            self.violated.place,
-            addr,
-        )
     }
 }

@@ -50,7 +50,7 @@ none_last (suc n) test is k below = none_step (test n) n (last_below n test) (te
   | inr other ↦ none_last n test rest k (omega (arith, below, other))
 ])
 
-record IsFirst (n : ℕ) (test : ℕ → Bool) (k : ℕ) : Type 0 where
+pub record IsFirst (n : ℕ) (test : ℕ → Bool) (k : ℕ) : Type 0 where
   pub within : k < n
   pub passes : test k ≡ true
   pub first : (j : ℕ) → j < k → test j ≡ false
@@ -73,7 +73,7 @@ first_step (Some i) b n k P is one other = one is
 first_step None true n k P is one other = other refl refl (ap (λ o. unwrap_or o 0) is)
 first_step None false n k P is one other = absurd cc
 
-first_found : (n : ℕ) (test : ℕ → Bool) (k : ℕ) → first_below n test ≡ Some k → IsFirst n test k
+pub first_found : (n : ℕ) (test : ℕ → Bool) (k : ℕ) → first_below n test ≡ Some k → IsFirst n test k
 unfolding first_below
 first_found zero test k is = absurd cc
 first_found (suc n) test k is = first_step (first_below n test) (test n) n k (IsFirst (suc n) test k) is

@@ -11,3 +11,5 @@ pub mod Nearing
 pub mod Numbering
 mod Storing
 mod Signs
+mod Walking
+pub mod Reading

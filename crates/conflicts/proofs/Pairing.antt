@@ -1,16 +1,20 @@
 -- The store of a blamed byte.
-use Rattle.std.proofs.Common.{◌≡◌, ℕ, ◌<◌, true, false, List, Some}
+use Rattle.std.proofs.Common.{◌≡◌, ℕ, ◌+◌, ◌*◌, ◌/◌, ◌<◌, ◌&&◌, Bool, true, false, is_some, List, Option, Some, None, option_map, unwrap_or, refl, ap, ◌∙◌, arith}
 use Rattle.rv32_image.specs.Image.{LoadedImage}
-use Rattle.spec_history.proofs.Legal.{and_true}
+use Rattle.rv32_image.specs.Version.{limits_of}
+use Rattle.rv32_image.specs.declared.version.Version.{Version}
+use Rattle.rv32_image.specs.declared.version.Version.TheVariants.{One, Two}
 use Rattle.spec_history.specs.declared.entry.Entry.{Entry}
 use Rattle.spec_history.specs.declared.entry.What.{What}
 use Rattle.spec_history.specs.declared.entry.What.TheVariants.{Start, Load, Store, Hurt, Cancel, Publish, Commit, Fault, Restart}
 use Rattle.spec_history.specs.declared.kind.Kind.{Kind}
 use Rattle.spec_history.specs.declared.kind.Kind.TheVariants.{TrueSharing, SilentStore, FalseSharing, FullBuffer, Unexplained}
-use Rattle.conflicts.specs.Attempts.{attempt_does, attempt_place, core_does, is_after, last_store, stores_byte}
-use Rattle.conflicts.specs.Blame.{Violation, blamed_store, store_beside, store_to, stored_by}
+use Rattle.spec_history.specs.Conflict.{Meeting}
+use Rattle.spec_history.specs.Searches.{first_below}
+use Rattle.conflicts.specs.Attempts.{last_store}
+use Rattle.conflicts.specs.Blame.{Violation, blamed_store, store_beside, store_to, stored_by, written_in}
 use Rattle.conflicts.specs.Violated.{has_one_store, is_store}
-use Rattle.conflicts.proofs.Finding.{last_found}
+use Rattle.conflicts.proofs.Finding.{first_found}
 
 no_store : (kind : Kind) (what : What) → has_one_store kind what ≡ false → is_store what ≡ false
 no_store TrueSharing what is = is
@@ -19,30 +23,47 @@ no_store FalseSharing what is = absurd cc
 no_store FullBuffer what is = is
 no_store Unexplained what is = is
 
-to_byte : (image : LoadedImage) (entries : List Entry) (v : Violation) (byte store : ℕ) (kind : Kind) → has_one_store kind v.what ≡ false
-    → store_beside image entries v kind byte ≡ Some store → store_to entries v byte ≡ Some store
-to_byte image entries v byte store TrueSharing one is = is
-to_byte image entries v byte store SilentStore one is = is
-to_byte image entries v byte store FalseSharing one is = absurd cc
-to_byte image entries v byte store FullBuffer one is = is
-to_byte image entries v byte store Unexplained one is = is
+to_byte : (image : LoadedImage) (entries : List Entry) (v : Violation) (byte : ℕ) (kind : Kind) → has_one_store kind v.what ≡ false → store_beside image entries v kind byte ≡ store_to entries v byte
+to_byte image entries v byte TrueSharing one = refl
+to_byte image entries v byte SilentStore one = refl
+to_byte image entries v byte FalseSharing one = absurd cc
+to_byte image entries v byte FullBuffer one = refl
+to_byte image entries v byte Unexplained one = refl
 
-by_last : (entries : List Entry) (place causer cause byte store : ℕ) (what : What) → is_store what ≡ false
-    → stored_by entries place causer cause what byte ≡ Some store → last_store entries causer place byte ≡ Some store
-by_last entries place causer cause byte store (Start epoch) none is = is
-by_last entries place causer cause byte store (Load address width value) none is = is
-by_last entries place causer cause byte store (Store address width value) none is = absurd cc
-by_last entries place causer cause byte store (Hurt epoch) none is = is
-by_last entries place causer cause byte store (Cancel epoch) none is = is
-by_last entries place causer cause byte store Publish none is = is
-by_last entries place causer cause byte store Commit none is = is
-by_last entries place causer cause byte store (Fault reason pc) none is = is
-by_last entries place causer cause byte store Restart none is = is
+by_last : (entries : List Entry) (place causer cause byte : ℕ) (what : What) → is_store what ≡ false → stored_by entries place causer cause what byte ≡ last_store entries causer place byte
+by_last entries place causer cause byte (Start epoch) none = refl
+by_last entries place causer cause byte (Load address width value) none = refl
+by_last entries place causer cause byte (Store address width value) none = absurd cc
+by_last entries place causer cause byte (Hurt epoch) none = refl
+by_last entries place causer cause byte (Cancel epoch) none = refl
+by_last entries place causer cause byte Publish none = refl
+by_last entries place causer cause byte Commit none = refl
+by_last entries place causer cause byte (Fault reason pc) none = refl
+by_last entries place causer cause byte Restart none = refl
 
--- it stands in the causer's attempt
-pub in_attempt : (image : LoadedImage) (entries : List Entry) (v : Violation) (byte store : ℕ) → has_one_store v.kind v.what ≡ false
-    → blamed_store image entries v byte ≡ Some store → (is_after (attempt_place entries v.causer v.place) store ≡ true) × (store < v.place)
-in_attempt image entries v byte store one is =
-    let last = by_last entries v.place v.causer v.cause byte store v.what (no_store v.kind v.what one) (to_byte image entries v byte store v.kind one is) in
-    let found = last_found v.place (attempt_does entries v.causer v.place (stores_byte byte)) store last in
-    ((and_true (is_after (attempt_place entries v.causer v.place) store) (core_does entries v.causer store (stores_byte byte)) found.passes).0, found.within)
+-- where bytes that go together have stores of their own, it is the causer's last one to the byte
+pub by_last_store : (image : LoadedImage) (entries : List Entry) (v : Violation) (byte : ℕ) → has_one_store v.kind v.what ≡ false
+    → blamed_store image entries v byte ≡ last_store entries v.causer v.place byte
+by_last_store image entries v byte one =
+    to_byte image entries v byte v.kind one ∙ by_last entries v.place v.causer v.cause byte v.what (no_store v.kind v.what one)
+
+pub through : (a b c : Bool) → a ≡ true → b ≡ true → c ≡ (a && (b && c))
+through a b c is also = rw (is, also) refl
+
+-- ---- the lowest byte of a line that is written
+
+within_line : (v : Version) (size line x : ℕ) → line < size / (limits_of v).line_length → x < (limits_of v).line_length → line * (limits_of v).line_length + x < size
+within_line One size line x below inside = omega (arith, below, inside)
+within_line Two size line x below inside = omega (arith, below, inside)
+
+by_written : (v : Version) (size line byte : ℕ) (test : ℕ → Bool) (found : Option ℕ) → first_below (limits_of v).line_length test ≡ found → line < size / (limits_of v).line_length
+    → Some byte ≡ option_map (λ (x : ℕ). line * (limits_of v).line_length + x) found → byte < size
+by_written v size line byte test None at below is = absurd cc
+by_written v size line byte test (Some x) at below is =
+    let same : byte ≡ line * (limits_of v).line_length + x = ap (λ (o : Option ℕ). unwrap_or o 0) is in
+    omega (arith, same, within_line v size line x below (first_found (limits_of v).line_length test x at).within)
+
+-- it lies in memory
+pub beside_within : (image : LoadedImage) (m : Meeting) (line byte : ℕ) → line < image.size / (limits_of image.version).line_length → Some byte ≡ written_in image m line → byte < image.size
+beside_within image m line byte below is =
+    by_written image.version image.size line byte (λ x. is_some (m.writes (line * (limits_of image.version).line_length + x))) _ refl below is

@@ -255,7 +255,7 @@ next_is size entries core addr after index s ahead past small room split = elim 
 
 -- ---- what is kept of each core
 
-apart_by : (core other : ℕ) → (core ≡ other → ⊥) → is_eq (nat_cmp core other) ≡ false
+pub apart_by : (core other : ℕ) → (core ≡ other → ⊥) → is_eq (nat_cmp core other) ≡ false
 apart_by core other apart = by_numbers core other (λ o. is_eq o ≡ false) (λ less. refl) (λ same. absurd (apart same)) (λ more. refl)
 
 pub found_now : (old : Ahead) (found : BTreeMap ℕ Stores) (core after : ℕ) (stores : Stores) → (size : ℕ) (entries : List Entry)

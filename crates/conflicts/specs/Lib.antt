@@ -10,4 +10,5 @@ pub mod Laws
 -- What the code asks of bytes and lines, and of a violation.
 pub mod Parties
 pub mod Ahead
+pub mod Behind
 pub mod Violated

@@ -1,9 +1,9 @@
 //! The attempts of a history, and the accesses in them.
 
-ghost use Rattle.std.specs.Prelude.{◌≡◌, ◌<◌, ◌||◌, ℕ, Some, true};
+ghost use Rattle.std.specs.Prelude.{◌≡◌, ◌<◌, ◌≤◌, ℕ, Some, true};
 ghost use Rattle.conflicts.specs.Attempts as spec;
-ghost use Rattle.conflicts.specs.Blame.{is_place};
 
+use rv32_exec::Image;
 use spec_history::{Entry, What};
 
 /// A core begins an attempt at a place.
@@ -138,56 +138,61 @@ pub fn reads_outside(entries: &[Entry], core: u32, start: usize, addr: u32, plac
         && last_store(entries, core, place, addr).is_none()
 }
 
-/// A core loads a byte or stores to it at a place.
-fn accesses(entries: &[Entry], core: u32, place: usize, addr: u32) -> bool
-    ensures { result ≡ (spec.core_does entries.now core place (spec.loads_byte addr) || spec.core_does entries.now core place (spec.stores_byte addr)) }
-{
-    loads(entries, core, place, addr) || stores(entries, core, place, addr)
-}
-
-/// The load at a place is the first that read this byte from outside, of the attempt that a core runs before another place,
-/// which began at `start`: it is the attempt's first access to the byte.
-pub(crate) fn is_first_read(
+/// The first load that read a byte from outside, of the attempt that a core runs before a place, which began at `start`.
+fn first_read_from(
     entries: &[Entry],
     core: u32,
     start: usize,
     before: usize,
     addr: u32,
-    load: usize,
-) -> bool
+) -> Option<usize>
     requires { spec.attempt_place entries.now core before ≡ Some start }
-    ensures { result ≡ is_place (spec.first_read entries.now core before addr) load }
+    ensures { result ≡ spec.first_read entries.now core before addr }
 {
-    if load <= start || before <= load || !loads(entries, core, load, addr) {
-        return false;
-    }
-    for place in start + 1..load {
-        if accesses(entries, core, place, addr) {
-            return false;
+    for place in start..before {
+        if reads_outside(entries, core, start, addr, place) {
+            return Some(place);
         }
     }
-    true
+    None
 }
 
-/// The entry at a place, of the attempt that a core runs before another place, is the last of that attempt's stores to this byte.
-pub(crate) fn is_last_store(
-    entries: &[Entry],
-    core: u32,
-    before: usize,
-    addr: u32,
-    place: usize,
-) -> bool
-    requires after { spec.is_after (spec.attempt_place entries.now core before) place ≡ true }
-    requires within { place < before }
-    ensures { result ≡ is_place (spec.last_store entries.now core before addr) place }
+/// The first load that read a byte from outside, of the attempt that a core runs before a place.
+pub(crate) fn first_read(entries: &[Entry], core: u32, before: usize, addr: u32) -> Option<usize>
+    ensures { result ≡ spec.first_read entries.now core before addr }
 {
-    if !stores(entries, core, place, addr) {
-        return false;
+    match attempt_place(entries, core, before) {
+        Some(start) => first_read_from(entries, core, start, before, addr),
+        None => None,
     }
-    for later in place + 1..before {
-        if stores(entries, core, later, addr) {
-            return false;
-        }
+}
+
+/// The bytes of memory that a core loads at a place: from the first of these up to the second.
+pub(crate) fn loaded_at(image: &Image, entries: &[Entry], core: u32, place: usize) -> (u32, u32)
+    ensures within { result.1 ≤ image.now.size }
+    ensures only { (a : ℕ) → result.0 ≤ a → a < result.1 → spec.core_does entries.now core place (spec.loads_byte a) ≡ true }
+    ensures each { (a : ℕ) → spec.core_does entries.now core place (spec.loads_byte a) ≡ true → a < image.now.size → (result.0 ≤ a) × (a < result.1) }
+{
+    match entries.get(place) {
+        Some(entry) if entry.by == core => match entry.what {
+            What::Load { addr, width, .. } => (addr, image.size().min(addr.saturating_add(width))),
+            _ => (0, 0),
+        },
+        _ => (0, 0),
     }
-    true
+}
+
+/// The bytes of memory to which a core stores at a place: from the first of these up to the second.
+pub(crate) fn stored_at(image: &Image, entries: &[Entry], core: u32, place: usize) -> (u32, u32)
+    ensures within { result.1 ≤ image.now.size }
+    ensures only { (a : ℕ) → result.0 ≤ a → a < result.1 → spec.core_does entries.now core place (spec.stores_byte a) ≡ true }
+    ensures each { (a : ℕ) → spec.core_does entries.now core place (spec.stores_byte a) ≡ true → a < image.now.size → (result.0 ≤ a) × (a < result.1) }
+{
+    match entries.get(place) {
+        Some(entry) if entry.by == core => match entry.what {
+            What::Store { addr, width, .. } => (addr, image.size().min(addr.saturating_add(width))),
+            _ => (0, 0),
+        },
+        _ => (0, 0),
+    }
 }

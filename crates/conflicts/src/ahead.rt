@@ -8,9 +8,9 @@ ghost use Rattle.spec_history.specs.Searches.{IsNext};
 ghost use Rattle.conflicts.specs.Ahead as spec;
 ghost use Rattle.conflicts.specs.Attempts as attempts;
 
-use crate::accesses::begins;
+use crate::accesses::{begins, stored_at};
 use rv32_exec::Image;
-use spec_history::{Entry, What};
+use spec_history::Entry;
 use std::alloc::{AllocError, Global};
 use std::collections::BTreeMap;
 
@@ -36,21 +36,6 @@ fn next_begin(entries: &[Entry], core: u32, after: usize) -> usize
         }
     }
     entries.len()
-}
-
-/// The bytes of memory to which a core stores at a place: from the first of these up to the second.
-fn stored_at(image: &Image, entries: &[Entry], core: u32, place: usize) -> (u32, u32)
-    ensures within { result.1 ≤ image.now.size }
-    ensures only { (a : ℕ) → result.0 ≤ a → a < result.1 → attempts.core_does entries.now core place (attempts.stores_byte a) ≡ true }
-    ensures each { (a : ℕ) → attempts.core_does entries.now core place (attempts.stores_byte a) ≡ true → a < image.now.size → (result.0 ≤ a) × (a < result.1) }
-{
-    match entries.get(place) {
-        Some(entry) if entry.by == core => match entry.what {
-            What::Store { addr, width, .. } => (addr, image.size().min(addr.saturating_add(width))),
-            _ => (0, 0),
-        },
-        _ => (0, 0),
-    }
 }
 
 /// Adds the bytes of memory to which a core stores at a place.

@@ -1,13 +1,13 @@
 //! The neighbouring bytes at which a blamed load and a blamed store met.
 
 ghost use Rattle.std.specs.Prelude.{◌≡◌, ◌<◌, ◌≤◌, ◌&&◌, not, nat_lt, Some, unwrap_or};
-ghost use Rattle.conflicts.specs.Attempts as attempts;
+ghost use Rattle.conflicts.specs.Behind.{IsBehind};
 ghost use Rattle.conflicts.specs.Blame as blame;
 ghost use Rattle.conflicts.specs.Parties.{meeting_in};
 ghost use Rattle.spec_history.specs.Searches.{first_below, last_below};
 ghost use Rattle.conflicts.specs.Violated as spec;
 
-use crate::accesses::{is_first_read, is_last_store};
+use crate::behind::Behind;
 use crate::blame::Violated;
 use crate::explanation::ByteRange;
 use crate::meeting::line_of;
@@ -23,6 +23,16 @@ pub struct BlamedByte {
     pub store: usize,
     /// Its address.
     pub byte: u32,
+}
+
+/// The place is that one.
+fn is_at(found: Option<usize>, place: usize) -> bool
+    ensures { result ≡ blame.is_place found place }
+{
+    match found {
+        Some(other) => other == place,
+        None => false,
+    }
 }
 
 impl Violated {
@@ -54,11 +64,11 @@ impl Violated {
         image: &Image,
         flat: &Flat,
         entries: &[Entry],
-        start: usize,
+        behind: &Behind,
         pair: BlamedByte,
         addr: u32,
     ) -> bool
-        requires start { attempts.attempt_place entries.now self.now.parties.victim self.now.place ≡ Some start }
+        requires known { IsBehind image.now.size entries.now behind.now }
         requires blamed { pair.byte < image.now.size }
         requires stored { blame.blamed_store image.now entries.now (spec.violation_in flat.now self.now) pair.byte ≡ Some pair.store }
         requires within { addr < image.now.size }
@@ -67,20 +77,15 @@ impl Violated {
         if !self.goes_with(image, flat, pair.byte, addr) {
             return false;
         }
-        if !is_first_read(
-            entries,
-            self.parties.victim,
-            start,
-            self.place,
-            addr,
-            pair.load,
-        ) {
+        let read = behind.first_read(entries, self.parties.victim, self.place, addr);
+        if !is_at(read, pair.load) {
             return false;
         }
         if self.has_one_store() {
             return true;
         }
-        is_last_store(entries, self.parties.causer, self.place, addr, pair.store)
+        let stored = behind.last_store(entries, self.parties.causer, self.place, addr);
+        is_at(stored, pair.store)
     }
 
     /// The first of the neighbours of a blamed byte that met alike.
@@ -89,10 +94,10 @@ impl Violated {
         image: &Image,
         flat: &Flat,
         entries: &[Entry],
-        start: usize,
+        behind: &Behind,
         pair: BlamedByte,
     ) -> u32
-        requires start { attempts.attempt_place entries.now self.now.parties.victim self.now.place ≡ Some start }
+        requires known { IsBehind image.now.size entries.now behind.now }
         requires blamed { pair.byte < image.now.size }
         requires stored { blame.blamed_store image.now entries.now (spec.violation_in flat.now self.now) pair.byte ≡ Some pair.store }
         ensures first { result ≡ blame.after (last_below pair.byte
@@ -101,7 +106,7 @@ impl Violated {
     {
         for i in 0..pair.byte {
             let addr = pair.byte - 1 - i;
-            if !self.is_alike(image, flat, entries, start, pair, addr) {
+            if !self.is_alike(image, flat, entries, behind, pair, addr) {
                 return addr + 1;
             }
         }
@@ -114,10 +119,10 @@ impl Violated {
         image: &Image,
         flat: &Flat,
         entries: &[Entry],
-        start: usize,
+        behind: &Behind,
         pair: BlamedByte,
     ) -> u32
-        requires start { attempts.attempt_place entries.now self.now.parties.victim self.now.place ≡ Some start }
+        requires known { IsBehind image.now.size entries.now behind.now }
         requires blamed { pair.byte < image.now.size }
         requires stored { blame.blamed_store image.now entries.now (spec.violation_in flat.now self.now) pair.byte ≡ Some pair.store }
         ensures end { result ≡ unwrap_or (first_below image.now.size
@@ -127,29 +132,29 @@ impl Violated {
     {
         let size = image.size();
         for addr in pair.byte + 1..size {
-            if !self.is_alike(image, flat, entries, start, pair, addr) {
+            if !self.is_alike(image, flat, entries, behind, pair, addr) {
                 return addr;
             }
         }
         size
     }
 
-    /// The neighbours of a blamed byte that met at the same two accesses. `start` is where the victim's attempt began.
+    /// The neighbours of a blamed byte that met at the same two accesses.
     pub fn range(
         &self,
         image: &Image,
         flat: &Flat,
         entries: &[Entry],
-        start: usize,
+        behind: &Behind,
         pair: BlamedByte,
     ) -> ByteRange
-        requires start { attempts.attempt_place entries.now self.now.parties.victim self.now.place ≡ Some start }
+        requires known { IsBehind image.now.size entries.now behind.now }
         requires blamed { pair.byte < image.now.size }
         requires stored { blame.blamed_store image.now entries.now (spec.violation_in flat.now self.now) pair.byte ≡ Some pair.store }
         ensures { result ≡ blame.blamed_range image.now entries.now (spec.violation_in flat.now self.now) pair.load pair.store pair.byte }
     {
-        let first = self.range_first(image, flat, entries, start, pair);
-        let end = self.range_end(image, flat, entries, start, pair);
+        let first = self.range_first(image, flat, entries, behind, pair);
+        let end = self.range_end(image, flat, entries, behind, pair);
         ByteRange {
             first,
             length: end - first,

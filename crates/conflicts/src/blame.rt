@@ -3,12 +3,14 @@
 ghost use Rattle.std.specs.Prelude.{◌≡◌, ◌<◌, ◌≤◌, ◌+◌, ◌*◌, ◌^◌, ℕ, IfSome, Some, true};
 ghost use Rattle.rv32_image.specs.Version.{limits_of};
 ghost use Rattle.conflicts.specs.Attempts as attempts;
+ghost use Rattle.conflicts.specs.Behind.{IsBehind};
 ghost use Rattle.conflicts.specs.Blame as blame;
 ghost use Rattle.conflicts.specs.Parties.{meeting_in};
 ghost use Rattle.conflicts.specs.Violated as spec;
 
-use crate::accesses::{attempt_place, last_store, reads_outside};
+use crate::accesses::{attempt_place, loaded_at, reads_outside};
 use crate::alike::BlamedByte;
+use crate::behind::Behind;
 use crate::explanation::Blame;
 use crate::meeting::{Parties, line_of};
 use rv32_exec::Image;
@@ -75,7 +77,7 @@ impl Violated {
         ensures byte { result ≡ blame.blamed_byte image.now entries.now (spec.violation_in flat.now self.now) load }
         ensures within { IfSome result (λ addr. addr < image.now.size) }
     {
-        let (first, end) = bytes_of(image, entries, self.parties.victim, load);
+        let (first, end) = loaded_at(image, entries, self.parties.victim, load);
         for addr in first..end {
             if self.is_read_at(image, flat, entries, start, load, addr) {
                 return Some(addr);
@@ -85,43 +87,61 @@ impl Violated {
     }
 
     /// The store that gave a byte the value that the cause writes.
-    fn store_to(&self, entries: &[Entry], flat: &Flat, addr: u32) -> Option<usize>
+    fn store_to(&self, entries: &[Entry], behind: &Behind, flat: &Flat, addr: u32) -> Option<usize>
+        requires known { IsBehind flat.now.image.size entries.now behind.now }
+        requires within { addr < flat.now.image.size }
         ensures { result ≡ blame.store_to entries.now (spec.violation_in flat.now self.now) addr }
     {
         match self.parties.cause {
             What::Store { .. } => Some(self.cause),
-            _ => last_store(entries, self.parties.causer, self.place, addr),
+            _ => behind.last_store(entries, self.parties.causer, self.place, addr),
         }
     }
 
     /// The store to blame for a byte.
-    pub fn store(&self, image: &Image, flat: &Flat, entries: &[Entry], addr: u32) -> Option<usize>
-        requires { addr < image.now.size }
+    pub fn store(
+        &self,
+        image: &Image,
+        flat: &Flat,
+        entries: &[Entry],
+        behind: &Behind,
+        addr: u32,
+    ) -> Option<usize>
+        requires image { flat.now.image ≡ image.now }
+        requires known { IsBehind image.now.size entries.now behind.now }
+        requires within { addr < image.now.size }
         ensures { result ≡ blame.blamed_store image.now entries.now (spec.violation_in flat.now self.now) addr }
     {
         match self.kind {
             Kind::FalseSharing => {
                 let beside = self.parties.written_in(image, flat, line_of(image, addr))?;
-                self.store_to(entries, flat, beside)
+                self.store_to(entries, behind, flat, beside)
             }
-            _ => self.store_to(entries, flat, addr),
+            _ => self.store_to(entries, behind, flat, addr),
         }
     }
 
     /// The load and the store to blame, the byte, and its neighbours.
-    pub(crate) fn blame(&self, image: &Image, flat: &Flat, entries: &[Entry]) -> Option<Blame>
-        requires { flat.now.image ≡ image.now }
+    pub(crate) fn blame(
+        &self,
+        image: &Image,
+        flat: &Flat,
+        entries: &[Entry],
+        behind: &Behind,
+    ) -> Option<Blame>
+        requires image { flat.now.image ≡ image.now }
+        requires known { IsBehind image.now.size entries.now behind.now }
         ensures { result ≡ blame.blame_of image.now entries.now (spec.violation_in flat.now self.now) }
     {
         let start = attempt_place(entries, self.parties.victim, self.place)?;
         let load = self.load(image, flat, entries, start)?;
         let byte = self.byte_at(image, flat, entries, start, load)?;
-        let store = self.store(image, flat, entries, byte)?;
+        let store = self.store(image, flat, entries, behind, byte)?;
         let bytes = self.range(
             image,
             flat,
             entries,
-            start,
+            behind,
             BlamedByte { load, store, byte },
         );
         Some(Blame {
@@ -144,19 +164,5 @@ impl Violated {
             }
         }
         None
-    }
-}
-
-/// The bytes of memory that a core loads at a place: from the first of these up to the second.
-fn bytes_of(image: &Image, entries: &[Entry], core: u32, place: usize) -> (u32, u32)
-    ensures within { result.1 ≤ image.now.size }
-    ensures loaded { (a : ℕ) → attempts.core_does entries.now core place (attempts.loads_byte a) ≡ true → a < image.now.size → (result.0 ≤ a) × (a < result.1) }
-{
-    match entries.get(place) {
-        Some(entry) if entry.by == core => match entry.what {
-            What::Load { addr, width, .. } => (addr, image.size().min(addr.saturating_add(width))),
-            _ => (0, 0),
-        },
-        _ => (0, 0),
     }
 }

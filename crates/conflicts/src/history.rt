@@ -7,13 +7,14 @@ ghost use Rattle.spec_history.specs.Replay.{replay};
 ghost use Rattle.spec_history.specs.View.{IsAuditFault, cores_in, state_in};
 ghost use Rattle.spec_history.specs.Conflict as conflict;
 ghost use Rattle.spec_history.specs.Conflict.{entry_is};
-ghost use Rattle.conflicts.specs.Ahead.{IsAhead};
+ghost use Rattle.conflicts.specs.Behind.{IsBehind, IsKnown};
 ghost use Rattle.conflicts.specs.Explained as spec;
 
-use crate::ahead::Ahead;
+use crate::behind::Behind;
 use crate::blame::Violated;
 use crate::causes::{cause_of, core_at};
 use crate::explanation::{Blame, Explanation, Runner};
+use crate::known::Known;
 use crate::later::later_of;
 use crate::meeting::Parties;
 use rv32_exec::Image;
@@ -40,9 +41,9 @@ pub fn explain(
         return Err((entries.len(), Illegal::NoMemory));
     };
     let mut explanations = Vec::new(alloc);
-    let mut ahead = Ahead::new(alloc);
+    let mut known = Known::new(alloc);
     for (place, entry) in entries.iter().enumerate() {
-        let Ok(found) = explanation_at(alloc, image, cores, &flat, entries, &mut ahead, place)
+        let Ok(found) = explanation_at(alloc, image, cores, &flat, entries, &mut known, place)
         else {
             return Err((entries.len(), Illegal::NoMemory));
         };
@@ -69,24 +70,24 @@ fn keep(explanations: &mut Vec<Explanation>, found: Option<Explanation>) -> Resu
 /// The explanation of the violation at a place, if the entry there is one; it takes the machine before it, and the whole history.
 ///
 /// It has one for each violation that the machine does not refuse. `explain` asks it at each place; who replays a history for more than
-/// that asks it there, in order, so that what an attempt has ahead of it is looked for once. An Err: there was no memory for that.
+/// that asks it there, in order, so that what an attempt has behind it and ahead of it is looked for once. An Err: there was no memory for that.
 pub fn explanation_at(
     alloc: Global,
     image: &Image,
     cores: u32,
     flat: &Flat,
     entries: &[Entry],
-    ahead: &mut Ahead,
+    known: &mut Known,
     place: usize,
 ) -> Result<Option<Explanation>, AllocError>
     requires image { flat.now.image ≡ image.now }
     requires cores { cores_in flat.now ≡ cores }
     requires place { place < length entries.now }
-    requires known { IsAhead image.now.size entries.now ahead.old }
+    requires known { IsKnown image.now.size entries.now known.old }
     ensures explained { IfOk result (λ found. IfSome found (λ e. (e.place ≡ place) × spec.IsExplainedIn image.now (state_in flat.now) entries.now e)) }
     ensures found { IfOk result (λ found. (entry : Entry) → slice_get entries.now place ≡ Some entry → refusal_of image.now cores (state_in flat.now) entry ≡ None
         → is_some found ≡ entry_is entries.now place (λ e. conflict.is_hurt e.what)) }
-    ensures known { IsAhead image.now.size entries.now ahead.new }
+    ensures known { IsKnown image.now.size entries.now known.new }
 {
     let Entry { by, what } = entries[place];
     let What::Hurt(epoch) = what else {
@@ -104,7 +105,11 @@ pub fn explanation_at(
     let stop = next.now();
     let last = next.base();
     let cause = cause_of(entries, place, by);
-    let (kind, blame) = conflict_of(image, flat, entries, place, by, victim, cause);
+    known.behind.look(alloc, image, entries, by, place)?;
+    known.behind.look(alloc, image, entries, victim, place)?;
+    let behind = &known.behind;
+    let (kind, blame) = conflict_of(image, flat, entries, behind, place, by, victim, cause);
+    let ahead = &mut known.ahead;
     let later = later_of(alloc, image, flat, entries, ahead, by, victim, kind, cause)?;
     Ok(Some(Explanation {
         place,
@@ -130,12 +135,14 @@ fn conflict_of(
     image: &Image,
     flat: &Flat,
     entries: &[Entry],
+    behind: &Behind,
     place: usize,
     causer: u32,
     victim: u32,
     cause: Option<usize>,
 ) -> (Kind, Option<Blame>)
-    requires { flat.now.image ≡ image.now }
+    requires image { flat.now.image ≡ image.now }
+    requires known { IsBehind image.now.size entries.now behind.now }
     ensures kind { result.0 ≡ conflict.kind_of image.now (state_in flat.now) causer victim (conflict.what_at entries.now cause) }
     ensures blame { result.1 ≡ spec.blame_by image.now (state_in flat.now) entries.now place causer victim result.0 cause (conflict.what_at entries.now cause) }
 {
@@ -157,5 +164,5 @@ fn conflict_of(
         place,
         cause,
     };
-    (kind, violated.blame(image, flat, entries))
+    (kind, violated.blame(image, flat, entries, behind))
 }

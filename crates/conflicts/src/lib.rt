@@ -4,23 +4,26 @@
 mod accesses;
 mod ahead;
 mod alike;
+mod behind;
 mod blame;
 mod causes;
 mod explanation;
 mod fates;
 mod held;
 mod history;
+mod known;
 mod later;
 pub mod laws;
 mod meeting;
 mod standing;
 
 pub use accesses::{attempt_number, attempt_place, reads_outside};
-pub use ahead::Ahead;
 pub use alike::BlamedByte;
+pub use behind::Behind;
 pub use blame::Violated;
 pub use explanation::{Blame, ByteRange, Explanation, Runner};
 pub use history::{explain, explanation_at};
+pub use known::Known;
 pub use meeting::{Parties, line_of};
 pub use spec_history::Kind;
 pub use standing::{Site, site_of, sites};

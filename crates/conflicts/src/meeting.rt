@@ -279,6 +279,7 @@ fn lines_of(image: &Image) -> u32
 pub fn line_of(image: &Image, addr: u32) -> u32
     requires { addr < image.now.size }
     ensures line { result ≡ conflict.line_of image.now addr }
+    ensures inside { result < image.now.size / (limits_of image.now.version).line_length }
     ensures within { result * (limits_of image.now.version).line_length + (limits_of image.now.version).line_length < 2 ^ 32 }
 {
     addr / image.version().limits().line_length

@@ -5,6 +5,7 @@ ghost use Rattle.std.specs.List.{list_any};
 ghost use Rattle.spec_history.specs.View.{IsAuditFault, state_in};
 ghost use Rattle.trace_commands.specs.declared.outcome.Verdict.TheVariants.{Legal};
 ghost use Rattle.trace_commands.specs.Audit.{IsVerdict};
+ghost use Rattle.conflicts.specs.Behind.{IsBehind};
 ghost use Rattle.conflicts.specs.Sites.{site_in};
 ghost use Rattle.attempt_ends.specs.Ends as ends;
 ghost use Rattle.attempt_ends.specs.Violated.{AreMarked};
@@ -14,7 +15,7 @@ ghost use Rattle.why.specs.Why as spec;
 use attempt_ends::{Ended, Ends, ended_by, running_in};
 use conflict_runs::further_runs;
 use conflict_text::Findings;
-use conflicts::{Ahead, Explanation, explanation_at, site_of};
+use conflicts::{Behind, Explanation, Known, explanation_at, site_of};
 use spec_history::{Entry, Flat, Illegal, What, audit};
 use std::alloc::{AllocError, Global};
 use trace_commands::Traced;
@@ -52,9 +53,9 @@ fn gather(alloc: Global, traced: &Traced) -> Result<(Findings, u32), (usize, Ill
         return Err((entries.len(), Illegal::NoMemory));
     };
     let mut findings = nothing(alloc);
-    let mut ahead = Ahead::new(alloc);
+    let mut known = Known::new(alloc);
     for (place, entry) in entries.iter().enumerate() {
-        let Ok(explained) = explanation_at(alloc, image, cores, &flat, entries, &mut ahead, place)
+        let Ok(explained) = explanation_at(alloc, image, cores, &flat, entries, &mut known, place)
         else {
             return Err((entries.len(), Illegal::NoMemory));
         };
@@ -63,6 +64,7 @@ fn gather(alloc: Global, traced: &Traced) -> Result<(Findings, u32), (usize, Ill
             &mut findings,
             traced,
             &flat,
+            &known.behind,
             place,
             *entry,
             explained,
@@ -122,11 +124,13 @@ fn note(
     findings: &mut Findings,
     traced: &Traced,
     flat: &Flat,
+    behind: &Behind,
     place: usize,
     entry: Entry,
     explained: Option<Explanation>,
 ) -> Result<(), AllocError>
     requires image { flat.now.image ≡ traced.now.image }
+    requires known { IsBehind traced.now.image.size traced.now.entries.items behind.now }
     requires marked { AreMarked traced.now.entries.items place (state_in flat.now).cores }
     ensures sites { OnOk result (findings.new.sites.items ≡ findings.old.sites.items ++ site_in flat.now.image ((state_in flat.now).cores entry.by) ∷ []) }
     ensures ended { OnOk result (findings.new.ends.ended.items
@@ -139,7 +143,7 @@ fn note(
     let ended = ended_by(flat, traced.cores, entries, place, entry);
     findings.sites.push(site_of(flat, entry.by))?;
     keep_ended(&mut findings.ends.ended, ended)?;
-    keep_explained(alloc, findings, traced, flat, explained)
+    keep_explained(alloc, findings, traced, flat, behind, explained)
 }
 
 /// The list with an attempt at its end, if there is one.
@@ -158,9 +162,11 @@ fn keep_explained(
     findings: &mut Findings,
     traced: &Traced,
     flat: &Flat,
+    behind: &Behind,
     explained: Option<Explanation>,
 ) -> Result<(), AllocError>
-    requires { flat.now.image ≡ traced.now.image }
+    requires image { flat.now.image ≡ traced.now.image }
+    requires known { IsBehind traced.now.image.size traced.now.entries.items behind.now }
     ensures explanations { OnOk result (findings.new.explanations.items ≡ findings.old.explanations.items ++ option_to_list explained) }
     ensures further { OnOk result (lists_of findings.new.further.items
         ≡ lists_of findings.old.further.items ++ option_to_list (option_map (λ e. runs_in traced.now.image traced.now.entries.items e (Some (state_in flat.now))) explained)) }
@@ -169,7 +175,7 @@ fn keep_explained(
 {
     if let Some(e) = explained {
         let entries = traced.entries.as_slice();
-        let runs = further_runs(alloc, &traced.image, flat, entries, e)?;
+        let runs = further_runs(alloc, &traced.image, flat, entries, behind, e)?;
         findings.further.push(runs)?;
         findings.explanations.push(e)?;
     }

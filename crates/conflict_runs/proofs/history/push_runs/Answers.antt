@@ -8,7 +8,7 @@ use Rattle.conflicts.specs.Violated.{violation_in}
 use Rattle.conflict_runs.specs.declared.run.Run.{Run}
 use Rattle.conflict_runs.specs.declared.run.Told.{Told}
 use Rattle.conflict_runs.specs.Runs.{line_run, runs_below, runs_by, shared_run, violation_of}
-use Rattle.conflict_runs.proofs.Running.{joined, nothing_more, with_entry, without_attempt, without_entry}
+use Rattle.conflict_runs.proofs.Running.{joined, nothing_more, with_entry, without_entry}
 use Rattle.conflict_runs.proofs.history.push_runs.Goals as goal
 
 pub returns-in_default-what_at : goal.returns-in_default-what_at
@@ -16,12 +16,6 @@ returns-in_default-what_at c =
     let e = c.args.e in
     nothing_more c.args.runs.now.items (runs_by c.args.image.now (state_in c.args.flat.now) c.args.entries.now e e.cause (what_at c.args.entries.now e.cause))
     (without_entry c.args.image.now (state_in c.args.flat.now) c.args.entries.now e (what_at c.args.entries.now e.cause) (sym c.in_default-what_at.ensures))
-
-pub returns-in_default-attempt_place : goal.returns-in_default-attempt_place
-returns-in_default-attempt_place c =
-    let e = c.args.e in
-    nothing_more c.args.runs.now.items (runs_by c.args.image.now (state_in c.args.flat.now) c.args.entries.now e e.cause (what_at c.args.entries.now e.cause))
-    (without_attempt c.args.image.now (state_in c.args.flat.now) c.args.entries.now e (sym c.in_default-attempt_place.ensures))
 
 pub returns : goal.returns
 returns c =
@@ -35,7 +29,7 @@ returns c =
     let first = runs_below image.size (shared_run image entries e.blame (violation_of s e cause what SilentStore)) in
     let second = runs_below (image.size / (limits_of image.version).line_length) (line_run image entries e.blame (violation_of s e cause what FalseSharing)) in
     on_ok_weaker c.push_lines.result
-    (λ grown. joined c.args.runs.now.items c.push_shared.new.runs.items c.push_lines.new.runs.items first (lines c.beside.result) second
+    (λ grown. joined c.args.runs.now.items c.push_shared.new.runs.items c.push_lines.new.runs.items first (lines c.beside-lines.result) second
     (runs_by image s entries e e.cause (what_at entries e.cause))
-    c.in_ok-push_shared.ensures (ap lines c.beside.ensures) (with_entry image s entries e (what_at entries e.cause) cause what c.in-Some.is (sym c.in-Some-what_at.ensures)) grown)
+    c.in_ok-push_shared.ensures (ap lines c.beside-lines.ensures) (with_entry image s entries e (what_at entries e.cause) cause what c.in-Some.is (sym c.in-Some-what_at.ensures)) grown)
     c.push_lines.ensures

@@ -15,7 +15,7 @@ loop-place-init c =
       replays = rw c.in-Ok.ensures.state (no_entries c.args.image.now c.args.cores);
       each = ap places_of empty ∙ no_places c.args.entries.now;
       explained = λ k d below. absurd (omega (arith, below, ap length empty));
-      ahead = c.new-ahead.ensures c.args.image.now.size c.args.entries.now;
+      known = c.new-known.ensures c.args.image.now.size c.args.entries.now;
     }
 
 pub returns-in-Err-clause-legal : goal.returns-in-Err-clause-legal
@@ -46,5 +46,5 @@ loop-place-preserved c =
       each = ap places_of grown ∙ each_more c.args.image.now (state_in c.loop-place.flat) entries place c.loop-place.explanations.items c.in-Ok-explanation_at.found there found.explained was.each;
       explained = subst (All (IsExplained c.args.image.now c.args.cores entries)) (sym grown)
           (explained_more c.args.image.now c.args.cores (state_in c.loop-place.flat) entries place c.loop-place.explanations.items c.in-Ok-explanation_at.found was.replays found.explained was.explained);
-      ahead = found.known;
+      known = found.known;
     }

@@ -1,11 +1,11 @@
 use Rattle.std.proofs.Common.{◌≡◌, take, Some, All}
 use Rattle.spec_history.specs.Replay.{replay}
 use Rattle.spec_history.specs.View.{state_in, cores_in}
-use Rattle.conflicts.specs.Ahead.{IsAhead}
+use Rattle.conflicts.specs.Behind.{IsKnown}
 use Rattle.conflicts.specs.Explained.{IsExplained, places_of, violations_before}
 use Rattle.conflicts.proofs.history.explain.Given as goal
 
--- the entries so far replay, each violation among them is explained, and what is kept of stores ahead is right
+-- the entries so far replay, each violation among them is explained, and what is kept of attempts is right
 abbrev pub invariant-loop-place : goal.invariant-loop-place
 invariant-loop-place l = record {
   image : l.flat.image ≡ l.image;
@@ -13,5 +13,5 @@ invariant-loop-place l = record {
   replays : replay l.image l.cores (take l.place l.entries) ≡ Some (state_in l.flat);
   each : places_of l.explanations.items ≡ violations_before l.entries l.place;
   explained : All (IsExplained l.image l.cores l.entries) l.explanations.items;
-  ahead : IsAhead l.image.size l.entries l.ahead;
+  known : IsKnown l.image.size l.entries l.known;
 }

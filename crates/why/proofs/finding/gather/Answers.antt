@@ -6,14 +6,18 @@ use Rattle.std.proofs.lemmas.List.{take_all}
 use Rattle.spec_history.specs.Replay.{replay}
 use Rattle.spec_history.specs.View.{IsAuditFault, state_in, cores_in}
 use Rattle.spec_history.proofs.Reaching.{no_entries, audited_more, audited_fault}
-use Rattle.conflicts.specs.Explained.{IsExplained, places_of}
+use Rattle.conflicts.specs.Behind.{IsBehind}
+use Rattle.conflicts.specs.Explained.{IsExplained, places_of, violations_before}
+use Rattle.conflicts.specs.Sites.{sites_before}
 use Rattle.conflicts.proofs.Explaining.{no_places, each_more, explained_more, legal_in}
 use Rattle.conflicts.proofs.Growing.{no_sites, sites_more}
+use Rattle.attempt_ends.specs.Ends.{ended_before, running_below, running_from}
 use Rattle.attempt_ends.specs.Violated.{AreMarked}
 use Rattle.attempt_ends.proofs.Growing.{ended_more, none_ended}
 use Rattle.attempt_ends.proofs.Marking.{marked_first, marked_in}
 use Rattle.conflict_runs.specs.Runs.{further_runs, lists_of, runs_in}
 use Rattle.conflict_runs.proofs.Telling.{none_told, told_more}
+use Rattle.why.specs.Why.{AreFindings}
 use Rattle.why.proofs.Placing.{placed}
 use Rattle.why.proofs.finding.gather.Goals as goal
 
@@ -32,7 +36,7 @@ loop-place-init c =
       explained = λ k d below. absurd (omega (arith, below, ap length none.explanations));
       further = none_told image cores entries c.nothing-findings.result.further.items c.nothing-findings.result.explanations.items none.further none.explanations;
       ended = none.ended ∙ none_ended image cores entries;
-      ahead = c.new-ahead.ensures image.size entries;
+      known = c.new-known.ensures image.size entries;
     }
 
 pub returns-in-Err-clause-verdict : goal.returns-in-Err-clause-verdict
@@ -42,6 +46,10 @@ returns-in-Err-clause-verdict c =
     let below : c.loop-place.place < length entries = omega (arith, c.loop-place-test.true) in
     subst (λ xs. IsAuditFault c.args.traced.now.image c.args.traced.now.cores xs c.loop-place.place c.in-Err.illegal) c.as_slice-entries.ensures.value
     (inl (audited_fault c.args.traced.now.image c.args.traced.now.cores entries c.loop-place.place c.in-Err.illegal _ c.loop-place.flat c.apply.new.self was.image was.cores was.replays below c.in-Err.ensures.answer))
+
+pub note-noted-requires-clause-known : goal.note-noted-requires-clause-known
+note-noted-requires-clause-known c =
+    subst (λ xs. IsBehind c.args.traced.now.image.size xs c.explanation_at.new.known.behind) c.as_slice-entries.ensures.value c.explanation_at.ensures.known.behind_is
 
 kept : {A B : Type 0} (r : Result A B) (P : Type 0) → is_err r ≡ false → OnOk r P → P
 kept (Ok x) P is on = on
@@ -81,7 +89,7 @@ loop-place-preserved c =
           (sym c.as_slice-entries.ensures.value) (kept c.note-noted.result _ ok note.further))
           ∙ ap (map (further_runs image cores entries)) (sym grown);
       ended = ended_more image flat.image cores entries place (state_in flat) _ _ old.ends.ended.items _ was.image was.replays there refl was.ended (kept c.note-noted.result _ ok note.ended);
-      ahead = found.known;
+      known = found.known;
     }
 
 pub returns-clause-verdict : goal.returns-clause-verdict
@@ -92,3 +100,29 @@ returns-clause-verdict c =
     let last : place ≡ length slice = omega (arith, c.loop-place-test.false, c.loop-place.auto.place-end) in
     let whole : take place slice ≡ slice = take_all place slice (omega (arith, last)) in
     (state_in c.loop-place.flat, sym (ap (replay c.args.traced.now.image c.args.traced.now.cores) (whole ∙ c.as_slice-entries.ensures.value)) ∙ was.replays, c.homefree.ensures, refl)
+
+pub returns-clause-found : goal.returns-clause-found
+returns-clause-found c =
+    let was = c.loop-place.invariant in
+    let image = c.args.traced.now.image in
+    let cores = c.args.traced.now.cores in
+    let slice = c.as_slice-entries.result.now in
+    let place = c.loop-place.place in
+    let found = c.loop-place.findings in
+    let last : place ≡ length slice = omega (arith, c.loop-place-test.false, c.loop-place.auto.place-end) in
+    let whole : take place slice ≡ slice = take_all place slice (omega (arith, last)) in
+    subst (λ xs. AreFindings image cores xs (record {
+      sites = found.sites;
+      explanations = found.explanations;
+      further = found.further;
+      ends = record { ended = found.ends.ended; running = c.in-Ok-running_in.running };
+    })) c.as_slice-entries.ensures.value (record {
+      sites = was.sites ∙ ap (sites_before image cores slice) last;
+      each_once = was.each ∙ ap (violations_before slice) last;
+      explained = was.explained;
+      further = was.further;
+      ended = was.ended ∙ ap (ended_before image cores slice) last;
+      running = c.in-Ok-running_in.ensures
+          ∙ (ap (λ i. running_below i (state_in c.loop-place.flat) cores) was.image
+          ∙ sym (ap (running_from image cores) (sym (ap (replay image cores) whole) ∙ was.replays)));
+    })

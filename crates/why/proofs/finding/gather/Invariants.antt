@@ -1,7 +1,7 @@
 use Rattle.std.proofs.Common.{◌≡◌, take, map, All, Some}
 use Rattle.spec_history.specs.Replay.{replay}
 use Rattle.spec_history.specs.View.{state_in, cores_in}
-use Rattle.conflicts.specs.Ahead.{IsAhead}
+use Rattle.conflicts.specs.Behind.{IsKnown}
 use Rattle.conflicts.specs.Explained.{IsExplained, places_of, violations_before}
 use Rattle.conflicts.specs.Sites.{sites_before}
 use Rattle.attempt_ends.specs.Ends.{ended_before}
@@ -9,7 +9,7 @@ use Rattle.attempt_ends.specs.Violated.{AreMarked}
 use Rattle.conflict_runs.specs.Runs.{further_runs, lists_of}
 use Rattle.why.proofs.finding.gather.Given as goal
 
--- the entries so far replay, they say which cores are hurt, what is found in them is listed, and what is kept of stores ahead is right
+-- the entries so far replay, they say which cores are hurt, what is found in them is listed, and what is kept of attempts is right
 abbrev pub invariant-loop-place : goal.invariant-loop-place
 invariant-loop-place l = record {
   image : l.flat.image ≡ l.traced.image;
@@ -21,5 +21,5 @@ invariant-loop-place l = record {
   explained : All (IsExplained l.traced.image l.traced.cores l.entries) l.findings.explanations.items;
   further : lists_of l.findings.further.items ≡ map (further_runs l.traced.image l.traced.cores l.entries) l.findings.explanations.items;
   ended : l.findings.ends.ended.items ≡ ended_before l.traced.image l.traced.cores l.entries l.place;
-  ahead : IsAhead l.traced.image.size l.entries l.ahead;
+  known : IsKnown l.traced.image.size l.entries l.known;
 }

@@ -11,11 +11,11 @@ pub loop-addr-init : goal.loop-addr-init
 loop-addr-init c a before below =
     unloaded c.args.image.now c.args.entries.now (violation_in c.args.flat.now c.args.self.now) c.args.load a
     (not_so (core_does c.args.entries.now c.args.self.now.parties.victim c.args.load (loads_byte a))
-    (λ loads. omega (arith, before, (c.bytes_of-first.ensures.loaded a loads below).0)))
+    (λ loads. omega (arith, before, (c.loaded_at-first.ensures.each a loads below).0)))
 
 pub returns-then-is_read_at-clause-byte : goal.returns-then-is_read_at-clause-byte
 returns-then-is_read_at-clause-byte c =
-    let within : c.loop-addr.addr < c.args.image.now.size = omega (arith, c.loop-addr-test.true, c.bytes_of-first.ensures.within) in
+    let within : c.loop-addr.addr < c.args.image.now.size = omega (arith, c.loop-addr-test.true, c.loaded_at-first.ensures.within) in
     sym (first_at c.args.image.now.size (is_read_at c.args.image.now c.args.entries.now (violation_in c.args.flat.now c.args.self.now) c.args.load) c.loop-addr.addr within
     (sym c.is_read_at.ensures ∙ c.if-is_read_at.true) (λ a before. c.loop-addr.invariant a before (omega (arith, before, within))))
 
@@ -31,7 +31,7 @@ pub returns-clause-byte : goal.returns-clause-byte
 returns-clause-byte c =
     let v = violation_in c.args.flat.now c.args.self.now in
     let test : ℕ → Bool = is_read_at c.args.image.now c.args.entries.now v c.args.load in
-    let all : c.bytes_of-first.result.1 ≤ c.loop-addr.addr = c.loop-addr-test.false in
+    let all : c.loaded_at-first.result.1 ≤ c.loop-addr.addr = c.loop-addr-test.false in
     sym (first_none c.args.image.now.size test (λ a below. either_way (core_does c.args.entries.now v.victim c.args.load (loads_byte a)) (test a ≡ false)
-    (λ loads. c.loop-addr.invariant a (omega (arith, all, (c.bytes_of-first.ensures.loaded a loads below).1)) below)
+    (λ loads. c.loop-addr.invariant a (omega (arith, all, (c.loaded_at-first.ensures.each a loads below).1)) below)
     (λ is. unloaded c.args.image.now c.args.entries.now v c.args.load a is)))

@@ -1,14 +1,20 @@
-use Rattle.std.proofs.Common.{sym, ◌∙◌}
+use Rattle.std.proofs.Common.{◌≡◌, ◌∙◌, ℕ, Option, true, sym, ap}
+use Rattle.conflicts.specs.Blame.{blamed_store, goes_with, is_place, read_at}
 use Rattle.conflicts.specs.Violated.{violation_in}
-use Rattle.conflicts.proofs.Pairing.{in_attempt}
+use Rattle.conflicts.proofs.Pairing.{by_last_store, through}
 use Rattle.conflicts.proofs.blame.Violated.is_alike.Goals as goal
 
-pub is_last_store-requires-clause-after : goal.is_last_store-requires-clause-after
-is_last_store-requires-clause-after c =
-    (in_attempt c.args.image.now c.args.entries.now (violation_in c.args.flat.now c.args.self.now) c.args.pair.byte c.args.pair.store (sym c.has_one_store.ensures ∙ c.if-has_one_store.false)
-    c.requires.stored).0
-
-pub is_last_store-requires-clause-within : goal.is_last_store-requires-clause-within
-is_last_store-requires-clause-within c =
-    (in_attempt c.args.image.now c.args.entries.now (violation_in c.args.flat.now c.args.self.now) c.args.pair.byte c.args.pair.store (sym c.has_one_store.ensures ∙ c.if-has_one_store.false)
-    c.requires.stored).1
+pub returns : goal.returns
+returns c =
+    let v = violation_in c.args.flat.now c.args.self.now in
+    let size = c.args.image.now.size in
+    let pair = c.args.pair in
+    let goes : goes_with c.args.image.now v.kind v.bytes pair.byte c.args.addr ≡ true = sym c.goes_with.ensures ∙ c.if-not-goes_with.false in
+    let reads : is_place (read_at c.args.entries.now v c.args.addr) pair.load ≡ true =
+    sym (ap (λ (o : Option ℕ). is_place o pair.load) (c.first_read-read.ensures size c.requires.known c.requires.within)) ∙ (sym c.is_at.ensures ∙ c.if-not-is_at.false) in
+    c.is_at-2.ensures
+    ∙ (ap (λ (o : Option ℕ). is_place o pair.store)
+    (c.last_store-stored.ensures size c.requires.known c.requires.within
+    ∙ sym (by_last_store c.args.image.now c.args.entries.now v c.args.addr (sym c.has_one_store.ensures ∙ c.if-has_one_store.false)))
+    ∙ through (goes_with c.args.image.now v.kind v.bytes pair.byte c.args.addr) (is_place (read_at c.args.entries.now v c.args.addr) pair.load)
+    (is_place (blamed_store c.args.image.now c.args.entries.now v c.args.addr) pair.store) goes reads)
