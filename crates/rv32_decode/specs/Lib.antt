@@ -3,3 +3,6 @@ pub mod Word
 pub mod Table
 -- Words of contracts: Refused (the printed names).
 pub mod Refused
+-- And the form in which instructions are run.
+pub mod Destination
+pub mod Operations

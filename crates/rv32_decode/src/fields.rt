@@ -1,4 +1,5 @@
 ghost use Rattle.std.specs.Prelude.{◌≡◌, ◌<◌};
+ghost use Rattle.rv32_decode.specs.Destination.{destination_of};
 
 use std::marker::Model;
 
@@ -37,6 +38,49 @@ impl Register {
         ensures below { result < 32 }
     {
         self.number
+    }
+}
+
+/// The number of a register that keeps what is written to it, x1 to x31. Contracts see it as that number.
+#[derive(Clone, Copy)]
+pub struct Destination {
+    index: u8,
+}
+
+impl Model for Destination {
+    ghost use Rattle.std.specs.Prelude.{ℕ, ◌<◌};
+
+    ghost Value = { ℕ };
+
+    ghost view = { λ d. d.index };
+
+    ghost invariant = { λ d. (0 < d.index) × (d.index < 32) };
+
+    ghost inverse = { λ n. record { index = n } };
+}
+
+impl Destination {
+    /// The register as a destination, and x1 in place of x0.
+    pub fn of(register: Register) -> Destination
+        ensures { result ≡ destination_of register }
+    {
+        Destination {
+            index: if register.number == 0 {
+                1
+            } else {
+                register.number
+            },
+        }
+    }
+
+    /// Its number, 1 to 31.
+    #[inline]
+    pub fn number(self) -> u8
+        ensures value { result ≡ self }
+        ensures above { 0 < result }
+        ensures below { result < 32 }
+    {
+        self.index
     }
 }
 

@@ -1,5 +1,5 @@
 -- One instruction of the interpreter's loop is one of the epoch.
-use Rattle.std.proofs.Common.{◌≡◌, ◌⊎◌, inl, inr, ℕ, suc, ◌+◌, ◌*◌, ◌%◌, ◌<◌, ◌≤◌, ◌^◌, ◌==◌, ◌||◌, not, cond, nat_le, nat_lt, Bool, true, false, List, length, Some, Result, Ok, Err, slice_get, slice_index, refl, sym, ◌∙◌, arith}
+use Rattle.std.proofs.Common.{◌≡◌, ℕ, suc, ◌+◌, ◌*◌, ◌%◌, ◌<◌, ◌≤◌, ◌^◌, ◌==◌, ◌||◌, not, cond, nat_le, nat_lt, Bool, true, false, List, length, Some, Result, Ok, Err, slice_get, slice_index, refl, sym, ap, ◌∙◌, arith}
 use Rattle.std.proofs.lemmas.Bool.Decides.{nat_tests}
 use Rattle.rv32_decode.specs.declared.instr.Instr.{Instr}
 use Rattle.rv32_decode.specs.declared.refused.Refused.{Refused}
@@ -16,13 +16,11 @@ use Rattle.rv32_exec.specs.Sequential.{Progress, Runs, execute, after_steps}
 use Rattle.rv32_exec.specs.NextEvent.{Event, next_event}
 use Rattle.rv32_image.proofs.Kept.{kept_at}
 use Rattle.rv32_exec.proofs.Runs.{next_event-executes}
-use Rattle.rv32_exec.specs.Interpreter.{DoesStop, HasWidth, IsNoAccess, IsOutside, Leads, access_effect, after_effect, hart}
-use Rattle.rv32_exec.specs.declared.instruction.Next.{Next}
-use Rattle.rv32_exec.specs.declared.instruction.Next.TheVariants.{Misaligned, Unmade}
+use Rattle.rv32_exec.specs.Interpreter.{HasWidth, IsJumpStop, IsNoAccess, IsOutside, access_effect, after_effect, hart}
 use Rattle.rv32_exec.specs.declared.access.Access.{Access}
 use Rattle.rv32_exec.specs.declared.access.Access.TheVariants as access
 use Rattle.rv32_exec.specs.declared.stop.Stop.TheVariants.{Load, Store, Fault}
-use Rattle.rv32_exec.specs.Faults.{load_outside_memory, misaligned_data, store_outside_data}
+use Rattle.rv32_exec.specs.Faults.{load_outside_memory, misaligned_data, misaligned_target, store_outside_data}
 use Rattle.memory_bytes.specs.Bytes.{IsWidth}
 
 -- inside the code and below the limit the word is looked at
@@ -97,20 +95,10 @@ event-after image program x x' word pc' to done done' instr event ok decoded ins
 
 -- ---- stops
 
--- what is kept of a word stops where the word does
-word-stops : (image : LoadedImage) (h : HartState) (means : Result Instr Refused) → DoesStop (instruction_effect image h (λ r. slice_index h.x r) (kept_of means))
-    → DoesStop (word_effect image h means)
-unfolding kept_of
-word-stops image h (Ok instr) stops = stops
-word-stops image h (Err Illegal) stops = tt
-word-stops image h (Err System) stops = tt
-
-pub kept-stops : (image : LoadedImage) (program : List Instr) (x : List ℕ) (word done : ℕ) (instr : Instr) (effect : Effect)
-    → IsDecoded program image.code image.bytes → word < length program → slice_get program word ≡ Some instr
-    → instruction_effect image (hart x (4 * word) done) (λ r. slice_index x r) instr ≡ effect → DoesStop effect
-    → DoesStop (word_effect image (hart x (4 * word) done) (meaning_of (number_at (λ a. slice_index image.bytes a) (4 * word) 4)))
-kept-stops image program x word done instr effect decoded inside here is stops =
-    word-stops image (hart x (4 * word) done) _ (rw (← kept_at program image word instr decoded inside here, is) stops)
+-- nothing is executed
+abbrev pub DoesStop : Effect → Type 0
+DoesStop (Executes after) = ⊥
+DoesStop (Stops at) = Unit {0}
 
 -- a stop that is no access
 abbrev pub StopsWithoutAccess : Effect → Type 0
@@ -144,82 +132,64 @@ either_stops : (b : Bool) (e f : Effect) → DoesStop e → DoesStop f → DoesS
 either_stops true e f stops other = stops
 either_stops false e f stops other = other
 
-access_stops : (image : LoadedImage) (h : HartState) (a : Access) → DoesStop (access_effect image h a)
+pub access_stops : (image : LoadedImage) (h : HartState) (a : Access) → DoesStop (access_effect image h a)
 access_stops image h (access.Load address width signed rd) = either_stops (not (address % width == 0)) _ _ tt (either_stops (nat_lt image.size (address + width)) _ _ tt tt)
 access_stops image h (access.Store address width value) =
     either_stops (not (address % width == 0)) _ _ tt (either_stops (nat_lt image.size (address + width) || nat_lt address image.code) _ _ tt tt)
 
--- an instruction that isn't executed changes nothing, and where memory is whole it makes no access
-pub record Halts (image : LoadedImage) (h : HartState) (memory : List ℕ) (effect : Effect) (x memory' : List ℕ) : Type 0 where
-  pub same_x : x ≡ h.x
-  pub same_memory : memory' ≡ memory
-  pub stops : DoesStop effect
-  pub whole : length memory ≡ image.size → StopsWithoutAccess effect
-
-pub halts : (image : LoadedImage) (h : HartState) (memory : List ℕ) (effect : Effect) (next : Next) (x memory' : List ℕ) → Leads image h memory effect next x memory'
-    → (next ≡ Misaligned) ⊎ ((a : Access) × next ≡ Unmade a) → Halts image h memory effect x memory'
-halts image h memory effect next x memory' leads (inl is) =
-    let at = rw is at leads in record { same_x = at.0; same_memory = at.1; stops = rw at.2 tt; whole = λ all. rw at.2 tt }
-halts image h memory effect next x memory' leads (inr (a, is)) =
-    let at = rw is at leads in record {
-      same_x = at.0;
-      same_memory = at.1;
-      stops = rw at.2 (access_stops image h a);
-      whole = λ all. rw at.2 (outside-faults image h a at.3 (rw all at at.4));
-    }
-
-word-without : (image : LoadedImage) (h : HartState) (means : Result Instr Refused) → StopsWithoutAccess (instruction_effect image h (λ r. slice_index h.x r) (kept_of means))
-    → StopsWithoutAccess (word_effect image h means)
-unfolding kept_of
-word-without image h (Ok instr) none = none
-word-without image h (Err Illegal) none = tt
-word-without image h (Err System) none = tt
-
-pub kept-without : (image : LoadedImage) (program : List Instr) (x : List ℕ) (word done : ℕ) (instr : Instr) (effect : Effect)
-    → IsDecoded program image.code image.bytes → word < length program → slice_get program word ≡ Some instr
-    → instruction_effect image (hart x (4 * word) done) (λ r. slice_index x r) instr ≡ effect → StopsWithoutAccess effect
-    → StopsWithoutAccess (word_effect image (hart x (4 * word) done) (meaning_of (number_at (λ a. slice_index image.bytes a) (4 * word) 4)))
-kept-without image program x word done instr effect decoded inside here is none =
-    word-without image (hart x (4 * word) done) _ (rw (← kept_at program image word instr decoded inside here, is) none)
-
--- ---- a hart that runs on no further
-
--- inside the code and below the limit a hart stops where its word does
-pub hart-stops : (image : LoadedImage) (program : List Instr) (x : List ℕ) (word done : ℕ) → IsImage image → IsDecoded program image.code image.bytes
-    → word < length program → done < image.limit
-    → DoesStop (word_effect image (hart x (4 * word) done) (meaning_of (number_at (λ a. slice_index image.bytes a) (4 * word) 4)))
-    → DoesStop (hart_effect image (hart x (4 * word) done))
-hart-stops image program x word done ok decoded inside room stops =
-    let within : 4 * word < image.code = omega (arith, decoded.long) in rw (fetched image (hart x (4 * word) done) ok within room) stops
-
-pub hart-without : (image : LoadedImage) (program : List Instr) (x : List ℕ) (word done : ℕ) → IsImage image → IsDecoded program image.code image.bytes
-    → word < length program → done < image.limit
-    → StopsWithoutAccess (word_effect image (hart x (4 * word) done) (meaning_of (number_at (λ a. slice_index image.bytes a) (4 * word) 4)))
-    → StopsWithoutAccess (hart_effect image (hart x (4 * word) done))
-hart-without image program x word done ok decoded inside room stops =
-    let within : 4 * word < image.code = omega (arith, decoded.long) in rw (fetched image (hart x (4 * word) done) ok within room) stops
-
--- a stop of the hart at its end or a fault
-abbrev pub IsOver : Effect → Type 0
-IsOver effect = DoesStop effect × StopsWithoutAccess effect
-
-at_limit : (over : Bool) (at : Stop) (e : Effect) → over ≡ true → IsNoAccess at → IsOver (cond over (Stops at) e)
-at_limit true at e is none = (tt, none)
-at_limit false at e is none = absurd cc
-
-either_over : (b : Bool) (at : Stop) (e : Effect) → IsNoAccess at → IsOver e → IsOver (cond b (Stops at) e)
-either_over true at e none over = (tt, none)
-either_over false at e none over = over
-
--- past the limit or outside the code there is nothing to execute
-pub outside-over : (image : LoadedImage) (h : HartState) → (image.limit ≤ h.done) ⊎ (image.code ≤ h.pc) → IsOver (hart_effect image h)
-unfolding hart_effect
-outside-over image h (inl past) =
-    let over : nat_le image.limit h.done ≡ true = grind (arith, nat_tests) in either_over (h.pc == epoch_end) _ _ tt (at_limit (nat_le image.limit h.done) _ _ over tt)
-outside-over image h (inr past) =
-    let over : nat_le image.code h.pc ≡ true = grind (arith, nat_tests) in
-    either_over (h.pc == epoch_end) _ _ tt (either_over (nat_le image.limit h.done) _ _ tt (at_limit (nat_le image.code h.pc) _ _ over tt))
-
 -- where it stops without an access, its stop is none
 pub stop-without : (effect : Effect) (at : Stop) → effect ≡ Stops at → StopsWithoutAccess effect → IsNoAccess at
 stop-without effect at is none = rw is at none
+
+-- ---- the stop at an instruction that isn't executed
+
+jump_word : (image : LoadedImage) (h : HartState) (means : Result Instr Refused) (at : Stop)
+    → instruction_effect image h (λ r. slice_index h.x r) (kept_of means) ≡ Stops (Fault misaligned_target h.pc) → IsJumpStop means h.pc at
+    → (word_effect image h means ≡ Stops at) × IsNoAccess at
+unfolding kept_of
+jump_word image h (Ok instr) at is stop = (is ∙ ap Stops (sym stop), rw stop tt)
+jump_word image h (Err Illegal) at is stop = (ap Stops (sym stop), rw stop tt)
+jump_word image h (Err System) at is stop = (ap Stops (sym stop), rw stop tt)
+
+pub stops_at_jump : (image : LoadedImage) (program : List Instr) (x : List ℕ) (word done : ℕ) (instr : Instr) (at : Stop)
+    → IsImage image → IsDecoded program image.code image.bytes → word < length program → slice_get program word ≡ Some instr → done < image.limit
+    → instruction_effect image (hart x (4 * word) done) (λ r. slice_index x r) instr ≡ Stops (Fault misaligned_target (4 * word))
+    → IsJumpStop (meaning_of (number_at (λ a. slice_index image.bytes a) (4 * word) 4)) (4 * word) at
+    → (hart_effect image (hart x (4 * word) done) ≡ Stops at) × IsNoAccess at
+stops_at_jump image program x word done instr at ok decoded inside here room is stop =
+    let kept = kept_at program image word instr decoded inside here in
+    let within : 4 * word < image.code = omega (arith, decoded.long) in
+    let both = jump_word image (hart x (4 * word) done) _ at (rw kept at is) stop in
+    (fetched image (hart x (4 * word) done) ok within room ∙ both.0, both.1)
+
+-- no access is refused as a jump is
+other_fault : (cause pc : ℕ) (e : Effect) (b : Bool) → (cause ≡ misaligned_target → ⊥) → (e ≡ Stops (Fault misaligned_target pc) → ⊥)
+    → cond b (Stops (Fault cause pc)) e ≡ Stops (Fault misaligned_target pc) → ⊥
+other_fault cause pc e true differs other is = differs cc
+other_fault cause pc e false differs other is = other is
+
+no_jump_fault : (image : LoadedImage) (h : HartState) (a : Access) → access_effect image h a ≡ Stops (Fault misaligned_target h.pc) → ⊥
+no_jump_fault image h (access.Load address width signed rd) is =
+    other_fault misaligned_data h.pc _ (not (address % width == 0)) (λ e. omega (arith, e))
+    (other_fault load_outside_memory h.pc _ (nat_lt image.size (address + width)) (λ e. omega (arith, e)) (λ e. cc)) is
+no_jump_fault image h (access.Store address width value) is =
+    other_fault misaligned_data h.pc _ (not (address % width == 0)) (λ e. omega (arith, e))
+    (other_fault store_outside_data h.pc _ (nat_lt image.size (address + width) || nat_lt address image.code) (λ e. omega (arith, e)) (λ e. cc)) is
+
+access_word : (image : LoadedImage) (h : HartState) (means : Result Instr Refused) (a : Access) → h.pc % 4 ≡ 0
+    → instruction_effect image h (λ r. slice_index h.x r) (kept_of means) ≡ access_effect image h a → word_effect image h means ≡ access_effect image h a
+unfolding instruction_effect kept_of
+access_word image h (Ok instr) a aligned is = is
+access_word image h (Err refused) a aligned is =
+    let odd : (add h.pc 2 % 4 == 0) ≡ false = grind (arith, nat_tests) in
+    let fault = rw odd at is in absurd (no_jump_fault image h a (sym fault))
+
+pub stops_at_access : (image : LoadedImage) (program : List Instr) (x : List ℕ) (word done : ℕ) (instr : Instr) (a : Access) (at : Stop)
+    → IsImage image → IsDecoded program image.code image.bytes → word < length program → slice_get program word ≡ Some instr → done < image.limit
+    → instruction_effect image (hart x (4 * word) done) (λ r. slice_index x r) instr ≡ access_effect image (hart x (4 * word) done) a
+    → access_effect image (hart x (4 * word) done) a ≡ Stops at → hart_effect image (hart x (4 * word) done) ≡ Stops at
+stops_at_access image program x word done instr a at ok decoded inside here room is stop =
+    let kept = kept_at program image word instr decoded inside here in
+    let aligned : 4 * word % 4 ≡ 0 = omega arith in
+    let within : 4 * word < image.code = omega (arith, decoded.long) in
+    fetched image (hart x (4 * word) done) ok within room ∙ (access_word image (hart x (4 * word) done) _ a aligned (rw kept at is) ∙ stop)

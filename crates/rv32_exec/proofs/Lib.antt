@@ -2,6 +2,7 @@ pub mod Steps
 pub mod Runs
 pub mod Arrivals
 pub mod Interpreting
+pub mod Operating
 pub mod Epochs
 pub mod LawsOfRuns
 pub mod Accesses

@@ -1,6 +1,9 @@
 -- What the interpreter's loop does with one instruction.
-use Rattle.std.specs.Prelude.{◌≡◌, ℕ, ◌+◌, ◌-◌, ◌%◌, ◌^◌, ◌≤◌, List, length}
-use Rattle.rv32_exec.specs.Faults.{misaligned_target}
+use Rattle.std.specs.Prelude.{◌≡◌, ℕ, ◌+◌, ◌-◌, ◌%◌, ◌^◌, ◌≤◌, List, length, Result, Ok, Err}
+use Rattle.rv32_decode.specs.declared.instr.Instr.{Instr}
+use Rattle.rv32_decode.specs.declared.refused.Refused.{Refused}
+use Rattle.rv32_decode.specs.declared.refused.Refused.TheVariants.{Illegal, System}
+use Rattle.rv32_exec.specs.Faults.{illegal_word, misaligned_target, system_instruction}
 use Rattle.rv32_exec.specs.declared.stop.Stop.{Stop}
 use Rattle.rv32_exec.specs.declared.stop.Stop.TheVariants as stop
 use Rattle.rv32_exec.specs.declared.access.Access.{Access}
@@ -41,10 +44,11 @@ IsNoAccess (stop.Store address width value) = ⊥
 IsNoAccess stop.Ended = Unit {0}
 IsNoAccess (stop.Fault cause pc) = Unit {0}
 
--- nothing is executed
-abbrev pub DoesStop : Effect → Type 0
-DoesStop (Executes after) = ⊥
-DoesStop (Stops at) = Unit {0}
+-- the stop at a word that means this, and is no instruction, or a jump whose target is misaligned
+abbrev pub IsJumpStop : Result Instr Refused → ℕ → Stop → Type 0
+IsJumpStop (Ok instr) pc at = at ≡ stop.Fault misaligned_target pc
+IsJumpStop (Err Illegal) pc at = at ≡ stop.Fault illegal_word pc
+IsJumpStop (Err System) pc at = at ≡ stop.Fault system_instruction pc
 
 -- an instruction with this effect leads to these registers and this memory, and to the place that the answer says;
 -- where there is no memory, no load or store is made

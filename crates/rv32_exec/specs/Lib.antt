@@ -8,5 +8,6 @@ pub mod Sequential
 -- Words of contracts: Arrival (what `advance` answers) and Laws (what the laws say).
 pub mod Arrival
 pub mod Laws
--- What the code keeps: Interpreter (one instruction of the interpreter's loop).
+-- What the code keeps: Interpreter (one instruction of the interpreter's loop) and Operating (one operation).
 pub mod Interpreter
+pub mod Operating

@@ -7,6 +7,7 @@ mod hart;
 mod instruction;
 mod interpreter;
 pub mod laws;
+mod operation;
 mod registers;
 mod sequential;
 mod stop;

@@ -2,7 +2,7 @@ ghost use Rattle.std.specs.Prelude.{◌≡◌, nat_lt, slice_index};
 ghost use Rattle.rv32_exec.specs.Hart.{AreRegisters, with_register};
 ghost use Rattle.rv32_exec.specs.Execute.{add, is_less_signed, shift_right_arithmetic};
 
-use rv32_decode::Register;
+use rv32_decode::{Destination, Register};
 use std::marker::Model;
 
 /// The integer registers of a hart. Contracts see what they hold, x0 first; x0 is 0.
@@ -83,6 +83,22 @@ impl Registers {
             .cast_signed()
             .wrapping_shr(amount)
             .cast_unsigned()
+    }
+
+    /// Sets a register other than x0.
+    #[inline]
+    pub(crate) fn put(&mut self, rd: Destination, value: u32)
+        ensures { self.new ≡ with_register self.old rd value }
+    {
+        self.x[usize::from(rd.number())] = value;
+    }
+
+    /// Writes 0 to x0, which holds it.
+    #[inline]
+    pub(crate) fn clear_x0(&mut self)
+        ensures { self.new ≡ self.old }
+    {
+        self.x[0] = 0_u32;
     }
 
     /// Sets a register; x0 stays 0.

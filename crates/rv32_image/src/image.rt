@@ -1,13 +1,13 @@
-ghost use Rattle.std.specs.Prelude.{◌≡◌, ◌<◌, ◌≤◌, ◌+◌, ◌%◌, IfOk, codes, length, slice_index};
+ghost use Rattle.std.specs.Prelude.{◌≡◌, ◌<◌, ◌≤◌, ◌+◌, ◌%◌, ◌^◌, IfOk, codes, length, slice_index};
 ghost use Rattle.rv32_decode.specs.Table.{meaning_of};
 ghost use Rattle.rv32_image.specs.Image.{IsImage};
 ghost use Rattle.rv32_image.specs.Header.{loaded_image};
-ghost use Rattle.rv32_image.specs.Decoded.{IsDecoded, kept_of};
+ghost use Rattle.rv32_image.specs.Decoded.{IsDecoded, IsPrepared, kept_of};
 ghost use Rattle.memory_bytes.specs.Bytes.{number_at};
 
 use crate::version::Version;
 use memory_bytes::read_number;
-use rv32_decode::{Instr, Refused, Register, decode};
+use rv32_decode::{Instr, Operation, Refused, Register, decode};
 use std::alloc::{AllocError, Global};
 use std::marker::Model;
 use thiserror::Error;
@@ -48,6 +48,7 @@ pub struct Image {
     header: Header,
     bytes: Vec<u8>,
     program: Vec<Instr>,
+    operations: Vec<Operation>,
 }
 
 impl Model for Image {
@@ -71,10 +72,12 @@ impl Image {
         ensures { IfOk result (λ image. image ≡ loaded_image header bytes.items) }
     {
         let program = decoded(alloc, header.code, bytes.as_slice()).map_err(|_| NoMemory)?;
+        let operations = prepared(alloc, program.as_slice()).map_err(|_| NoMemory)?;
         Ok(Image {
             header,
             bytes,
             program,
+            operations,
         })
     }
 
@@ -86,10 +89,12 @@ impl Image {
     {
         let bytes = Vec::from_slice(alloc, self.bytes.as_slice()).map_err(|_| NoMemory)?;
         let program = Vec::from_slice(alloc, self.program.as_slice()).map_err(|_| NoMemory)?;
+        let operations = Vec::from_slice(alloc, self.operations.as_slice()).map_err(|_| NoMemory)?;
         Ok(Image {
             header: self.header,
             bytes,
             program,
+            operations,
         })
     }
 
@@ -164,6 +169,15 @@ impl Image {
         self.program.as_slice()
     }
 
+    /// The code decoded, and its operations with one after them that leaves.
+    pub fn operations(&self) -> (&[Instr], &[Operation])
+        ensures program { IsDecoded result.0.now self.now.code self.now.bytes }
+        ensures operations { IsPrepared result.1.now result.0.now }
+        ensures limits { IsImage self.now }
+    {
+        (self.program.as_slice(), self.operations.as_slice())
+    }
+
     /// The instruction at a pc, which is in the code.
     pub fn instruction_at(&self, pc: u32) -> Result<Instr, Refused>
         requires aligned { pc % 4 ≡ 0 }
@@ -190,6 +204,20 @@ fn decoded(alloc: Global, code: u32, bytes: &[u8]) -> Result<Vec<Instr>, AllocEr
         program.push(kept(read_number(bytes, 4 * word, 4)))?;
     }
     Ok(program)
+}
+
+/// The operations of a program, and one that leaves.
+fn prepared(alloc: Global, program: &[Instr]) -> Result<Vec<Operation>, AllocError>
+    requires { length program.now < 2 ^ 30 }
+    ensures { IfOk result (λ operations. IsPrepared operations.items program.now) }
+{
+    let words = program.len();
+    let mut operations = Vec::with_capacity(alloc, words + 1)?;
+    for word in 0..words {
+        operations.push(Operation::of(program[word], word, words))?;
+    }
+    operations.push(Operation::leave())?;
+    Ok(operations)
 }
 
 /// What is kept of a word: its instruction, or where it is refused, a jump that faults wherever it stands, since
