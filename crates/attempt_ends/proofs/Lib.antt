@@ -2,5 +2,5 @@ pub mod Marking
 pub mod Growing
 mod Seeking
 mod Adding
-mod Losing
+pub mod Losing
 mod Balance

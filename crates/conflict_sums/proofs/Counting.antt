@@ -1,14 +1,14 @@
 -- How many violations of a line are of each kind, from the sums of lines.
 use Rattle.std.proofs.Common.{◌≡◌, ℕ, zero, suc, List, refl, ap, ◌∙◌}
+use Rattle.spec_history.specs.declared.kind.Kind.TheVariants.{TrueSharing, SilentStore, FalseSharing, FullBuffer}
 use Rattle.conflict_sums.specs.declared.keys.Key.TheVariants.{Line}
-use Rattle.conflict_sums.specs.declared.kinds.ByKind.{ByKind}
 use Rattle.conflict_sums.specs.declared.kinds.Counts.{Counts}
 use Rattle.conflict_sums.specs.declared.kinds.LinesByKind.{LinesByKind}
 use Rattle.conflict_sums.specs.declared.part.Part.TheVariants.{OfLine}
 use Rattle.conflict_sums.specs.declared.rollback.Rollback.{Rollback}
 use Rattle.conflict_sums.specs.declared.sum.Sum.{Sum}
 use Rattle.conflict_sums.specs.Keys.{some_sum, sum_at, sum_or}
-use Rattle.conflict_sums.specs.Kinds.{AreKinds, AreLines, count_at, counts_at, counts_in}
+use Rattle.conflict_sums.specs.Kinds.{AreLines, count_at, counts_at, counts_in, of_kind}
 use Rattle.conflict_sums.specs.Sums.{count_in, lost_in}
 use Rattle.std.specs.BTreeMap.{BTreeMap, get}
 use Rattle.std.specs.Ordering.{nat_cmp}
@@ -26,10 +26,10 @@ counts a b c d = record { true_sharing = a; silent_store = b; false_sharing = c;
 same_counts : (a b c d a' b' c' d' : ℕ) → a ≡ a' → b ≡ b' → c ≡ c' → d ≡ d' → counts a b c d ≡ counts a' b' c' d'
 same_counts a b c d a' b' c' d' one two three four = rw (one, two, three, four) refl
 
-pub line_counts : (rs : List Rollback) (kinds : ByKind) (lines : LinesByKind) (at : ℕ) → AreKinds rs kinds → AreLines kinds lines → counts_at lines at ≡ counts_in (OfLine at) rs
-line_counts rs kinds lines at parted summed =
+pub line_counts : (rs : List Rollback) (lines : LinesByKind) (at : ℕ) → AreLines rs lines → counts_at lines at ≡ counts_in (OfLine at) rs
+line_counts rs lines at summed =
     same_counts _ _ _ _ _ _ _ _
-    (one_count lines.true_sharing kinds.true_sharing.items at (summed.true_sharing_are at) ∙ ap (count_in (OfLine at)) parted.true_sharing_is)
-    (one_count lines.silent_store kinds.silent_store.items at (summed.silent_store_are at) ∙ ap (count_in (OfLine at)) parted.silent_store_is)
-    (one_count lines.false_sharing kinds.false_sharing.items at (summed.false_sharing_are at) ∙ ap (count_in (OfLine at)) parted.false_sharing_is)
-    (one_count lines.full_buffer kinds.full_buffer.items at (summed.full_buffer_are at) ∙ ap (count_in (OfLine at)) parted.full_buffer_is)
+    (one_count lines.true_sharing (of_kind TrueSharing rs) at (summed.true_sharing_are at))
+    (one_count lines.silent_store (of_kind SilentStore rs) at (summed.silent_store_are at))
+    (one_count lines.false_sharing (of_kind FalseSharing rs) at (summed.false_sharing_are at))
+    (one_count lines.full_buffer (of_kind FullBuffer rs) at (summed.full_buffer_are at))

@@ -6,3 +6,4 @@ mod Parting
 mod Listing
 mod Keyed
 mod Grouping
+mod Pairless

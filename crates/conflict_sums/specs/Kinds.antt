@@ -4,7 +4,6 @@ use Rattle.std.specs.BTreeMap.{BTreeMap, get}
 use Rattle.std.specs.Ordering.{nat_cmp}
 use Rattle.spec_history.specs.declared.kind.Kind.{Kind}
 use Rattle.spec_history.specs.declared.kind.Kind.TheVariants.{TrueSharing, SilentStore, FalseSharing, FullBuffer}
-use Rattle.conflict_sums.specs.declared.kinds.ByKind.{ByKind}
 use Rattle.conflict_sums.specs.declared.kinds.Counts.{Counts}
 use Rattle.conflict_sums.specs.declared.kinds.LinesByKind.{LinesByKind}
 use Rattle.conflict_sums.specs.declared.keys.Key.TheVariants.{Line}
@@ -29,19 +28,12 @@ counts_in part rollbacks = record {
   full_buffer = count_in part (of_kind FullBuffer rollbacks);
 }
 
--- they are these violations, parted by kind
-pub record AreKinds (rollbacks : List Rollback) (kinds : ByKind) : Type 0 where
-  pub true_sharing_is : kinds.true_sharing.items ≡ of_kind TrueSharing rollbacks
-  pub silent_store_is : kinds.silent_store.items ≡ of_kind SilentStore rollbacks
-  pub false_sharing_is : kinds.false_sharing.items ≡ of_kind FalseSharing rollbacks
-  pub full_buffer_is : kinds.full_buffer.items ≡ of_kind FullBuffer rollbacks
-
 -- for each line, what those of each kind cost
-pub record AreLines (kinds : ByKind) (lines : LinesByKind) : Type 0 where
-  pub true_sharing_are : (at : ℕ) → get nat_cmp lines.true_sharing at ≡ sum_at Line kinds.true_sharing.items at
-  pub silent_store_are : (at : ℕ) → get nat_cmp lines.silent_store at ≡ sum_at Line kinds.silent_store.items at
-  pub false_sharing_are : (at : ℕ) → get nat_cmp lines.false_sharing at ≡ sum_at Line kinds.false_sharing.items at
-  pub full_buffer_are : (at : ℕ) → get nat_cmp lines.full_buffer at ≡ sum_at Line kinds.full_buffer.items at
+pub record AreLines (rollbacks : List Rollback) (lines : LinesByKind) : Type 0 where
+  pub true_sharing_are : (at : ℕ) → get nat_cmp lines.true_sharing at ≡ sum_at Line (of_kind TrueSharing rollbacks) at
+  pub silent_store_are : (at : ℕ) → get nat_cmp lines.silent_store at ≡ sum_at Line (of_kind SilentStore rollbacks) at
+  pub false_sharing_are : (at : ℕ) → get nat_cmp lines.false_sharing at ≡ sum_at Line (of_kind FalseSharing rollbacks) at
+  pub full_buffer_are : (at : ℕ) → get nat_cmp lines.full_buffer at ≡ sum_at Line (of_kind FullBuffer rollbacks) at
 
 -- how many there are at a number
 abbrev pub count_at : BTreeMap ℕ Sum → ℕ → ℕ

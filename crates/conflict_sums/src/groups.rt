@@ -40,7 +40,7 @@ fn add(
 {
     let mut those = match groups.remove(&(pair.store, pair.load)) {
         Some(those) => those,
-        None => Vec::new(alloc),
+        None => Vec::with_capacity(alloc, 1)?,
     };
     those.push(rollback)?;
     groups.insert((pair.store, pair.load), those)?;

@@ -1,9 +1,10 @@
 //! Violations parted by kind.
 
-ghost use Rattle.std.specs.Prelude.{◌≡◌, IfOk, filter};
+ghost use Rattle.std.specs.Prelude.{◌≡◌, ℕ, IfOk, filter};
 ghost use Rattle.std.specs.BTreeMap.{get};
 ghost use Rattle.std.specs.Ordering.{nat_cmp};
-ghost use Rattle.conflict_sums.specs.Keys.{sum_or};
+ghost use Rattle.conflict_sums.specs.declared.keys.Key.TheVariants.{Line};
+ghost use Rattle.conflict_sums.specs.Keys.{sum_at, sum_or};
 ghost use Rattle.conflict_sums.specs.Kinds as spec;
 ghost use Rattle.conflict_sums.specs.Parts.{belongs};
 
@@ -26,19 +27,6 @@ pub struct Counts {
     pub false_sharing: usize,
     /// Full buffers.
     pub full_buffer: usize,
-}
-
-/// The violations of each kind, in order.
-#[derive(Drop)]
-pub struct ByKind {
-    /// True sharing.
-    pub true_sharing: Vec<Rollback>,
-    /// Silent stores.
-    pub silent_store: Vec<Rollback>,
-    /// False sharing.
-    pub false_sharing: Vec<Rollback>,
-    /// Full buffers.
-    pub full_buffer: Vec<Rollback>,
 }
 
 /// What the violations of each kind cost, for each line of the caches.
@@ -71,27 +59,27 @@ pub fn part_of(
     Ok(found)
 }
 
-/// The violations of each kind.
-pub fn kinds_of(alloc: Global, rollbacks: &[Rollback]) -> Result<ByKind, AllocError>
-    ensures { IfOk result (spec.AreKinds rollbacks.now) }
+/// What the violations of a kind cost, for each line.
+fn lines_of(
+    alloc: Global,
+    rollbacks: &[Rollback],
+    kind: Kind,
+) -> Result<BTreeMap<u32, Sum>, AllocError>
+    ensures { IfOk result (λ sums. (at : ℕ) → get nat_cmp sums at ≡ sum_at Line (spec.of_kind kind rollbacks.now) at) }
 {
-    Ok(ByKind {
-        true_sharing: part_of(alloc, rollbacks, Part::OfKind(Kind::TrueSharing))?,
-        silent_store: part_of(alloc, rollbacks, Part::OfKind(Kind::SilentStore))?,
-        false_sharing: part_of(alloc, rollbacks, Part::OfKind(Kind::FalseSharing))?,
-        full_buffer: part_of(alloc, rollbacks, Part::OfKind(Kind::FullBuffer))?,
-    })
+    let those = part_of(alloc, rollbacks, Part::OfKind(kind))?;
+    sums_by(alloc, those.as_slice(), Key::Line)
 }
 
 /// What the violations of each kind cost, for each line.
-pub fn lines_of(alloc: Global, kinds: &ByKind) -> Result<LinesByKind, AllocError>
-    ensures { IfOk result (spec.AreLines kinds.now) }
+pub fn lines_by_kind(alloc: Global, rollbacks: &[Rollback]) -> Result<LinesByKind, AllocError>
+    ensures { IfOk result (spec.AreLines rollbacks.now) }
 {
     Ok(LinesByKind {
-        true_sharing: sums_by(alloc, kinds.true_sharing.as_slice(), Key::Line)?,
-        silent_store: sums_by(alloc, kinds.silent_store.as_slice(), Key::Line)?,
-        false_sharing: sums_by(alloc, kinds.false_sharing.as_slice(), Key::Line)?,
-        full_buffer: sums_by(alloc, kinds.full_buffer.as_slice(), Key::Line)?,
+        true_sharing: lines_of(alloc, rollbacks, Kind::TrueSharing)?,
+        silent_store: lines_of(alloc, rollbacks, Kind::SilentStore)?,
+        false_sharing: lines_of(alloc, rollbacks, Kind::FalseSharing)?,
+        full_buffer: lines_of(alloc, rollbacks, Kind::FullBuffer)?,
     })
 }
 

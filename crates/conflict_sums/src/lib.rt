@@ -16,11 +16,11 @@ mod sum;
 
 pub use endings::{Ending, Endings};
 pub use keys::{Key, sums_by};
-pub use kinds::{ByKind, Counts, LinesByKind, kinds_of, lines_of, part_of};
+pub use kinds::{Counts, LinesByKind, lines_by_kind, part_of};
 pub use order::{heaviest, heaviest_pairs};
 pub use pair_sums::{Bounds, Fates, PairSum};
 pub use pairs::pairs_of;
 pub use part::Part;
-pub use roles::both_roles;
-pub use rollback::{Pair, Rollback, rollbacks};
+pub use roles::instructions;
+pub use rollback::{Pair, Rollback, rollback_with, rollbacks};
 pub use sum::{Sum, sum_of};

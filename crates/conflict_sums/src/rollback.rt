@@ -2,6 +2,7 @@
 
 ghost use Rattle.std.specs.Prelude.{◌≡◌, ◌*◌, ◌/◌, ◌≤◌, IfOk, map};
 ghost use Rattle.spec_history.specs.Conflict as conflict;
+ghost use Rattle.conflict_sums.specs.Endings.{AreEndings};
 ghost use Rattle.conflict_sums.specs.Rollbacks as spec;
 
 use crate::endings::Endings;
@@ -57,10 +58,25 @@ pub fn rollbacks(
     let mut found = Vec::new(alloc);
     let mut endings = Endings::new();
     for explanation in explanations {
-        let vain = endings.undone_at(entries, *explanation).is_some();
-        found.push(rollback_of(image, entries, sites, explanation, vain))?;
+        found.push(rollback_with(image, entries, sites, &mut endings, explanation))?;
     }
     Ok(found)
+}
+
+/// What of an explanation is summed. It takes the sites of the history, and what is kept of the ends of attempts.
+pub fn rollback_with(
+    image: &Image,
+    entries: &[Entry],
+    sites: &[Option<Site>],
+    endings: &mut Endings,
+    explanation: &Explanation,
+) -> Rollback
+    requires { AreEndings entries.now endings.old }
+    ensures summed { result ≡ spec.rollback_of image.now entries.now sites.now explanation.now }
+    ensures known { AreEndings entries.now endings.new }
+{
+    let vain = endings.undone_at(entries, *explanation).is_some();
+    rollback_of(image, entries, sites, explanation, vain)
 }
 
 /// What of an explanation is summed, which is in vain or not.

@@ -1,3 +1,2 @@
 pub mod Following
 pub mod Summing
-pub mod Telling

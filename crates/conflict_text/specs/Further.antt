@@ -1,6 +1,6 @@
 -- The lines of violations, each with its further runs.
 -- Source: this project.
-use Rattle.std.specs.Prelude.{ℕ, List, [], ◌∷◌, ◌++◌, Option, Some, None, slice_get}
+use Rattle.std.specs.Prelude.{ℕ, List, [], ◌∷◌, ◌++◌, Option}
 use Rattle.rv32_image.specs.Image.{LoadedImage}
 use Rattle.spec_history.specs.declared.entry.Entry.{Entry}
 use Rattle.conflicts.specs.declared.explanation.Explanation.{Explanation}
@@ -13,11 +13,3 @@ unfoldable pub told_lines : LoadedImage → List Entry → List (Option Site) �
 told_lines image entries sites [] further = []
 told_lines image entries sites (e ∷ found) [] = violation_lines image entries sites [] e ++ told_lines image entries sites found []
 told_lines image entries sites (e ∷ found) (runs ∷ further) = violation_lines image entries sites runs e ++ told_lines image entries sites found further
-
-abbrev pub list_or_none : Option (List Run) → List Run
-list_or_none None = []
-list_or_none (Some runs) = runs
-
--- the list at a place
-abbrev pub list_at : List (List Run) → ℕ → List Run
-list_at further place = list_or_none (slice_get further place)

@@ -11,13 +11,15 @@ use spec_history::{Entry, What};
 
 /// Which run of its epoch a core is in before a place of the history.
 #[derive(Clone, Copy)]
-pub(crate) struct Attempt {
-    core: u32,
-    place: usize,
+pub struct Attempt {
+    /// The core.
+    pub core: u32,
+    /// The place.
+    pub place: usize,
     /// Counted from 1.
-    number: usize,
+    pub number: usize,
     /// Whether the core has started an epoch.
-    started: bool,
+    pub started: bool,
 }
 
 /// What a core does at a place, if the entry there is the core's.
@@ -99,14 +101,16 @@ impl Attempt {
 
 /// What was found last for each core.
 #[derive(Drop)]
-pub(crate) struct Followed {
-    attempts: [Option<Attempt>; 16],
-    endings: Endings,
+pub struct Followed {
+    /// By the number of the core, modulo 16.
+    pub attempts: [Option<Attempt>; 16],
+    /// Where attempts that violated others were over.
+    pub endings: Endings,
 }
 
 impl Followed {
     /// Nothing yet.
-    pub(crate) fn new() -> Followed
+    pub fn new() -> Followed
         ensures { (entries : List Entry) → spec.IsFollowed entries result }
     {
         Followed {

@@ -1,7 +1,5 @@
 //! The lines of the further bytes at which two epochs met.
 ghost use Rattle.std.specs.Prelude.{◌≡◌, ◌++◌, OnOk};
-ghost use Rattle.conflict_runs.specs.Runs.{lists_of};
-ghost use Rattle.conflict_text.specs.Further.{list_at};
 ghost use Rattle.conflict_text.specs.Lines as spec;
 
 use crate::accesses::{push_access, push_bytes};
@@ -42,14 +40,4 @@ pub(crate) fn push_further(
         push_also(text, sites, place, *run)?;
     }
     Ok(())
-}
-
-/// The list at a place, or none where there are fewer.
-pub(crate) fn list_at(further: &[Vec<Run>], place: usize) -> &[Run]
-    ensures { result.now ≡ list_at (lists_of further.now) place }
-{
-    match further.get(place) {
-        Some(runs) => runs.as_slice(),
-        None => &[],
-    }
 }

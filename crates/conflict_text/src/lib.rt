@@ -11,4 +11,7 @@ mod report;
 mod sums;
 mod words;
 
-pub use report::{Findings, print_conflicts};
+pub use ends::attempt_lines;
+pub use followed::{Attempt, Followed};
+pub use lines::push_violation;
+pub use report::summary;

@@ -1,6 +1,7 @@
 -- What `why` comes to, from what its parts answer.
-use Rattle.std.proofs.Common.{◌≡◌, ◌≢◌, ℕ, List, Option, inl, inr, subst, sym}
-use Rattle.rv32_image.specs.Image.{LoadedImage}
+use Rattle.std.proofs.Common.{◌≡◌, ◌≢◌, ◌++◌, ℕ, List, Option, Some, length, map, inl, inr, subst, sym, ap, ◌∙◌}
+use Rattle.std.proofs.lemmas.List.{append_assoc}
+use Rattle.rv32_image.specs.Image.{LoadedImage, IsImage}
 use Rattle.spec_history.specs.declared.entry.Entry.{Entry}
 use Rattle.trace_commands.specs.declared.outcome.Outcome.{Outcome}
 use Rattle.trace_commands.specs.declared.outcome.Outcome.TheVariants.{Audited, Stopped}
@@ -12,11 +13,17 @@ use Rattle.spec_history.specs.declared.illegal.Illegal.{Illegal}
 use Rattle.spec_history.specs.declared.illegal.Illegal.TheVariants as why
 use Rattle.spec_history.specs.View.{IsAuditFault}
 use Rattle.trace_commands.proofs.Audits.{keeps_itself}
-use Rattle.conflict_runs.specs.Runs.{lists_of}
-use Rattle.conflict_text.specs.declared.report.Findings.{Findings}
-use Rattle.conflict_text.specs.Report.{IsPrinted}
+use Rattle.spec_history.specs.FlatState.{FlatState}
+use Rattle.spec_history.specs.Replay.{replay}
+use Rattle.conflicts.specs.declared.explanation.Explanation.{Explanation}
+use Rattle.conflicts.specs.Sites.{sites_before}
+use Rattle.conflict_runs.specs.Runs.{further_runs}
+use Rattle.attempt_ends.specs.Ends.{ended_before, running_after}
+use Rattle.conflict_text.specs.Ends.{attempt_lines}
+use Rattle.conflict_text.specs.Further.{told_lines}
 use Rattle.why.specs.Explaining.{IsReport}
-use Rattle.why.specs.Why.{AreFindings, IsAnswer, IsToldBy, IsTracedOutcome, IsWhyOutcome}
+use Rattle.why.specs.Why.{AreTold, IsAnswer, IsRest, IsToldBy, IsTracedOutcome, IsWhyOutcome}
+use Rattle.why.proofs.Same.{same_found}
 
 -- the trace that the input says was explained
 pub traced_outcome : (text : List ℕ) (image : LoadedImage) (cores : ℕ) (history : List Entry) (old new : Option (List ℕ)) (outcome : Outcome)
@@ -42,15 +49,23 @@ told_outcome image cores history verdict told old new (Audited given) right is =
 told_outcome image cores history verdict told old new (Stopped Write) right is = (verdict, told, right, is)
 told_outcome image cores history verdict told old new outcome right is = absurd is
 
--- what is printed of right findings is the report
-pub is_report : (image : LoadedImage) (cores : ℕ) (history slice : List Entry) (homefree : ℕ) (findings : Findings) (told text : List ℕ) → slice ≡ history → told ≡ text
-    → AreFindings image cores history findings
-    → IsPrinted image homefree slice findings.sites.items findings.explanations.items (lists_of findings.further.items) findings.ends.ended.items findings.ends.running.items text
-    → IsReport image cores history homefree told
-is_report image cores history slice homefree findings told text whole same found printed =
+-- the lines of the violations, with the rest below them, are the report
+pub is_report : (image : LoadedImage) (cores : ℕ) (history : List Entry) (homefree : ℕ) (violations rest text : List ℕ) (last : FlatState) → IsImage image → replay image cores history ≡ Some last
+    → AreTold image cores history (sites_before image cores history (length history)) (length history) violations → IsRest image cores history homefree rest → text ≡ violations ++ rest
+    → IsReport image cores history homefree text
+is_report image cores history homefree violations rest text last is replays told below whole =
+    let lines = λ (found : List Explanation). told_lines image history (sites_before image cores history (length history)) found (map (further_runs image cores history) found) in
+    let attempts = attempt_lines history (ended_before image cores history (length history)) (running_after image cores history) in
+    let same = same_found image cores history last told.found below.found is replays told.are.explained below.are.explained (told.are.each_once ∙ sym below.are.each_once) in
     record {
-      found = findings.explanations.items;
-      each_once = found.each_once;
-      explained = found.explained;
-      printed = rw (sym found.sites, sym found.further, sym found.ended, sym found.running, sym whole, same) printed;
+      found = below.found;
+      each_once = below.are.each_once;
+      explained = below.are.explained;
+      printed = record {
+        sums = below.sums;
+        summed = below.summed;
+        printed = whole
+            ∙ (ap (λ t. t ++ rest) (told.told ∙ ap lines same)
+            ∙ (ap (λ t. lines below.found ++ t) below.printed ∙ sym (append_assoc (lines below.found) attempts below.sums)));
+      };
     }

@@ -1,3 +1,4 @@
 pub mod Answering
-pub mod Placing
+pub mod Gathering
+pub mod Same
 pub mod Works

@@ -1,10 +1,9 @@
 -- What `why` comes to, and what it wrote.
-use Rattle.std.specs.Prelude.{◌≡◌, ◌⊎◌, ℕ, Bool, false, List, Option, length, map, nat_lt, All}
+use Rattle.std.specs.Prelude.{◌≡◌, ◌⊎◌, ℕ, List, [], ◌++◌, Option, None, Some, length, map, All}
 use Rattle.std.specs.Io.KnownBytes.{Appends, Keeps}
 use Rattle.rv32_image.specs.Image.{LoadedImage}
 use Rattle.spec_history.specs.declared.entry.Entry.{Entry}
-use Rattle.spec_history.specs.declared.entry.What.{What}
-use Rattle.spec_history.specs.declared.entry.What.TheVariants.{Store}
+use Rattle.spec_history.specs.FlatState.{FlatState}
 use Rattle.trace_commands.specs.declared.outcome.Outcome.{Outcome}
 use Rattle.trace_commands.specs.declared.outcome.Outcome.TheVariants.{Audited, Stopped}
 use Rattle.trace_commands.specs.declared.outcome.StopCause.TheVariants.{Write, NoMemory}
@@ -12,21 +11,50 @@ use Rattle.trace_commands.specs.declared.outcome.Verdict.{Verdict}
 use Rattle.trace_commands.specs.declared.outcome.Verdict.TheVariants.{Legal, Illegal}
 use Rattle.trace_commands.specs.Audit.{IsNoVerdict, IsTracedBy, IsVerdict, verdict_line}
 use Rattle.trace_commands.specs.Outcome.{AppendsPrefix, Conclusion}
+use Rattle.conflicts.specs.declared.explanation.Explanation.{Explanation}
+use Rattle.conflicts.specs.declared.standing.Site.{Site}
 use Rattle.conflicts.specs.Explained.{IsExplained, places_of, violations_before}
 use Rattle.conflicts.specs.Sites.{sites_before}
 use Rattle.attempt_ends.specs.Ends.{ended_before, running_after}
-use Rattle.conflict_runs.specs.Runs.{further_runs, lists_of}
-use Rattle.conflict_text.specs.declared.report.Findings.{Findings}
+use Rattle.conflict_runs.specs.Runs.{further_runs, runs_in}
+use Rattle.conflict_sums.specs.declared.rollback.Rollback.{Rollback}
+use Rattle.conflict_sums.specs.Rollbacks.{rollback_of}
+use Rattle.conflict_text.specs.Ends.{attempt_lines}
+use Rattle.conflict_text.specs.Further.{told_lines}
+use Rattle.conflict_text.specs.Lines.{violation_lines}
+use Rattle.conflict_text.specs.Report.{IsSummary}
 use Rattle.why.specs.Explaining.{IsReport}
 
--- what was found in the history is right
-pub record AreFindings (image : LoadedImage) (cores : ℕ) (history : List Entry) (findings : Findings) : Type 0 where
-  pub sites : findings.sites.items ≡ sites_before image cores history (length history)
-  pub each_once : places_of findings.explanations.items ≡ violations_before history (length history)
-  pub explained : All (IsExplained image cores history) findings.explanations.items
-  pub further : lists_of findings.further.items ≡ map (further_runs image cores history) findings.explanations.items
-  pub ended : findings.ends.ended.items ≡ ended_before image cores history (length history)
-  pub running : findings.ends.running.items ≡ running_after image cores history
+-- these explain the violations before a place of the history, one each, in order, and each is right
+pub record AreExplained (image : LoadedImage) (cores : ℕ) (history : List Entry) (place : ℕ) (found : List Explanation) : Type 0 where
+  pub each_once : places_of found ≡ violations_before history place
+  pub explained : All (IsExplained image cores history) found
+
+-- this is what is summed of their explanations, with these sites
+pub record AreSummed (image : LoadedImage) (cores : ℕ) (history : List Entry) (sites : List (Option Site)) (place : ℕ) (rollbacks : List Rollback) : Type 0 where
+  pub found : List Explanation
+  pub are : AreExplained image cores history place found
+  pub summed : rollbacks ≡ map (rollback_of image history sites) found
+
+-- these are their lines
+pub record AreTold (image : LoadedImage) (cores : ℕ) (history : List Entry) (sites : List (Option Site)) (place : ℕ) (text : List ℕ) : Type 0 where
+  pub found : List Explanation
+  pub are : AreExplained image cores history place found
+  pub told : text ≡ told_lines image history sites found (map (further_runs image cores history) found)
+
+-- the lines of an explanation, in the state before the violation, if there is one
+abbrev pub lines_of : LoadedImage → FlatState → List Entry → List (Option Site) → Option Explanation → List ℕ
+lines_of image s history sites None = []
+lines_of image s history sites (Some e) = violation_lines image history sites (runs_in image history e (Some s)) e
+
+-- the lines of attempts, and those of the sums over the violations of the history
+pub record IsRest (image : LoadedImage) (cores : ℕ) (history : List Entry) (homefree : ℕ) (text : List ℕ) : Type 0 where
+  pub found : List Explanation
+  pub are : AreExplained image cores history (length history) found
+  pub sums : List ℕ
+  pub summed : IsSummary image homefree (map (rollback_of image history (sites_before image cores history (length history))) found)
+      (ended_before image cores history (length history)) (running_after image cores history) sums
+  pub printed : text ≡ attempt_lines history (ended_before image cores history (length history)) (running_after image cores history) ++ sums
 
 -- what is written of a history by the verdict of its audit: the report, or the line of the entry that is refused
 abbrev pub IsTold : LoadedImage → ℕ → List Entry → Verdict → List ℕ → Type 0
@@ -68,11 +96,3 @@ IsWhyOutcome text old new outcome = IsExplainedOutcome text old new outcome ⊎ 
 -- what `why` answers for an input
 abbrev pub WhyAnswers : List ℕ → Option (List ℕ) → Option (List ℕ) → Option (List ℕ) → Option (List ℕ) → ℕ → Type 0
 WhyAnswers text old new errors errors' status = Conclusion (IsWhyOutcome text old new) errors errors' status
-
-abbrev pub wide_what : What → Bool
-wide_what (Store address width value) = nat_lt 4 width
-wide_what what = false
-
--- a store to more bytes than a register has, which no history has that replays
-abbrev pub is_wide : Entry → Bool
-is_wide entry = wide_what entry.what

@@ -1,14 +1,10 @@
-ghost use Rattle.std.specs.Prelude.{◌≡◌, ◌+◌, length};
+ghost use Rattle.std.specs.Prelude.{◌≡◌, ◌+◌};
 ghost use Rattle.rv32_image.specs.Input.{TakesAtMost};
 ghost use Rattle.rv32_image.specs.Reading.{ForText};
 ghost use Rattle.trace_text.specs.TraceText.{longest_trace_text};
-ghost use Rattle.trace_commands.specs.declared.outcome.Verdict.TheVariants.{Legal};
-ghost use Rattle.trace_commands.specs.Audit.{IsVerdict};
 ghost use Rattle.why.specs.Why as spec;
 
-use crate::finding::find;
-use conflict_text::{Findings, print_conflicts};
-use rv32_exec::NoMemory;
+use crate::finding::report_of;
 use spec_history::Illegal;
 use std::alloc::Global;
 use std::io::{Read, Write};
@@ -47,36 +43,19 @@ fn run_why<R: Read, W: Write>(alloc: Global, reader: &mut R, writer: &mut W) -> 
 fn explain_traced<W: Write>(alloc: Global, traced: &Traced, writer: &mut W) -> Outcome
     ensures { spec.IsTracedOutcome traced.now.image traced.now.cores traced.now.entries.items (W.contents writer.old) (W.contents writer.new) result }
 {
-    match find(alloc, traced) {
-        Ok((findings, homefree)) => report(alloc, traced, &findings, homefree, writer),
+    match report_of(alloc, traced) {
+        Ok((text, homefree)) => {
+            let verdict = Verdict::Legal {
+                entries: traced.entries.len(),
+                homefree,
+            };
+            tell(verdict, text.as_slice(), writer)
+        }
         Err((_, Illegal::NoMemory)) => Outcome::Stopped(StopCause::NoMemory),
         Err((place, refusal)) => {
             let verdict = Verdict::Illegal { place, refusal };
             tell(verdict, verdict_line(verdict).as_bytes(), writer)
         }
-    }
-}
-
-/// Writes the report of a legal history with this homefree epoch after it, of what was found in it.
-fn report<W: Write>(
-    alloc: Global,
-    traced: &Traced,
-    findings: &Findings,
-    homefree: u32,
-    writer: &mut W,
-) -> Outcome
-    requires found { spec.AreFindings traced.now.image traced.now.cores traced.now.entries.items findings.now }
-    requires legal { IsVerdict traced.now.image traced.now.cores traced.now.entries.items (Legal (length traced.now.entries.items) homefree) }
-    ensures { spec.IsTracedOutcome traced.now.image traced.now.cores traced.now.entries.items (W.contents writer.old) (W.contents writer.new) result }
-{
-    let entries = traced.entries.as_slice();
-    let verdict = Verdict::Legal {
-        entries: entries.len(),
-        homefree,
-    };
-    match print_conflicts(alloc, &traced.image, homefree, entries, findings) {
-        Ok(text) => tell(verdict, text.as_slice(), writer),
-        Err(NoMemory) => Outcome::Stopped(StopCause::NoMemory),
     }
 }
 

@@ -1,149 +1,163 @@
-//! What is found in a history, in one replay of it.
+//! The report of a history. It is replayed three times, so that no explanation is kept: for the sites of its entries, for the sums, and for the
+//! lines of its violations.
 
-ghost use Rattle.std.specs.Prelude.{◌≡◌, ◌++◌, ◌∷◌, [], IfOk, MatchResult, OnOk, Some, length, option_map, option_to_list};
-ghost use Rattle.std.specs.List.{list_any};
+ghost use Rattle.std.specs.Prelude.{◌≡◌, ◌++◌, [], IfOk, MatchResult, OnOk, Some, length, option_map, option_to_list};
+ghost use Rattle.rv32_image.specs.Image.{IsImage};
 ghost use Rattle.spec_history.specs.View.{IsAuditFault, state_in};
 ghost use Rattle.trace_commands.specs.declared.outcome.Verdict.TheVariants.{Legal};
 ghost use Rattle.trace_commands.specs.Audit.{IsVerdict};
 ghost use Rattle.conflicts.specs.Behind.{IsBehind};
-ghost use Rattle.conflicts.specs.Sites.{site_in};
-ghost use Rattle.attempt_ends.specs.Ends as ends;
-ghost use Rattle.attempt_ends.specs.Violated.{AreMarked};
-ghost use Rattle.conflict_runs.specs.Runs.{lists_of, runs_in};
+ghost use Rattle.conflicts.specs.Sites.{sites_before};
+ghost use Rattle.attempt_ends.specs.Ends.{ended_before, running_after};
+ghost use Rattle.conflict_sums.specs.Endings.{AreEndings};
+ghost use Rattle.conflict_sums.specs.Rollbacks.{rollback_of};
+ghost use Rattle.conflict_text.specs.Followed.{IsFollowed};
+ghost use Rattle.why.specs.Explaining.{IsReport};
 ghost use Rattle.why.specs.Why as spec;
 
 use attempt_ends::{Ended, Ends, ended_by, running_in};
 use conflict_runs::further_runs;
-use conflict_text::Findings;
-use conflicts::{Behind, Explanation, Known, explanation_at, site_of};
-use spec_history::{Entry, Flat, Illegal, What, audit};
+use conflict_sums::{Endings, Rollback, rollback_with};
+use conflict_text::{Followed, attempt_lines, push_violation, summary};
+use conflicts::{Behind, Explanation, Known, Site, explanation_at, sites};
+use rv32_exec::Image;
+use spec_history::{Entry, Flat, Illegal};
 use std::alloc::{AllocError, Global};
 use trace_commands::Traced;
 
-/// What is found in the history of a trace, and the homefree epoch after it. Where a store is wider than any that is legal, it has the
-/// history audited first: what comes after an entry is looked at before it is replayed, and such a store would be to very many bytes.
-///
-/// An Err is that of an audit: the place, counted from 0, of the first entry that is refused, and its refusal. `NoMemory` has
-/// the place at which memory was refused, and the number of entries where there was none for the machine itself or for what is
-/// found.
-pub(crate) fn find(alloc: Global, traced: &Traced) -> Result<(Findings, u32), (usize, Illegal)>
-    ensures found { IfOk result (λ found. spec.AreFindings traced.now.image traced.now.cores traced.now.entries.items found.0) }
-    ensures verdict { MatchResult result (λ found. IsVerdict traced.now.image traced.now.cores traced.now.entries.items (Legal (length traced.now.entries.items) found.1))
-        (λ fault. IsAuditFault traced.now.image traced.now.cores traced.now.entries.items fault.0 fault.1) }
-{
-    let entries = traced.entries.as_slice();
-    if has_wide_store(entries)
-        && let Err(fault) = audit(alloc, &traced.image, traced.cores, entries)
-    {
-        return Err(fault);
-    }
-    gather(alloc, traced)
+/// What is gathered of a history for its sums.
+#[derive(Drop)]
+struct Gathered {
+    /// What is summed of its violations.
+    rollbacks: Vec<Rollback>,
+    /// How its attempts ended.
+    ends: Ends,
+    /// The homefree epoch after it.
+    homefree: u32,
 }
 
-/// The same, in one replay.
-fn gather(alloc: Global, traced: &Traced) -> Result<(Findings, u32), (usize, Illegal)>
-    ensures found { IfOk result (λ found. spec.AreFindings traced.now.image traced.now.cores traced.now.entries.items found.0) }
-    ensures verdict { MatchResult result (λ found. IsVerdict traced.now.image traced.now.cores traced.now.entries.items (Legal (length traced.now.entries.items) found.1))
+/// The report of the history of a trace, and the homefree epoch after it.
+///
+/// An Err is that of an audit: the place, counted from 0, of the first entry that is refused, and its refusal. `NoMemory` has
+/// the place at which memory was refused, and the number of entries where there was none for the machine itself or for the
+/// report.
+pub(crate) fn report_of(alloc: Global, traced: &Traced) -> Result<(Vec<u8>, u32), (usize, Illegal)>
+    ensures report { IfOk result (λ told. IsReport traced.now.image traced.now.cores traced.now.entries.items told.1 told.0.items) }
+    ensures verdict { MatchResult result (λ told. IsVerdict traced.now.image traced.now.cores traced.now.entries.items (Legal (length traced.now.entries.items) told.1))
         (λ fault. IsAuditFault traced.now.image traced.now.cores traced.now.entries.items fault.0 fault.1) }
 {
     let image = &traced.image;
-    let cores = traced.cores;
     let entries = traced.entries.as_slice();
-    let Ok(mut flat) = Flat::new(alloc, image, cores) else {
-        return Err((entries.len(), Illegal::NoMemory));
-    };
-    let mut findings = nothing(alloc);
-    let mut known = Known::new(alloc);
-    for (place, entry) in entries.iter().enumerate() {
-        let Ok(explained) = explanation_at(alloc, image, cores, &flat, entries, &mut known, place)
-        else {
-            return Err((entries.len(), Illegal::NoMemory));
-        };
-        let noted = note(
-            alloc,
-            &mut findings,
-            traced,
-            &flat,
-            &known.behind,
-            place,
-            *entry,
-            explained,
-        );
-        if noted.is_err() {
-            return Err((entries.len(), Illegal::NoMemory));
-        }
-        if let Err(illegal) = flat.apply(*entry) {
-            return Err((place, illegal));
-        }
-    }
-    let Ok(running) = running_in(alloc, &flat, cores, entries) else {
-        return Err((entries.len(), Illegal::NoMemory));
-    };
-    findings.ends.running = running;
-    Ok((findings, flat.homefree()))
-}
-
-/// The entry is a store to more bytes than a register has.
-fn is_wide(entry: &Entry) -> bool
-    ensures { result ≡ spec.is_wide entry.now }
-{
-    match entry.what {
-        What::Store { width, .. } => width > 4,
-        _ => false,
+    let sites = sites(alloc, image, traced.cores, entries)?;
+    match print(alloc, image, traced.cores, entries, sites.as_slice()) {
+        Ok(told) => Ok(told),
+        Err(_) => Err((entries.len(), Illegal::NoMemory)),
     }
 }
 
-/// Some entry is such a store.
-fn has_wide_store(entries: &[Entry]) -> bool
-    ensures { result ≡ list_any spec.is_wide entries.now }
-{
-    entries.iter().any(|entry| is_wide(entry))
-}
-
-/// Nothing found yet.
-fn nothing(alloc: Global) -> Findings
-    ensures sites { result.sites.items ≡ [] }
-    ensures explanations { result.explanations.items ≡ [] }
-    ensures further { result.further.items ≡ [] }
-    ensures ended { result.ends.ended.items ≡ [] }
-{
-    Findings {
-        sites: Vec::new(alloc),
-        explanations: Vec::new(alloc),
-        further: Vec::new(alloc),
-        ends: Ends {
-            ended: Vec::new(alloc),
-            running: Vec::new(alloc),
-        },
-    }
-}
-
-/// Adds what is found at the place of an entry, with the explanation of it, if there is one. It takes the machine before the entry.
-fn note(
+/// The same of a history with these sites.
+fn print(
     alloc: Global,
-    findings: &mut Findings,
-    traced: &Traced,
-    flat: &Flat,
-    behind: &Behind,
-    place: usize,
-    entry: Entry,
+    image: &Image,
+    cores: u32,
+    entries: &[Entry],
+    sites: &[Option<Site>],
+) -> Result<(Vec<u8>, u32), AllocError>
+    requires { sites.now ≡ sites_before image.now cores entries.now (length entries.now) }
+    ensures report { IfOk result (λ told. IsReport image.now cores entries.now told.1 told.0.items) }
+    ensures verdict { IfOk result (λ told. IsVerdict image.now cores entries.now (Legal (length entries.now) told.1)) }
+{
+    let (rest, homefree) = rest(alloc, image, cores, entries, sites)?;
+    let mut text = violations(alloc, image, cores, entries, sites)?;
+    text.extend_from_slice(rest.as_slice())?;
+    Ok((text, homefree))
+}
+
+/// The lines of attempts and of sums, and the homefree epoch after the history.
+fn rest(
+    alloc: Global,
+    image: &Image,
+    cores: u32,
+    entries: &[Entry],
+    sites: &[Option<Site>],
+) -> Result<(Vec<u8>, u32), AllocError>
+    requires { sites.now ≡ sites_before image.now cores entries.now (length entries.now) }
+    ensures rest { IfOk result (λ told. spec.IsRest image.now cores entries.now told.1 told.0.items) }
+    ensures verdict { IfOk result (λ told. IsVerdict image.now cores entries.now (Legal (length entries.now) told.1)) }
+    ensures image { IfOk result (λ _. IsImage image.now) }
+{
+    let Gathered {
+        rollbacks,
+        ends,
+        homefree,
+    } = gather(alloc, image, cores, entries, sites)?;
+    let mut text = attempt_lines(alloc, entries, &ends)?;
+    let sums = summary(alloc, image, homefree, rollbacks.as_slice(), &ends)?;
+    text.extend_from_slice(sums.as_slice())?;
+    Ok((text, homefree))
+}
+
+/// What is gathered of a history, in one replay.
+fn gather(
+    alloc: Global,
+    image: &Image,
+    cores: u32,
+    entries: &[Entry],
+    sites: &[Option<Site>],
+) -> Result<Gathered, AllocError>
+    ensures summed { IfOk result (λ found. spec.AreSummed image.now cores entries.now sites.now (length entries.now) found.rollbacks.items) }
+    ensures ended { IfOk result (λ found. found.ends.ended.items ≡ ended_before image.now cores entries.now (length entries.now)) }
+    ensures running { IfOk result (λ found. found.ends.running.items ≡ running_after image.now cores entries.now) }
+    ensures verdict { IfOk result (λ found. IsVerdict image.now cores entries.now (Legal (length entries.now) found.homefree)) }
+{
+    let Ok(mut flat) = Flat::new(alloc, image, cores) else {
+        return Err(AllocError);
+    };
+    let mut known = Known::new(alloc);
+    let mut endings = Endings::new();
+    let mut rollbacks = Vec::new(alloc);
+    let mut ended = Vec::new(alloc);
+    for (place, entry) in entries.iter().enumerate() {
+        let explained = explanation_at(alloc, image, cores, &flat, entries, &mut known, place)?;
+        keep_summed(
+            &mut rollbacks,
+            image,
+            entries,
+            sites,
+            &mut endings,
+            explained,
+        )?;
+        keep_ended(&mut ended, ended_by(&flat, cores, entries, place, *entry))?;
+        let Ok(_) = flat.apply(*entry) else {
+            return Err(AllocError);
+        };
+    }
+    let running = running_in(alloc, &flat, cores, entries)?;
+    Ok(Gathered {
+        rollbacks,
+        ends: Ends { ended, running },
+        homefree: flat.homefree(),
+    })
+}
+
+/// What is summed of an explanation, at the end of a list, if there is one.
+fn keep_summed(
+    rollbacks: &mut Vec<Rollback>,
+    image: &Image,
+    entries: &[Entry],
+    sites: &[Option<Site>],
+    endings: &mut Endings,
     explained: Option<Explanation>,
 ) -> Result<(), AllocError>
-    requires image { flat.now.image ≡ traced.now.image }
-    requires known { IsBehind traced.now.image.size traced.now.entries.items behind.now }
-    requires marked { AreMarked traced.now.entries.items place (state_in flat.now).cores }
-    ensures sites { OnOk result (findings.new.sites.items ≡ findings.old.sites.items ++ site_in flat.now.image ((state_in flat.now).cores entry.by) ∷ []) }
-    ensures ended { OnOk result (findings.new.ends.ended.items
-        ≡ findings.old.ends.ended.items ++ option_to_list (ends.ended_by flat.now.image traced.now.cores (state_in flat.now) place entry.by entry.what)) }
-    ensures explanations { OnOk result (findings.new.explanations.items ≡ findings.old.explanations.items ++ option_to_list explained) }
-    ensures further { OnOk result (lists_of findings.new.further.items
-        ≡ lists_of findings.old.further.items ++ option_to_list (option_map (λ e. runs_in traced.now.image traced.now.entries.items e (Some (state_in flat.now))) explained)) }
+    requires { AreEndings entries.now endings.old }
+    ensures rollbacks { OnOk result (rollbacks.new.items
+        ≡ rollbacks.old.items ++ option_to_list (option_map (rollback_of image.now entries.now sites.now) explained)) }
+    ensures endings { AreEndings entries.now endings.new }
 {
-    let entries = traced.entries.as_slice();
-    let ended = ended_by(flat, traced.cores, entries, place, entry);
-    findings.sites.push(site_of(flat, entry.by))?;
-    keep_ended(&mut findings.ends.ended, ended)?;
-    keep_explained(alloc, findings, traced, flat, behind, explained)
+    if let Some(e) = explained {
+        rollbacks.push(rollback_with(image, entries, sites, endings, &e))?;
+    }
+    Ok(())
 }
 
 /// The list with an attempt at its end, if there is one.
@@ -156,28 +170,64 @@ fn keep_ended(ended: &mut Vec<Ended>, found: Option<Ended>) -> Result<(), AllocE
     Ok(())
 }
 
-/// Adds an explanation and its further runs, if there is one. It takes the machine before the violation.
-fn keep_explained(
+/// The lines of the violations of a history, in one replay.
+fn violations(
     alloc: Global,
-    findings: &mut Findings,
-    traced: &Traced,
+    image: &Image,
+    cores: u32,
+    entries: &[Entry],
+    sites: &[Option<Site>],
+) -> Result<Vec<u8>, AllocError>
+    ensures { IfOk result (λ text. spec.AreTold image.now cores entries.now sites.now (length entries.now) text.items) }
+{
+    let Ok(mut flat) = Flat::new(alloc, image, cores) else {
+        return Err(AllocError);
+    };
+    let mut known = Known::new(alloc);
+    let mut followed = Followed::new();
+    let mut text = Vec::new(alloc);
+    for (place, entry) in entries.iter().enumerate() {
+        let explained = explanation_at(alloc, image, cores, &flat, entries, &mut known, place)?;
+        let behind = &known.behind;
+        tell(
+            alloc,
+            &mut text,
+            image,
+            &flat,
+            entries,
+            sites,
+            behind,
+            &mut followed,
+            explained,
+        )?;
+        let Ok(_) = flat.apply(*entry) else {
+            return Err(AllocError);
+        };
+    }
+    Ok(text)
+}
+
+/// The lines of an explanation, at the end of a text, if there is one. It takes the machine before the violation.
+fn tell(
+    alloc: Global,
+    text: &mut Vec<u8>,
+    image: &Image,
     flat: &Flat,
+    entries: &[Entry],
+    sites: &[Option<Site>],
     behind: &Behind,
+    followed: &mut Followed,
     explained: Option<Explanation>,
 ) -> Result<(), AllocError>
-    requires image { flat.now.image ≡ traced.now.image }
-    requires known { IsBehind traced.now.image.size traced.now.entries.items behind.now }
-    ensures explanations { OnOk result (findings.new.explanations.items ≡ findings.old.explanations.items ++ option_to_list explained) }
-    ensures further { OnOk result (lists_of findings.new.further.items
-        ≡ lists_of findings.old.further.items ++ option_to_list (option_map (λ e. runs_in traced.now.image traced.now.entries.items e (Some (state_in flat.now))) explained)) }
-    ensures sites { findings.new.sites ≡ findings.old.sites }
-    ensures ends { findings.new.ends ≡ findings.old.ends }
+    requires image { flat.now.image ≡ image.now }
+    requires known { IsBehind image.now.size entries.now behind.now }
+    requires followed { IsFollowed entries.now followed.old }
+    ensures told { OnOk result (text.new.items ≡ text.old.items ++ spec.lines_of image.now (state_in flat.now) entries.now sites.now explained) }
+    ensures followed { OnOk result (IsFollowed entries.now followed.new) }
 {
-    if let Some(e) = explained {
-        let entries = traced.entries.as_slice();
-        let runs = further_runs(alloc, &traced.image, flat, entries, behind, e)?;
-        findings.further.push(runs)?;
-        findings.explanations.push(e)?;
-    }
-    Ok(())
+    let Some(e) = explained else {
+        return Ok(());
+    };
+    let runs = further_runs(alloc, image, flat, entries, behind, e)?;
+    push_violation(text, image, entries, sites, followed, runs.as_slice(), e)
 }

@@ -1,16 +1,30 @@
-use Rattle.std.proofs.Common.{◌∙◌, rules}
-use Rattle.trace_commands.specs.declared.outcome.Verdict.TheVariants.{Illegal}
+use Rattle.std.proofs.Common.{◌∙◌, rules, sym, subst}
+use Rattle.trace_commands.specs.declared.outcome.Verdict.TheVariants.{Illegal, Legal}
+use Rattle.why.specs.Explaining.{IsReport}
 use Rattle.why.proofs.Answering.{refused_at, told_outcome}
 use Rattle.why.proofs.command.explain_traced.Goals as goal
+
+pub returns-in-Ok : goal.returns-in-Ok
+returns-in-Ok g c =
+    let image = c.args.traced.now.image in
+    let cores = c.args.traced.now.cores in
+    let history = c.args.traced.now.entries.items in
+    let v = c.in-Ok.ensures.verdict in
+    told_outcome image cores history (Legal c.len.result c.in-Ok.homefree) c.as_slice.result.now (g.W.Write.contents c.args.writer.now) (g.W.Write.contents c.tell.new.writer) c.tell.result
+    (record {
+      audited = (v.0, v.1, v.2, c.len.ensures ∙ c.args.traced.now.entries.ok.0);
+      told_is = subst (IsReport image cores history c.in-Ok.homefree) (sym c.as_slice.ensures.value) c.in-Ok.ensures.report;
+    })
+    c.tell.ensures
 
 pub returns-in-Err : goal.returns-in-Err
 returns-in-Err g c =
     let image = c.args.traced.now.image in
     let cores = c.args.traced.now.cores in
     let history = c.args.traced.now.entries.items in
-    told_outcome image cores history (Illegal c.in-Err.place c.in-Err.refusal) c.as_bytes.result.now (g.W.Write.contents c.args.writer.now) (g.W.Write.contents c.tell.new.writer) c.tell.result
+    told_outcome image cores history (Illegal c.in-Err.place c.in-Err.refusal) c.as_bytes.result.now (g.W.Write.contents c.args.writer.now) (g.W.Write.contents c.tell-in-Err.new.writer) c.tell-in-Err.result
     (record {
       audited = refused_at image cores history c.in-Err.place c.in-Err.refusal c.in-Err.ensures.verdict (search rules);
       told_is = c.as_bytes.ensures.value ∙ (c.deref.ensures.0 ∙ c.verdict_line.ensures);
     })
-    c.tell.ensures
+    c.tell-in-Err.ensures
