@@ -33,6 +33,7 @@ pub fn next_but_one(n: u32) -> u32
     requires { n < 99 }
     ensures { result ≡ n + 2 }
 {
+    // two steps
     let one = next(n);
     next(one)
 }
@@ -63,6 +64,8 @@ EDITS = {
     "next_but_one_adds_the_limit": ([("    next(one)", "    next(one) + 1")], "refused: "),
     "next_changes_nothing": ([("    n + 1", "    n + 1")], "FAILED, BAD EDIT: it changes nothing"),
     "next_changes_a_comment": ([("// one more", "// plus one")], "FAILED, NOT REFUSED by a message at next: proved"),
+    "next_but_one_with_answers_changes_a_comment": (
+        [("// two steps", "// 2 steps")], "FAILED, NOT REFUSED by a message at next_but_one: proved"),
     "next_breaks_another_function": ([("result ≡ n + 1 }", "n < result }")], "FAILED, NOT REFUSED by a message at next: proved"),
     "next_does_not_compile": ([("    n + 1", "    n + true")], "FAILED, DOES NOT COMPILE: src/lib.rt:11:9: error[mismatched-types]"),
     "next_of_a_text_that_is_not_there": ([("    n + 7", "    n + 1")], "FAILED, BAD EDIT: a text of it stands in src/lib.rt 0 times"),

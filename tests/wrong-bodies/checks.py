@@ -13,7 +13,10 @@ AT_ANSWER = re.compile(r"(?:\./)?proofs/(\S+)/(?:Answers|Invariants|Proof)\.antt
 GOAL = re.compile(r"\(`([^`]+)`\)")
 UNPROVED = re.compile(r"not proved|not shown|does not hold")
 FALSE_GOAL = "allow values at which this goal is false"
-# An answer that names what the text took away says nothing of the function's promise.
+# A mistake in a function's answers, as long as there is one, keeps the checker from offering proof files, which takes it as long as a
+# few proofs. What it says of the function's goals stays the same.
+MISTAKE = "\n\nmistake : nothing-has-this-name\nmistake = nothing-has-this-name\n"
+# An answer that names what the text took away says nothing of the function's promise, and neither does the mistake.
 NAMES = re.compile(r"has no field|is not a field of|is not in scope|has no `|was not admitted|which was rejected")
 
 
@@ -27,8 +30,9 @@ class Said:
     seconds: float = 0.0
 
 
-def check(kit, crates, name, texts, functions, kept):
-    """Checks these functions of a crate with these texts of its files, over what earlier checks left in the folder `kept`."""
+def check(kit, crates, name, texts, functions, kept, offers=False):
+    """Checks these functions of a crate with these texts of its files, over what earlier checks left in the folder `kept`. Without
+    offers of proof files no function is told as proved: each has a mistake in its answers."""
     with tempfile.TemporaryDirectory(prefix="wrong-bodies-", ignore_cleanup_errors=True) as room:
         for part in PARTS:
             if os.path.isdir(f"{crates.folder(name)}/{part}"):
@@ -36,8 +40,22 @@ def check(kit, crates, name, texts, functions, kept):
         for path, text in texts.items():
             with open(f"{room}/{path}", "w", encoding="utf-8") as it:
                 it.write(text)
+        if not offers:
+            add_mistakes(room, functions)
         words = [kit.checker, "check", *crates.words(name, kit), kit.logic(), "--jobs=1", f"--incremental={kept}"]
         return said_by([*words, *[f"--only={it}" for it in sorted(functions)]], room, {f"{name}::{it}" for it in functions})
+
+
+def add_mistakes(room, functions):
+    """Adds a mistake to the answers of each function that has no proof by hand, alone or with others of a cycle."""
+    for function in functions:
+        *above, own = function.split("::")
+        folder = "/".join([room, "proofs", *above])
+        if os.path.isdir(f"{folder}/+{own}") or os.path.isfile(f"{folder}/{own}/Proof.antt"):
+            continue
+        os.makedirs(f"{folder}/{own}", exist_ok=True)
+        with open(f"{folder}/{own}/Answers.antt", "a", encoding="utf-8") as it:
+            it.write(MISTAKE)
 
 
 def said_by(words, folder, functions):
