@@ -3,4 +3,3 @@ mod Listing
 mod Loading
 mod Running
 mod Searching
-pub mod Telling

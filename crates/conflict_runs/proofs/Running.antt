@@ -1,8 +1,7 @@
 -- What a run is, and where none is.
-use Rattle.std.proofs.Common.{◌≡◌, ℕ, ◌/◌, ◌*◌, ◌+◌, ◌==◌, not, ◌&&◌, Bool, true, false, is_some, List, [], ◌++◌, Option, Some, None, option_and_then, option_map, if◌then◌else◌, refl, sym, ap, ◌∙◌}
+use Rattle.std.proofs.Common.{◌≡◌, ℕ, ◌==◌, not, ◌&&◌, Bool, true, false, List, [], ◌++◌, Option, Some, None, if◌then◌else◌, refl, sym, ap, ◌∙◌}
 use Rattle.std.proofs.lemmas.List.{append-nil, append_assoc}
 use Rattle.rv32_image.specs.Image.{LoadedImage}
-use Rattle.rv32_image.specs.Version.{limits_of}
 use Rattle.spec_history.specs.declared.entry.Entry.{Entry}
 use Rattle.spec_history.specs.declared.entry.What.{What}
 use Rattle.spec_history.specs.FlatState.{FlatState}
@@ -10,13 +9,12 @@ use Rattle.spec_history.specs.Refusal.{any_below}
 use Rattle.conflicts.specs.declared.explanation.Blame.{Blame}
 use Rattle.conflicts.specs.declared.explanation.ByteRange.{ByteRange}
 use Rattle.conflicts.specs.declared.explanation.Explanation.{Explanation}
-use Rattle.spec_history.specs.declared.kind.Kind.TheVariants.{TrueSharing, SilentStore, FalseSharing}
+use Rattle.spec_history.specs.declared.kind.Kind.TheVariants.{TrueSharing}
 use Rattle.conflicts.specs.Attempts.{covers}
-use Rattle.conflicts.specs.Blame.{Violation, blamed_range, read_at}
-use Rattle.spec_history.specs.Conflict.{is_changed, is_shared, what_at}
-use Rattle.spec_history.proofs.Searches.{first_none}
+use Rattle.conflicts.specs.Blame.{Violation, blamed_range}
+use Rattle.spec_history.specs.Conflict.{is_changed, is_shared}
 use Rattle.conflict_runs.specs.declared.run.Run.{Run}
-use Rattle.conflict_runs.specs.Runs.{begins_blamed, byte_in, is_falsely_shared, line_run, load_in, only, run_from, run_at, run_in, run_kind, run_of, run_with, runs_by, shared_run, violation_of}
+use Rattle.conflict_runs.specs.Runs.{begins_blamed, is_falsely_shared, line_run, only, run_from, run_at, run_kind, run_with, runs_by, shared_run}
 
 -- the run that was made
 pub made : (image : LoadedImage) (entries : List Entry) (v : Violation) (load a store : ℕ) (bytes : ByteRange) (changes : Bool)

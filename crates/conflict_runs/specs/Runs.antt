@@ -1,9 +1,8 @@
 -- The further runs of bytes at which two epochs met in a violation, beside the one that is blamed.
 -- Source: this project.
-use Rattle.std.specs.Prelude.{◌≡◌, ◌<◌, ℕ, zero, suc, ◌+◌, ◌*◌, ◌/◌, ◌==◌, ◌&&◌, not, nat_lt, Bool, false, length, slice_index, List, [], ◌++◌, map, Option, Some, None, is_some, option_and_then, option_map, option_to_list, Vec, if◌then◌else◌}
+use Rattle.std.specs.Prelude.{◌≡◌, ◌<◌, ℕ, zero, suc, ◌+◌, ◌*◌, ◌/◌, ◌==◌, ◌&&◌, not, nat_lt, Bool, false, length, slice_index, List, [], ◌++◌, Option, Some, None, is_some, option_and_then, option_map, option_to_list, if◌then◌else◌}
 use Rattle.std.specs.List.Sorted.{IsSorted}
 use Rattle.std.specs.Ordering.{nat_cmp}
-use Rattle.std.specs.declared.alloc.Global.{Global}
 use Rattle.memory_bytes.specs.Shadow.{IsAmong}
 use Rattle.rv32_image.specs.Image.{LoadedImage}
 use Rattle.rv32_image.specs.Version.{limits_of}
@@ -119,10 +118,6 @@ runs_in image entries e None = []
 
 abbrev pub further_runs : LoadedImage → ℕ → List Entry → Explanation → List Run
 further_runs image count entries e = runs_in image entries e (state_before image count entries e.place)
-
--- the lists that vectors hold
-abbrev pub lists_of : List (Vec Run Global) → List (List Run)
-lists_of vectors = map (λ (v : Vec Run Global). v.items) vectors
 
 -- ---- what the code keeps
 

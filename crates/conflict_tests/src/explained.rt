@@ -158,7 +158,7 @@ fn is_pair_told(row: &str, sites: &[Option<Site>]) -> bool {
     };
     load.pc == number(row, 20)
         && store.pc == number(row, 21)
-        && u64::from(number(row, 11)).checked_sub(load.done) == Some(u64::from(number(row, 23)))
+        && number(row, 11).checked_sub(load.done) == Some(number(row, 23))
 }
 
 #[test]

@@ -1,5 +1,5 @@
 -- What is noted of an attempt, one place after the other.
-use Rattle.std.proofs.Common.{◌≡◌, ℕ, zero, suc, ◌+◌, ◌<◌, ◌≤◌, ◌&&◌, Bool, true, false, is_none, is_some, nat_le, nat_lt, List, [], Option, Some, None, unwrap_or, if◌then◌else◌, refl, sym, ap, subst, ◌∙◌, inl, inr, arith, add-one, le-leb, le-ltb, lt-ltb, leb-true, ltb-true, ltb-false}
+use Rattle.std.proofs.Common.{◌≡◌, ℕ, suc, ◌+◌, ◌<◌, ◌≤◌, ◌&&◌, Bool, true, false, is_none, is_some, nat_le, nat_lt, List, [], Option, Some, None, if◌then◌else◌, refl, sym, ap, subst, ◌∙◌, inl, inr, arith, add-one, le-leb, le-ltb, lt-ltb, leb-true, ltb-true, ltb-false}
 use Rattle.std.specs.BTreeMap.{BTreeMap, IsUnchanged, Updates, get, is_at}
 use Rattle.std.specs.Map.{lookup}
 use Rattle.std.specs.Option.{option_or}
@@ -13,7 +13,7 @@ use Rattle.conflicts.specs.Behind.{AreBehind, IsBehind, is_within, kept_first, k
 use Rattle.conflicts.specs.declared.behind.Accesses.{Accesses}
 use Rattle.conflicts.specs.declared.behind.Behind.{Behind}
 use Rattle.conflicts.proofs.Backwards.{last_none}
-use Rattle.conflicts.proofs.Blaming.{either_way, not_so}
+use Rattle.conflicts.proofs.Blaming.{either_way}
 use Rattle.conflicts.proofs.Finding.{last_found}
 use Rattle.conflicts.proofs.Storing.{apart_by}
 

@@ -142,6 +142,6 @@ impl Explanation {
     {
         let pair = self.blame?;
         let site = (*sites.get(pair.load)?)?;
-        Some(self.lost.saturating_sub(site.done))
+        Some(self.lost.saturating_sub(u64::from(site.done)))
     }
 }

@@ -1,24 +1,24 @@
-//! Which instruction each entry is of.
+//! Which instruction each access to data is of.
 
 ghost use Rattle.std.specs.Prelude.{◌≡◌, ◌++◌, ◌∷◌, [], IfOk, MatchResult, OnOk, is_some, length, true};
 ghost use Rattle.spec_history.specs.Replay.{replay};
 ghost use Rattle.spec_history.specs.View.{IsAuditFault, state_in};
 ghost use Rattle.conflicts.specs.Sites as spec;
 
-use rv32_exec::Image;
+use rv32_exec::{Image, Stop};
 use spec_history::{Entry, Flat, Illegal};
 use std::alloc::{AllocError, Global};
 
-/// Where a core stands before the instruction of its next event.
+/// Where a core stands before the load or store that is its next event.
 #[derive(Clone, Copy, Debug, PartialEq, Eq)]
 pub struct Site {
     /// The address of the instruction.
     pub pc: u32,
-    /// How many instructions of the attempt came before it: what a checkpoint there would save.
-    pub done: u64,
+    /// How many instructions of the attempt came before it, fewer than 1,000,000: what a checkpoint there would save.
+    pub done: u32,
 }
 
-/// For each entry of a history, in order, where its core stood before it; nothing for a core that ran no epoch.
+/// For each entry of a history, in order, where its core stood before it, if a load or a store came next; else nothing.
 ///
 /// An Err is that of an audit: the place, counted from 0, of the first entry that is refused, and its refusal. `NoMemory` has
 /// the place at which memory was refused, and the number of entries where there was none for the machine itself or for the
@@ -57,14 +57,17 @@ fn keep(sites: &mut Vec<Option<Site>>, site: Option<Site>) -> Result<(), AllocEr
     Ok(())
 }
 
-/// Where a core stands before its next event; nothing for one that runs no epoch.
+/// Where a core stands before its next event, if that is a load or a store.
 pub fn site_of(flat: &Flat, core: u32) -> Option<Site>
     ensures { result ≡ spec.site_in flat.now.image ((state_in flat.now).cores core) }
 {
     let next = flat.next_event(core)?;
     let hart = next.now();
-    Some(Site {
-        pc: hart.pc(),
-        done: hart.done(),
-    })
+    match next.at() {
+        Stop::Load { .. } | Stop::Store { .. } => Some(Site {
+            pc: hart.pc(),
+            done: hart.done() as u32,
+        }),
+        Stop::Ended | Stop::Fault { .. } => None,
+    }
 }

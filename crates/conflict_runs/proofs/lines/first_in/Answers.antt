@@ -3,7 +3,7 @@ use Rattle.rv32_image.specs.declared.version.Limits.{Limits}
 use Rattle.rv32_image.specs.Version.{limits_of}
 use Rattle.conflicts.specs.Attempts.{first_read}
 use Rattle.conflict_runs.specs.Runs.{earlier}
-use Rattle.conflict_runs.proofs.Loading.{At, IsEarliest, Reads, earliest_more, none_so, some_so, within_so}
+use Rattle.conflict_runs.proofs.Loading.{At, IsEarliest, Reads, earliest_more, none_so, some_so}
 use Rattle.conflict_runs.proofs.Searching.{byte_within}
 use Rattle.conflict_runs.proofs.lines.first_in.Goals as goal
 

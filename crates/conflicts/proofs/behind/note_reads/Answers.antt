@@ -1,4 +1,4 @@
-use Rattle.std.proofs.Common.{◌≡◌, ◌<◌, ◌≤◌, ◌&&◌, ◌∙◌, ℕ, Bool, true, is_none, sym, ap, arith}
+use Rattle.std.proofs.Common.{◌&&◌, ◌∙◌, Bool, is_none, sym, ap, arith}
 use Rattle.std.specs.BTreeMap.{get}
 use Rattle.std.specs.Ordering.{nat_cmp}
 use Rattle.spec_history.proofs.Legal.{and_true}

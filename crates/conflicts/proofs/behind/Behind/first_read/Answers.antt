@@ -1,4 +1,4 @@
-use Rattle.std.proofs.Common.{sym, ◌∙◌, arith}
+use Rattle.std.proofs.Common.{sym, ◌∙◌}
 use Rattle.conflicts.proofs.Walking.{at_hand}
 use Rattle.conflicts.proofs.behind.Behind.first_read.Goals as goal
 

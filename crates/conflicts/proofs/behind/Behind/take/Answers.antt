@@ -1,4 +1,4 @@
-use Rattle.std.proofs.Common.{sym, ◌∙◌}
+use Rattle.std.proofs.Common.{sym}
 use Rattle.conflicts.proofs.Walking.{left}
 use Rattle.conflicts.proofs.behind.Behind.take.Goals as goal
 
