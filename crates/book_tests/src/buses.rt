@@ -473,3 +473,20 @@ fn random_calls_do_what_a_plain_bus_does_third(rt: HostRuntime) -> Result<(), Fa
 fn random_calls_do_what_a_plain_bus_does_fourth(rt: HostRuntime) -> Result<(), Fail> {
     walk_often(&rt, rt.alloc(), 4)
 }
+
+/// A core alone: nobody is there to be hurt, or to have a copy for whose sake a line would enter the buffer.
+#[test]
+fn random_calls_of_one_core_do_what_a_plain_bus_does(rt: HostRuntime) -> Result<(), Fail> {
+    let mut random = Random::new(5);
+    let mut tally = Tally::new();
+    for turn in 0..200 {
+        let second = turn % 2 == 1;
+        let image = image(rt.alloc(), second, 3 + random.below(10))?;
+        call_often(&rt, rt.alloc(), &image, second, 1, &mut random, &mut tally)?;
+    }
+    assert!(rt; tally.hurt == 0 && tally.hurting_publishes == 0);
+    assert!(rt; tally.orb_full == 0 && tally.orb_busy == 0);
+    assert!(rt; tally.done > 3_000 && tally.no_way > 50);
+    assert!(rt; tally.publishes > 50 && tally.straight > 500);
+    Ok(())
+}
