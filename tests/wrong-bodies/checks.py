@@ -30,9 +30,10 @@ class Said:
     seconds: float = 0.0
 
 
-def check(kit, crates, name, texts, functions, kept, offers=False):
-    """Checks these functions of a crate with these texts of its files, over what earlier checks left in the folder `kept`. Without
-    offers of proof files no function is told as proved: each has a mistake in its answers."""
+def check(kit, crates, name, texts, functions, kept, twins=(), offers=False):
+    """Checks these functions of a crate with these texts of its files, over what earlier checks left in the folder `kept`. A twin
+    of a function, a pair of both paths, has its proof files. Without offers of such files no function is told as proved: each
+    has a mistake in its answers."""
     with tempfile.TemporaryDirectory(prefix="wrong-bodies-", ignore_cleanup_errors=True) as room:
         for part in PARTS:
             if os.path.isdir(f"{crates.folder(name)}/{part}"):
@@ -40,10 +41,23 @@ def check(kit, crates, name, texts, functions, kept, offers=False):
         for path, text in texts.items():
             with open(f"{room}/{path}", "w", encoding="utf-8") as it:
                 it.write(text)
+        for twin, of in twins:
+            copy_proofs(room, twin, of)
         if not offers:
             add_mistakes(room, functions)
         words = [kit.checker, "check", *crates.words(name, kit), kit.logic(), "--jobs=1", f"--incremental={kept}"]
         return said_by([*words, *[f"--only={it}" for it in sorted(functions)]], room, {f"{name}::{it}" for it in functions})
+
+
+def copy_proofs(room, twin, of):
+    """Gives a twin the proof files of its function, in which they name what is made of that by its path."""
+    there, here = (f"{room}/proofs/{it.replace('::', '/')}" for it in (of, twin))
+    for name in os.listdir(there) if os.path.isdir(there) else ():
+        with open(f"{there}/{name}", encoding="utf-8") as it:
+            text = it.read()
+        os.makedirs(here, exist_ok=True)
+        with open(f"{here}/{name}", "w", encoding="utf-8") as it:
+            it.write(re.sub(rf"\.{re.escape(of.replace('::', '.'))}(?=[.\s])", f".{twin.replace('::', '.')}", text))
 
 
 def add_mistakes(room, functions):

@@ -1,7 +1,7 @@
 """Wrong bodies of a crate: what each edit changes, in which functions, and which of them can be tried together."""
 import os
 import re
-from dataclasses import dataclass
+from dataclasses import dataclass, replace
 
 from sources import functions_of, module_of, types_of
 
@@ -20,14 +20,23 @@ class Change:
 
 
 @dataclass(frozen=True)
+class Twin:
+    """A copy of a function with an edit's body and another name: its text, and the path of the function below which it stands."""
+
+    text: str
+    of: str
+
+
+@dataclass(frozen=True)
 class Edit:
     """A wrong body: its name, what it changes, the paths of the functions that it changes, and whether it changes nothing but
-    their bodies, so that no other function can tell."""
+    their bodies, so that no other function can tell. Where the wrong body stands in a twin, the function itself stays right."""
 
     name: str
     changes: tuple
     functions: frozenset
     in_bodies: bool
+    twin: Twin = None
 
 
 class Sources:
@@ -41,6 +50,7 @@ class Sources:
                 with open(f"{at}/{name}", encoding="utf-8") as it:
                     self.texts[path] = it.read()
         self.homes = {name: module_of(path) for path, text in self.texts.items() for name in types_of(text)}
+        self.holders = {name for text in self.texts.values() for name in types_of(text, "struct|enum")}
 
     def path_of(self, file, function):
         """What the checker calls a function, below the crate: a method stands in the module of its type."""
@@ -83,6 +93,42 @@ def changed(sources, changes, texts=None):
     return texts
 
 
+def applied(sources, edit, texts):
+    """The texts of the files with an edit, each from `texts` where that has it."""
+    if not edit.twin:
+        return changed(sources, edit.changes, texts)
+    file = edit.changes[0].file
+    lines = texts.get(file, sources.texts[file]).split("\n")
+    below = sources.functions(file, "\n".join(lines))[edit.twin.of].last
+    return {**texts, file: "\n".join([*lines[:below], "", edit.twin.text, *lines[below:]])}
+
+
+def in_twin(edit, sources, number):
+    """The edit with its wrong body in a twin of its function, or None where that can't be: the edit changes more than the body of
+    one function, and that is one of a trait, or calls itself."""
+    if not edit.in_bodies or len(edit.functions) != 1 or len({it.file for it in edit.changes}) != 1:
+        return None
+    file, (path,) = edit.changes[0].file, edit.functions
+    text = changed(sources, edit.changes)[file]
+    function = sources.functions(file, text)[path]
+    lines = text.split("\n")
+    of = lines[function.first - 1 : function.last]
+    head, body = "\n".join(of[: function.body - function.first + 1]), "\n".join(of[function.body - function.first + 1 :])
+    changes_more = lines_outside(sources, file, path) != [*lines[: function.first - 1], *lines[function.last :]]
+    calls_itself = re.search(rf"\b{function.name}\b", body) or "#[cycle(" in head
+    if changes_more or calls_itself or function.holder and function.holder not in sources.holders:
+        return None
+    name = f"{function.name}_twin{number}"
+    text = re.sub(rf"\bfn {function.name}\b", f"fn {name}", head, count=1) + "\n" + body
+    return replace(edit, functions=frozenset({path.removesuffix(function.name) + name}), twin=Twin(text, path))
+
+
+def lines_outside(sources, file, path):
+    """The lines of a source file but for those of a function."""
+    lines, function = sources.texts[file].split("\n"), sources.functions(file, sources.texts[file])[path]
+    return [*lines[: function.first - 1], *lines[function.last :]]
+
+
 def read_edit(path, sources):
     """The edit in a file. It changes at least one function; what it changes outside of functions comes along."""
     with open(path, encoding="utf-8") as it:
@@ -108,19 +154,20 @@ def stays_inside(change, line, function):
 
 
 def batches_of(edits, sources):
-    """The edits in as few lists as one pass finds: in a list each function is changed once, and each text stands once. What
-    changes more than bodies and imports has a list of its own."""
+    """The edits in as few lists as one pass finds: in a list each function is changed once, and each text stands once; a further
+    wrong body of a function stands in a twin of it. What changes more than bodies and imports has a list of its own."""
     yield from ([it] for it in edits if not it.in_bodies)
     left = [it for it in edits if it.in_bodies]
     while left:
         batch, later, used, texts = [], [], set(), {}
         for edit in left:
+            twin = in_twin(edit, sources, len(batch)) if used & edit.functions else None
             try:
-                if used & edit.functions:
+                if used & edit.functions and not twin:
                     raise BadEdit("a function of it is changed already")
-                texts = changed(sources, edit.changes, texts)
+                texts = applied(sources, twin or edit, texts)
                 used |= edit.functions
-                batch.append(edit)
+                batch.append(twin or edit)
             except BadEdit:
                 later.append(edit)
         yield batch

@@ -5,7 +5,6 @@ from dataclasses import dataclass
 FUNCTION = re.compile(r'( *)(?:pub(?:\([a-z ]+\))? )?(?:const )?(?:unsafe )?(?:extern "C" )?fn (\w+)')
 HOLDER = re.compile(r"( *)(?:pub(?:\([a-z ]+\))? )?(?:unsafe )?(impl|trait)\b(.*)")
 ABOVE = re.compile(r"\s*(?:#\[|//)")
-TYPE = re.compile(r"(?m)^(?:pub(?:\([a-z ]+\))? )?(?:struct|enum|trait) (\w+)")
 CYCLE = re.compile(r"#\[cycle\((\w+)\)\]")
 
 
@@ -42,9 +41,9 @@ def functions_of(text):
     return found
 
 
-def types_of(text):
-    """The names of the structs, enums and traits that a source text declares."""
-    return TYPE.findall(text)
+def types_of(text, kinds="struct|enum|trait"):
+    """The names of the types of these kinds that a source text declares."""
+    return re.findall(rf"(?m)^(?:pub(?:\([a-z ]+\))? )?(?:{kinds}) (\w+)", text)
 
 
 def ended_by_itself(line):
@@ -55,7 +54,8 @@ def ended_by_itself(line):
 def last_line(lines, at, indent):
     if ended_by_itself(lines[at]):
         return at
-    return next((it for it in range(at + 1, len(lines)) if lines[it].rstrip() in (indent + "}", indent + ");")), len(lines) - 1)
+    ends = (indent + "}", indent + "{}", indent + ");")
+    return next((it for it in range(at + 1, len(lines)) if lines[it].rstrip() in ends), len(lines) - 1)
 
 
 def header_from(lines, at):
