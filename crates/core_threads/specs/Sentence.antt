@@ -65,7 +65,7 @@ HaltsWith view l None fault counted = (fault ≡ NoMemory) × (counted ≡ no_co
 -- ---- beside the sentence
 
 -- each violation in the history has its cause and is of a kind, over caches no entry passes over a later epoch that has read in a
--- line which it writes, and the history is within the room
+-- line which it writes, further stores aside, and the history is within the room
 pub record Explains {S : Type 0} (view : S → StoreView) (b : BookView S) : Type 0 where
   pub caused : HasCauses b.history
   pub known : AreKnown b.image b.cores b.history

@@ -59,7 +59,7 @@ const NOTHING: Counts = Counts {
 /// allows, and the room is 16 to 1,048,576 entries.
 ///
 /// Beside that, in each book that it gives back, of a loop that is over or was halted, each violation has its cause and is of a
-/// kind, over caches nobody is passed over who has read what is written, and the history is within the room.
+/// kind, over caches nobody is passed over who has read what is written, further stores aside, and the history is within the room.
 pub fn run_cores<S: EpochStore, G: Gate, R: Threads + Wait + Sync>(
     rt: &R,
     alloc: Global,

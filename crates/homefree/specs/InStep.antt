@@ -24,7 +24,7 @@ pub record InStep {S : Type 0} (view : S → StoreView) (b : BookView S) : Type 
   -- each violation has its cause, which stands after it, and is of a kind
   pub caused : HasCauses b.history
   pub kinds : HasKinds b.image b.cores b.history
-  -- over caches, no entry passes over a later epoch that has read in a line which it writes
+  -- over caches, no entry passes over a later epoch that has read in a line which it writes, further stores aside
   pub passes : IsOfCaches view → PassesOverNone b.image b.cores b.history
   pub counted : b.totals ≡ counted_in b.history
   pub is_image : IsImage b.image

@@ -1,4 +1,4 @@
--- That over caches no later epoch is passed over where a line is written from which it has read.
+-- That over caches no later epoch is passed over where a line is written from which it has read, further stores aside.
 -- Source: a store of an earlier epoch violates the later ones that have speculatively loaded the line: Steffan, Colohan, Zhai and
 -- Mowry, "A Scalable Approach to Thread-Level Speculation", ISCA 2000.
 use Rattle.std.specs.Prelude.{◌≡◌, ℕ, ◌<◌, true, false, List, take, Some, is_some, slice_get}

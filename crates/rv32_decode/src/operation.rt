@@ -4,7 +4,7 @@ ghost use Rattle.rv32_decode.specs.Operations as spec;
 use crate::fields::{Destination, Register};
 use crate::instr::Instr;
 
-/// What an operation does. Names are those of the instructions, but for the last seven and `Constant`.
+/// What an operation does. Names are those of the instructions, but for the last seven.
 #[derive(Clone, Copy)]
 pub enum Code {
     Beq,
