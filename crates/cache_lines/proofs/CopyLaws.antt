@@ -1,5 +1,5 @@
 -- What the calls do to the copies of a cache as the protocol sees them.
-use Rattle.std.proofs.Common.{◌≡◌, ℕ, ◌<◌, ◌==◌, ◌&&◌, Bool, true, false, cond, List, Option, Some, None, slice_index, refl, sym, ap, subst, ◌∙◌, arith}
+use Rattle.std.proofs.Common.{◌≡◌, ℕ, ◌<◌, ◌==◌, ◌&&◌, Bool, true, false, cond, Option, Some, None, refl, sym, ap, subst, ◌∙◌, arith}
 use Rattle.std.proofs.Math.Path.{fun_ext}
 use Rattle.std.proofs.lemmas.Bool.Decides.{nat_tests}
 use Rattle.std.proofs.lemmas.Nat.{pow_pos}
@@ -11,11 +11,11 @@ use Rattle.spec_states.specs.Tables.{violation, settlement}
 use Rattle.spec_states.proofs.CopyLaws.{IsUpToDate-gone, violation-keeps, settlement-publishes}
 use Rattle.spec_states.proofs.RowLaws.{violation-rolls_back, settlement-settles}
 use Rattle.cache_lines.specs.declared.line.Line.{Line}
-use Rattle.cache_lines.specs.Cells.{cell_of, with_number, line_with_number, refreshed_line}
+use Rattle.cache_lines.specs.Cells.{cell_of, with_number, line_with_number}
 use Rattle.cache_lines.specs.Changes.{rolled_back_line, published_line, with_each_line, IsFound, CopiesAreFilled, CopiesChange, CopiesAllChange}
 use Rattle.cache_lines.specs.Lines.{Contents, way_count, line_in, with_line, is_copy_of, held_line}
 use Rattle.cache_lines.specs.Placed.{IsNotElsewhere, IsPlaced, MayStand}
-use Rattle.cache_lines.specs.Protocol.{IsInPlace, copy_of_line, copy_or_none, copy_at, rolled_back_copy, published_copy, copy_with_number, refreshed_copy}
+use Rattle.cache_lines.specs.Protocol.{IsInPlace, copy_of_line, copy_or_none, copy_at, rolled_back_copy, published_copy, copy_with_number}
 use Rattle.cache_lines.proofs.LineLaws.{is_copy_of-true, is_copy_of-own, not_true, held_line-own, held_line-with_line}
 use Rattle.cache_lines.proofs.WholeCache.{changed_held, held_line-each, KeepsAddresses, KeepsAddresses-rolled_back, KeepsAddresses-published}
 
@@ -145,21 +145,6 @@ copies-written cache new addr way offset width value line h way_way may is_writt
     (shown_valid line (line_in cache addr way) (with_number (cell_of (line_in cache addr way)) offset width value)
     (ap (λ (l : Line). l.state) is_written) (ap (λ (l : Line). l.marks) is_written) bytes))
 
--- a copy takes bytes outside its mask
-pub copies-refreshed : (cache new : Contents) (addr way : ℕ) (cells : List ℕ) (line : Line) → IsPlaced cache
-    → way < way_count → MayStand cache addr way line → line ≡ refreshed_line (line_in cache addr way) cells
-    → ((x : ℕ) → cell_of line x
-    ≡ merged_line (line_in cache addr way).marks.bytes (cell_of (line_in cache addr way)) (slice_index cells) x)
-    → new ≡ with_line cache addr way line → CopiesChange cache new addr way (refreshed_copy (slice_index cells))
-copies-refreshed cache new addr way cells line h way_way may is_refreshed bytes is_new =
-    subst (λ (c : Contents). CopiesChange cache c addr way (refreshed_copy (slice_index cells))) (sym is_new)
-    (copies-changed cache addr way line (refreshed_copy (slice_index cells)) h way_way may
-    (ap (λ (l : Line). l.addr) is_refreshed)
-    (λ v. ap (λ (l : Line). is_valid l.state) (sym is_refreshed) ∙ v)
-    (shown_valid line (line_in cache addr way)
-    (merged_line (line_in cache addr way).marks.bytes (cell_of (line_in cache addr way)) (slice_index cells))
-    (ap (λ (l : Line). l.state) is_refreshed) (ap (λ (l : Line). l.marks) is_refreshed) bytes))
-
 -- a change of a line, seen as one of its copy
 pub record ChangesCopy (change : Line → Line) (shown : LineCopy → LineCopy) : Type 0 where
   pub keeps : KeepsAddresses change
@@ -172,18 +157,6 @@ ChangesCopy-rolled_back = record { keeps = KeepsAddresses-rolled_back; seen = λ
 pub ChangesCopy-published : (alone : Bool) → ChangesCopy (published_line alone) (published_copy alone)
 ChangesCopy-published alone =
     record { keeps = KeepsAddresses-published alone; seen = λ line. refl; none = refl }
-
--- one line is changed so
-pub copies-one : (change : Line → Line) (shown : LineCopy → LineCopy) → ChangesCopy change shown
-    → (cache new : Contents) (addr way : ℕ) (line : Line) → IsPlaced cache → way < way_count
-    → MayStand cache addr way line → line ≡ change (line_in cache addr way) → new ≡ with_line cache addr way line
-    → CopiesChange cache new addr way shown
-copies-one change shown h cache new addr way line placed way_way may is_line is_new =
-    subst (λ (c : Contents). CopiesChange cache c addr way shown) (sym is_new)
-    (copies-changed cache addr way line shown placed way_way may
-    (ap (λ (l : Line). l.addr) is_line ∙ h.keeps.addr (line_in cache addr way))
-    (λ v. h.keeps.no_revival (line_in cache addr way) (ap (λ (l : Line). is_valid l.state) (sym is_line) ∙ v))
-    (λ v. ap shown_line is_line ∙ h.seen (line_in cache addr way)))
 
 -- each line is changed so
 pub copies-each : (change : Line → Line) (shown : LineCopy → LineCopy) → ChangesCopy change shown

@@ -1,13 +1,13 @@
-ghost use Rattle.std.specs.Prelude.{◌≡◌, ℕ, ◌+◌, ◌<◌, ◌≤◌, ◌%◌, ◌*◌, map, true, false, Some, None, if◌then◌else◌, slice_index, IsTrue, All, IfSome, IfNone};
+ghost use Rattle.std.specs.Prelude.{◌≡◌, ℕ, ◌+◌, ◌<◌, ◌%◌, ◌*◌, map, true, false, Some, None, if◌then◌else◌, IsTrue, All, IfSome, IfNone};
 ghost use Rattle.spec_states.specs.declared.line.LineState.TheVariants.{I};
 ghost use Rattle.spec_states.specs.Copies.{no_copy, merged_line, IsUpToDate};
 ghost use Rattle.memory_bytes.specs.Bytes.{IsWidth};
 ghost use Rattle.spec_states.specs.States.{is_valid, is_speculative};
-ghost use Rattle.cache_lines.specs.Cells.{line_with_number, refreshed_line};
+ghost use Rattle.cache_lines.specs.Cells.{line_with_number};
 ghost use Rattle.cache_lines.specs.Changes.{way_at, victim_of, rolled_back_line, published_line, with_each_line, IsFound, IsAbsent, CopiesAreFilled, CopiesChange, CopiesAllChange, StandIn};
 ghost use Rattle.cache_lines.specs.Lines.{Contents, is_line_length, set_count, way_count, place, line_in, with_line, is_copy_of};
 ghost use Rattle.cache_lines.specs.Placed.{IsNotElsewhere, FitsLength, IsPlaced, MayStand};
-ghost use Rattle.cache_lines.specs.Protocol.{IsInPlace, copy_at, copy_of_line, rolled_back_copy, published_copy, copy_with_number, refreshed_copy};
+ghost use Rattle.cache_lines.specs.Protocol.{IsInPlace, copy_at, copy_of_line, rolled_back_copy, published_copy, copy_with_number};
 
 use crate::line::Line;
 use spec_states::LONGEST_LINE;
@@ -63,7 +63,7 @@ fn settle_lines(lines: &mut [Line; LINES])
 {
     for place in 0..LINES {
         let line = lines[place];
-        lines[place] = line.published(true);
+        lines[place] = line.published();
     }
 }
 
@@ -171,41 +171,6 @@ impl Cache {
         ensures ways { StandIn self.new (way_at self.old) }
     {
         let line = self.line(addr, way).with_number(offset, width, value);
-        self.put(addr, way, line);
-    }
-
-    /// Takes the given cells, which are 0 past the line length, into the bytes of a line outside its mask.
-    pub fn refresh(&mut self, addr: u32, way: usize, cells: [u8; LONGEST_LINE])
-        requires in_ways { way < way_count }
-        requires in_line { (x : ℕ) → self.old.line_length ≤ x → slice_index cells x ≡ 0 }
-        ensures exact { self.new ≡ with_line self.old addr way (refreshed_line (line_in self.old addr way) cells) }
-        ensures line { line_in self.new addr way ≡ refreshed_line (line_in self.old addr way) cells }
-        ensures copies { CopiesChange self.old self.new addr way (refreshed_copy (slice_index cells)) }
-    {
-        let line = self.line(addr, way).refreshed(&cells);
-        self.put(addr, way, line);
-    }
-
-    /// Gives a line the state and the marks that the violation of its core's epoch leaves.
-    pub fn roll_back(&mut self, addr: u32, way: usize)
-        requires in_ways { way < way_count }
-        ensures exact { self.new ≡ with_line self.old addr way (rolled_back_line (line_in self.old addr way)) }
-        ensures line { line_in self.new addr way ≡ rolled_back_line (line_in self.old addr way) }
-        ensures copies { CopiesChange self.old self.new addr way rolled_back_copy }
-    {
-        let line = self.line(addr, way).rolled_back();
-        self.put(addr, way, line);
-    }
-
-    /// Gives a line the state and the marks that its core's publish leaves. `alone` says that no other core holds the
-    /// line after the publish.
-    pub fn settle(&mut self, addr: u32, way: usize, alone: bool)
-        requires in_ways { way < way_count }
-        ensures exact { self.new ≡ with_line self.old addr way (published_line alone (line_in self.old addr way)) }
-        ensures line { line_in self.new addr way ≡ published_line alone (line_in self.old addr way) }
-        ensures copies { CopiesChange self.old self.new addr way (published_copy alone) }
-    {
-        let line = self.line(addr, way).published(alone);
         self.put(addr, way, line);
     }
 

@@ -385,13 +385,17 @@ fn is_refresh(rt: &impl Abort, row: &str) -> Option<bool> {
     let (first, count) = (index(row, 2), index(row, 3));
     assert!(rt; length == 16 || length == 32);
     let addr = 8 * length as u32;
-    let mut cache = pair(rt, length, (S, NONE), (SpS, stored(mask)));
+    let cache = pair(rt, length, (S, NONE), (SpS, stored(mask)));
     let length = cache.line_length();
-    cache.refresh(addr, 1, counted(100, length));
-    let want = counted_but_for(length, first, count);
+    let refreshed = cache.line(addr, 1).refreshed(&counted(100, length));
     Some(
-        is_line(&cache, addr, 1, SpS, stored(mask), want)
-            && is_line(&cache, addr / 2, 0, S, NONE, counted(0, length)),
+        refreshed
+            == Line {
+                addr,
+                state: SpS,
+                marks: stored(mask),
+                cells: counted_but_for(length, first, count),
+            },
     )
 }
 
@@ -407,49 +411,6 @@ fn states(cache: &Cache, addr: u32) -> ([LineState; 2], bool) {
         [first.state, second.state],
         first.marks != NONE || second.marks != NONE,
     )
-}
-
-/// Whether the line at an address stands so in its way, with the bytes that it came with.
-fn is_whole(cache: &Cache, addr: u32, way: usize, state: LineState, marks: Marks) -> bool {
-    is_line(
-        cache,
-        addr,
-        way,
-        state,
-        marks,
-        counted(0, cache.line_length()),
-    )
-}
-
-/// Of two lines each is rolled back alone: at `low` one that was loaded, and at `high` one with own bytes.
-fn roll_back_each(rt: &impl Abort, length: usize, low: u32, high: u32, own: Marks) {
-    let mut cache = pair(rt, length, (SpS, LOADED), (SpE, own));
-    cache.roll_back(low, 0);
-    assert!(rt; is_whole(&cache, low, 0, S, NONE));
-    assert!(rt; is_whole(&cache, high, 1, SpE, own));
-    cache.roll_back(high, 1);
-    assert!(rt; are_found(&cache, (low, Some(0)), (high, None)));
-}
-
-/// Of two lines each is published alone: at `low` one with own bytes, and at `high` one that was loaded.
-fn publish_each(rt: &impl Abort, length: usize, low: u32, high: u32, own: Marks) {
-    let mut cache = pair(rt, length, (SpS, own), (SpE, LOADED));
-    cache.settle(low, 0, false);
-    assert!(rt; is_whole(&cache, low, 0, S, NONE));
-    assert!(rt; is_whole(&cache, high, 1, SpE, LOADED));
-    cache.settle(high, 1, true);
-    assert!(rt; states(&cache, low) == ([S, E], false));
-    put(rt, &mut cache, 0, (low, SpS, own));
-    cache.settle(low, 0, true);
-    assert!(rt; states(&cache, low) == ([M, E], false));
-}
-
-#[test]
-fn rollbacks_and_publishes_of_one_line(rt: HostRuntime) {
-    roll_back_each(&rt, 16, 64, 128, loaded(0x8000));
-    publish_each(&rt, 16, 64, 128, loaded(0x8000));
-    roll_back_each(&rt, 32, 128, 256, loaded(0x8000_0000));
-    publish_each(&rt, 32, 128, 256, loaded(0x8000_0000));
 }
 
 const ROLL_BACKS: &str = "
