@@ -12,6 +12,8 @@ mod all;
 mod even;
 mod print;
 mod schedule;
+#[cfg(test)]
+mod tests;
 mod turns;
 mod words;
 mod work;
