@@ -1,6 +1,9 @@
 -- What contracts see of the caches on a bus.
-use Rattle.std.specs.Prelude.{ℕ, List, Option}
+use Rattle.std.specs.Prelude.{ℕ, List, Option, Some, None, slice_get}
 use Rattle.rv32_image.specs.declared.version.Limits.{Limits}
+use Rattle.cache_lines.specs.declared.line.Line.{Line}
+use Rattle.cache_lines.specs.Lines.{invalid_line}
+use Rattle.cache_lines.specs.Lines as lines
 use Rattle.violations.specs.View.{StoreView, Waits}
 use Rattle.bus_states.specs.Bus.{Bus, line_of, offset_of}
 use Rattle.bus_states.specs.Messages.{Room}
@@ -35,3 +38,11 @@ waits v = record {
   store = λ core address width. let line = line_of (bus v).line_length address in
       store_wait (bus v) core line (offset_of (bus v).line_length address) width (room v core line);
 }
+
+abbrev pub line_of_core : Option Core → ℕ → ℕ → Line
+line_of_core None addr way = invalid_line
+line_of_core (Some core) addr way = lines.line_in core.cache addr way
+
+-- the line that stands in a way of a core's cache, in the set of this address
+abbrev pub line_in : CachedView → ℕ → ℕ → ℕ → Line
+line_in v core addr way = line_of_core (slice_get v.cores core) addr way

@@ -3,6 +3,7 @@ ghost use Rattle.violations.specs.View as view_spec;
 ghost use Rattle.violations.specs.Rule as rule;
 ghost use Rattle.violations.specs.Answers.{MatchStep, wait_of};
 ghost use Rattle.violations.specs.CoreSet.{is_in};
+ghost use Rattle.cache_lines.specs.Lines.{way_count};
 ghost use Rattle.bus_states.specs.Bus as bus_spec;
 ghost use Rattle.bus_states.specs.Attempts as attempts;
 ghost use Rattle.bus_states.specs.Coherent.{IsCoherent};
@@ -15,6 +16,7 @@ ghost use Rattle.spec_bus.specs.Answers.{MatchAnswer, IsLoaded, IsStored};
 
 use crate::cores::idle_cores;
 use crate::parts::Parts;
+use cache_lines::Line;
 use orb::Orb;
 use rv32_image::{Image, NoMemory};
 use spec_states::LineState;
@@ -98,6 +100,15 @@ impl CachedBus {
             loaded: copy.marks.loaded,
             bytes: copy.marks.bytes,
         }
+    }
+
+    /// The line that stands in a way of a core's cache, in the set of this address.
+    pub fn line_in(&self, core: u32, addr: u32, way: usize) -> &Line
+        requires core { core < (spec.bus self.now).shape.cores }
+        requires way { way < way_count }
+        ensures { result.now ≡ spec.line_in self.now core addr way }
+    {
+        self.parts.core(core as usize).cache.line(addr, way)
     }
 
     /// A core's ownership required buffer.
