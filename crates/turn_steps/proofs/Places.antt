@@ -1,0 +1,36 @@
+-- How the lines of text of a cache go on.
+use Rattle.std.proofs.Common.{◌≡◌, ℕ, suc, ◌+◌, Bool, List, [], ◌++◌, if◌then◌else◌, refl, ap, sym, subst, ◌∙◌, add-one, append_assoc}
+use Rattle.std.proofs.lemmas.List.{append-nil}
+use Rattle.std.proofs.lemmas.Slice.Eq.{bytes_eq-Decides}
+use Rattle.std.specs.List.{slice_index_or}
+use Rattle.cache_lines.specs.declared.line.Line.{Line}
+use Rattle.turn_steps.specs.Places.{changed, no_line, way_changes, way_line}
+
+pub way_changes-none : (text : List ℕ) (size core : ℕ) (old now : List Line) → text ≡ text ++ way_changes size core old now 0
+unfolding way_changes
+way_changes-none text size core old now = sym (append-nil text)
+
+-- what the place adds
+abbrev pub change_at : ℕ → ℕ → List Line → List Line → ℕ → List ℕ
+change_at size core old now place =
+    changed (way_line size core place (slice_index_or old place no_line)) (way_line size core place (slice_index_or now place no_line))
+
+more : (size core : ℕ) (old now : List Line) (place : ℕ) → way_changes size core old now (suc place) ≡ way_changes size core old now place ++ change_at size core old now place
+unfolding way_changes
+more size core old now place = refl
+
+pub way_changes-more : (text : List ℕ) (size core : ℕ) (old now : List Line) (place : ℕ)
+    → (text ++ way_changes size core old now place) ++ change_at size core old now place ≡ text ++ way_changes size core old now (place + 1)
+way_changes-more text size core old now place =
+    append_assoc text (way_changes size core old now place) (change_at size core old now place)
+    ∙ ap (λ l. text ++ l) (sym (more size core old now place) ∙ sym (ap (way_changes size core old now) (add-one place)))
+
+changed-same : (text line : List ℕ) → text ≡ text ++ changed line line
+changed-same text line =
+    subst (λ (b : Bool). text ≡ text ++ (if b then [] else line)) (sym ((bytes_eq-Decides line line).1 refl)) (sym (append-nil text))
+
+-- the line is the one that was there
+pub unchanged : (text : List ℕ) (size core place : ℕ) (old now : Line) → old ≡ now
+    → text ≡ text ++ changed (way_line size core place old) (way_line size core place now)
+unchanged text size core place old now same = subst (λ (l : Line). text ≡ text ++ changed (way_line size core place old) (way_line size core place l)) same
+    (changed-same text (way_line size core place old))

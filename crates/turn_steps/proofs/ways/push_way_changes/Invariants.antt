@@ -1,0 +1,7 @@
+use Rattle.std.proofs.Common.{◌≡◌, ◌++◌}
+use Rattle.turn_steps.specs.Places.{way_changes}
+use Rattle.turn_steps.proofs.ways.push_way_changes.Given as goal
+
+-- the places so far are written
+abbrev pub invariant-loop-place : goal.invariant-loop-place
+invariant-loop-place l = l.text.items ≡ l.initial.text.items ++ way_changes l.size l.core l.old l.now l.place

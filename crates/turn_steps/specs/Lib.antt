@@ -1,0 +1,3 @@
+-- Definitions to believe: what a cache and a buffer hold as lines of text (Places), the line of a turn and those of what a core runs (Turns)
+pub mod Places
+pub mod Turns

@@ -1,0 +1,74 @@
+-- What a core's cache and its buffer hold, as text: a line for each way of the cache, and one for the buffer. Each begins with the name
+-- of its place, and is printed where its text isn't as it was.
+-- Source: this project; the states and the marks are those of the protocol.
+use Rattle.std.specs.Prelude.{ℕ, zero, suc, ◌/◌, ◌%◌, Bool, true, false, List, [], ◌++◌, codes, slice_range, if◌then◌else◌}
+use Rattle.std.specs.Fmt.{decimal}
+use Rattle.std.specs.List.{flat_map, slice_index_or}
+use Rattle.std.specs.Str.{bytes_eq}
+use Rattle.hex.specs.Hex.{encode_lower}
+use Rattle.spec_states.specs.declared.line.LineState.{LineState}
+use Rattle.spec_states.specs.declared.line.LineState.TheVariants.{I, S, E, M, SpS, SpE}
+use Rattle.spec_states.specs.States.{is_valid}
+use Rattle.spec_states.specs.Tables.{no_marks}
+use Rattle.cache_lines.specs.declared.line.Line.{Line}
+use Rattle.cache_lines.specs.Lines.{way_count}
+use Rattle.trace_text.specs.Printing.{hex_word}
+
+-- a text where it isn't as it was
+abbrev pub changed : List ℕ → List ℕ → List ℕ
+changed old now = if bytes_eq old now then [] else now
+
+-- ---- the ways of a cache
+
+abbrev pub state_name : LineState → List ℕ
+state_name I = codes "I"
+state_name S = codes "S"
+state_name E = codes "E"
+state_name M = codes "M"
+state_name SpS = codes "SpS"
+state_name SpE = codes "SpE"
+
+-- the mark of a line that was speculatively loaded, or none
+abbrev pub loaded_word : Bool → List ℕ
+loaded_word true = codes "loaded"
+loaded_word false = codes "-"
+
+-- the bytes of a line of 16 or of 32 bytes
+abbrev pub bytes_text : ℕ → List ℕ → List ℕ
+bytes_text size cells = encode_lower (slice_range cells 0 16) ++ encode_lower (slice_range cells 16 size)
+
+-- address, state, mark, mask and bytes of a copy
+abbrev pub copy_text : ℕ → Line → List ℕ
+copy_text size line = hex_word line.addr ++ codes " " ++ state_name line.state ++ codes " " ++ loaded_word line.marks.loaded ++ codes " "
+    ++ hex_word line.marks.bytes ++ codes " " ++ bytes_text size line.cells
+
+-- the core, the set and the way of a place; a cache's places are counted set by set, and in a set way by way
+abbrev pub place_text : ℕ → ℕ → List ℕ
+place_text core place = decimal core ++ codes " " ++ decimal (place / way_count) ++ codes " " ++ decimal (place % way_count) ++ codes " "
+
+-- `line CORE SET WAY -`, or the copy that stands there
+unfoldable pub way_line : ℕ → ℕ → ℕ → Line → List ℕ
+way_line size core place line =
+    codes "line " ++ place_text core place ++ (if is_valid line.state then copy_text size line else codes "-") ++ codes "\n"
+
+-- beyond the end of a list of lines
+abbrev pub no_line : Line
+no_line = record { addr = 0; state = I; marks = no_marks; cells = [] }
+
+-- those of the first places that aren't as they were
+unfoldable pub way_changes : ℕ → ℕ → List Line → List Line → ℕ → List ℕ
+way_changes size core old now zero = []
+way_changes size core old now (suc place) = way_changes size core old now place
+    ++ changed (way_line size core place (slice_index_or old place no_line)) (way_line size core place (slice_index_or now place no_line))
+
+-- ---- the buffer
+
+abbrev pub line_text : ℕ → List ℕ
+line_text address = codes " " ++ hex_word address
+
+abbrev pub lines_text : List ℕ → List ℕ
+lines_text lines = flat_map line_text lines
+
+-- `orb CORE ADDRESS ..`, in the order of the buffer
+unfoldable pub orb_line : ℕ → List ℕ → List ℕ
+orb_line core lines = codes "orb " ++ decimal core ++ lines_text lines ++ codes "\n"

@@ -1,0 +1,14 @@
+//! What a core's cache and buffer hold as lines of text, and those of them that are not as they were before.
+#![tactic(auto)]
+
+mod changed;
+mod cores;
+mod names;
+mod orbs;
+mod turns;
+mod ways;
+
+pub use cores::{push_attempt_change, push_hart_change};
+pub use orbs::push_orb_change;
+pub use turns::push_turn;
+pub use ways::push_way_changes;
