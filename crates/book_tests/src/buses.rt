@@ -7,7 +7,7 @@ use crate::plain_bus::{Access, CORES, PlainBus, PlainStep};
 use crate::random::Random;
 use rv32_image::{Image, image_of};
 use spec_bus::CachedBus;
-use std::alloc::Global;
+use std::alloc::{AllocError, Global};
 use std::process::Abort;
 use std::test::Fail;
 use violations::{Attempt, CoreSet, EpochStore, Step, WaitCause};
@@ -194,35 +194,38 @@ fn has_same_buffer(bus: &CachedBus, plain: &PlainBus, core: u32) -> bool {
     true
 }
 
-/// The line at this address has the same committed bytes.
-fn has_same_bytes(bus: &CachedBus, plain: &PlainBus, addr: u32) -> bool {
+/// The line at this address has these committed bytes, and so has its first byte alone.
+fn has_same_bytes(bus: &CachedBus, committed: &[u8], plain: &PlainBus, addr: u32) -> bool {
     let line = plain.committed_line(addr);
+    if addr < bus.size() && bus.committed_byte(addr) != line[0] {
+        return false;
+    }
     for place in 0..32 {
-        let byte = addr.wrapping_add(place);
-        let known = place < plain.length && byte < bus.size();
-        if known && bus.committed_byte(byte) != line[place as usize] {
+        let byte = committed.get((addr as usize).wrapping_add(place));
+        if (place as u32) < plain.length && byte.is_some_and(|byte| *byte != line[place]) {
             return false;
         }
     }
     true
 }
 
-fn has_same_memory(bus: &CachedBus, plain: &PlainBus) -> bool {
+fn has_same_memory(bus: &CachedBus, committed: &[u8], plain: &PlainBus) -> bool {
     for number in 0..12 {
-        if !has_same_bytes(bus, plain, number * (plain.length % 33)) {
+        if !has_same_bytes(bus, committed, plain, number * (plain.length % 33)) {
             return false;
         }
     }
     true
 }
 
-fn is_same(bus: &CachedBus, plain: &PlainBus) -> bool {
+fn is_same(alloc: Global, bus: &CachedBus, plain: &PlainBus) -> Result<bool, AllocError> {
     for core in 0..bus.cores() {
         if !has_same_lines(bus, plain, core) || !has_same_buffer(bus, plain, core) {
-            return false;
+            return Ok(false);
         }
     }
-    has_same_memory(bus, plain)
+    let committed = bus.committed_memory(alloc)?;
+    Ok(has_same_memory(bus, committed.as_slice(), plain))
 }
 
 // ---- calls
@@ -422,7 +425,7 @@ fn call_often(
     plain.fill(image.bytes());
     for _ in 0..10 + random.below(60) {
         call(rt, &mut bus, &mut plain, random, tally);
-        assert!(rt; is_same(&bus, &plain));
+        assert!(rt; is_same(alloc, &bus, &plain)?);
     }
     Ok(())
 }

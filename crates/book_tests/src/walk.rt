@@ -223,7 +223,8 @@ fn ends_in_order<S: EpochStore>(
 ) -> Result<(), Fail> {
     if let Some(end) = book.ended() {
         let whole = run_in_order(alloc, image)?;
-        assert!(rt; whole.end() == end && holds(book, whole.bytes()));
+        let committed = book.committed_memory(alloc)?;
+        assert!(rt; whole.end() == end && committed.as_slice() == whole.bytes());
     }
     Ok(())
 }
@@ -236,18 +237,6 @@ fn is_after<S: EpochStore>(book: &Book<S>, flat: &Flat, size: u32) -> bool {
         }
     }
     book.homefree() == flat.homefree() && book.ended() == flat.ended()
-}
-
-/// Committed memory is these bytes.
-fn holds<S: EpochStore>(book: &Book<S>, bytes: &[u8]) -> bool {
-    let mut addr = 0_u32;
-    for byte in bytes {
-        if book.committed(addr) != Some(*byte) {
-            return false;
-        }
-        addr = addr.wrapping_add(1);
-    }
-    true
 }
 
 /// Drives a book through a schedule of its cores.
