@@ -1,5 +1,7 @@
-//! The commands `seq` and `audit`: what no contract can say, which is that failed reads and writes end a command, tried once and not again.
+//! The commands `seq` and `audit`, and the program `why`: what no contract can say, which is that failed reads and writes end a command, tried once and not again.
 
+use crate::reports::{ILLEGAL, WAITS, WAITS_TOLD};
+use conflict_text::work;
 use std::alloc::Global;
 use std::io;
 use std::io::{Error, ErrorKind, Read, Write};
@@ -12,10 +14,6 @@ const COUNTER: &str = "size 256\nepochs 4\nlimit 100\ncode 83220004b382a20023205
 
 const COUNTED: &str = "end done 4\nat 00000040 06000000000000000000000000000000\n";
 
-/// An image whose second epoch waits for the first one's store, and a legal trace of it.
-const TRACED: &str =
-    "size 256\nepochs 2\nlimit 50\ncode 6308050083220004e38e02fe67800000930210002320500467800000\ntrace 2\n0 start 0\n1 start 1\n0 store 00000040 4 00000001\n1 load 00000040 4 00000000\n0 hurt 1\n0 commit\n1 restart\n1 load 00000040 4 00000001\n1 commit\n";
-
 const LEGAL: &str = "legal 9 2\n";
 
 /// A command, with an input that it takes and what it answers.
@@ -23,13 +21,19 @@ const LEGAL: &str = "legal 9 2\n";
 enum Which {
     Seq,
     Audit,
+    Why,
+    /// `why` of a trace that is illegal.
+    WhyIllegal,
 }
+
+const ALL: [Which; 4] = [Which::Seq, Which::Audit, Which::Why, Which::WhyIllegal];
 
 impl Which {
     fn input(self) -> &'static str {
         match self {
             Which::Seq => COUNTER,
-            Which::Audit => TRACED,
+            Which::Audit | Which::Why => WAITS,
+            Which::WhyIllegal => ILLEGAL,
         }
     }
 
@@ -37,13 +41,22 @@ impl Which {
         match self {
             Which::Seq => COUNTED,
             Which::Audit => LEGAL,
+            Which::Why => WAITS_TOLD,
+            Which::WhyIllegal => "illegal 1 NotThere\n",
+        }
+    }
+
+    fn status(self) -> u8 {
+        match self {
+            Which::Seq | Which::Audit | Which::Why => 0,
+            Which::WhyIllegal => 4,
         }
     }
 
     fn read_failed(self) -> &'static str {
         match self {
             Which::Seq => "image 0 Read\n",
-            Which::Audit => "trace 0 Read\n",
+            Which::Audit | Which::Why | Which::WhyIllegal => "trace 0 Read\n",
         }
     }
 
@@ -57,20 +70,21 @@ impl Which {
         match self {
             Which::Seq => do_seq(alloc, reader, writer, errors),
             Which::Audit => do_audit(alloc, reader, writer, errors),
+            Which::Why | Which::WhyIllegal => work(alloc, &["why"], reader, writer, errors),
         }
     }
 }
 
 /// What a run of the program left: its status, and the texts on standard output and standard error.
 #[derive(Drop)]
-struct Ran {
-    status: u8,
-    output: Vec<u8>,
-    errors: Vec<u8>,
+pub struct Ran {
+    pub status: u8,
+    pub output: Vec<u8>,
+    pub errors: Vec<u8>,
 }
 
 impl Ran {
-    fn is(&self, status: u8, output: &[u8], errors: &str) -> bool {
+    pub fn is(&self, status: u8, output: &[u8], errors: &str) -> bool {
         self.status == status
             && self.output.as_slice() == output
             && self.errors.as_slice() == errors.as_bytes()
@@ -88,13 +102,14 @@ fn is_answered(alloc: Global, which: Which) -> bool {
         output,
         errors,
     };
-    ran.is(0, which.answer().as_bytes(), "")
+    ran.is(which.status(), which.answer().as_bytes(), "")
 }
 
 #[test]
 fn each_command_answers(rt: HostRuntime) {
-    assert!(rt; is_answered(rt.alloc(), Which::Seq));
-    assert!(rt; is_answered(rt.alloc(), Which::Audit));
+    for which in ALL {
+        assert!(rt; is_answered(rt.alloc(), which));
+    }
 }
 
 /// How often a stream fails where it does.
@@ -195,7 +210,7 @@ fn stops_reading(rt: &impl Abort, alloc: Global, which: Which, kind: ErrorKind, 
 /// A read that fails ends the command, also where a second one would give the rest of a good text.
 #[test]
 fn stops_at_a_failed_read(rt: HostRuntime) {
-    for which in [Which::Seq, Which::Audit] {
+    for which in ALL {
         for fails in [Fails::Once, Fails::Always] {
             stops_reading(&rt, rt.alloc(), which, ErrorKind::BrokenPipe, fails);
             stops_reading(&rt, rt.alloc(), which, ErrorKind::Interrupted, fails);
@@ -235,13 +250,13 @@ fn stops_writing(rt: &impl Abort, alloc: Global, which: Which, stops: Stops, fai
 /// Whether a command ends well where there is just room.
 fn has_room(alloc: Global, which: Which, stops: Stops) -> bool {
     let answer = which.answer().as_bytes();
-    run_into(alloc, which, answer.len(), stops, Fails::Always).is(0, answer, "")
+    run_into(alloc, which, answer.len(), stops, Fails::Always).is(which.status(), answer, "")
 }
 
 /// A write that fails ends the command, also where a second one would take the rest.
 #[test]
 fn stops_at_a_failed_write(rt: HostRuntime) {
-    for which in [Which::Seq, Which::Audit] {
+    for which in ALL {
         for stops in [Stops::Errs, Stops::Interrupted, Stops::TakesNone] {
             stops_writing(&rt, rt.alloc(), which, stops, Fails::Once);
             stops_writing(&rt, rt.alloc(), which, stops, Fails::Always);
@@ -259,7 +274,7 @@ fn is_unflushed(alloc: Global, which: Which, fails: Fails) -> bool {
 /// A flush that fails ends the command, also where a second one would succeed.
 #[test]
 fn stops_at_a_failed_flush(rt: HostRuntime) {
-    for which in [Which::Seq, Which::Audit] {
+    for which in ALL {
         assert!(rt; is_unflushed(rt.alloc(), which, Fails::Once));
         assert!(rt; is_unflushed(rt.alloc(), which, Fails::Always));
     }
@@ -300,6 +315,7 @@ fn keeps_its_status(rt: &impl Abort, alloc: Global, which: Which, refused: &str,
 fn keeps_its_status_without_an_error_stream(rt: HostRuntime) {
     keeps_its_status(&rt, rt.alloc(), Which::Seq, "size 24\n", "image 1 Range\n");
     keeps_its_status(&rt, rt.alloc(), Which::Audit, COUNTER, "trace 0 Head\n");
+    keeps_its_status(&rt, rt.alloc(), Which::Why, COUNTER, "trace 0 Head\n");
 }
 
 /// An input into an error stream with so much room.

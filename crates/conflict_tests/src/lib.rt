@@ -1,10 +1,12 @@
-//! Tests of the text of traces, of the commands `seq` and `audit`, and of the explanations of violations, over public calls alone.
+//! Tests of the text of traces, of the commands `seq` and `audit`, of the explanations of violations and of their report, over public calls alone.
 #![tactic(auto)]
 
 #[cfg(test)]
 mod commands;
 #[cfg(test)]
 mod explained;
+#[cfg(test)]
+mod reports;
 #[cfg(test)]
 mod rows;
 #[cfg(test)]

@@ -1,2 +1,6 @@
 pub mod Following
 pub mod Summing
+pub mod Answering
+pub mod Gathering
+pub mod Same
+pub mod Works

@@ -3,5 +3,10 @@ pub mod Lines
 pub mod Further
 pub mod Ends
 pub mod Report
+-- Definitions to believe: what the report of a history is.
+pub mod Explaining
+-- Words of contracts: what the command and the program come to.
+pub mod Why
+pub mod Work
 -- What is kept of attempts that were told of.
 pub mod Followed

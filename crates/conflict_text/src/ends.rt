@@ -83,7 +83,11 @@ fn push_all_open(
 }
 
 /// The lines of attempts that were cancelled, in order, and of those that go on.
-pub fn attempt_lines(alloc: Global, entries: &[Entry], ends: &Ends) -> Result<Vec<u8>, AllocError>
+pub(crate) fn attempt_lines(
+    alloc: Global,
+    entries: &[Entry],
+    ends: &Ends,
+) -> Result<Vec<u8>, AllocError>
     ensures { IfOk result (λ text. text.items ≡ spec.attempt_lines entries.now ends.now.ended.items ends.now.running.items) }
 {
     let mut text = Vec::new(alloc);

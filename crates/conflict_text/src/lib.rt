@@ -1,17 +1,18 @@
-//! The report of which conflicts rolled back, as text.
+//! The report of which conflicts rolled back, as text, and the command that writes it.
 #![tactic(auto)]
 
 mod accesses;
+mod command;
 mod ends;
+mod finding;
 mod followed;
 mod further;
 mod lines;
 mod parts;
+mod program;
 mod report;
 mod sums;
 mod words;
 
-pub use ends::attempt_lines;
-pub use followed::{Attempt, Followed};
-pub use lines::push_violation;
-pub use report::summary;
+pub use command::do_why;
+pub use program::work;

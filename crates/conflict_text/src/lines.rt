@@ -136,7 +136,7 @@ fn push_moot(text: &mut Vec<u8>, entries: &[Entry], e: Explanation) -> Result<()
 /// All that is told of one violation, with its further runs, at the end of a text. It takes the sites of the history, and what is kept of its
 /// attempts.
 #[tactic(auto, unfolding(crate::specs::Lines::violation_lines))]
-pub fn push_violation(
+pub(crate) fn push_violation(
     text: &mut Vec<u8>,
     image: &Image,
     entries: &[Entry],

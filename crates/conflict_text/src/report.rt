@@ -14,7 +14,7 @@ use std::alloc::{AllocError, Global};
 
 /// The lines of the sums over violations, of which this is summed: those of epochs, pairs, lines, instructions and kinds, and the total. It
 /// takes the homefree epoch after the history, which is how many epochs have committed, and how its attempts ended.
-pub fn summary(
+pub(crate) fn summary(
     alloc: Global,
     image: &Image,
     homefree: u32,

@@ -2,17 +2,11 @@
 //! writes the report.
 #![tactic(auto)]
 
+use conflict_text::work;
 use std::alloc::Global;
 use std::process::ExitCode;
 use std::{env, io};
 use trace_commands::{Outcome, StopCause};
-use work::work;
-
-mod command;
-mod finding;
-#[cfg(test)]
-mod tests;
-mod work;
 
 fn main(rt: HostRuntime) -> ExitCode {
     let status = match words_given(&rt) {

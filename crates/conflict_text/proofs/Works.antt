@@ -7,8 +7,8 @@ use Rattle.trace_text.specs.TraceText.{longest_trace_text}
 use Rattle.trace_commands.specs.declared.outcome.Outcome.TheVariants.{Usage}
 use Rattle.trace_commands.specs.Outcome.{AppendsPrefix, error_line, status_of}
 use Rattle.trace_commands.proofs.Audits.{for_each}
-use Rattle.why.specs.Why.{WhyAnswers}
-use Rattle.why.specs.Work.{Stream, WorkAnswers}
+use Rattle.conflict_text.specs.Why.{WhyAnswers}
+use Rattle.conflict_text.specs.Work.{Stream, WorkAnswers}
 
 answers_for : (text : List ℕ) (input output errors : Stream) (status : ℕ) → TakesAtMost input.old input.new (longest_trace_text + 1)
     → WhyAnswers text output.old output.new errors.old errors.new status → WorkAnswers text input output errors status

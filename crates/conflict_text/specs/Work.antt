@@ -6,7 +6,7 @@ use Rattle.trace_text.specs.TraceText.{longest_trace_text}
 use Rattle.trace_commands.specs.declared.outcome.Outcome.{Outcome}
 use Rattle.trace_commands.specs.declared.outcome.Outcome.TheVariants.{Usage}
 use Rattle.trace_commands.specs.Outcome.{Conclusion}
-use Rattle.why.specs.Why.{IsWhyOutcome}
+use Rattle.conflict_text.specs.Why.{IsWhyOutcome}
 
 -- the bytes of a stream before and after a call, where it tells them
 pub record Stream : Type 0 where

@@ -21,9 +21,9 @@ use Rattle.conflict_runs.specs.Runs.{further_runs}
 use Rattle.attempt_ends.specs.Ends.{ended_before, running_after}
 use Rattle.conflict_text.specs.Ends.{attempt_lines}
 use Rattle.conflict_text.specs.Further.{told_lines}
-use Rattle.why.specs.Explaining.{IsReport}
-use Rattle.why.specs.Why.{AreTold, IsAnswer, IsRest, IsToldBy, IsTracedOutcome, IsWhyOutcome}
-use Rattle.why.proofs.Same.{same_found}
+use Rattle.conflict_text.specs.Explaining.{IsReport}
+use Rattle.conflict_text.specs.Why.{AreTold, IsAnswer, IsRest, IsToldBy, IsTracedOutcome, IsWhyOutcome}
+use Rattle.conflict_text.proofs.Same.{same_found}
 
 -- the trace that the input says was explained
 pub traced_outcome : (text : List ℕ) (image : LoadedImage) (cores : ℕ) (history : List Entry) (old new : Option (List ℕ)) (outcome : Outcome)

@@ -23,7 +23,7 @@ use Rattle.conflict_text.specs.Ends.{attempt_lines}
 use Rattle.conflict_text.specs.Further.{told_lines}
 use Rattle.conflict_text.specs.Lines.{violation_lines}
 use Rattle.conflict_text.specs.Report.{IsSummary}
-use Rattle.why.specs.Explaining.{IsReport}
+use Rattle.conflict_text.specs.Explaining.{IsReport}
 
 -- these explain the violations before a place of the history, one each, in order, and each is right
 pub record AreExplained (image : LoadedImage) (cores : ℕ) (history : List Entry) (place : ℕ) (found : List Explanation) : Type 0 where

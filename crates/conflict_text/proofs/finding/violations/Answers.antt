@@ -3,9 +3,9 @@ use Rattle.std.proofs.lemmas.Option.{slice_get-get_or}
 use Rattle.spec_history.specs.View.{state_in, cores_in}
 use Rattle.spec_history.proofs.Reaching.{no_entries, audited_more}
 use Rattle.conflicts.proofs.Explaining.{legal_in}
-use Rattle.why.specs.Why.{AreTold}
-use Rattle.why.proofs.Gathering.{more_told, none_told}
-use Rattle.why.proofs.finding.violations.Goals as goal
+use Rattle.conflict_text.specs.Why.{AreTold}
+use Rattle.conflict_text.proofs.Gathering.{more_told, none_told}
+use Rattle.conflict_text.proofs.finding.violations.Goals as goal
 
 pub loop-place-init : goal.loop-place-init
 loop-place-init c =

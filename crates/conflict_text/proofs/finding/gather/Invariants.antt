@@ -5,8 +5,8 @@ use Rattle.conflicts.specs.Behind.{IsKnown}
 use Rattle.attempt_ends.specs.Ends.{ended_before}
 use Rattle.attempt_ends.specs.Violated.{AreMarked}
 use Rattle.conflict_sums.specs.Endings.{AreEndings}
-use Rattle.why.specs.Why.{AreSummed}
-use Rattle.why.proofs.finding.gather.Given as goal
+use Rattle.conflict_text.specs.Why.{AreSummed}
+use Rattle.conflict_text.proofs.finding.gather.Given as goal
 
 -- the entries so far replay, they say which cores are hurt, what is summed of them is listed, and what is kept of attempts is right
 abbrev pub invariant-loop-place : goal.invariant-loop-place

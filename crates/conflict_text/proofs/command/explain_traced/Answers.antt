@@ -1,8 +1,8 @@
 use Rattle.std.proofs.Common.{◌∙◌, rules, sym, subst}
 use Rattle.trace_commands.specs.declared.outcome.Verdict.TheVariants.{Illegal, Legal}
-use Rattle.why.specs.Explaining.{IsReport}
-use Rattle.why.proofs.Answering.{refused_at, told_outcome}
-use Rattle.why.proofs.command.explain_traced.Goals as goal
+use Rattle.conflict_text.specs.Explaining.{IsReport}
+use Rattle.conflict_text.proofs.Answering.{refused_at, told_outcome}
+use Rattle.conflict_text.proofs.command.explain_traced.Goals as goal
 
 pub returns-in-Ok : goal.returns-in-Ok
 returns-in-Ok g c =

@@ -2,7 +2,7 @@ ghost use Rattle.std.specs.Prelude.{◌≡◌, ◌+◌};
 ghost use Rattle.rv32_image.specs.Input.{TakesAtMost};
 ghost use Rattle.rv32_image.specs.Reading.{ForText};
 ghost use Rattle.trace_text.specs.TraceText.{longest_trace_text};
-ghost use Rattle.why.specs.Why as spec;
+ghost use Rattle.conflict_text.specs.Why as spec;
 
 use crate::finding::report_of;
 use spec_history::Illegal;

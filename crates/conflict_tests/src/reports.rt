@@ -1,13 +1,11 @@
-//! Worked histories and what is printed of them, and what no contract can say: that failed reads and writes end the program.
+//! Worked histories and what the program `why` prints of them.
 
-use crate::work::work;
+use crate::commands::Ran;
+use conflict_text::work;
 use std::alloc::Global;
-use std::io;
-use std::io::{Error, ErrorKind, Read, Write};
-use std::test::Fail;
 
 /// Epoch 1 waits for the store of epoch 0, which commits it.
-const WAITS: &str = "size 256
+pub const WAITS: &str = "size 256
 epochs 2
 limit 50
 code 6308050083220004e38e02fe67800000930210002320500467800000
@@ -23,7 +21,7 @@ trace 2
 1 commit
 ";
 
-const WAITS_TOLD: &str =
+pub const WAITS_TOLD: &str =
     "hurt 4 true epoch 1 try 1 core 1 lost 3 entered 2 since 2 by 0 core 0 cause 5 commit load 3 00000004 store 2 00000014 at 00000040 4
 epoch 1 rollbacks 1 lost 3
 pair store 00000014 load 00000004 rollbacks 1 lost 3 true 1 silent 0 false 0 buffer 0 stale 1 vain 0 later 0 distance 1 1 at 00000040 4
@@ -363,7 +361,7 @@ kind false rollbacks 1 lost 3
 total epochs 2 committed 2 useful 12 rollbacks 1 lost 3 cancelled 0 dropped 0 open 0 unsettled 0
 ";
 
-const ILLEGAL: &str = "size 256
+pub const ILLEGAL: &str = "size 256
 epochs 2
 limit 50
 code 832200042320500467800000
@@ -421,22 +419,6 @@ const ROWS: [(&str, &str, &str, u8); 17] = [
     ),
 ];
 
-/// What a run of the program left: its status, and the texts on standard output and standard error.
-#[derive(Drop)]
-struct Ran {
-    status: u8,
-    output: Vec<u8>,
-    errors: Vec<u8>,
-}
-
-impl Ran {
-    fn is(&self, status: u8, output: &str, errors: &str) -> bool {
-        self.status == status
-            && self.output.as_slice() == output.as_bytes()
-            && self.errors.as_slice() == errors.as_bytes()
-    }
-}
-
 fn run_on(alloc: Global, words: &[&str], input: &str) -> Ran {
     let mut reader = input.as_bytes();
     let mut output = Vec::new(alloc);
@@ -453,7 +435,7 @@ fn run_on(alloc: Global, words: &[&str], input: &str) -> Ran {
 fn explains_worked_histories(rt: HostRuntime) {
     for (input, output, errors, status) in ROWS {
         let ran = run_on(rt.alloc(), &["why"], input);
-        assert!(rt; ran.is(status, output, errors), "{input}");
+        assert!(rt; ran.is(status, output.as_bytes(), errors), "{input}");
     }
 }
 
@@ -461,7 +443,7 @@ fn explains_worked_histories(rt: HostRuntime) {
 fn takes_no_words(rt: HostRuntime) {
     for words in [["why", "--help"], ["why", ""]] {
         let ran = run_on(rt.alloc(), &words, WAITS);
-        assert!(rt; ran.is(2, "", "usage\n"));
+        assert!(rt; ran.is(2, b"", "usage\n"));
     }
 }
 
@@ -470,106 +452,8 @@ fn takes_no_words(rt: HostRuntime) {
 fn tells_want_of_memory(rt: HostRuntime) {
     let ran = run_on(rt.alloc(), &["why"], EXITS);
     assert!(rt;
-        ran.is(0, EXITS_TOLD, "") || ran.is(3, "", "stopped NoMemory\n") || ran.is(3, "", "")
+        ran.is(0, EXITS_TOLD.as_bytes(), "")
+            || ran.is(3, b"", "stopped NoMemory\n")
+            || ran.is(3, b"", "")
     );
-}
-
-/// A reader that gives so many bytes of a text, three at a time, and fails then.
-#[derive(Drop)]
-struct FailingReader<'a> {
-    rest: &'a [u8],
-    kind: ErrorKind,
-}
-
-impl Read for FailingReader<'_> {
-    fn read(&mut self, buf: &mut [u8]) -> io::Result<usize> {
-        if self.rest.is_empty() {
-            return Err(Error::from(self.kind));
-        }
-        let count = self.rest.len().min(buf.len()).min(3);
-        let (now, later) = self.rest.split_at(count);
-        buf[..count].copy_from_slice(now);
-        self.rest = later;
-        Ok(count)
-    }
-}
-
-#[test]
-fn stops_at_a_failed_read(rt: HostRuntime) {
-    let text = WAITS.as_bytes();
-    for kind in [ErrorKind::BrokenPipe, ErrorKind::Interrupted] {
-        for good in 0..=text.len() {
-            let mut reader = FailingReader {
-                rest: &text[..good],
-                kind,
-            };
-            let mut output = Vec::new(rt.alloc());
-            let mut errors = Vec::new(rt.alloc());
-            let status = work(rt.alloc(), &["why"], &mut reader, &mut output, &mut errors);
-            let ran = Ran {
-                status,
-                output,
-                errors,
-            };
-            assert!(rt; ran.is(2, "", "trace 0 Read\n"));
-        }
-    }
-}
-
-/// A writer that takes so many bytes, at most 7 a call, and fails then.
-#[derive(Drop)]
-struct FailingWriter {
-    taken: Vec<u8>,
-    room: usize,
-    kind: ErrorKind,
-}
-
-impl Write for FailingWriter {
-    fn write(&mut self, buf: &[u8]) -> io::Result<usize> {
-        let count = buf.len().min(7).min(self.room);
-        if count == 0 && !buf.is_empty() {
-            return Err(Error::from(self.kind));
-        }
-        self.taken.extend_from_slice(&buf[..count])?;
-        self.room -= count;
-        Ok(count)
-    }
-
-    fn flush(&mut self) -> io::Result<()> {
-        Ok(())
-    }
-}
-
-/// An input and its answer into a writer with so much room: what was taken, and what was told.
-fn ran_into(
-    alloc: Global,
-    input: &str,
-    room: usize,
-    kind: ErrorKind,
-) -> (u8, FailingWriter, Vec<u8>) {
-    let mut reader = input.as_bytes();
-    let mut writer = FailingWriter {
-        taken: Vec::new(alloc),
-        room,
-        kind,
-    };
-    let mut errors = Vec::new(alloc);
-    let status = work(alloc, &["why"], &mut reader, &mut writer, &mut errors);
-    (status, writer, errors)
-}
-
-#[test]
-fn stops_at_a_failed_write(rt: HostRuntime) -> Result<(), Fail> {
-    for (input, answer) in [(WAITS, WAITS_TOLD), (ILLEGAL, "illegal 1 NotThere\n")] {
-        let answer = answer.as_bytes();
-        for kind in [ErrorKind::BrokenPipe, ErrorKind::Interrupted] {
-            for room in 0..answer.len() {
-                let (status, writer, errors) = ran_into(rt.alloc(), input, room, kind);
-                assert_eq!(rt; status, 3);
-                assert_eq!(rt; writer.taken.as_slice(), &answer[..room]);
-                assert_eq!(rt; errors.as_slice(), b"stopped Write\n".as_slice());
-            }
-        }
-    }
-    Ok(())
 }

@@ -15,7 +15,7 @@ use Rattle.conflict_sums.specs.declared.rollback.Rollback.{Rollback}
 use Rattle.conflict_sums.specs.Rollbacks.{rollback_of}
 use Rattle.conflict_text.specs.Further.{told_lines}
 use Rattle.conflict_text.specs.Lines.{violation_lines}
-use Rattle.why.specs.Why.{AreExplained, AreSummed, AreTold, lines_of}
+use Rattle.conflict_text.specs.Why.{AreExplained, AreSummed, AreTold, lines_of}
 
 -- ---- explanations
 

@@ -3,8 +3,8 @@ use Rattle.spec_history.specs.Replay.{replay}
 use Rattle.spec_history.specs.View.{state_in, cores_in}
 use Rattle.conflicts.specs.Behind.{IsKnown}
 use Rattle.conflict_text.specs.Followed.{IsFollowed}
-use Rattle.why.specs.Why.{AreTold}
-use Rattle.why.proofs.finding.violations.Given as goal
+use Rattle.conflict_text.specs.Why.{AreTold}
+use Rattle.conflict_text.proofs.finding.violations.Given as goal
 
 -- the entries so far replay, their violations are told, and what is kept of attempts is right
 abbrev pub invariant-loop-place : goal.invariant-loop-place

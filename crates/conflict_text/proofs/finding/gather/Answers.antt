@@ -10,9 +10,9 @@ use Rattle.attempt_ends.specs.Ends.{ended_before, running_below, running_from}
 use Rattle.attempt_ends.specs.Violated.{AreMarked}
 use Rattle.attempt_ends.proofs.Growing.{ended_more, none_ended}
 use Rattle.attempt_ends.proofs.Marking.{marked_first, marked_in}
-use Rattle.why.specs.Why.{AreSummed}
-use Rattle.why.proofs.Gathering.{more_summed, none_summed}
-use Rattle.why.proofs.finding.gather.Goals as goal
+use Rattle.conflict_text.specs.Why.{AreSummed}
+use Rattle.conflict_text.proofs.Gathering.{more_summed, none_summed}
+use Rattle.conflict_text.proofs.finding.gather.Goals as goal
 
 pub loop-place-init : goal.loop-place-init
 loop-place-init c =

@@ -1,7 +1,7 @@
 use Rattle.std.proofs.Common.{◌≡◌, ◌++◌, length, ap, subst, ◌∙◌}
-use Rattle.why.specs.Why.{AreTold}
-use Rattle.why.proofs.Answering.{is_report}
-use Rattle.why.proofs.finding.print.Goals as goal
+use Rattle.conflict_text.specs.Why.{AreTold}
+use Rattle.conflict_text.proofs.Answering.{is_report}
+use Rattle.conflict_text.proofs.finding.print.Goals as goal
 
 pub returns-clause-report : goal.returns-clause-report
 returns-clause-report c =

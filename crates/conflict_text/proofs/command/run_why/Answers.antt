@@ -1,8 +1,8 @@
 use Rattle.trace_commands.specs.Audit.{IsNoVerdict, IsTracedBy}
 use Rattle.trace_commands.proofs.Audits.{for_each}
-use Rattle.why.specs.Why.{IsWhyOutcome}
-use Rattle.why.proofs.Answering.{traced_outcome, without_verdict}
-use Rattle.why.proofs.command.run_why.Goals as goal
+use Rattle.conflict_text.specs.Why.{IsWhyOutcome}
+use Rattle.conflict_text.proofs.Answering.{traced_outcome, without_verdict}
+use Rattle.conflict_text.proofs.command.run_why.Goals as goal
 
 pub returns-in-Ok-clause-outcome : goal.returns-in-Ok-clause-outcome
 returns-in-Ok-clause-outcome g c =

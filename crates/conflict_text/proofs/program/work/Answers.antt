@@ -1,5 +1,5 @@
-use Rattle.why.proofs.Works.{why_answers, refused_answers}
-use Rattle.why.proofs.work.work.Goals as goal
+use Rattle.conflict_text.proofs.Works.{why_answers, refused_answers}
+use Rattle.conflict_text.proofs.program.work.Goals as goal
 
 pub returns : goal.returns
 returns g c =

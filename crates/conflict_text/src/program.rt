@@ -1,5 +1,5 @@
 ghost use Rattle.rv32_image.specs.Reading.{ForText};
-ghost use Rattle.why.specs.Work as spec;
+ghost use Rattle.conflict_text.specs.Work as spec;
 
 use crate::command::do_why;
 use std::alloc::Global;
@@ -7,7 +7,7 @@ use std::convert::AsStr;
 use std::io::{Read, Write};
 use trace_commands::Outcome;
 
-/// The whole program: `do_why`, where there is no word but the program's name.
+/// The whole program `why`: `do_why`, where there is no word but the program's name.
 ///
 /// Other words are refused as `usage`, with status 2, and nothing is read or written.
 pub fn work<S: AsStr, R: Read, W: Write, E: Write>(

@@ -1,4 +1,0 @@
-pub mod Answering
-pub mod Gathering
-pub mod Same
-pub mod Works
