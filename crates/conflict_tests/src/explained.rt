@@ -7,7 +7,7 @@ use crate::rows::{
     STORED_BYTES_VIOLATIONS,
 };
 use crate::words::{count_of, index, number, place_in, word};
-use conflict_sums::{
+use conflict_findings::{
     Bounds, Fates, Key, Pair, PairSum, Part, Rollback, Sum, heaviest_pairs, pairs_of, rollbacks,
     sum_of, sums_by,
 };

@@ -17,8 +17,8 @@ use Rattle.spec_history.specs.FlatState.{FlatState}
 use Rattle.spec_history.specs.Replay.{replay}
 use Rattle.conflicts.specs.declared.explanation.Explanation.{Explanation}
 use Rattle.conflicts.specs.Sites.{sites_before}
-use Rattle.conflict_runs.specs.Runs.{further_runs}
-use Rattle.attempt_ends.specs.Ends.{ended_before, running_after}
+use Rattle.conflict_findings.specs.Runs.{further_runs}
+use Rattle.conflict_findings.specs.Ends.{ended_before, running_after}
 use Rattle.conflict_text.specs.Ends.{attempt_lines}
 use Rattle.conflict_text.specs.Further.{told_lines}
 use Rattle.conflict_text.specs.Explaining.{IsReport}

@@ -1,5 +1,5 @@
 -- What grows by one entry of the history: what is summed of its violations, and their lines.
-use Rattle.std.proofs.Common.{◌≡◌, ℕ, ◌+◌, List, [], ◌∷◌, ◌++◌, length, take, map, All, Option, Some, None, IfSome, is_some, option_map, option_to_list, refl, sym, ap, ◌∙◌, arith}
+use Rattle.std.proofs.Common.{◌≡◌, ℕ, ◌+◌, List, [], ◌∷◌, ◌++◌, take, map, Option, Some, None, IfSome, is_some, option_map, option_to_list, sym, ap, ◌∙◌, arith}
 use Rattle.std.proofs.lemmas.List.{append-nil, append_assoc, map-append}
 use Rattle.rv32_image.specs.Image.{LoadedImage}
 use Rattle.spec_history.specs.declared.entry.Entry.{Entry}
@@ -8,11 +8,11 @@ use Rattle.spec_history.specs.FlatState.{FlatState}
 use Rattle.spec_history.specs.Replay.{replay}
 use Rattle.conflicts.specs.declared.explanation.Explanation.{Explanation}
 use Rattle.conflicts.specs.declared.standing.Site.{Site}
-use Rattle.conflicts.specs.Explained.{IsExplained, IsExplainedIn}
+use Rattle.conflicts.specs.Explained.{IsExplainedIn}
 use Rattle.conflicts.proofs.Explaining.{no_places, each_more, explained_more}
-use Rattle.conflict_runs.specs.Runs.{further_runs, runs_in}
-use Rattle.conflict_sums.specs.declared.rollback.Rollback.{Rollback}
-use Rattle.conflict_sums.specs.Rollbacks.{rollback_of}
+use Rattle.conflict_findings.specs.Runs.{further_runs, runs_in}
+use Rattle.conflict_findings.specs.declared.rollback.Rollback.{Rollback}
+use Rattle.conflict_findings.specs.Rollbacks.{rollback_of}
 use Rattle.conflict_text.specs.Further.{told_lines}
 use Rattle.conflict_text.specs.Lines.{violation_lines}
 use Rattle.conflict_text.specs.Why.{AreExplained, AreSummed, AreTold, lines_of}

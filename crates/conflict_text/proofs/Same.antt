@@ -1,5 +1,5 @@
 -- Two explanations of the same violation of a history that replays are the same.
-use Rattle.std.proofs.Common.{◌≡◌, ℕ, zero, suc, List, [], ◌∷◌, length, take, map, All, Option, Some, slice_get, option_map, refl, sym, ap, subst, ◌∙◌, arith}
+use Rattle.std.proofs.Common.{◌≡◌, ℕ, suc, List, [], ◌∷◌, take, All, Option, Some, slice_get, refl, sym, ap, subst, ◌∙◌, arith}
 use Rattle.rv32_image.specs.Image.{LoadedImage, IsImage}
 use Rattle.rv32_exec.specs.NextEvent.{next_event}
 use Rattle.spec_history.specs.declared.entry.Entry.{Entry}
@@ -13,11 +13,10 @@ use Rattle.spec_history.proofs.Legal.{legal_entry}
 use Rattle.spec_history.proofs.Replays.{replayed}
 use Rattle.conflicts.specs.declared.explanation.Blame.{Blame}
 use Rattle.conflicts.specs.declared.explanation.Explanation.{Explanation}
-use Rattle.conflicts.specs.declared.explanation.Runner.{Runner}
 use Rattle.conflicts.specs.Explained.{IsExplained, IsExplainedIn, places_of}
 use Rattle.conflicts.proofs.Explaining.{same_entry}
-use Rattle.attempt_ends.specs.Ends.{core_at}
-use Rattle.attempt_ends.proofs.Losing.{found_core, legal_at, same_state}
+use Rattle.conflict_findings.specs.Ends.{core_at}
+use Rattle.conflict_findings.proofs.Losing.{found_core, legal_at, same_state}
 
 abbrev made : ℕ → ℕ → ℕ → ℕ → ℕ → Option ℕ → Kind → Option Blame → Option ℕ → ℕ → ℕ → Explanation
 made place by causing victim epoch cause kind blame later lost entered = record {

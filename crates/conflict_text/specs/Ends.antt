@@ -6,12 +6,12 @@ use Rattle.std.specs.List.{flat_map}
 use Rattle.spec_history.specs.declared.entry.Entry.{Entry}
 use Rattle.conflicts.specs.declared.explanation.Runner.{Runner}
 use Rattle.conflicts.specs.Attempts.{attempt_number}
-use Rattle.attempt_ends.specs.declared.ended.Ended.{Ended}
-use Rattle.attempt_ends.specs.declared.ended.Ending.{Ending}
-use Rattle.attempt_ends.specs.declared.ended.Ending.TheVariants.{Cancelled, Committed}
-use Rattle.attempt_ends.specs.declared.ended.Running.{Running}
-use Rattle.attempt_ends.specs.declared.tally.Tally.{Tally}
-use Rattle.attempt_ends.specs.Tallies.{done_in, tally_in, tally_of_running}
+use Rattle.conflict_findings.specs.declared.ended.Ended.{Ended}
+use Rattle.conflict_findings.specs.declared.ended.Ending.{Ending}
+use Rattle.conflict_findings.specs.declared.ended.Ending.TheVariants.{Cancelled, Committed}
+use Rattle.conflict_findings.specs.declared.ended.Running.{Running}
+use Rattle.conflict_findings.specs.declared.tally.Tally.{Tally}
+use Rattle.conflict_findings.specs.Tallies.{done_in, tally_in, tally_of_running}
 
 -- whose attempt it is before a place, and which run of its epoch
 abbrev pub runner_text : List Entry → ℕ → Runner → List ℕ

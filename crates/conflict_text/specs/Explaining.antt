@@ -5,8 +5,8 @@ use Rattle.spec_history.specs.declared.entry.Entry.{Entry}
 use Rattle.conflicts.specs.declared.explanation.Explanation.{Explanation}
 use Rattle.conflicts.specs.Explained.{IsExplained, places_of, violations_before}
 use Rattle.conflicts.specs.Sites.{sites_before}
-use Rattle.attempt_ends.specs.Ends.{ended_before, running_after}
-use Rattle.conflict_runs.specs.Runs.{further_runs}
+use Rattle.conflict_findings.specs.Ends.{ended_before, running_after}
+use Rattle.conflict_findings.specs.Runs.{further_runs}
 use Rattle.conflict_text.specs.Report.{IsPrinted}
 
 -- the text tells of one explanation for each violation of the history, in order, and each is right; of its further runs; and of how the attempts of the history ended

@@ -5,7 +5,7 @@ use Rattle.spec_history.specs.declared.entry.What.{What}
 use Rattle.spec_history.specs.declared.entry.What.TheVariants.{Start, Restart}
 use Rattle.conflicts.specs.Attempts.{attempt_number, core_does, is_start}
 use Rattle.spec_history.specs.Searches.{last_below}
-use Rattle.conflict_sums.specs.Endings.{AreEndings}
+use Rattle.conflict_findings.specs.KnownEnds.{AreKnownEnds}
 use Rattle.conflict_text.specs.declared.followed.Attempt.{Attempt}
 use Rattle.conflict_text.specs.declared.followed.Followed.{Followed}
 
@@ -28,4 +28,4 @@ pub record IsAttempt (entries : List Entry) (a : Attempt) : Type 0 where
 -- all that is kept is right
 pub record IsFollowed (entries : List Entry) (followed : Followed) : Type 0 where
   pub attempts_are : All (λ (slot : Option Attempt). IfSome slot (IsAttempt entries)) followed.attempts
-  pub endings_are : AreEndings entries followed.endings
+  pub known_ends_are : AreKnownEnds entries followed.known_ends

@@ -5,7 +5,7 @@ use Rattle.rv32_image.specs.Image.{LoadedImage}
 use Rattle.spec_history.specs.declared.entry.Entry.{Entry}
 use Rattle.conflicts.specs.declared.explanation.Explanation.{Explanation}
 use Rattle.conflicts.specs.declared.standing.Site.{Site}
-use Rattle.conflict_runs.specs.declared.run.Run.{Run}
+use Rattle.conflict_findings.specs.declared.run.Run.{Run}
 use Rattle.conflict_text.specs.Lines.{violation_lines}
 
 -- the lines of each violation, with the list of its further runs; none, where there are fewer lists

@@ -17,7 +17,7 @@ use Rattle.conflicts.specs.declared.standing.Site.{Site}
 use Rattle.conflicts.specs.Attempts.{attempt_number}
 use Rattle.spec_history.specs.Conflict.{line_of, what_at}
 use Rattle.conflicts.specs.Fates.{held_at, moot_at, since, undone_at}
-use Rattle.conflict_runs.specs.declared.run.Run.{Run}
+use Rattle.conflict_findings.specs.declared.run.Run.{Run}
 use Rattle.trace_text.specs.Printing.{hex_word}
 
 -- ---- words

@@ -7,28 +7,28 @@ use Rattle.std.specs.List.{flat_map}
 use Rattle.rv32_image.specs.Image.{LoadedImage}
 use Rattle.rv32_image.specs.Version.{limits_of}
 use Rattle.spec_history.specs.declared.entry.Entry.{Entry}
-use Rattle.attempt_ends.specs.declared.ended.Ended.{Ended}
-use Rattle.attempt_ends.specs.declared.ended.Running.{Running}
+use Rattle.conflict_findings.specs.declared.ended.Ended.{Ended}
+use Rattle.conflict_findings.specs.declared.ended.Running.{Running}
 use Rattle.conflicts.specs.declared.explanation.Explanation.{Explanation}
 use Rattle.spec_history.specs.declared.kind.Kind.{Kind}
 use Rattle.spec_history.specs.declared.kind.Kind.TheVariants.{TrueSharing, SilentStore, FalseSharing, FullBuffer, Unexplained}
 use Rattle.conflicts.specs.declared.standing.Site.{Site}
-use Rattle.conflict_runs.specs.declared.run.Run.{Run}
-use Rattle.conflict_sums.specs.declared.keys.Key.TheVariants.{Epoch, Line, Load, Store}
-use Rattle.conflict_sums.specs.declared.kinds.Counts.{Counts}
-use Rattle.conflict_sums.specs.declared.pair_sums.Bounds.{Bounds}
-use Rattle.conflict_sums.specs.declared.pair_sums.Fates.{Fates}
-use Rattle.conflict_sums.specs.declared.pair_sums.PairSum.{PairSum}
-use Rattle.conflict_sums.specs.declared.part.Part.TheVariants.{OfKind, OfLine, Whole}
-use Rattle.conflict_sums.specs.declared.rollback.Pair.{Pair}
-use Rattle.conflict_sums.specs.declared.rollback.Rollback.{Rollback}
-use Rattle.conflict_sums.specs.declared.sum.Sum.{Sum}
-use Rattle.conflict_sums.specs.Keys.{AreSums, sum_at, sum_or}
-use Rattle.conflict_sums.specs.Kinds.{counts_in}
-use Rattle.conflict_sums.specs.Order.{AreHeaviest, ArePairSums}
-use Rattle.conflict_sums.specs.Roles.{in_both_roles}
-use Rattle.conflict_sums.specs.Rollbacks.{rollback_of}
-use Rattle.conflict_sums.specs.Sums.{count_in, lost_in, sum_in}
+use Rattle.conflict_findings.specs.declared.run.Run.{Run}
+use Rattle.conflict_findings.specs.declared.keys.Key.TheVariants.{Epoch, Line, Load, Store}
+use Rattle.conflict_findings.specs.declared.kinds.Counts.{Counts}
+use Rattle.conflict_findings.specs.declared.pair_sums.Bounds.{Bounds}
+use Rattle.conflict_findings.specs.declared.pair_sums.Fates.{Fates}
+use Rattle.conflict_findings.specs.declared.pair_sums.PairSum.{PairSum}
+use Rattle.conflict_findings.specs.declared.part.Part.TheVariants.{OfKind, OfLine, Whole}
+use Rattle.conflict_findings.specs.declared.rollback.Pair.{Pair}
+use Rattle.conflict_findings.specs.declared.rollback.Rollback.{Rollback}
+use Rattle.conflict_findings.specs.declared.sum.Sum.{Sum}
+use Rattle.conflict_findings.specs.Keys.{AreSums, sum_at, sum_or}
+use Rattle.conflict_findings.specs.Kinds.{counts_in}
+use Rattle.conflict_findings.specs.Order.{AreHeaviest, ArePairSums}
+use Rattle.conflict_findings.specs.Roles.{in_both_roles}
+use Rattle.conflict_findings.specs.Rollbacks.{rollback_of}
+use Rattle.conflict_findings.specs.Sums.{count_in, lost_in, sum_in}
 use Rattle.conflict_text.specs.Ends.{attempt_lines, rest_text, useful_text}
 use Rattle.conflict_text.specs.Further.{told_lines}
 use Rattle.conflict_text.specs.Lines.{address_or_dash, kind_name}

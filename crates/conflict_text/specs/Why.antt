@@ -15,10 +15,10 @@ use Rattle.conflicts.specs.declared.explanation.Explanation.{Explanation}
 use Rattle.conflicts.specs.declared.standing.Site.{Site}
 use Rattle.conflicts.specs.Explained.{IsExplained, places_of, violations_before}
 use Rattle.conflicts.specs.Sites.{sites_before}
-use Rattle.attempt_ends.specs.Ends.{ended_before, running_after}
-use Rattle.conflict_runs.specs.Runs.{further_runs, runs_in}
-use Rattle.conflict_sums.specs.declared.rollback.Rollback.{Rollback}
-use Rattle.conflict_sums.specs.Rollbacks.{rollback_of}
+use Rattle.conflict_findings.specs.Ends.{ended_before, running_after}
+use Rattle.conflict_findings.specs.Runs.{further_runs, runs_in}
+use Rattle.conflict_findings.specs.declared.rollback.Rollback.{Rollback}
+use Rattle.conflict_findings.specs.Rollbacks.{rollback_of}
 use Rattle.conflict_text.specs.Ends.{attempt_lines}
 use Rattle.conflict_text.specs.Further.{told_lines}
 use Rattle.conflict_text.specs.Lines.{violation_lines}

@@ -4,7 +4,7 @@ ghost use Rattle.std.specs.List.{flat_map};
 ghost use Rattle.conflict_text.specs.Ends as spec;
 
 use crate::words::push_named;
-use attempt_ends::{Ended, Ending, Ends, Running, Tally, tally_as, tally_running};
+use conflict_findings::{Ended, Ending, Ends, Running, Tally, tally_as, tally_running};
 use conflicts::{Runner, attempt_number};
 use spec_history::Entry;
 use std::alloc::{AllocError, Global};

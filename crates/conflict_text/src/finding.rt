@@ -8,9 +8,9 @@ ghost use Rattle.trace_commands.specs.declared.outcome.Verdict.TheVariants.{Lega
 ghost use Rattle.trace_commands.specs.Audit.{IsVerdict};
 ghost use Rattle.conflicts.specs.Behind.{IsBehind};
 ghost use Rattle.conflicts.specs.Sites.{sites_before};
-ghost use Rattle.attempt_ends.specs.Ends.{ended_before, running_after};
-ghost use Rattle.conflict_sums.specs.Endings.{AreEndings};
-ghost use Rattle.conflict_sums.specs.Rollbacks.{rollback_of};
+ghost use Rattle.conflict_findings.specs.Ends.{ended_before, running_after};
+ghost use Rattle.conflict_findings.specs.KnownEnds.{AreKnownEnds};
+ghost use Rattle.conflict_findings.specs.Rollbacks.{rollback_of};
 ghost use Rattle.conflict_text.specs.Followed.{IsFollowed};
 ghost use Rattle.conflict_text.specs.Explaining.{IsReport};
 ghost use Rattle.conflict_text.specs.Why as spec;
@@ -19,9 +19,9 @@ use crate::ends::attempt_lines;
 use crate::followed::Followed;
 use crate::lines::push_violation;
 use crate::report::summary;
-use attempt_ends::{Ended, Ends, ended_by, running_in};
-use conflict_runs::further_runs;
-use conflict_sums::{Endings, Rollback, rollback_with};
+use conflict_findings::{
+    Ended, Ends, KnownEnds, Rollback, ended_by, further_runs, rollback_with, running_in,
+};
 use conflicts::{Behind, Explanation, Known, Site, explanation_at, sites};
 use rv32_exec::Image;
 use spec_history::{Entry, Flat, Illegal};
@@ -117,7 +117,7 @@ fn gather(
         return Err(AllocError);
     };
     let mut known = Known::new(alloc);
-    let mut endings = Endings::new();
+    let mut known_ends = KnownEnds::new();
     let mut rollbacks = Vec::new(alloc);
     let mut ended = Vec::new(alloc);
     for (place, entry) in entries.iter().enumerate() {
@@ -127,7 +127,7 @@ fn gather(
             image,
             entries,
             sites,
-            &mut endings,
+            &mut known_ends,
             explained,
         )?;
         keep_ended(&mut ended, ended_by(&flat, cores, entries, place, *entry))?;
@@ -149,16 +149,16 @@ fn keep_summed(
     image: &Image,
     entries: &[Entry],
     sites: &[Option<Site>],
-    endings: &mut Endings,
+    known_ends: &mut KnownEnds,
     explained: Option<Explanation>,
 ) -> Result<(), AllocError>
-    requires { AreEndings entries.now endings.old }
+    requires { AreKnownEnds entries.now known_ends.old }
     ensures rollbacks { OnOk result (rollbacks.new.items
         ≡ rollbacks.old.items ++ option_to_list (option_map (rollback_of image.now entries.now sites.now) explained)) }
-    ensures endings { AreEndings entries.now endings.new }
+    ensures known_ends { AreKnownEnds entries.now known_ends.new }
 {
     if let Some(e) = explained {
-        rollbacks.push(rollback_with(image, entries, sites, endings, &e))?;
+        rollbacks.push(rollback_with(image, entries, sites, known_ends, &e))?;
     }
     Ok(())
 }

@@ -5,7 +5,7 @@ ghost use Rattle.conflicts.specs.Attempts as attempts;
 ghost use Rattle.conflicts.specs.Fates as fates;
 ghost use Rattle.conflict_text.specs.Followed as spec;
 
-use conflict_sums::Endings;
+use conflict_findings::KnownEnds;
 use conflicts::Explanation;
 use spec_history::{Entry, What};
 
@@ -105,7 +105,7 @@ pub struct Followed {
     /// By the number of the core, modulo 16.
     pub attempts: [Option<Attempt>; 16],
     /// Where attempts that violated others were over.
-    pub endings: Endings,
+    pub known_ends: KnownEnds,
 }
 
 impl Followed {
@@ -115,7 +115,7 @@ impl Followed {
     {
         Followed {
             attempts: [None; 16],
-            endings: Endings::new(),
+            known_ends: KnownEnds::new(),
         }
     }
 
@@ -146,6 +146,6 @@ impl Followed {
         ensures over { result ≡ fates.over_at entries.now e }
         ensures known { spec.IsFollowed entries.now self.new }
     {
-        self.endings.over_at(entries, e)
+        self.known_ends.over_at(entries, e)
     }
 }

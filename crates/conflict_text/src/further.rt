@@ -4,7 +4,7 @@ ghost use Rattle.conflict_text.specs.Lines as spec;
 
 use crate::accesses::{push_access, push_bytes};
 use crate::words::{kind_name, push_named};
-use conflict_runs::Run;
+use conflict_findings::Run;
 use conflicts::Site;
 use std::alloc::AllocError;
 

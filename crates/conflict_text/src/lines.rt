@@ -10,7 +10,7 @@ use crate::accesses::{push_access, push_pair, what_at};
 use crate::followed::Followed;
 use crate::further::push_further;
 use crate::words::{cause_name, kind_name, push_count, push_named, push_place, undoing_name};
-use conflict_runs::Run;
+use conflict_findings::Run;
 use conflicts::{Explanation, Site};
 use rv32_exec::Image;
 use spec_history::{Entry, What};

@@ -3,13 +3,13 @@ ghost use Rattle.std.specs.Prelude.{◌≡◌, ◌++◌, OnOk};
 ghost use Rattle.std.specs.BTreeMap.{IsOrdered, get};
 ghost use Rattle.std.specs.List.{flat_map};
 ghost use Rattle.std.specs.Ordering.{nat_cmp};
-ghost use Rattle.conflict_sums.specs.Keys.{sum_or};
-ghost use Rattle.conflict_sums.specs.Kinds.{counts_at};
+ghost use Rattle.conflict_findings.specs.Keys.{sum_or};
+ghost use Rattle.conflict_findings.specs.Kinds.{counts_at};
 ghost use Rattle.conflict_text.specs.Report as spec;
 
 use crate::sums::{push_counts, push_sum};
 use crate::words::{push_address, push_named};
-use conflict_sums::{Bounds, Counts, Fates, LinesByKind, Pair, PairSum, Sum};
+use conflict_findings::{Bounds, Counts, Fates, LinesByKind, Pair, PairSum, Sum};
 use rv32_exec::Image;
 use std::alloc::AllocError;
 use std::collections::BTreeMap;

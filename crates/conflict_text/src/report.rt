@@ -5,9 +5,9 @@ ghost use Rattle.conflict_text.specs.Report as spec;
 
 use crate::parts::{push_instructions, push_lines, push_pairs};
 use crate::sums::{push_epochs, push_kinds, push_total};
-use attempt_ends::Ends;
-use conflict_sums::{
-    Key, Part, Rollback, heaviest, heaviest_pairs, instructions, lines_by_kind, sum_of, sums_by,
+use conflict_findings::{
+    Ends, Key, Part, Rollback, heaviest, heaviest_pairs, instructions, lines_by_kind, sum_of,
+    sums_by,
 };
 use rv32_exec::Image;
 use std::alloc::{AllocError, Global};

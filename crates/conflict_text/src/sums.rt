@@ -7,8 +7,7 @@ ghost use Rattle.conflict_text.specs.Report as spec;
 
 use crate::ends::{push_rest, push_useful};
 use crate::words::{kind_name, push_named};
-use attempt_ends::Ends;
-use conflict_sums::{Counts, Part, Rollback, Sum, sum_of};
+use conflict_findings::{Counts, Ends, Part, Rollback, Sum, sum_of};
 use conflicts::Kind;
 use std::alloc::AllocError;
 use std::collections::BTreeMap;

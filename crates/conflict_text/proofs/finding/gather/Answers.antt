@@ -6,10 +6,10 @@ use Rattle.spec_history.specs.Replay.{replay}
 use Rattle.spec_history.specs.View.{state_in, cores_in}
 use Rattle.spec_history.proofs.Reaching.{no_entries, audited_more}
 use Rattle.conflicts.proofs.Explaining.{legal_in}
-use Rattle.attempt_ends.specs.Ends.{ended_before, running_below, running_from}
-use Rattle.attempt_ends.specs.Violated.{AreMarked}
-use Rattle.attempt_ends.proofs.Growing.{ended_more, none_ended}
-use Rattle.attempt_ends.proofs.Marking.{marked_first, marked_in}
+use Rattle.conflict_findings.specs.Ends.{ended_before, running_below, running_from}
+use Rattle.conflict_findings.specs.Violated.{AreMarked}
+use Rattle.conflict_findings.proofs.Growing.{ended_more, none_ended}
+use Rattle.conflict_findings.proofs.Marking.{marked_first, marked_in}
 use Rattle.conflict_text.specs.Why.{AreSummed}
 use Rattle.conflict_text.proofs.Gathering.{more_summed, none_summed}
 use Rattle.conflict_text.proofs.finding.gather.Goals as goal
@@ -26,7 +26,7 @@ loop-place-init c =
       summed = none_summed image cores entries c.args.sites.now c.new-rollbacks.result.items c.new-rollbacks.ensures.items;
       ended = c.new-ended.ensures.items ∙ none_ended image cores entries;
       known = c.new-known.ensures image.size entries;
-      endings = c.new-endings.ensures entries;
+      known_ends = c.new-known_ends.ensures entries;
     }
 
 pub loop-place-preserved : goal.loop-place-preserved
@@ -52,7 +52,7 @@ loop-place-preserved c =
           c.in_ok-keep_summed.ensures.rollbacks;
       ended = ended_more image flat.image cores entries place (state_in flat) _ _ c.loop-place.ended.items _ was.image was.replays there c.ended_by.ensures was.ended c.in_ok-keep_ended.ensures;
       known = found.known;
-      endings = c.in_ok-keep_summed.ensures.endings;
+      known_ends = c.in_ok-keep_summed.ensures.known_ends;
     }
 
 pub returns : goal.returns

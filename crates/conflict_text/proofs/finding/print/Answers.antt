@@ -1,4 +1,4 @@
-use Rattle.std.proofs.Common.{◌≡◌, ◌++◌, length, ap, subst, ◌∙◌}
+use Rattle.std.proofs.Common.{◌++◌, length, ap, subst, ◌∙◌}
 use Rattle.conflict_text.specs.Why.{AreTold}
 use Rattle.conflict_text.proofs.Answering.{is_report}
 use Rattle.conflict_text.proofs.finding.print.Goals as goal

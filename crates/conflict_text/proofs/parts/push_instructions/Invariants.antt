@@ -3,7 +3,7 @@ use Rattle.std.specs.List.{flat_map}
 use Rattle.std.specs.Map.Iter.{deref_pair}
 use Rattle.std.specs.BTreeMap.{get}
 use Rattle.std.specs.Ordering.{nat_cmp}
-use Rattle.conflict_sums.specs.Keys.{sum_or}
+use Rattle.conflict_findings.specs.Keys.{sum_or}
 use Rattle.conflict_text.specs.Report.{pc_text}
 use Rattle.conflict_text.proofs.parts.push_instructions.Given as goal
 

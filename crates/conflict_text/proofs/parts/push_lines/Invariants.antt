@@ -1,6 +1,6 @@
 use Rattle.std.proofs.Common.{◌≡◌, ◌++◌, take}
 use Rattle.std.specs.List.{flat_map}
-use Rattle.conflict_sums.specs.Kinds.{counts_at}
+use Rattle.conflict_findings.specs.Kinds.{counts_at}
 use Rattle.conflict_text.specs.Report.{line_text}
 use Rattle.conflict_text.proofs.parts.push_lines.Given as goal
 

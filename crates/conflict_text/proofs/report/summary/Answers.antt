@@ -2,11 +2,11 @@ use Rattle.std.proofs.Common.{ℕ, List, ap, ◌∙◌}
 use Rattle.std.specs.BTreeMap.{get}
 use Rattle.std.specs.List.{flat_map}
 use Rattle.std.specs.Ordering.{nat_cmp}
-use Rattle.conflict_sums.proofs.Counting.{line_counts}
-use Rattle.conflict_sums.specs.declared.keys.Key.TheVariants.{Load}
-use Rattle.conflict_sums.specs.declared.sum.Sum.{Sum}
-use Rattle.conflict_sums.specs.Keys.{sum_at, sum_or}
-use Rattle.conflict_sums.specs.Kinds.{counts_at}
+use Rattle.conflict_findings.proofs.Counting.{line_counts}
+use Rattle.conflict_findings.specs.declared.keys.Key.TheVariants.{Load}
+use Rattle.conflict_findings.specs.declared.sum.Sum.{Sum}
+use Rattle.conflict_findings.specs.Keys.{sum_at, sum_or}
+use Rattle.conflict_findings.specs.Kinds.{counts_at}
 use Rattle.conflict_text.specs.Report.{epoch_line, kind_lines, line_line, line_text, pair_line, pc_line, pc_text, total_line, total_text}
 use Rattle.conflict_text.proofs.Summing.{same_lines, six_parts}
 use Rattle.conflict_text.proofs.report.summary.Goals as goal

@@ -1,6 +1,6 @@
 use Rattle.std.proofs.Common.{◌%◌, subst, sym}
 use Rattle.conflict_text.specs.Followed.{IsAttempt}
-use Rattle.conflict_sums.proofs.Ahead.{at_slot}
+use Rattle.conflict_findings.proofs.Ahead.{at_slot}
 use Rattle.conflict_text.proofs.followed.Followed.attempt.Goals as goal
 use Rattle.conflict_text.proofs.followed.Followed.attempt.Goals.{in-Some+then-last-e+then-last-e-2, in-Some+else-last-e, in_default}
 

@@ -1,8 +1,0 @@
-use Rattle.std.proofs.Common.{◌≡◌}
-use Rattle.spec_history.specs.View.{state_in}
-use Rattle.attempt_ends.specs.Ends.{running_below}
-use Rattle.attempt_ends.proofs.running.running_in.Given as goal
-
--- those of the cores so far
-abbrev pub invariant-loop-core : goal.invariant-loop-core
-invariant-loop-core l = l.running.items ≡ running_below l.flat.image (state_in l.flat) l.core

@@ -1,0 +1,100 @@
+-- Which addresses were read, and those in order.
+use Rattle.std.proofs.Common.{◌≡◌, ℕ, ◌+◌, ◌*◌, ◌/◌, ◌<◌, ◌≤◌, ◌==◌, Bool, true, false, cond, is_some, nat_lt, List, length, slice_index, Option, Some, None, refl, ap, subst, ◌∙◌, arith, ltb-true, ltb-false}
+use Rattle.std.specs.List.Sorted.{IsPermutation, IsSorted}
+use Rattle.std.specs.Ordering.{is_lt, nat_cmp}
+use Rattle.std.specs.declared.cmp.Ordering.TheVariants.{Less, Equal, Greater}
+use Rattle.std.proofs.lemmas.Cmp.{nat_cmp_total}
+use Rattle.std.proofs.lemmas.List.{get_or_default}
+use Rattle.std.proofs.lemmas.List.Elements.{Contains-get_or}
+use Rattle.std.proofs.lemmas.List.Sorted.{Contains-permutation, IsPermutation-sym, ranks_by, sorted_far}
+use Rattle.memory_bytes.specs.Shadow.{IsAmong}
+use Rattle.rv32_image.specs.Image.{LoadedImage}
+use Rattle.rv32_image.specs.declared.version.Version.{Version}
+use Rattle.rv32_image.specs.declared.version.Version.TheVariants.{One, Two}
+use Rattle.rv32_image.specs.Version.{limits_of}
+use Rattle.spec_history.proofs.Legal.{and_true, some_below}
+use Rattle.spec_history.specs.Conflict.{Meeting, is_shared, line_has, line_of}
+use Rattle.conflicts.proofs.Blaming.{either_way}
+use Rattle.conflict_findings.specs.Runs.{AreRead, is_falsely_shared}
+
+-- ---- addresses that were read
+
+there : (byte : Option ℕ) → is_some byte ≡ true → (b : ℕ) × (byte ≡ Some b)
+there None is = absurd cc
+there (Some b) is = (b, refl)
+
+-- a shared byte is among those that were read
+pub shared_listed : (m : Meeting) (addresses : List ℕ) (a : ℕ) → ((a byte : ℕ) → m.reads a ≡ Some byte → IsAmong a addresses) → is_shared m a ≡ true
+    → (k : ℕ) × (k < length addresses) × (slice_index addresses k ≡ a)
+shared_listed m addresses a listed shared =
+    let byte = there (m.reads a) (and_true (is_some (m.writes a)) (is_some (m.reads a)) shared).1 in
+    let among = listed a byte.0 byte.1 in (among.place, among.within, among.is)
+
+in_line : (v : Version) (j x : ℕ) → x < (limits_of v).line_length → (j * (limits_of v).line_length + x) / (limits_of v).line_length ≡ j
+in_line One j x below = omega (arith, below)
+in_line Two j x below = omega (arith, below)
+
+-- a falsely shared line is that of one of them
+pub line_listed : (image : LoadedImage) (m : Meeting) (addresses : List ℕ) (j : ℕ) → ((a byte : ℕ) → m.reads a ≡ Some byte → IsAmong a addresses) → is_falsely_shared image m j ≡ true
+    → (k : ℕ) × (k < length addresses) × (line_of image (slice_index addresses k) ≡ j)
+line_listed image m addresses j listed is =
+    let read = (and_true (line_has image j (λ a. is_some (m.reads a))) _ is).0 in
+    let at = some_below (limits_of image.version).line_length (λ x. is_some (m.reads (j * (limits_of image.version).line_length + x))) read in
+    let byte = there (m.reads (j * (limits_of image.version).line_length + at.0)) at.2 in
+    let among = listed (j * (limits_of image.version).line_length + at.0) byte.0 byte.1 in
+    (among.place, among.within, ap (λ a. a / (limits_of image.version).line_length) among.is ∙ in_line image.version j at.0 at.1)
+
+-- ---- lines of memory
+
+-- a byte of a line of memory is in memory
+pub byte_within : (v : Version) (size line x : ℕ) → line < size / (limits_of v).line_length → x < (limits_of v).line_length → line * (limits_of v).line_length + x < size
+byte_within One size line x below inside = omega (arith, below, inside)
+byte_within Two size line x below inside = omega (arith, below, inside)
+
+-- ---- those in order
+
+not_less : (t e : Bool) → is_lt (cond t Less (cond e Equal Greater)) ≡ false → t ≡ false
+not_less true e is = absurd cc
+not_less false e is = refl
+
+rise : (xs : List ℕ) → IsSorted nat_cmp xs → (i j : ℕ) → i ≤ j → j < length xs → slice_index xs i ≤ slice_index xs j
+rise xs sorted i j up below =
+    let a = slice_index xs j in
+    let b = slice_index xs i in
+    ltb-false a b (not_less (nat_lt a b) (a == b) (sorted_far (λ x y. is_lt (nat_cmp x y)) (ranks_by nat_cmp_total (λ p. p)) xs sorted i j 0 up below))
+
+-- those that were listed, put in order
+pub ordered : (size : ℕ) (reads : ℕ → Option ℕ) (old mid new : List ℕ) → mid ≡ old → ((place : ℕ) → place < length old → slice_index old place < size) → ((a byte : ℕ) → reads a ≡ Some byte → IsAmong a old)
+    → IsPermutation mid new → IsSorted nat_cmp new → AreRead size reads new
+ordered size reads old mid new same within each rank sorted = let moved = subst (λ xs. IsPermutation xs new) same rank in record {
+  ordered = sorted;
+  within = λ place below.
+      let a = slice_index new place in
+      let at = Contains-permutation new old a (IsPermutation-sym old new moved) (Contains-get_or new place 0 below) in
+      subst (λ n. n < size) (get_or_default old at.0 0 a at.1 ∙ at.2) (within at.0 at.1);
+  each = λ a byte is.
+      let among = each a byte is in
+      let at = Contains-permutation old new a moved (among.place, among.within, get_or_default old among.place a 0 among.within ∙ among.is) in
+      record { place = at.0; within = at.1; is = get_or_default new at.0 0 a at.1 ∙ at.2 };
+}
+
+-- a byte that was read and stands before the one with an index is among those before it
+pub not_between : (size : ℕ) (reads : ℕ → Option ℕ) (addresses : List ℕ) (index from j k : ℕ) → AreRead size reads addresses → index < length addresses
+    → ((k : ℕ) → k < index → slice_index addresses k < from) → from ≤ j → j < slice_index addresses index → k < length addresses → slice_index addresses k ≡ j → ⊥
+not_between size reads addresses index from j k are inside passed after before within is = either_way (nat_lt k index) ⊥
+    (λ early. let less = passed k (ltb-true k index early) in omega (arith, less, is, after))
+    (λ late. let more = rise addresses are.ordered index k (ltb-false k index late) within in omega (arith, more, is, before))
+
+line_up : (v : Version) (a b : ℕ) → a ≤ b → a / (limits_of v).line_length ≤ b / (limits_of v).line_length
+line_up One a b up = omega (arith, up)
+line_up Two a b up = omega (arith, up)
+
+-- and so is a line
+pub no_line_between : (image : LoadedImage) (reads : ℕ → Option ℕ) (addresses : List ℕ) (index from j k : ℕ) → AreRead image.size reads addresses → index < length addresses
+    → ((k : ℕ) → k < index → line_of image (slice_index addresses k) < from) → from ≤ j → j < line_of image (slice_index addresses index) → k < length addresses
+    → line_of image (slice_index addresses k) ≡ j → ⊥
+no_line_between image reads addresses index from j k are inside passed after before within is = either_way (nat_lt k index) ⊥
+    (λ early. let less = passed k (ltb-true k index early) in omega (arith, less, is, after))
+    (λ late.
+    let more = line_up image.version (slice_index addresses index) (slice_index addresses k) (rise addresses are.ordered index k (ltb-false k index late) within) in
+    omega (arith, more, is, before))

@@ -1,0 +1,7 @@
+use Rattle.std.proofs.Common.{rules}
+use Rattle.std.proofs.lemmas.List.Sorted.{answers_always}
+use Rattle.conflict_findings.proofs.order.order_numbers.Goals as goal
+
+pub returns-clause-ordered : goal.returns-clause-ordered
+returns-clause-ordered c =
+    c.sort_unstable_by_key.ensures.sorted (λ s. (record { 0 = s.1.lost }, record { 0 = s.1.count }, s.0)) (answers_always _ _ _ (λ f a r g h. search rules))

@@ -1,0 +1,20 @@
+-- Definitions to believe: the further runs of bytes at which two epochs met.
+pub mod Runs
+-- Which attempts of a history ended, how, and which go on; how many they are, and what they executed.
+pub mod Ends
+pub mod Tallies
+-- What of an explanation is summed, what parts there are, and their sums.
+pub mod Keys
+pub mod Rollbacks
+pub mod Parts
+pub mod Pairs
+pub mod Sums
+pub mod Kinds
+pub mod PairSums
+pub mod Order
+pub mod Roles
+-- Words of contracts: what the entries say of attempts that have been violated.
+pub mod Violated
+-- What is kept of the ends of attempts, and of pairs.
+pub mod KnownEnds
+pub mod Grouped

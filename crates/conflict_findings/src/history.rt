@@ -1,0 +1,92 @@
+//! The further runs of a violation of a history.
+
+ghost use Rattle.std.specs.Prelude.{◌≡◌, IfOk, OnOk, Some, ◌++◌};
+ghost use Rattle.spec_history.specs.View.{state_in};
+ghost use Rattle.spec_history.specs.Conflict as conflict;
+ghost use Rattle.conflicts.specs.Behind.{IsBehind};
+ghost use Rattle.conflict_findings.specs.Runs as spec;
+
+use crate::run::{Run, Told};
+use conflicts::{Behind, Explanation, Kind, Parties, Violated};
+use rv32_exec::Image;
+use spec_history::{Entry, Flat, What};
+use std::alloc::{AllocError, Global};
+
+/// The further runs of bytes at which the epochs of a violation met. It takes the machine before the violation, the whole history, what
+/// is known of attempts, and the explanation.
+///
+/// First those of bytes that the cause writes and the victim had read, by their addresses; then one for each line of which both
+/// have a byte but share none, by their addresses. The blamed run is left out.
+pub fn further_runs(
+    alloc: Global,
+    image: &Image,
+    flat: &Flat,
+    entries: &[Entry],
+    behind: &Behind,
+    e: Explanation,
+) -> Result<Vec<Run>, AllocError>
+    requires image { flat.now.image ≡ image.now }
+    requires known { IsBehind image.now.size entries.now behind.now }
+    ensures { IfOk result (λ runs. runs.items ≡ spec.runs_in image.now entries.now e (Some (state_in flat.now))) }
+{
+    let mut runs = Vec::new(alloc);
+    push_runs(alloc, &mut runs, image, flat, entries, behind, e)?;
+    Ok(runs)
+}
+
+/// The addresses of the bytes that a core has read from outside, ascending.
+fn in_order(alloc: Global, flat: &Flat, core: u32) -> Result<Vec<u32>, AllocError>
+    ensures { IfOk result (λ read. spec.AreRead flat.now.image.size (conflict.read_bytes ((state_in flat.now).cores core)) read.items) }
+{
+    let mut read = Vec::new(alloc);
+    read.extend_from_slice(flat.read_addresses(core))?;
+    read.sort_unstable();
+    Ok(read)
+}
+
+/// What the entry at a place says, if there is one.
+fn what_at(entries: &[Entry], place: Option<usize>) -> Option<What>
+    ensures { result ≡ conflict.what_at entries.now place }
+{
+    let entry = entries.get(place?)?;
+    Some(entry.what)
+}
+
+/// The same, at the end of a list.
+fn push_runs(
+    alloc: Global,
+    runs: &mut Vec<Run>,
+    image: &Image,
+    flat: &Flat,
+    entries: &[Entry],
+    behind: &Behind,
+    e: Explanation,
+) -> Result<(), AllocError>
+    requires image { flat.now.image ≡ image.now }
+    requires known { IsBehind image.now.size entries.now behind.now }
+    ensures { OnOk result (runs.new.items ≡ runs.old.items ++ spec.runs_in image.now entries.now e (Some (state_in flat.now))) }
+{
+    let Some(cause) = e.cause else {
+        return Ok(());
+    };
+    let Some(what) = what_at(entries, e.cause) else {
+        return Ok(());
+    };
+    let read = in_order(alloc, flat, e.victim.core)?;
+    let shared = Told {
+        violated: Violated {
+            parties: Parties {
+                causer: e.causer.core,
+                cause: what,
+                victim: e.victim.core,
+            },
+            kind: Kind::SilentStore,
+            place: e.place,
+            cause,
+        },
+        blame: e.blame,
+    };
+    shared.push_shared(runs, image, flat, entries, behind, read.as_slice())?;
+    let lines = shared.beside();
+    lines.push_lines(runs, image, flat, entries, behind, read.as_slice())
+}

@@ -1,0 +1,43 @@
+//! What is found of each violation and of each attempt of a history: the further bytes at which two epochs met; how each attempt ended,
+//! and what it had executed then; and what violations cost, summed over those that have something in common.
+#![tactic(auto)]
+
+mod bytes;
+pub mod end_laws;
+mod ended;
+mod ending;
+mod groups;
+mod history;
+mod keys;
+mod kinds;
+mod known_ends;
+mod lines;
+mod order;
+mod pair_sums;
+mod pairs;
+mod part;
+mod roles;
+mod rollback;
+mod run;
+mod running;
+mod sum;
+pub mod sum_laws;
+mod tally;
+mod violated;
+
+pub use ended::{Ended, Ending, Ends, Running};
+pub use ending::ended_by;
+pub use history::further_runs;
+pub use keys::{Key, sums_by};
+pub use kinds::{Counts, LinesByKind, lines_by_kind, part_of};
+pub use known_ends::{KnownEnd, KnownEnds};
+pub use order::{heaviest, heaviest_pairs};
+pub use pair_sums::{Bounds, Fates, PairSum};
+pub use pairs::pairs_of;
+pub use part::Part;
+pub use roles::instructions;
+pub use rollback::{Pair, Rollback, rollback_with, rollbacks};
+pub use run::Run;
+pub use running::running_in;
+pub use sum::{Sum, sum_of};
+pub use tally::{Tally, tally_as, tally_running};

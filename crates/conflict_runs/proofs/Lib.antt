@@ -1,5 +1,0 @@
-mod Beginning
-mod Listing
-mod Loading
-mod Running
-mod Searching

@@ -1,2 +1,0 @@
--- Definitions to believe: the further runs of bytes at which two epochs met.
-pub mod Runs
