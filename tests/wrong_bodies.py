@@ -46,6 +46,38 @@ pub fn next_but_two(n: u32) -> u32
     let after = next(n);
     next_but_one(after)
 }
+
+/// The number two after `n`, at once.
+pub fn two_after(n: u32) -> u32
+    requires { n < 99 }
+    ensures { result ≡ n + 2 }
+{
+    n + 2
+}
+
+/// What follows a number.
+pub trait Count {
+    /// A number after `n`.
+    fn after(&self, n: u32) -> u32
+        requires { n < 100 }
+        ensures { n < result };
+}
+
+/// Counts by one.
+#[derive(Drop)]
+pub struct Ones {
+    pub made: u32,
+}
+
+impl Count for Ones {
+    fn after(&self, n: u32) -> u32
+        requires { n < 100 }
+        ensures { result ≡ 1 + n }
+    {
+        // the one after
+        1 + n
+    }
+}
 """
 ANSWERS = """\
 use Rattle.std.proofs.Common.{arith}
@@ -73,6 +105,12 @@ EDITS = {
         [("let one = next(n);\n    next(one)", "let first = next(n);\n    next(first)")], "FAILED, NOT REFUSED by a message at next_but_one"),
     "next_but_two_is_right_over_a_broken_one": (
         [("    next_but_one(after)", "    next(next_but_one(n))")], "FAILED, NOT REFUSED by a message at next_but_two: proved"),
+    "next_but_two_beside_a_change_that_is_taken_back": (
+        [("    n + 1", "    (n) + 1"), ("    next_but_one(after)", "    next(after)"), ("    (n) + 1", "    n + 1")], "refused: "),
+    "two_after_has_the_text_that_next_is_given": ([("    n + 2", "    n + 3")], "refused: "),
+    "after_is_two_more": ([("        1 + n", "        2 + n")], "refused: "),
+    "after_is_three_more": ([("        1 + n", "        3 + n")], "refused: "),
+    "after_in_a_twin_changes_a_comment": ([("// the one after", "// 1 after")], "FAILED, NOT REFUSED by a message at OnesCount::after: proved"),
     "the_head_of_the_file": ([("//! Numbers one", "//! Numbers, one")], "FAILED, BAD EDIT: it changes no function"),
 }
 

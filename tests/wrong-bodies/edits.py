@@ -5,6 +5,9 @@ from dataclasses import dataclass, replace
 
 from sources import functions_of, module_of, types_of
 
+IMPORTS = ("use ", "ghost use ")
+CLAUSE = re.compile(r"(?m)^ *(?:requires|ensures)\b")
+
 
 class BadEdit(Exception):
     """An edit that can't be applied, with the reason."""
@@ -21,7 +24,8 @@ class Change:
 
 @dataclass(frozen=True)
 class Twin:
-    """A copy of a function with an edit's body and another name: its text, and the path of the function below which it stands."""
+    """A copy of a function with an edit's body and another name: its text, and the path of the function below which it stands. That
+    of a function of a trait stands below its impl, as a function of the type itself."""
 
     text: str
     of: str
@@ -60,6 +64,11 @@ class Sources:
     def functions(self, file, text):
         """The functions of a file with this text, by what the checker calls them."""
         return {self.path_of(file, it): it for it in functions_of(text)}
+
+    def is_in_cycle(self, path):
+        """Whether a function calls itself, or others that call it: it has a proof of its cycle."""
+        above, _, own = path.replace("::", "/").rpartition("/")
+        return os.path.isdir(f"{self.folder}/proofs/{above}/+{own}")
 
 
 def changes_of(text):
@@ -100,12 +109,14 @@ def applied(sources, edit, texts):
     file = edit.changes[0].file
     lines = texts.get(file, sources.texts[file]).split("\n")
     below = sources.functions(file, "\n".join(lines))[edit.twin.of].last
+    if edit.twin.text.startswith("impl "):
+        below = lines.index("}", below) + 1
     return {**texts, file: "\n".join([*lines[:below], "", edit.twin.text, *lines[below:]])}
 
 
 def in_twin(edit, sources, number):
     """The edit with its wrong body in a twin of its function, or None where that can't be: the edit changes more than the body of
-    one function, and that is one of a trait, or calls itself."""
+    one function, and that is in a cycle of calls, or one of a trait whose contract stands with the trait."""
     if not edit.in_bodies or len(edit.functions) != 1 or len({it.file for it in edit.changes}) != 1:
         return None
     file, (path,) = edit.changes[0].file, edit.functions
@@ -115,12 +126,15 @@ def in_twin(edit, sources, number):
     of = lines[function.first - 1 : function.last]
     head, body = "\n".join(of[: function.body - function.first + 1]), "\n".join(of[function.body - function.first + 1 :])
     changes_more = lines_outside(sources, file, path) != [*lines[: function.first - 1], *lines[function.last :]]
-    calls_itself = re.search(rf"\b{function.name}\b", body) or "#[cycle(" in head
-    if changes_more or calls_itself or function.holder and function.holder not in sources.holders:
+    if changes_more or sources.is_in_cycle(path) or "#[cycle(" in head:
         return None
-    name = f"{function.name}_twin{number}"
-    text = re.sub(rf"\bfn {function.name}\b", f"fn {name}", head, count=1) + "\n" + body
-    return replace(edit, functions=frozenset({path.removesuffix(function.name) + name}), twin=Twin(text, path))
+    twin = replace(function, name=f"{function.name}_twin{number}")
+    text = re.sub(rf"\bfn {function.name}\b", f"fn {twin.name}", head, count=1) + "\n" + body
+    if function.holder and function.holder not in sources.holders:
+        if function.type not in sources.holders or not CLAUSE.search(head):
+            return None
+        twin, text = replace(twin, holder=function.type), f"impl {function.type} {{\n{text}\n}}"
+    return replace(edit, functions=frozenset({sources.path_of(file, twin)}), twin=Twin(text, path))
 
 
 def lines_outside(sources, file, path):
@@ -133,19 +147,30 @@ def read_edit(path, sources):
     """The edit in a file. It changes at least one function; what it changes outside of functions comes along."""
     with open(path, encoding="utf-8") as it:
         changes = changes_of(it.read())
-    texts, functions, in_bodies = {}, set(), True
+    texts, in_bodies = {}, True
     for it in changes:
         before = texts.get(it.file, sources.texts.get(it.file, ""))
         texts = changed(sources, [it], texts)
         line = before[: before.find(it.old)].count("\n") + 1
-        found = {name: of for name, of in sources.functions(it.file, before).items() if of.first <= line <= of.last}
-        functions |= found.keys()
-        in_bodies = in_bodies and (it.old.startswith("use ") or any(stays_inside(it, line, of) for of in found.values()))
-    if not functions:
-        raise BadEdit("it changes no function")
+        found = [of for of in functions_of(before) if of.first <= line <= of.last]
+        in_bodies = in_bodies and (it.old.startswith(IMPORTS) or any(stays_inside(it, line, of) for of in found))
+    functions = {it for file, text in texts.items() for it in changed_functions(sources, file, text)}
     if texts == {file: sources.texts[file] for file in texts}:
         raise BadEdit("it changes nothing")
+    if not functions:
+        raise BadEdit("it changes no function")
     return Edit(os.path.basename(path).removesuffix(".edit"), changes, frozenset(functions), in_bodies)
+
+
+def changed_functions(sources, file, text):
+    """The paths of the functions of a file that have other lines in this text than in the sources."""
+    was, now = (lines_by_function(sources, file, it) for it in (sources.texts[file], text))
+    return {it for it in now if now[it] != was.get(it)}
+
+
+def lines_by_function(sources, file, text):
+    lines = text.split("\n")
+    return {path: lines[it.first - 1 : it.last] for path, it in sources.functions(file, text).items()}
 
 
 def stays_inside(change, line, function):
@@ -154,21 +179,31 @@ def stays_inside(change, line, function):
 
 
 def batches_of(edits, sources):
-    """The edits in as few lists as one pass finds: in a list each function is changed once, and each text stands once; a further
-    wrong body of a function stands in a twin of it. What changes more than bodies and imports has a list of its own."""
+    """The edits in as few lists as one pass finds: in a list each function is changed once, and each text stands once; what can't
+    stand so stands in a twin of its function. What changes more than bodies and imports has a list of its own."""
     yield from ([it] for it in edits if not it.in_bodies)
     left = [it for it in edits if it.in_bodies]
     while left:
         batch, later, used, texts = [], [], set(), {}
         for edit in left:
-            twin = in_twin(edit, sources, len(batch)) if used & edit.functions else None
-            try:
-                if used & edit.functions and not twin:
-                    raise BadEdit("a function of it is changed already")
-                texts = applied(sources, twin or edit, texts)
-                used |= edit.functions
-                batch.append(twin or edit)
-            except BadEdit:
+            placed, made = beside(edit, sources, texts, used, len(batch))
+            if placed:
+                used |= placed.functions
+                batch.append(placed)
+                texts = made
+            else:
                 later.append(edit)
         yield batch
         left = later
+
+
+def beside(edit, sources, texts, used, number):
+    """The edit in its function's place or in a twin, beside others that changed the functions `used`, with the texts that they make
+    together; or None, where it can't stand beside them."""
+    if not used & edit.functions:
+        try:
+            return edit, applied(sources, edit, texts)
+        except BadEdit:
+            pass  # a text of it doesn't stand once in what others made of the file
+    twin = in_twin(edit, sources, number)
+    return twin, applied(sources, twin, texts) if twin else texts

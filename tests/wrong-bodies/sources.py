@@ -11,9 +11,10 @@ CYCLE = re.compile(r"#\[cycle\((\w+)\)\]")
 @dataclass(frozen=True)
 class Function:
     """A function of a source file; its lines count from 1 and begin with the comments and attributes above it. The lines of its
-    body come after that with the brace, `body`."""
+    body come after that with the brace, `body`. `type` is that of a plain impl of a trait in which it stands."""
 
     holder: str
+    type: str
     name: str
     cycle: str
     first: int
@@ -29,7 +30,8 @@ def functions_of(text):
             holders.pop()
         holder, function = HOLDER.match(line), FUNCTION.match(line)
         if holder and not ended_by_itself(line):
-            holders.append((len(holder[1]), holder_name(holder[2], header_from(lines, at))))
+            header = header_from(lines, at)
+            holders.append((len(holder[1]), holder_name(holder[2], header), plain_type(header)))
         elif function:
             first = at
             while first > 0 and ABOVE.match(lines[first - 1]):
@@ -37,7 +39,8 @@ def functions_of(text):
             cycle = next((it[1] for it in map(CYCLE.search, lines[first:at]) if it), function[2])
             last = last_line(lines, at, function[1])
             body = next((it for it in range(at, last) if lines[it].rstrip() == function[1] + "{"), at)
-            found.append(Function(holders[-1][1] if holders else "", function[2], cycle, first + 1, body + 1, last + 1))
+            held = holders[-1][1:] if holders else ("", "")
+            found.append(Function(*held, function[2], cycle, first + 1, body + 1, last + 1))
     return found
 
 
@@ -52,10 +55,15 @@ def ended_by_itself(line):
 
 
 def last_line(lines, at, indent):
+    """The line on which a function ends: that of its last brace, or in a trait that gives it no body the last of its clauses."""
     if ended_by_itself(lines[at]):
         return at
-    ends = (indent + "}", indent + "{}", indent + ");")
-    return next((it for it in range(at + 1, len(lines)) if lines[it].rstrip() in ends), len(lines) - 1)
+    ends, depth = (indent + "}", indent + "{}", indent + ");"), 0
+    for it in range(at, len(lines)):
+        depth += lines[it].count("{") - lines[it].count("}")
+        if it > at and (lines[it].rstrip() in ends or depth == 0 and lines[it].rstrip().endswith("};")):
+            return it
+    return len(lines) - 1
 
 
 def header_from(lines, at):
@@ -76,6 +84,12 @@ def holder_name(kind, header):
     *of, own = [re.findall(r"\w+", it)[-1] for it in plain.split(" for ")]
     given = re.search(rf"\b{of[0]}<([\w:]+)> for ", header) if of else None
     return own + "".join(of) + (given[1].split("::")[-1] if given else "")
+
+
+def plain_type(header):
+    """The type of an impl of a trait that stands at the margin, where neither has parameters; else nothing."""
+    plain = re.fullmatch(r"impl [\w:]+ for (\w+) *", header)
+    return plain[1] if plain else ""
 
 
 def without_parameters(text):
