@@ -55,6 +55,24 @@ pub fn two_after(n: u32) -> u32
     n + 2
 }
 
+/// A size.
+#[derive(Clone, Copy)]
+pub enum Size {
+    Small,
+    Large,
+}
+
+/// How many there are of a size.
+pub fn count_of(size: Size) -> u32
+    ensures small { size ≡ Size.Small → result ≡ 1 }
+    ensures large { size ≡ Size.Large → result ≡ 2 }
+{
+    match size {
+        Size::Small => 1,
+        Size::Large => 2,
+    }
+}
+
 /// What follows a number.
 pub trait Count {
     /// A number after `n`.
@@ -111,6 +129,10 @@ EDITS = {
     "after_is_two_more": ([("        1 + n", "        2 + n")], "refused: "),
     "after_is_three_more": ([("        1 + n", "        3 + n")], "refused: "),
     "after_in_a_twin_changes_a_comment": ([("// the one after", "// 1 after")], "FAILED, NOT REFUSED by a message at OnesCount::after: proved"),
+    "count_of_large_is_three": ([("Size::Large => 2,", "Size::Large => 3,")], "refused: "),
+    "count_of_small_is_three": ([("Size::Small => 1,", "Size::Small => 3,")], "refused: "),
+    "count_of_small_in_a_twin_of_one_arm_is_right": (
+        [("Size::Small => 1,", "Size::Small => (1),")], "FAILED, NOT REFUSED by a message at count_of: proved"),
     "the_head_of_the_file": ([("//! Numbers one", "//! Numbers, one")], "FAILED, BAD EDIT: it changes no function"),
 }
 

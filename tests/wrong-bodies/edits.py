@@ -7,6 +7,7 @@ from sources import functions_of, module_of, types_of
 
 IMPORTS = ("use ", "ghost use ")
 CLAUSE = re.compile(r"(?m)^ *(?:requires|ensures)\b")
+ARM = re.compile(r" *\w+::(\w+)(?: \{[^{}]*\})? => .*")
 
 
 class BadEdit(Exception):
@@ -120,16 +121,14 @@ def in_twin(edit, sources, number):
     if not edit.in_bodies or len(edit.functions) != 1 or len({it.file for it in edit.changes}) != 1:
         return None
     file, (path,) = edit.changes[0].file, edit.functions
-    text = changed(sources, edit.changes)[file]
-    function = sources.functions(file, text)[path]
-    lines = text.split("\n")
-    of = lines[function.first - 1 : function.last]
-    head, body = "\n".join(of[: function.body - function.first + 1]), "\n".join(of[function.body - function.first + 1 :])
-    changes_more = lines_outside(sources, file, path) != [*lines[: function.first - 1], *lines[function.last :]]
-    if changes_more or sources.is_in_cycle(path) or "#[cycle(" in head:
+    text, was = changed(sources, edit.changes)[file], sources.texts[file]
+    function, right = sources.functions(file, text)[path], sources.functions(file, was)[path]
+    head, body = parts_of(text, function)
+    if lines_outside(text, function) != lines_outside(was, right) or sources.is_in_cycle(path) or "#[cycle(" in head:
         return None
     twin = replace(function, name=f"{function.name}_twin{number}")
-    text = re.sub(rf"\bfn {function.name}\b", f"fn {twin.name}", head, count=1) + "\n" + body
+    text = re.sub(rf"\bfn {function.name}\b", f"fn {twin.name}", head, count=1)
+    text = "\n".join([text, *(one_arm(function, head, parts_of(was, right)[1], body) or body)])
     if function.holder and function.holder not in sources.holders:
         if function.type not in sources.holders or not CLAUSE.search(head):
             return None
@@ -137,9 +136,31 @@ def in_twin(edit, sources, number):
     return replace(edit, functions=frozenset({sources.path_of(file, twin)}), twin=Twin(text, path))
 
 
-def lines_outside(sources, file, path):
-    """The lines of a source file but for those of a function."""
-    lines, function = sources.texts[file].split("\n"), sources.functions(file, sources.texts[file])[path]
+def one_arm(function, head, right, wrong):
+    """The lines of a body that is wrong in one arm of the match that it is, that of a variant: this arm alone, and a call of the
+    function for any other value, since what it promises there is what its twin has to. None of any other body."""
+    called = re.search(rf"(?m)^(?:pub(?:\(crate\))? )?fn {function.name}\(([^()]*)\)", head)
+    arms = [it for it in wrong if re.match(r" {8}[^ }]", it)]
+    other = [it for was, it in zip(right, wrong) if was != it]
+    is_match = len(wrong) == len(right) and re.match("    match ", wrong[0]) and wrong[-2:] == ["    }", "}"] and all(map(ARM.match, arms))
+    if not (called and is_match and len(other) == 1 and other[0] in arms and other[0].count("{") == other[0].count("}")):
+        return None
+    variants = [ARM.match(it)[1] for it in arms]
+    if variants.count(ARM.match(other[0])[1]) != 1:
+        return None
+    given = ", ".join(re.findall(r"(\w+): ", called[1]))
+    return [wrong[0], other[0], f"        _ => {function.name}({given}),", *wrong[-2:]]
+
+
+def parts_of(text, function):
+    """The text of a function to the line with the brace of its body, and the lines of its body after that."""
+    lines = text.split("\n")
+    return "\n".join(lines[function.first - 1 : function.body]), lines[function.body : function.last]
+
+
+def lines_outside(text, function):
+    """The lines of a source text but for those of a function."""
+    lines = text.split("\n")
     return [*lines[: function.first - 1], *lines[function.last :]]
 
 
