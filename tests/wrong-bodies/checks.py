@@ -16,8 +16,11 @@ FALSE_GOAL = "allow values at which this goal is false"
 # A mistake in a function's answers, as long as there is one, keeps the checker from offering proof files, which takes it as long as a
 # few proofs. What it says of the function's goals stays the same.
 MISTAKE = "\n\nmistake : nothing-has-this-name\nmistake = nothing-has-this-name\n"
-# An answer that names what the text took away says nothing of the function's promise, and neither does the mistake.
-NAMES = re.compile(r"has no field|is not a field of|is not in scope|has no `|was not admitted|which was rejected")
+# An answer that names what the text took away says nothing of the function's promise, and neither does the mistake. Where the name of
+# a record is long, the checker says on the next line what the record has not.
+NAMES = re.compile(
+    r"has no field|is not a field of|is not in scope|has no `|was not admitted|which was rejected|^record `[^`]*`(?: \(nearest: .*\))?$"
+)
 
 
 @dataclass
