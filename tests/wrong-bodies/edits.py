@@ -142,8 +142,9 @@ def one_arm(function, head, right, wrong):
     called = re.search(rf"(?m)^(?:pub(?:\(crate\))? )?fn {function.name}\(([^()]*)\)", head)
     arms = [it for it in wrong if re.match(r" {8}[^ }]", it)]
     other = [it for was, it in zip(right, wrong) if was != it]
-    is_match = len(wrong) == len(right) and re.match("    match ", wrong[0]) and wrong[-2:] == ["    }", "}"] and all(map(ARM.match, arms))
-    if not (called and is_match and len(other) == 1 and other[0] in arms and other[0].count("{") == other[0].count("}")):
+    is_match = wrong[-2:] == ["    }", "}"] and wrong[0].startswith("    match ") and all(map(ARM.match, arms))
+    is_one_line = len(wrong) == len(right) and len(other) == 1 and other[0].count("{") == other[0].count("}")
+    if not (called and is_match and is_one_line and other[0] in arms):
         return None
     variants = [ARM.match(it)[1] for it in arms]
     if variants.count(ARM.match(other[0])[1]) != 1:
