@@ -4,3 +4,10 @@ pub mod Evens
 pub mod Noting
 pub mod Surveying
 pub mod Runs
+pub mod Lines
+pub mod Cores
+pub mod Shows
+pub mod Outcomes
+pub mod Works
+pub mod Alls
+pub mod EvenTexts

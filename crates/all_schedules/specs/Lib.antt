@@ -4,6 +4,15 @@ pub mod Made
 pub mod Evenly
 pub mod Survey
 pub mod SurveyText
+-- And what the commands of `replay` come to: what lines of turns say, the replay of a schedule, every schedule, and the run at even speed.
+pub mod Turns
+pub mod Replay
+pub mod Streams
+pub mod AllSchedules
+pub mod EvenText
+-- Words of contracts: what the program answers.
+pub mod Work
 -- What the code finds.
 pub mod Longer
 pub mod Adding
+pub mod Parts

@@ -1,14 +1,26 @@
-//! Every schedule of so many turns of a loop: what each makes, and what they come to together. And what the run at even speed makes.
+//! Every schedule of so many turns of a loop: what each makes, and what they come to together; what the run at even speed makes; and
+//! the commands of `replay`, over any reader and writers.
 #![tactic(auto)]
 
+mod all;
+mod commands;
 mod driving;
 mod even;
+mod even_text;
+mod print;
+mod replay;
 mod schedules;
 mod survey;
 mod text;
+mod turns;
+mod words;
 
+pub use all::do_all;
+pub use commands::work;
 pub use driving::drive_schedule;
 pub use even::{EvenRun, run_evenly};
+pub use even_text::do_even;
+pub use replay::do_replay;
 pub use schedules::every_schedule;
 pub use survey::{Extreme, Survey, survey_schedules};
 pub use text::{print_survey, push_turns};

@@ -2,21 +2,11 @@
 //! that schedule makes, over the store `caches` or `plain`.
 #![tactic(auto)]
 
+use all_schedules::work;
 use std::alloc::Global;
 use std::process::ExitCode;
 use std::{env, io};
 use trace_commands::{Outcome, StopCause};
-use work::work;
-
-mod all;
-mod even;
-mod print;
-mod schedule;
-#[cfg(test)]
-mod tests;
-mod turns;
-mod words;
-mod work;
 
 /// How many entries the history of a replay may have.
 const ROOM: u32 = 1_048_576;

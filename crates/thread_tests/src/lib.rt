@@ -1,4 +1,4 @@
-//! Tests of runs on threads and of the command `run`, of the lock and of what a run counts, over public calls alone.
+//! Tests of runs on threads and of the commands `run` and `replay`, of the lock and of what a run counts, over public calls alone.
 #![tactic(auto)]
 
 #[cfg(test)]
@@ -15,6 +15,8 @@ mod look;
 mod meetings;
 #[cfg(test)]
 mod programs;
+#[cfg(test)]
+mod replays;
 #[cfg(test)]
 mod runs;
 #[cfg(test)]

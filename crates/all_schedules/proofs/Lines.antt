@@ -1,0 +1,127 @@
+-- How reading goes on over one line, and over one word.
+use Rattle.std.proofs.Common.{◌≡◌, ℕ, ◌+◌, ◌≤◌, true, false, arith, List, [], ◌∷◌, ◌++◌, length, take, Result, Ok, Err, refl, ap, sym, ◌∙◌, append_assoc}
+use Rattle.std.proofs.lemmas.List.{take_all}
+use Rattle.rv32_image.specs.ImageText.{pieces}
+use Rattle.trace_text.specs.declared.fault.TraceFault.{TraceFault}
+use Rattle.trace_text.specs.declared.fault.TraceFaultKind.{TraceFaultKind}
+use Rattle.trace_text.specs.declared.fault.TraceFaultKind.TheVariants.{Head, Line, TooLong, Read, NoMemory}
+use Rattle.trace_text.specs.Reading.{IsFaultOf}
+use Rattle.all_schedules.specs.Turns.{begins_turns, below_image, image_length, image_part, joined, line_read, lines_read, schedule_text, word_read, words_read}
+
+-- ---- the lines above the turns
+
+pub schedule_text-is : (cores : ℕ) (text : List ℕ) → schedule_text cores text ≡ below_image cores 1 (pieces 10 text)
+unfolding schedule_text
+schedule_text-is cores text = refl
+
+pub below_image-none : (cores n : ℕ) → below_image cores n [] ≡ Ok []
+unfolding below_image
+below_image-none cores n = refl
+
+pub below_image-head : (cores n : ℕ) (line : List ℕ) (lines : List (List ℕ)) → begins_turns line ≡ true
+    → below_image cores n (line ∷ lines) ≡ lines_read cores n (line ∷ lines)
+unfolding below_image
+below_image-head cores n line lines is = rw is refl
+
+pub below_image-more : (cores n : ℕ) (line : List ℕ) (lines : List (List ℕ)) → begins_turns line ≡ false
+    → below_image cores n (line ∷ lines) ≡ below_image cores (n + 1) lines
+unfolding below_image
+below_image-more cores n line lines is = rw is refl
+
+pub image_length-none : image_length [] ≡ 0
+unfolding image_length
+image_length-none = refl
+
+pub image_length-head : (line : List ℕ) (lines : List (List ℕ)) → begins_turns line ≡ true → image_length (line ∷ lines) ≡ 0
+unfolding image_length
+image_length-head line lines is = rw is refl
+
+pub image_length-more : (line : List ℕ) (lines : List (List ℕ)) → begins_turns line ≡ false
+    → image_length (line ∷ lines) ≡ length line + 1 + image_length lines
+unfolding image_length
+image_length-more line lines is = rw is refl
+
+-- the image ends there
+pub image_part-is : (text : List ℕ) (start : ℕ) → start ≡ image_length (pieces 10 text) → image_part text ≡ take start text
+unfolding image_part
+image_part-is text start is = ap (λ n. take n text) (sym is)
+
+-- the image is the whole text
+pub image_part-all : (text : List ℕ) (start : ℕ) → start ≡ length text → length text ≤ image_length (pieces 10 text) → image_part text ≡ take start text
+unfolding image_part
+image_part-all text start is long = take_all (image_length (pieces 10 text)) text long ∙ sym (take_all start text (omega (arith, is)))
+
+-- ---- turns
+
+joined-assoc : (old new : List ℕ) (r q : Result (List ℕ) TraceFault) → joined (Ok old) r ≡ Ok new
+    → joined (Ok old) (joined r q) ≡ joined (Ok new) q
+joined-assoc old new (Ok xs) (Ok ys) is = let same : old ++ xs ≡ new = cc in sym (ap Ok (append_assoc old xs ys)) ∙ ap (λ l. Ok (l ++ ys)) same
+joined-assoc old new (Ok xs) (Err fault) is = refl
+joined-assoc old new (Err fault) q is = absurd cc
+
+joined-err : (old : List ℕ) (fault : TraceFault) (r q : Result (List ℕ) TraceFault) → joined (Ok old) r ≡ Err fault
+    → joined (Ok old) (joined r q) ≡ Err fault
+joined-err old fault (Ok xs) q is = absurd cc
+joined-err old fault (Err f) q is = is
+
+-- no turns before
+pub onto_none : (r : Result (List ℕ) TraceFault) → joined (Ok []) r ≡ r
+onto_none (Ok turns) = refl
+onto_none (Err fault) = refl
+
+same_fault : {A B : Type 0} (kind : TraceFaultKind) (fault : TraceFault) (one : Result A TraceFault) (other : Result B TraceFault)
+    → (one ≡ Err fault → other ≡ Err fault) → IsFaultOf kind fault one → IsFaultOf kind fault other
+same_fault NoMemory fault one other f is = is
+same_fault Head fault one other f is = f is
+same_fault Line fault one other f is = f is
+same_fault TooLong fault one other f is = f is
+same_fault Read fault one other f is = is
+
+-- ---- lines of turns
+
+pub lines_read-nothing : (cores n : ℕ) → lines_read cores n [] ≡ Ok []
+unfolding lines_read
+lines_read-nothing cores n = refl
+
+pub lines_read-none : (cores : ℕ) (old : List ℕ) (n : ℕ) → joined (Ok old) (lines_read cores n []) ≡ Ok (old ++ [])
+unfolding lines_read
+lines_read-none cores old n = refl
+
+-- a line that was read leads on to the lines after it
+pub lines_read-ok : (cores : ℕ) (old new : List ℕ) (n : ℕ) (line : List ℕ) (lines : List (List ℕ)) → joined (Ok old) (line_read cores n line) ≡ Ok new
+    → joined (Ok old) (lines_read cores n (line ∷ lines)) ≡ joined (Ok new) (lines_read cores (n + 1) lines)
+unfolding lines_read
+lines_read-ok cores old new n line lines is = joined-assoc old new (line_read cores n line) (lines_read cores (n + 1) lines) is
+
+lines_read-err : (cores : ℕ) (old : List ℕ) (fault : TraceFault) (n : ℕ) (line : List ℕ) (lines : List (List ℕ)) → joined (Ok old) (line_read cores n line) ≡ Err fault
+    → joined (Ok old) (lines_read cores n (line ∷ lines)) ≡ Err fault
+unfolding lines_read
+lines_read-err cores old fault n line lines is = joined-err old fault (line_read cores n line) (lines_read cores (n + 1) lines) is
+
+-- the fault of a line is the fault of the text, where the lines before it were read
+pub fault_of_line : (kind : TraceFaultKind) (fault : TraceFault) (cores : ℕ) (old : List ℕ) (n : ℕ) (line : List ℕ) (lines : List (List ℕ)) (whole : Result (List ℕ) TraceFault)
+    → joined (Ok old) (lines_read cores n (line ∷ lines)) ≡ whole → IsFaultOf kind fault (joined (Ok old) (line_read cores n line)) → IsFaultOf kind fault whole
+fault_of_line kind fault cores old n line lines whole same is =
+    same_fault kind fault (joined (Ok old) (line_read cores n line)) whole (λ e. sym same ∙ lines_read-err cores old fault n line lines e) is
+
+-- ---- words of a line
+
+pub words_read-none : (cores : ℕ) (old : List ℕ) (n : ℕ) → joined (Ok old) (words_read cores n []) ≡ Ok (old ++ [])
+unfolding words_read
+words_read-none cores old n = refl
+
+pub words_read-ok : (cores : ℕ) (old new : List ℕ) (n : ℕ) (word : List ℕ) (words : List (List ℕ)) → joined (Ok old) (word_read cores n word) ≡ Ok new
+    → joined (Ok old) (words_read cores n (word ∷ words)) ≡ joined (Ok new) (words_read cores n words)
+unfolding words_read
+words_read-ok cores old new n word words is = joined-assoc old new (word_read cores n word) (words_read cores n words) is
+
+words_read-err : (cores : ℕ) (old : List ℕ) (fault : TraceFault) (n : ℕ) (word : List ℕ) (words : List (List ℕ)) → joined (Ok old) (word_read cores n word) ≡ Err fault
+    → joined (Ok old) (words_read cores n (word ∷ words)) ≡ Err fault
+unfolding words_read
+words_read-err cores old fault n word words is = joined-err old fault (word_read cores n word) (words_read cores n words) is
+
+-- the fault of a word is the fault of the line, where the words before it were read
+pub fault_of_word : (kind : TraceFaultKind) (fault : TraceFault) (cores : ℕ) (old : List ℕ) (n : ℕ) (word : List ℕ) (words : List (List ℕ)) (whole : Result (List ℕ) TraceFault)
+    → joined (Ok old) (words_read cores n (word ∷ words)) ≡ whole → IsFaultOf kind fault (joined (Ok old) (word_read cores n word)) → IsFaultOf kind fault whole
+fault_of_word kind fault cores old n word words whole same is =
+    same_fault kind fault (joined (Ok old) (word_read cores n word)) whole (λ e. sym same ∙ words_read-err cores old fault n word words e) is

@@ -1,0 +1,121 @@
+-- What the replay of a text comes to, from what its parts answer.
+use Rattle.std.proofs.Common.{◌≡◌, ℕ, ◌+◌, ◌<◌, List, length, replicate, Option, Some, None, Result, Ok, Err, IfSome, MatchResult, refl, sym, subst, arith}
+use Rattle.std.proofs.lemmas.List.{length-replicate}
+use Rattle.std.specs.Io.KnownBytes.{Appends, Keeps}
+use Rattle.rv32_image.specs.declared.fault.ImageFault.{ImageFault}
+use Rattle.rv32_image.specs.declared.input.InputFault.{InputFault}
+use Rattle.rv32_image.specs.declared.input.InputFault.TheVariants as input
+use Rattle.rv32_image.specs.Image.{LoadedImage}
+use Rattle.rv32_image.specs.ImageText.{image_text}
+use Rattle.rv32_image.specs.Reading.{ForText}
+use Rattle.rv32_exec.specs.declared.sequential.End.{End}
+use Rattle.violations.specs.View.{StoreView, Waits}
+use Rattle.violations.specs.Rule.{IsCoreCount}
+use Rattle.homefree.specs.declared.book.Loop.{Loop}
+use Rattle.trace_text.specs.declared.fault.TraceFault.{TraceFault}
+use Rattle.trace_text.specs.declared.fault.TraceFaultKind.{TraceFaultKind}
+use Rattle.trace_text.specs.declared.fault.TraceFaultKind.TheVariants.{Head, Line, TooLong, Read, NoMemory}
+use Rattle.trace_text.specs.Reading.{IsFaultOf, input_fault}
+use Rattle.trace_text.specs.TraceText.{longest_trace_text}
+use Rattle.trace_commands.specs.declared.outcome.Outcome.{Outcome}
+use Rattle.trace_commands.specs.declared.outcome.Outcome.TheVariants.{Reported, Audited, Usage, BadImage, BadTrace, Open, BadTurns, Stopped}
+use Rattle.trace_commands.specs.declared.outcome.StopCause.{StopCause}
+use Rattle.trace_commands.specs.declared.outcome.StopCause.TheVariants as cause
+use Rattle.trace_commands.specs.Outcome.{outcome_of_turns_fault}
+use Rattle.all_schedules.specs.Made.{IsFull, loop_on}
+use Rattle.all_schedules.specs.Replay.{IsNoReplay, IsReplay, IsReplayOn, IsReplayOutcome, IsStop, OfText, outcome_at}
+use Rattle.all_schedules.specs.Turns.{image_part, schedule_text}
+use Rattle.all_schedules.proofs.Cores.{is_line}
+
+-- what holds of the image that the text says
+pub by_image : (text : List ℕ) (image : LoadedImage) (P : LoadedImage → Type 0) → image_text (image_part text) ≡ Ok image → P image
+    → MatchResult (image_text (image_part text)) P (λ fault. ⊥)
+by_image text image P said is = subst (λ (r : Result LoadedImage ImageFault). MatchResult r P (λ fault. ⊥)) (sym said) is
+
+-- and of the schedule
+pub by_text : (cores room : ℕ) (text : List ℕ) (image : LoadedImage) (schedule : List ℕ) (P : Loop → List ℕ → Type 0) → image_text (image_part text) ≡ Ok image
+    → IsCoreCount image cores → schedule_text cores text ≡ Ok schedule → P (loop_on image cores room) schedule → OfText cores room text P
+by_text cores room text image schedule P said allowed turns is =
+    by_image text image (λ l. IsCoreCount l cores × MatchResult (schedule_text cores text) (P (loop_on l cores room)) (λ fault. ⊥)) said
+    (allowed, subst (λ (r : Result (List ℕ) TraceFault). MatchResult r (P (loop_on image cores room)) (λ fault. ⊥)) (sym turns) is)
+
+module _ {S : Type 0} (view : S → StoreView) (waits : S → Waits) (cores room : ℕ) (text : List ℕ) where
+  -- the turns stop
+  pub stops : (image : LoadedImage) (schedule : List ℕ) (why : StopCause) → image_text (image_part text) ≡ Ok image → IsCoreCount image cores
+      → schedule_text cores text ≡ Ok schedule → IsStop view waits (loop_on image cores room) schedule why → IsNoReplay view waits cores room text (Stopped why)
+  stops image schedule cause.HistoryFull said allowed turns is = by_text cores room text image schedule (IsFull view waits) said allowed turns is
+  stops image schedule cause.NoMemory said allowed turns is = tt
+  stops image schedule cause.Write said allowed turns is = absurd is
+  stops image schedule cause.NoThread said allowed turns is = absurd is
+  stops image schedule cause.Spent said allowed turns is = absurd is
+  stops image schedule cause.Shut said allowed turns is = absurd is
+
+  -- the lines of turns are refused
+  pub refused_turns : (line : ℕ) (kind : TraceFaultKind) (image : LoadedImage) → image_text (image_part text) ≡ Ok image → IsCoreCount image cores
+      → IsFaultOf kind (record { line = line; kind = kind }) (schedule_text cores text)
+      → IsNoReplay view waits cores room text (outcome_of_turns_fault kind (record { line = line; kind = kind }))
+  refused_turns line Line image said allowed is =
+      by_image text image (λ l. IsCoreCount l cores × (schedule_text cores text ≡ Err (record { line = line; kind = Line }))) said (allowed, is)
+  refused_turns line Head image said allowed is = let no : Head ≡ Line = is_line cores text (record { line = line; kind = Head }) is in absurd cc
+  refused_turns line TooLong image said allowed is = let no : TooLong ≡ Line = is_line cores text (record { line = line; kind = TooLong }) is in absurd cc
+  refused_turns line Read image said allowed is = absurd is
+  refused_turns line NoMemory image said allowed is = tt
+
+  module _ (old new : Option (List ℕ)) where
+    -- nothing is printed
+    pub unprinted : (outcome : Outcome) → IsNoReplay view waits cores room text outcome → Keeps old new → IsReplayOutcome view waits cores room text old new outcome
+    unprinted (Reported end) is keeps = absurd is
+    unprinted (Open homefree) is keeps = absurd is
+    unprinted (Audited verdict) is keeps = absurd is
+    unprinted Usage is keeps = (is, keeps)
+    unprinted (BadImage fault) is keeps = (is, keeps)
+    unprinted (BadTrace fault) is keeps = absurd is
+    unprinted (BadTurns fault) is keeps = (is, keeps)
+    unprinted (Stopped cause.Write) is keeps = absurd is
+    unprinted (Stopped cause.NoMemory) is keeps = (is, keeps)
+    unprinted (Stopped cause.HistoryFull) is keeps = (is, keeps)
+    unprinted (Stopped cause.NoThread) is keeps = absurd is
+    unprinted (Stopped cause.Spent) is keeps = absurd is
+    unprinted (Stopped cause.Shut) is keeps = absurd is
+
+    -- a replay that is shown is reported or open
+    shown_at : (outcome : Outcome) (printed : List ℕ) (r : Result LoadedImage ImageFault) (q : Result (List ℕ) TraceFault)
+        → MatchResult r (λ image. IsCoreCount image cores × MatchResult q (λ schedule. IsReplay view waits (loop_on image cores room) schedule outcome printed) (λ fault. ⊥)) (λ fault. ⊥)
+        → (end : Option End) × (homefree : ℕ) × (outcome ≡ outcome_at end homefree)
+    shown_at outcome printed (Ok image) (Ok schedule) is = let show = is.1.3 in (show.state.end, show.state.homefree, show.outcome_is)
+    shown_at outcome printed (Ok image) (Err fault) is = absurd is.1
+    shown_at outcome printed (Err fault) q is = absurd is
+
+    printed_at : (end : Option End) (homefree : ℕ) (printed : List ℕ) → IsReplayOn view waits cores room text (outcome_at end homefree) printed
+        → Appends old new printed → IsReplayOutcome view waits cores room text old new (outcome_at end homefree)
+    printed_at (Some end) homefree printed is grows = (printed, is, grows)
+    printed_at None homefree printed is grows = (printed, is, grows)
+
+    pub printed_whole : (outcome : Outcome) (printed : List ℕ) → IsReplayOn view waits cores room text outcome printed → Appends old new printed
+        → IsReplayOutcome view waits cores room text old new outcome
+    printed_whole outcome printed is grows =
+        let at = shown_at outcome printed (image_text (image_part text)) (schedule_text cores text) is in
+        subst (λ (o : Outcome). IsReplayOutcome view waits cores room text old new o) (sym at.2)
+        (printed_at at.0 at.1 printed (subst (λ (o : Outcome). IsReplayOn view waits cores room text o printed) at.2 is) grows)
+
+keeps_itself : (known : Option (List ℕ)) → Keeps known known
+keeps_itself None = tt
+keeps_itself (Some bytes) = refl
+
+module _ {S : Type 0} (view : S → StoreView) (waits : S → Waits) (cores room : ℕ) where
+  refused : (fault : InputFault) (text : List ℕ) (output : Option (List ℕ)) → (fault ≡ input.TooLong → longest_trace_text < length text)
+      → IsReplayOutcome view waits cores room text output output (outcome_of_turns_fault (input_fault fault).kind (input_fault fault))
+  refused input.TooLong text output long = ((refl, long refl), keeps_itself output)
+  refused input.Read text output long = (refl, keeps_itself output)
+  refused input.NoMemory text output long = (tt, keeps_itself output)
+
+  -- a text that is longer than this
+  long_text : (n : ℕ) → (text : List ℕ) × (n < length text)
+  long_text n = (replicate (n + 1) 0, omega (arith, length-replicate {A = ℕ} (n + 1) 0))
+
+  -- an input that could not be read whole
+  pub refused_input : (known : Option (List ℕ)) (fault : InputFault) (output : Option (List ℕ))
+      → (fault ≡ input.TooLong → IfSome known (λ whole. longest_trace_text < length whole))
+      → ForText known (λ text. IsReplayOutcome view waits cores room text output output (outcome_of_turns_fault (input_fault fault).kind (input_fault fault)))
+  refused_input None fault output long = let text = long_text longest_trace_text in (text.0, refused fault text.0 output (λ _. text.1))
+  refused_input (Some text) fault output long = refused fault text output long

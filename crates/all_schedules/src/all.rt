@@ -1,0 +1,124 @@
+//! Every schedule of so many turns, over any store, reader and writers.
+ghost use Rattle.std.specs.Prelude.{◌≡◌, ◌≤◌, ◌+◌, MatchResult};
+ghost use Rattle.rv32_image.specs.Input.{TakesAtMost};
+ghost use Rattle.rv32_image.specs.ImageText.{longest_image_text};
+ghost use Rattle.rv32_image.specs.Reading.{ForText};
+ghost use Rattle.violations.specs.Rule.{IsCoreCount};
+ghost use Rattle.all_schedules.specs.Made.{loop_on};
+ghost use Rattle.all_schedules.specs.AllSchedules as spec;
+
+use crate::replay::cause_of;
+use crate::schedules::every_schedule;
+use crate::survey::survey_schedules;
+use crate::text::print_survey;
+use rv32_image::{Image, read_image};
+use std::alloc::{AllocError, Global};
+use std::io::{Read, Write};
+use trace_commands::{Outcome, StopCause, write_whole};
+use violations::EpochStore;
+
+/// Drives every schedule of so many turns of the image that the reader gives, and writes what they come to together. The cores are at
+/// least 1, and the room is 16 to 1,048,576 entries.
+///
+/// The status is 0 where that was written; 2 where the image is refused, or is good and its version doesn't allow so many cores; 3 where
+/// the history of a schedule is full, memory ran out or a write failed. With 2 and 3 one line on the error stream says which. All
+/// that is written was made before the first byte: after a failed write a prefix of it was written.
+pub fn do_all<S: EpochStore, R: Read, W: Write, E: Write>(
+    alloc: Global,
+    cores: u32,
+    room: u32,
+    turns: u32,
+    reader: &mut R,
+    writer: &mut W,
+    errors: &mut E,
+) -> u8
+    requires cores { 1 ≤ cores }
+    requires least { 16 ≤ room }
+    requires most { room ≤ 1048576 }
+    ensures outcome { ForText (R.remaining reader.old) (λ text. spec.AllAnswers S.view S.waits cores room turns text
+        (record { old = W.contents writer.old; new = W.contents writer.new }) (record { old = E.contents errors.old; new = E.contents errors.new }) result) }
+    ensures taken { TakesAtMost (R.remaining reader.old) (R.remaining reader.new) (longest_image_text + 1) }
+{
+    match all_of_input::<S, R, W>(alloc, cores, room, turns, reader, writer) {
+        Ok(()) => 0,
+        Err(outcome) => outcome.conclude(errors),
+    }
+}
+
+/// All but the line on the error stream.
+fn all_of_input<S: EpochStore, R: Read, W: Write>(
+    alloc: Global,
+    cores: u32,
+    room: u32,
+    turns: u32,
+    reader: &mut R,
+    writer: &mut W,
+) -> Result<(), Outcome>
+    requires cores { 1 ≤ cores }
+    requires least { 16 ≤ room }
+    requires most { room ≤ 1048576 }
+    ensures outcome { ForText (R.remaining reader.old) (λ text. MatchResult result
+        (λ _. spec.IsWritten S.view S.waits cores room turns text (W.contents writer.old) (W.contents writer.new))
+        (spec.IsUnwritten S.view S.waits cores room turns text (W.contents writer.old) (W.contents writer.new))) }
+    ensures taken { TakesAtMost (R.remaining reader.old) (R.remaining reader.new) (longest_image_text + 1) }
+{
+    match read_image(alloc, reader) {
+        Ok(image) => all_of_image::<S, W>(alloc, &image, cores, room, turns, writer),
+        Err(fault) => Err(Outcome::of_fault(fault)),
+    }
+}
+
+fn all_of_image<S: EpochStore, W: Write>(
+    alloc: Global,
+    image: &Image,
+    cores: u32,
+    room: u32,
+    turns: u32,
+    writer: &mut W,
+) -> Result<(), Outcome>
+    requires cores { 1 ≤ cores }
+    requires least { 16 ≤ room }
+    requires most { room ≤ 1048576 }
+    ensures { MatchResult result
+        (λ _. spec.IsWrittenOf S.view S.waits (loop_on image.now cores room) turns (W.contents writer.old) (W.contents writer.new))
+        (spec.IsUnwrittenOf S.view S.waits (loop_on image.now cores room) turns (W.contents writer.old) (W.contents writer.new)) }
+{
+    if image.version().limits().most_cores < cores {
+        return Err(Outcome::Usage);
+    }
+    let printed = match print_all::<S>(alloc, image, cores, room, turns) {
+        Ok(printed) => printed,
+        Err(cause) => return Err(Outcome::Stopped(cause)),
+    };
+    if write_whole(writer, printed.as_slice()) {
+        Ok(())
+    } else {
+        Err(Outcome::Stopped(StopCause::Write))
+    }
+}
+
+/// The text of the survey of every schedule.
+fn print_all<S: EpochStore>(
+    alloc: Global,
+    image: &Image,
+    cores: u32,
+    room: u32,
+    turns: u32,
+) -> Result<Vec<u8>, StopCause>
+    requires cores { IsCoreCount image.now cores }
+    requires least { 16 ≤ room }
+    requires most { room ≤ 1048576 }
+    ensures { MatchResult result (λ text. spec.IsAll S.view S.waits (loop_on image.now cores room) turns text.items)
+        (spec.IsAllStop S.view S.waits (loop_on image.now cores room) turns) }
+{
+    let Ok(all) = every_schedule(alloc, cores, turns) else {
+        return Err(StopCause::NoMemory);
+    };
+    match survey_schedules::<S>(alloc, image, cores, room, all.as_slice()) {
+        Ok(survey) => match print_survey(alloc, image, all.as_slice(), &survey) {
+            Ok(text) => Ok(text),
+            Err(AllocError) => Err(StopCause::NoMemory),
+        },
+        Err(fault) => Err(cause_of(fault)),
+    }
+}

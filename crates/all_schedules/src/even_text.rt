@@ -1,0 +1,135 @@
+//! The run at even speed, over any store, reader and writers.
+ghost use Rattle.std.specs.Prelude.{◌≡◌, ◌≤◌, ◌+◌, ◌++◌, ℕ, List, MatchResult, IfOk};
+ghost use Rattle.rv32_image.specs.Input.{TakesAtMost};
+ghost use Rattle.rv32_image.specs.ImageText.{longest_image_text};
+ghost use Rattle.rv32_image.specs.Reading.{ForText};
+ghost use Rattle.trace_commands.specs.Outcome.{Conclusion};
+ghost use Rattle.violations.specs.Rule.{IsCoreCount};
+ghost use Rattle.all_schedules.specs.Made.{loop_on};
+ghost use Rattle.all_schedules.specs.SurveyText.{turns_line};
+ghost use Rattle.all_schedules.specs.Replay.{IsShown};
+ghost use Rattle.all_schedules.specs.EvenText as spec;
+
+use crate::even::run_evenly;
+use crate::print::print_book;
+use crate::text::push_turns;
+use homefree::{Book, TurnFault};
+use rv32_image::{Image, read_image};
+use std::alloc::{AllocError, Global};
+use std::io::{Read, Write};
+use trace_commands::{Outcome, StopCause, write_whole};
+use violations::EpochStore;
+
+/// Runs the image that the reader gives at even speed over a fresh store, and writes the line of its turns, and below it what
+/// `do_replay` writes of them. The cores are at least 1, and the room is 16 to 1,048,576 entries.
+///
+/// The status is 0 where the loop is done or exited; 1 where an epoch faulted; 2 where the image or the number of cores is refused; 3
+/// where the history is full, memory ran out or a write failed. With 2 and 3 one line on the error stream says which. All that is written
+/// was made before the first byte: after a failed write a prefix of it was written.
+pub fn do_even<S: EpochStore, R: Read, W: Write, E: Write>(
+    alloc: Global,
+    cores: u32,
+    room: u32,
+    reader: &mut R,
+    writer: &mut W,
+    errors: &mut E,
+) -> u8
+    requires cores { 1 ≤ cores }
+    requires least { 16 ≤ room }
+    requires most { room ≤ 1048576 }
+    ensures outcome { ForText (R.remaining reader.old) (λ text.
+        Conclusion (spec.IsEvenOutcome S.view S.waits cores room text (W.contents writer.old) (W.contents writer.new)) (E.contents errors.old) (E.contents errors.new) result) }
+    ensures taken { TakesAtMost (R.remaining reader.old) (R.remaining reader.new) (longest_image_text + 1) }
+{
+    even_input::<S, R, W>(alloc, cores, room, reader, writer).conclude(errors)
+}
+
+/// Runs an input, all but its line on the error stream.
+fn even_input<S: EpochStore, R: Read, W: Write>(
+    alloc: Global,
+    cores: u32,
+    room: u32,
+    reader: &mut R,
+    writer: &mut W,
+) -> Outcome
+    requires cores { 1 ≤ cores }
+    requires least { 16 ≤ room }
+    requires most { room ≤ 1048576 }
+    ensures outcome { ForText (R.remaining reader.old) (λ text.
+        spec.IsEvenOutcome S.view S.waits cores room text (W.contents writer.old) (W.contents writer.new) result) }
+    ensures taken { TakesAtMost (R.remaining reader.old) (R.remaining reader.new) (longest_image_text + 1) }
+{
+    match read_image(alloc, reader) {
+        Ok(image) => even_image::<S, W>(alloc, &image, cores, room, writer),
+        Err(fault) => Outcome::of_fault(fault),
+    }
+}
+
+fn even_image<S: EpochStore, W: Write>(
+    alloc: Global,
+    image: &Image,
+    cores: u32,
+    room: u32,
+    writer: &mut W,
+) -> Outcome
+    requires cores { 1 ≤ cores }
+    requires least { 16 ≤ room }
+    requires most { room ≤ 1048576 }
+    ensures { spec.IsEvenOf S.view S.waits (loop_on image.now cores room) (W.contents writer.old) (W.contents writer.new) result }
+{
+    if image.version().limits().most_cores < cores {
+        return Outcome::Usage;
+    }
+    let (outcome, printed) = match show_even::<S>(alloc, image, cores, room) {
+        Ok(shown) => shown,
+        Err(cause) => return Outcome::Stopped(cause),
+    };
+    if write_whole(writer, printed.as_slice()) {
+        outcome
+    } else {
+        Outcome::Stopped(StopCause::Write)
+    }
+}
+
+/// Runs at even speed, and shows what the turns made.
+fn show_even<S: EpochStore>(
+    alloc: Global,
+    image: &Image,
+    cores: u32,
+    room: u32,
+) -> Result<(Outcome, Vec<u8>), StopCause>
+    requires cores { IsCoreCount image.now cores }
+    requires least { 16 ≤ room }
+    requires most { room ≤ 1048576 }
+    ensures { MatchResult result (λ shown. spec.IsEvenText S.view S.waits (loop_on image.now cores room) shown.0 shown.1.items)
+        (spec.IsEvenStop S.view S.waits (loop_on image.now cores room)) }
+{
+    match run_evenly::<S>(alloc, image, cores, room) {
+        Ok(made) => match print_turns(alloc, image, cores, made.schedule.as_slice(), &made.book) {
+            Ok(shown) => Ok(shown),
+            Err(AllocError) => Err(StopCause::NoMemory),
+        },
+        Err(TurnFault::HistoryFull) => Err(StopCause::HistoryFull),
+        Err(TurnFault::NoMemory) => Err(StopCause::NoMemory),
+    }
+}
+
+/// The line of these turns, and below it what is printed of the book.
+fn print_turns<S: EpochStore>(
+    alloc: Global,
+    image: &Image,
+    cores: u32,
+    schedule: &[u32],
+    book: &Book<S>,
+) -> Result<(Outcome, Vec<u8>), AllocError>
+    requires image { book.now.image ≡ image.now }
+    requires cores { book.now.cores ≡ cores }
+    ensures { IfOk result (λ shown. (below : List ℕ) × IsShown image.now cores book.now.history shown.0 below
+        × (shown.1.items ≡ turns_line schedule.now ++ below)) }
+{
+    let shown = print_book(alloc, image, cores, book)?;
+    let mut text = Vec::new(alloc);
+    push_turns(&mut text, schedule)?;
+    text.extend_from_slice(shown.1.as_slice())?;
+    Ok((shown.0, text))
+}

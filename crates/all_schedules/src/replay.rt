@@ -1,0 +1,154 @@
+//! The replay of a schedule over any store, reader and writers.
+ghost use Rattle.std.specs.Prelude.{◌≡◌, ◌≤◌, ◌<◌, ◌+◌, All, MatchResult, IfOk, IfErr, length};
+ghost use Rattle.rv32_image.specs.Input.{TakesAtMost};
+ghost use Rattle.rv32_image.specs.Reading.{ForText};
+ghost use Rattle.trace_text.specs.TraceText.{longest_trace_text};
+ghost use Rattle.trace_commands.specs.Outcome.{Conclusion};
+ghost use Rattle.violations.specs.Rule.{IsCoreCount};
+ghost use Rattle.all_schedules.specs.Made.{loop_on};
+ghost use Rattle.all_schedules.specs.Replay as spec;
+
+use crate::driving::drive_schedule;
+use crate::print::print_book;
+use crate::turns::{image_part, parts_of, read_turns};
+use homefree::TurnFault;
+use rv32_image::{Image, image_of, read_input};
+use std::alloc::{AllocError, Global};
+use std::io::{Read, Write};
+use trace_commands::{Outcome, StopCause, write_whole};
+use trace_text::{LONGEST_TRACE_TEXT, TraceFault};
+use violations::EpochStore;
+
+/// Replays the schedule that the reader gives below its image: takes its turns over a fresh store, on one thread, and writes what
+/// they make, the counts and the trace. The cores are at least 1, and the room is 16 to 1,048,576 entries.
+///
+/// The status is 0 where the loop is done or exited, or the schedule was used up before; 1 where an epoch faulted; 2 where the image, the
+/// number of cores or the lines of turns are refused; 3 where the history is full, memory ran out or a write failed. With 2 and 3 one
+/// line on the error stream says which. All that is written was made before the first byte: after a failed write a prefix of it was written.
+pub fn do_replay<S: EpochStore, R: Read, W: Write, E: Write>(
+    alloc: Global,
+    cores: u32,
+    room: u32,
+    reader: &mut R,
+    writer: &mut W,
+    errors: &mut E,
+) -> u8
+    requires cores { 1 ≤ cores }
+    requires least { 16 ≤ room }
+    requires most { room ≤ 1048576 }
+    ensures outcome { ForText (R.remaining reader.old) (λ text.
+        Conclusion (spec.IsReplayOutcome S.view S.waits cores room text (W.contents writer.old) (W.contents writer.new)) (E.contents errors.old) (E.contents errors.new) result) }
+    ensures taken { TakesAtMost (R.remaining reader.old) (R.remaining reader.new) (longest_trace_text + 1) }
+{
+    replay_input::<S, R, W>(alloc, cores, room, reader, writer).conclude(errors)
+}
+
+/// Replays an input, all but its line on the error stream.
+fn replay_input<S: EpochStore, R: Read, W: Write>(
+    alloc: Global,
+    cores: u32,
+    room: u32,
+    reader: &mut R,
+    writer: &mut W,
+) -> Outcome
+    requires cores { 1 ≤ cores }
+    requires least { 16 ≤ room }
+    requires most { room ≤ 1048576 }
+    ensures outcome { ForText (R.remaining reader.old) (λ text.
+        spec.IsReplayOutcome S.view S.waits cores room text (W.contents writer.old) (W.contents writer.new) result) }
+    ensures taken { TakesAtMost (R.remaining reader.old) (R.remaining reader.new) (longest_trace_text + 1) }
+{
+    match read_input(alloc, reader, LONGEST_TRACE_TEXT) {
+        Ok(text) => replay_text::<S, W>(alloc, cores, room, text.as_slice(), writer),
+        Err(fault) => Outcome::of_turns_fault(TraceFault::from(fault)),
+    }
+}
+
+fn replay_text<S: EpochStore, W: Write>(
+    alloc: Global,
+    cores: u32,
+    room: u32,
+    text: &[u8],
+    writer: &mut W,
+) -> Outcome
+    requires cores { 1 ≤ cores }
+    requires least { 16 ≤ room }
+    requires most { room ≤ 1048576 }
+    requires short { length text.now ≤ longest_trace_text }
+    ensures { spec.IsReplayOutcome S.view S.waits cores room text.now (W.contents writer.old) (W.contents writer.new) result }
+{
+    let (outcome, printed) = match replay_of::<S>(alloc, cores, room, text) {
+        Ok(shown) => shown,
+        Err(outcome) => return outcome,
+    };
+    if write_whole(writer, printed.as_slice()) {
+        outcome
+    } else {
+        Outcome::Stopped(StopCause::Write)
+    }
+}
+
+/// What the schedule of a text came to, with all that is printed of it; or what it came to where nothing is printed.
+fn replay_of<S: EpochStore>(
+    alloc: Global,
+    cores: u32,
+    room: u32,
+    text: &[u8],
+) -> Result<(Outcome, Vec<u8>), Outcome>
+    requires cores { 1 ≤ cores }
+    requires least { 16 ≤ room }
+    requires most { room ≤ 1048576 }
+    requires short { length text.now ≤ longest_trace_text }
+    ensures { MatchResult result (λ shown. spec.IsReplayOn S.view S.waits cores room text.now shown.0 shown.1.items) (spec.IsNoReplay S.view S.waits cores room text.now) }
+{
+    let parts = parts_of(text);
+    let image = match image_of(alloc, image_part(text, &parts)) {
+        Ok(image) => image,
+        Err(fault) => return Err(Outcome::of_fault(fault)),
+    };
+    if image.version().limits().most_cores < cores {
+        return Err(Outcome::Usage);
+    }
+    let schedule = match read_turns(alloc, cores, parts.first as u32, parts.turns) {
+        Ok(schedule) => schedule,
+        Err(fault) => return Err(Outcome::of_turns_fault(fault)),
+    };
+    match replay_turns::<S>(alloc, &image, cores, room, schedule.as_slice()) {
+        Ok(shown) => Ok(shown),
+        Err(cause) => Err(Outcome::Stopped(cause)),
+    }
+}
+
+/// Takes the turns of a schedule, and shows what they made.
+fn replay_turns<S: EpochStore>(
+    alloc: Global,
+    image: &Image,
+    cores: u32,
+    room: u32,
+    schedule: &[u32],
+) -> Result<(Outcome, Vec<u8>), StopCause>
+    requires cores { IsCoreCount image.now cores }
+    requires least { 16 ≤ room }
+    requires most { room ≤ 1048576 }
+    requires schedule { All (λ core. core < cores) schedule.now }
+    ensures shown { IfOk result (λ shown. spec.IsReplay S.view S.waits (loop_on image.now cores room) schedule.now shown.0 shown.1.items) }
+    ensures stopped { IfErr result (spec.IsStop S.view S.waits (loop_on image.now cores room) schedule.now) }
+{
+    match drive_schedule::<S>(alloc, image, cores, room, schedule) {
+        Ok(book) => match print_book(alloc, image, cores, &book) {
+            Ok(shown) => Ok(shown),
+            Err(AllocError) => Err(StopCause::NoMemory),
+        },
+        Err(fault) => Err(cause_of(fault)),
+    }
+}
+
+/// The cause that has the fault's name.
+pub fn cause_of(fault: TurnFault) -> StopCause
+    ensures { result ≡ spec.cause_of fault }
+{
+    match fault {
+        TurnFault::HistoryFull => StopCause::HistoryFull,
+        TurnFault::NoMemory => StopCause::NoMemory,
+    }
+}

@@ -1,0 +1,151 @@
+//! The lines of turns below an image.
+ghost use Rattle.std.specs.Prelude.{◌≡◌, ◌<◌, ◌+◌, ◌^◌, length, Ok};
+ghost use Rattle.rv32_image.specs.ImageText.{pieces};
+ghost use Rattle.rv32_image.specs.Cutting.{pieces_after};
+ghost use Rattle.trace_text.specs.Reading.{Answers};
+ghost use Rattle.all_schedules.specs.Turns as spec;
+ghost use Rattle.all_schedules.specs.Parts.{AreParts};
+
+use rv32_image::{cut, number_in};
+use std::alloc::Global;
+use trace_text::{TraceFault, TraceFaultKind};
+
+/// How many bytes of a text its image has, and the lines of turns below it, the first of which has this number. There may be none.
+#[derive(Clone, Copy)]
+pub struct Parts<'a> {
+    pub start: usize,
+    pub first: usize,
+    pub turns: Option<&'a [u8]>,
+}
+
+/// The image is all before the first line that begins with `turns` and a space, and without such a line the whole text.
+pub fn parts_of(text: &[u8]) -> Parts<'_>
+    ensures { AreParts text.now result }
+{
+    let mut start = 0;
+    let mut number = 1;
+    let mut rest = Some(text);
+    while let Some(below) = rest {
+        let (line, next) = cut(below, b'\n');
+        if line.starts_with(b"turns ") {
+            return Parts {
+                start,
+                first: number,
+                turns: Some(below),
+            };
+        }
+        start += line.len() + 1;
+        number += 1;
+        rest = next;
+    }
+    Parts {
+        start: text.len(),
+        first: number,
+        turns: None,
+    }
+}
+
+/// The image of a text with these parts.
+pub fn image_part<'a>(text: &'a [u8], parts: &Parts<'_>) -> &'a [u8]
+    requires { AreParts text.now parts.now }
+    ensures { result.now ≡ spec.image_part text.now }
+{
+    &text[..parts.start]
+}
+
+/// The schedule that the lines of turns say, for so many cores.
+///
+/// The fault is the first one in line order: `Line` where a line is no remark, and not `turns` with numbers of cores that are
+/// there. `NoMemory`, on line 0, ends the reading where memory was refused.
+pub fn read_turns(
+    alloc: Global,
+    cores: u32,
+    first: u32,
+    lines: Option<&[u8]>,
+) -> Result<Vec<u32>, TraceFault>
+    requires { first + length (pieces_after 10 lines) < 2 ^ 32 }
+    ensures { Answers (λ schedule. schedule.items) result (spec.lines_read cores first (pieces_after 10 lines.entry)) }
+{
+    let mut schedule = Vec::new(alloc);
+    let mut number = first;
+    let mut rest = lines;
+    while let Some(text) = rest {
+        let (line, next) = cut(text, b'\n');
+        push_line(&mut schedule, cores, number, line)?;
+        number += 1;
+        rest = next;
+    }
+    Ok(schedule)
+}
+
+/// Adds the turns of a line; a remark has none.
+#[tactic(auto, unfolding(crate::specs::Turns::line_read))]
+fn push_line(
+    schedule: &mut Vec<u32>,
+    cores: u32,
+    number: u32,
+    line: &[u8],
+) -> Result<(), TraceFault>
+    ensures { Answers (λ _. schedule.new.items) result (spec.joined (Ok schedule.old.items) (spec.line_read cores number line.now)) }
+{
+    if line.is_empty() || line[0] == b'#' {
+        return Ok(());
+    }
+    if !line.starts_with(b"turns ") {
+        return Err(TraceFault {
+            line: number,
+            kind: TraceFaultKind::Line,
+        });
+    }
+    push_words(schedule, cores, number, &line[6..])
+}
+
+/// Adds a turn for each word.
+fn push_words(
+    schedule: &mut Vec<u32>,
+    cores: u32,
+    number: u32,
+    words: &[u8],
+) -> Result<(), TraceFault>
+    ensures { Answers (λ _. schedule.new.items) result (spec.joined (Ok schedule.old.items) (spec.words_read cores number (pieces 32 words.now))) }
+{
+    let mut rest = Some(words);
+    while let Some(text) = rest {
+        let (word, next) = cut(text, b' ');
+        push_word(schedule, cores, number, word)?;
+        rest = next;
+    }
+    Ok(())
+}
+
+/// Adds the turn of a word.
+fn push_word(
+    schedule: &mut Vec<u32>,
+    cores: u32,
+    number: u32,
+    word: &[u8],
+) -> Result<(), TraceFault>
+    ensures { Answers (λ _. schedule.new.items) result (spec.joined (Ok schedule.old.items) (spec.word_read cores number word.now)) }
+{
+    let Some(core) = core_in(cores, word) else {
+        return Err(TraceFault {
+            line: number,
+            kind: TraceFaultKind::Line,
+        });
+    };
+    schedule.push(core).map_err(|_| TraceFault {
+        line: 0,
+        kind: TraceFaultKind::NoMemory,
+    })
+}
+
+/// The number of a core that is there.
+#[tactic(auto, unfolding(crate::specs::Turns::core_in))]
+fn core_in(cores: u32, word: &[u8]) -> Option<u32>
+    ensures { result ≡ spec.core_in cores word.now }
+{
+    match number_in(word) {
+        Ok(core) if core < u64::from(cores) => Some(core as u32),
+        _ => None,
+    }
+}
