@@ -116,8 +116,9 @@ OTHERS = [
     # The core that is first takes the epoch, and needs three of the other four turns to start, load, store and commit.
     ("32 schedules", "replay", ["all", "caches", "2", "5"], image(COUNTER),
      ("schedules 32\nover 10\nhistories 8\nleast 0\nturns 0 0 0 0 0\nmost 0\nturns 0 0 0 0 0\nend done 1\n", "", 0)),
-    ("a run at even speed", "replay", ["even", "plain", "1"], image(COUNTER),
-     ("turns 0 0 0 0\nend done 1\ncounts 1 1 0 1\ntrace 1\n0 start 0\n0 load 00000040 4 00000000\n0 store 00000040 4 00000000\n0 commit\n", "", 0)),
+    *[("a run on one core by its own schedule", "replay", [*pace, "plain", "1"], image(COUNTER),
+       ("turns 0 0 0 0\nend done 1\ncounts 1 1 0 1\ntrace 1\n0 start 0\n0 load 00000040 4 00000000\n0 store 00000040 4 00000000\n0 commit\n", "", 0))
+      for pace in (["even"], ["seeded", "5"])],
 ]
 
 

@@ -12,6 +12,7 @@ one write took. Exits with 1 where an outcome differs.
 """
 
 import fcntl
+import itertools
 import os
 import resource
 import shutil
@@ -184,6 +185,8 @@ trace 1
 0 fault 2 0000000c
 """
 NOT_BEGUN = "open 0\ncounts 0 0 0 0\ntrace 2\n"
+# The first turn finds the loop over.
+DRAWN = "turns 1\nend done 0\ncounts 0 0 0 0\ntrace 2\n"
 # Start, store and commit of each of the two epochs.
 ONE_CORE = """\
 schedules 1
@@ -219,6 +222,15 @@ ROWS = [
     (["plain", "1"], CALL, "turns 0 0 0 0 0\n", 1, FAULTED, ""),
     (PLAIN, SIGNAL, "", 0, NOT_BEGUN, ""),
     (CACHES, NOTHING, "", 0, "end done 0\ncounts 0 0 0 0\ntrace 2\n", ""),
+    # the first draw of this seed is odd
+    (["seeded", "1234567", "plain", "2"], NOTHING, "", 0, DRAWN, ""),
+    *[(["seeded", seed, "plain", "2"], SIGNAL, "", 2, "", "usage\n")
+      for seed in ["", "-1", "+5", "05", "00", " 5", "0x5", "18446744073709551616", "100000000000000000000"]],
+    (["seeded", "1", "plain", "17"], SIGNAL, "", 2, "", "usage\n"),
+    (["seeded", "1", "plain", "02"], SIGNAL, "", 2, "", "usage\n"),
+    (["seeded", "plain", "2"], SIGNAL, "", 2, "", "usage\n"),
+    (["seeded", "1", "plain", "9"], SIGNAL, "", 2, "", "usage\n"),
+    (["seeded", "1", "caches", "2"], SIGNAL, "turns 0\n", 2, "", "image 5 Line\n"),
     (PLAIN, SIGNAL, "turns 0 2\n", 2, "", "turns 5 Line\n"),
     (PLAIN, SIGNAL, "turns 0\n\n# no\nturns 0  1\n", 2, "", "turns 8 Line\n"),
     (PLAIN, SIGNAL, "turns 0\nturns\n", 2, "", "turns 6 Line\n"),
@@ -284,6 +296,36 @@ ssize_t write(int to, const void *bytes, size_t count) { return some(SYS_write, 
 """
 
 
+# The first draws of SplitMix64 from the seed 1234567, as published: https://rosettacode.org/wiki/Pseudo-random_numbers/Splitmix64
+DRAWS = [6457827717110365317, 3203168211198807973, 9817491932198370423, 4593380528125082431, 16408922859458223821]
+
+
+def draws(seed):
+    """SplitMix64, by its authors' C code."""
+    while True:
+        seed = (seed + 0x9E3779B97F4A7C15) % 2**64
+        mixed = (seed ^ seed >> 30) * 0xBF58476D1CE4E5B9 % 2**64
+        mixed = (mixed ^ mixed >> 27) * 0x94D049BB133111EB % 2**64
+        yield mixed ^ mixed >> 31
+
+
+def seeded(program, command):
+    """(what it shows, outcome, expected outcome) of seeds: the turns are those that the seed draws, `replay` makes the same of them, and
+    the report is that of the sequential loop."""
+    yield "the draws of 1234567", [*itertools.islice(draws(1234567), 5)], DRAWS
+    for file in sorted((ROOT / "examples").glob("*.image")):
+        text = file.read_text()
+        in_order = run(command, [], text)
+        for store, cores, seed in itertools.product(["caches", "plain"], [1, 2, 4, 8], [0, 2**64 - 1]):
+            name = f"seed {seed} of {file.name} on {cores} cores over {store}"
+            output, errors, status = run([str(program)], ["seeded", str(seed), store, str(cores)], text)
+            line, _, below = output.partition("\n")
+            turns = line.split()[1:]
+            yield name, turns, [str(draw % cores) for draw in itertools.islice(draws(seed), len(turns))]
+            yield f"{name}, replayed", run([str(program)], [store, str(cores)], f"{text}{line}\n"), (below, errors, status)
+            yield f"{name}, in order", (below.partition("counts ")[0], errors, status), in_order
+
+
 def program_of(command):
     """The built program `replay` that belongs to a command of `trace_cli`, or None."""
     if Path(command[0]).resolve() != ROOT / "trace_cli":
@@ -310,22 +352,22 @@ def longest(program):
             yield f"{count} bytes\n  expected {expected}\n  got      {outcome}"
 
 
-def read_fails(program, given):
+def read_fails(program, words, given):
     """The outcome where the input gives these bytes, 3 a call, and has no more, though it hasn't ended."""
     reader, writer = os.pipe2(os.O_DIRECT | os.O_NONBLOCK)
     fcntl.fcntl(writer, fcntl.F_SETPIPE_SZ, 4096 * (len(given) // 3 + 1))
     for place in range(0, len(given), 3):
         os.write(writer, given[place:place + 3])
-    done = subprocess.run([program, *PLAIN], stdin=reader, capture_output=True, check=False)
+    done = subprocess.run([program, *words], stdin=reader, capture_output=True, check=False)
     os.close(reader)
     os.close(writer)
     return done.stdout, done.stderr, done.returncode
 
 
-def write_fails(program, text, room):
+def write_fails(program, words, text, room):
     """The outcome where the output is a file that may have so many bytes."""
     with tempfile.TemporaryFile() as taken:
-        done = subprocess.run([program, *CACHES], input=text, stdout=taken, stderr=subprocess.PIPE, check=False, restore_signals=False,
+        done = subprocess.run([program, *words], input=text, stdout=taken, stderr=subprocess.PIPE, check=False, restore_signals=False,
                               preexec_fn=lambda: resource.setrlimit(resource.RLIMIT_FSIZE, (room, room)))
         taken.seek(0)
         return taken.read(), done.stderr, done.returncode
@@ -341,25 +383,35 @@ def cut(program, shim, words, text, given, taken):
     return done.stdout, done.stderr, done.returncode
 
 
+# (words, input, output, what is said of a read that fails)
+STREAMS = [
+    (PLAIN, SIGNAL, NOT_BEGUN, "turns 0 Read\n"),
+    (CACHES, SIGNAL, NOT_BEGUN, "turns 0 Read\n"),
+    (["seeded", "1234567", "plain", "2"], NOTHING, DRAWN, "image 0 Read\n"),
+]
+
+
 def streams(program, shim):
     """(what it shows, outcome, expected outcome) of streams that are slow or fail."""
-    text, output = SIGNAL.encode(), NOT_BEGUN.encode()
-    schedule = text + b"turns 0 1 0 1 0 1 1 1\n"
+    schedule = SIGNAL.encode() + b"turns 0 1 0 1 0 1 1 1\n"
     yield "text byte by byte", piecewise([program, *CACHES], schedule, 1), (VIOLATED.encode(), b"", 0)
-    for given in range(len(text) + 1):
-        failed = (b"", b"turns 0 Read\n", 2)
-        yield f"a read that fails after {given} bytes", read_fails(program, text[:given]), failed
-        if shim:
-            yield f"a read that is interrupted after {given} bytes", cut(program, shim, PLAIN, text, given, 99), failed
-    for room in range(len(output)):
-        failed = (output[:room], b"stopped Write\n", 3)
-        yield f"a write that fails after {room} bytes", write_fails(program, text, room), failed
-        if shim:
-            yield f"a pipe that breaks after {room} bytes", cut(program, shim, CACHES, text, 999, room), failed
+    for words, *three in STREAMS:
+        text, output, refused = (it.encode() for it in three)
+        for given in range(len(text) + 1):
+            failed = (b"", refused, 2)
+            yield f"{words}: a read that fails after {given} bytes", read_fails(program, words, text[:given]), failed
+            if shim:
+                yield f"{words}: a read that is interrupted after {given} bytes", cut(program, shim, words, text, given, 99), failed
+        for room in range(len(output)):
+            failed = (output[:room], b"stopped Write\n", 3)
+            yield f"{words}: a write that fails after {room} bytes", write_fails(program, words, text, room), failed
+            if shim:
+                yield f"{words}: a pipe that breaks after {room} bytes", cut(program, shim, words, text, 999, room), failed
 
 
 def main():
-    program = program_of(sys.argv[1:] or [str(ROOT / "trace_cli"), "seq"])
+    command = sys.argv[1:] or [str(ROOT / "trace_cli"), "seq"]
+    program = program_of(command)
     if not program or not program.is_file():
         print("SKIPPED: replay, since no such program was built beside the one that is tested")
         return 0
@@ -373,7 +425,7 @@ def main():
             subprocess.run(["cc", "-shared", "-fPIC", "-O1", "-o", shim, source], check=True)
         else:
             print("SKIPPED: interrupted reads of replay, since cc isn't installed")
-        results += streams(program, shim)
+        results += [*streams(program, shim), *seeded(program, command)]
     wrong = [f"{name}\n  expected {expected}\n  got      {got}" for name, got, expected in results if got != expected]
     wrong += [*full_history(program), *longest(program)]
     for text in wrong:

@@ -1,6 +1,8 @@
 pub mod Every
 pub mod Drives
 pub mod Evens
+pub mod Draws
+pub mod Seeds
 pub mod Noting
 pub mod Surveying
 pub mod Runs
@@ -10,4 +12,4 @@ pub mod Shows
 pub mod Outcomes
 pub mod Works
 pub mod Alls
-pub mod EvenTexts
+pub mod Paces

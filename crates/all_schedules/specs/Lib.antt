@@ -2,14 +2,15 @@
 pub mod Schedules
 pub mod Made
 pub mod Evenly
+pub mod Drawn
 pub mod Survey
 pub mod SurveyText
--- And what the commands of `replay` come to: what lines of turns say, the replay of a schedule, every schedule, and the run at even speed.
+-- And what the commands of `replay` come to: what lines of turns say, the replay of a schedule, every schedule, and the run by a pace.
 pub mod Turns
 pub mod Replay
 pub mod Streams
 pub mod AllSchedules
-pub mod EvenText
+pub mod Paced
 -- Words of contracts: what the program answers.
 pub mod Work
 -- What the code finds.

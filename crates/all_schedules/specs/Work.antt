@@ -12,10 +12,10 @@ use Rattle.trace_commands.specs.Outcome.{Conclusion}
 use Rattle.all_schedules.specs.declared.words.Store.{Store}
 use Rattle.all_schedules.specs.declared.words.Store.TheVariants.{Caches, Plain}
 use Rattle.all_schedules.specs.declared.words.Turns.{Turns}
-use Rattle.all_schedules.specs.declared.words.Turns.TheVariants.{Given, Every, Even}
+use Rattle.all_schedules.specs.declared.words.Turns.TheVariants.{Given, Every, Paced}
 use Rattle.all_schedules.specs.declared.words.Request.{Request}
 use Rattle.all_schedules.specs.AllSchedules.{AllAnswers}
-use Rattle.all_schedules.specs.EvenText.{IsEvenOutcome}
+use Rattle.all_schedules.specs.Paced.{IsPacedOutcome}
 use Rattle.all_schedules.specs.Replay.{IsReplayOutcome}
 use Rattle.all_schedules.specs.Streams.{Stream}
 
@@ -23,28 +23,28 @@ use Rattle.all_schedules.specs.Streams.{Stream}
 abbrev pub IsUpTo16 : Turns → Type 0
 IsUpTo16 Given = Unit {0}
 IsUpTo16 (Every turns) = (1 ≤ turns) × (turns ≤ 16)
-IsUpTo16 Even = Unit {0}
+IsUpTo16 (Paced pace) = Unit {0}
 
 -- and of such schedules there are at most 65,536
 abbrev pub AreFew : ℕ → Turns → Type 0
 AreFew cores Given = Unit {0}
 AreFew cores (Every turns) = (1 ≤ turns) × (turns ≤ 16) × (cores ^ turns ≤ 65536)
-AreFew cores Even = Unit {0}
+AreFew cores (Paced pace) = Unit {0}
 
 -- 1 to 16 cores, and no more schedules than that
 abbrev pub IsRequest : Request → Type 0
 IsRequest request = (1 ≤ request.cores) × (request.cores ≤ 16) × AreFew request.cores request.turns
 
--- over a store, on so many cores: the schedule of the input was replayed, every schedule of so many turns was driven, or the run was at
--- even speed; and of the input no more than it may be long, and one byte, was taken
+-- over a store, on so many cores: the schedule of the input was replayed, every schedule of so many turns was driven, or the run was by
+-- this pace; and of the input no more than it may be long, and one byte, was taken
 abbrev pub TurnsAnswer : {S : Type 0} → (S → StoreView) → (S → Waits) → ℕ → ℕ → Turns → List ℕ → Stream → Stream → Stream → ℕ → Type 0
 TurnsAnswer view waits cores room Given text input output errors status =
     Conclusion (IsReplayOutcome view waits cores room text output.old output.new) errors.old errors.new status
     × TakesAtMost input.old input.new (longest_trace_text + 1)
 TurnsAnswer view waits cores room (Every turns) text input output errors status =
     AllAnswers view waits cores room turns text output errors status × TakesAtMost input.old input.new (longest_image_text + 1)
-TurnsAnswer view waits cores room Even text input output errors status =
-    Conclusion (IsEvenOutcome view waits cores room text output.old output.new) errors.old errors.new status
+TurnsAnswer view waits cores room (Paced pace) text input output errors status =
+    Conclusion (IsPacedOutcome view waits pace cores room text output.old output.new) errors.old errors.new status
     × TakesAtMost input.old input.new (longest_image_text + 1)
 
 abbrev pub StoreAnswers : Store → ℕ → ℕ → Turns → List ℕ → Stream → Stream → Stream → ℕ → Type 0

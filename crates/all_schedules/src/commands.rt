@@ -3,7 +3,7 @@ ghost use Rattle.rv32_image.specs.Reading.{ForText};
 ghost use Rattle.all_schedules.specs.Work as spec;
 
 use crate::all::do_all;
-use crate::even_text::do_even;
+use crate::paced::do_paced;
 use crate::replay::do_replay;
 use crate::words::{Request, Store, Turns, request_of};
 use spec_bus::CachedBus;
@@ -14,7 +14,7 @@ use trace_commands::Outcome;
 use violations::{EpochStore, PlainStore};
 
 /// The whole program: replays over the store and on the cores that the words ask for, the first of which is the program's name, or
-/// drives every schedule of so many turns, or runs at even speed, and answers its status.
+/// drives every schedule of so many turns, or runs by a pace, and answers its status.
 ///
 /// Other words are refused as `usage`, with status 2, and nothing is read or written. The room is 16 to 1,048,576 entries.
 pub fn work<S: AsStr, R: Read, W: Write, E: Write>(
@@ -68,6 +68,8 @@ fn answer<S: EpochStore, R: Read, W: Write, E: Write>(
         Turns::Every(turns) => {
             do_all::<S, R, W, E>(alloc, cores, room, turns, reader, writer, errors)
         }
-        Turns::Even => do_even::<S, R, W, E>(alloc, cores, room, reader, writer, errors),
+        Turns::Paced(pace) => {
+            do_paced::<S, R, W, E>(alloc, pace, cores, room, reader, writer, errors)
+        }
     }
 }

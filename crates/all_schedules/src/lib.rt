@@ -1,15 +1,17 @@
-//! Every schedule of so many turns of a loop: what each makes, and what they come to together; what the run at even speed makes; and
-//! the commands of `replay`, over any reader and writers.
+//! Every schedule of so many turns of a loop: what each makes, and what they come to together; what the run at even speed makes, and
+//! what the turns make that a seed draws; and the commands of `replay`, over any reader and writers.
 #![tactic(auto)]
 
 mod all;
 mod commands;
+mod drawing;
 mod driving;
 mod even;
-mod even_text;
+mod paced;
 mod print;
 mod replay;
 mod schedules;
+mod seeded;
 mod survey;
 mod text;
 mod turns;
@@ -19,8 +21,9 @@ pub use all::do_all;
 pub use commands::work;
 pub use driving::drive_schedule;
 pub use even::{EvenRun, run_evenly};
-pub use even_text::do_even;
+pub use paced::do_paced;
 pub use replay::do_replay;
 pub use schedules::every_schedule;
+pub use seeded::{SeededRun, run_seeded};
 pub use survey::{Extreme, Survey, survey_schedules};
 pub use text::{print_survey, push_turns};

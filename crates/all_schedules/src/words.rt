@@ -1,6 +1,7 @@
 ghost use Rattle.std.specs.Prelude.{◌≡◌, ◌≤◌, ◌↔◌, IfSome, IsTrue};
 ghost use Rattle.all_schedules.specs.Work.{AreFew, IsRequest, IsUpTo16};
 
+use crate::paced::Pace;
 use rv32_image::number_in;
 use std::convert::AsStr;
 
@@ -20,8 +21,8 @@ pub enum Turns {
     Given,
     /// Those of every schedule of so many.
     Every(u32),
-    /// Those of the run at even speed.
-    Even,
+    /// Those of the run by this pace.
+    Paced(Pace),
 }
 
 /// What the words of a command line ask for: a store, and 1 to 16 cores.
@@ -32,7 +33,8 @@ pub struct Request {
     pub turns: Turns,
 }
 
-/// What these words ask for, `STORE CORES`, `even STORE CORES` or `all STORE CORES TURNS` below the program's name. None: other words.
+/// What these words ask for, `STORE CORES`, `even STORE CORES`, `seeded SEED STORE CORES` or `all STORE CORES TURNS` below the
+/// program's name. None: other words.
 pub fn request_of<S: AsStr>(words: &[S]) -> Option<Request>
     ensures { IfSome result IsRequest }
 {
@@ -40,9 +42,24 @@ pub fn request_of<S: AsStr>(words: &[S]) -> Option<Request>
         return asked(words[1].as_str(), words[2].as_str(), Turns::Given);
     }
     if words.len() == 4 && words[1].as_str() == "even" {
-        return asked(words[2].as_str(), words[3].as_str(), Turns::Even);
+        return asked(
+            words[2].as_str(),
+            words[3].as_str(),
+            Turns::Paced(Pace::Even),
+        );
     }
-    if words.len() != 5 || words[1].as_str() != "all" {
+    if words.len() != 5 {
+        return None;
+    }
+    if words[1].as_str() == "seeded" {
+        let seed = seed_in(words[2].as_str())?;
+        return asked(
+            words[3].as_str(),
+            words[4].as_str(),
+            Turns::Paced(Pace::Seeded(seed)),
+        );
+    }
+    if words[1].as_str() != "all" {
         return None;
     }
     let turns = number_up_to_16(words[4].as_str())?;
@@ -75,7 +92,7 @@ fn is_small(cores: u32, turns: Turns) -> bool
         Turns::Every(turns) => cores
             .checked_pow(turns)
             .is_some_and(|count| count <= 65_536),
-        Turns::Given | Turns::Even => true,
+        Turns::Given | Turns::Paced(_) => true,
     }
 }
 
@@ -95,4 +112,13 @@ fn number_up_to_16(word: &str) -> Option<u32>
         Ok(n) if 1 <= n && n <= 16 => Some(n as u32),
         _ => None,
     }
+}
+
+/// A seed of 64 bits, in decimal digits without a sign or a leading 0.
+fn seed_in(word: &str) -> Option<u64> {
+    let digits = word.as_bytes();
+    if digits.starts_with(b"+") || (digits.len() > 1 && digits[0] == b'0') {
+        return None;
+    }
+    word.parse::<u64>().ok()
 }

@@ -6,7 +6,7 @@ use Rattle.trace_text.specs.TraceText.{longest_trace_text}
 use Rattle.trace_commands.specs.Outcome.{Conclusion}
 use Rattle.all_schedules.specs.declared.words.Turns.{Turns}
 use Rattle.all_schedules.specs.AllSchedules.{AllAnswers}
-use Rattle.all_schedules.specs.EvenText.{IsEvenOutcome}
+use Rattle.all_schedules.specs.Paced.{IsPacedOutcome}
 use Rattle.all_schedules.specs.Replay.{IsReplayOutcome}
 use Rattle.all_schedules.specs.Streams.{Stream}
 use Rattle.all_schedules.specs.Work.{TurnsAnswer}
@@ -37,14 +37,14 @@ returns-in-Given g c =
     (for_both input.old (λ text. Conclusion (IsReplayOutcome view waits cores c.args.room text output.old output.new) errors.old errors.new c.do_replay.result)
     (TakesAtMost input.old input.new (longest_trace_text + 1)) c.do_replay.ensures.outcome c.do_replay.ensures.taken)
 
-pub returns-in-Even : goal.returns-in-Even
-returns-in-Even g c =
+pub returns-in-Paced : goal.returns-in-Paced
+returns-in-Paced g c =
     let view = g.S.EpochStore.view in
     let waits = g.S.EpochStore.waits in
     let cores = c.args.request.cores in
-    let input : Stream = record { old = g.R.Read.remaining c.args.reader.now; new = g.R.Read.remaining c.do_even.new.reader } in
-    let output : Stream = record { old = g.W.Write.contents c.args.writer.now; new = g.W.Write.contents c.do_even.new.writer } in
-    let errors : Stream = record { old = g.E.Write.contents c.args.errors.now; new = g.E.Write.contents c.do_even.new.errors } in
-    subst (λ (turns : Turns). ForText input.old (λ text. TurnsAnswer view waits cores c.args.room turns text input output errors c.do_even.result)) (sym c.in-Even.is)
-    (for_both input.old (λ text. Conclusion (IsEvenOutcome view waits cores c.args.room text output.old output.new) errors.old errors.new c.do_even.result)
-    (TakesAtMost input.old input.new (longest_image_text + 1)) c.do_even.ensures.outcome c.do_even.ensures.taken)
+    let input : Stream = record { old = g.R.Read.remaining c.args.reader.now; new = g.R.Read.remaining c.do_paced.new.reader } in
+    let output : Stream = record { old = g.W.Write.contents c.args.writer.now; new = g.W.Write.contents c.do_paced.new.writer } in
+    let errors : Stream = record { old = g.E.Write.contents c.args.errors.now; new = g.E.Write.contents c.do_paced.new.errors } in
+    subst (λ (turns : Turns). ForText input.old (λ text. TurnsAnswer view waits cores c.args.room turns text input output errors c.do_paced.result)) (sym c.in-Paced.is)
+    (for_both input.old (λ text. Conclusion (IsPacedOutcome view waits c.in-Paced.pace cores c.args.room text output.old output.new) errors.old errors.new c.do_paced.result)
+    (TakesAtMost input.old input.new (longest_image_text + 1)) c.do_paced.ensures.outcome c.do_paced.ensures.taken)

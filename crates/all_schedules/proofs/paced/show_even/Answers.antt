@@ -5,7 +5,7 @@ use Rattle.homefree.specs.declared.fault.TurnFault.TheVariants as fault
 use Rattle.all_schedules.specs.Made.{loop_on}
 use Rattle.all_schedules.specs.Evenly.{IsEvenFault}
 use Rattle.all_schedules.specs.SurveyText.{turns_line}
-use Rattle.all_schedules.proofs.even_text.show_even.Goals as goal
+use Rattle.all_schedules.proofs.paced.show_even.Goals as goal
 
 pub print_turns-requires-clause-image : goal.print_turns-requires-clause-image
 print_turns-requires-clause-image g c κs within = ap (λ (l : Loop). l.image) c.in-Ok.ensures.made.loop
@@ -18,9 +18,8 @@ returns-in-Ok-print_turns g c =
     let made = c.in-Ok.ensures.made in
     let shown = c.in-Ok-print_turns.ensures in record {
       schedule = c.in-Ok.made.schedule.items;
-      ran = c.in-Ok.made.ran;
       history = c.in-Ok.made.book.history;
-      makes = made.makes;
+      makes = (c.in-Ok.made.ran, made.makes);
       below = shown.0;
       shown = shown.1;
       text_is = shown.2 ∙ ap (λ (s : List ℕ). turns_line s ++ shown.0) c.as_slice.ensures.value;

@@ -1,4 +1,4 @@
-//! The run at even speed, over any store, reader and writers.
+//! Runs whose turns the program takes by its own pace, over any store, reader and writers.
 ghost use Rattle.std.specs.Prelude.{◌≡◌, ◌≤◌, ◌+◌, ◌++◌, ℕ, List, MatchResult, IfOk};
 ghost use Rattle.rv32_image.specs.Input.{TakesAtMost};
 ghost use Rattle.rv32_image.specs.ImageText.{longest_image_text};
@@ -8,10 +8,11 @@ ghost use Rattle.violations.specs.Rule.{IsCoreCount};
 ghost use Rattle.all_schedules.specs.Made.{loop_on};
 ghost use Rattle.all_schedules.specs.SurveyText.{turns_line};
 ghost use Rattle.all_schedules.specs.Replay.{IsShown};
-ghost use Rattle.all_schedules.specs.EvenText as spec;
+ghost use Rattle.all_schedules.specs.Paced as spec;
 
 use crate::even::run_evenly;
 use crate::print::print_book;
+use crate::seeded::run_seeded;
 use crate::text::push_turns;
 use homefree::{Book, TurnFault};
 use rv32_image::{Image, read_image};
@@ -20,14 +21,24 @@ use std::io::{Read, Write};
 use trace_commands::{Outcome, StopCause, write_whole};
 use violations::EpochStore;
 
-/// Runs the image that the reader gives at even speed over a fresh store, and writes the line of its turns, and below it what
+/// What says whose turn is next.
+#[derive(Clone, Copy, Debug, PartialEq, Eq)]
+pub enum Pace {
+    /// Even speed.
+    Even,
+    /// What SplitMix64 draws from this seed.
+    Seeded(u64),
+}
+
+/// Runs the image that the reader gives by this pace over a fresh store, and writes the line of its turns, and below it what
 /// `do_replay` writes of them. The cores are at least 1, and the room is 16 to 1,048,576 entries.
 ///
-/// The status is 0 where the loop is done or exited; 1 where an epoch faulted; 2 where the image or the number of cores is refused; 3
-/// where the history is full, memory ran out or a write failed. With 2 and 3 one line on the error stream says which. All that is written
-/// was made before the first byte: after a failed write a prefix of it was written.
-pub fn do_even<S: EpochStore, R: Read, W: Write, E: Write>(
+/// The status is 0 where the loop is done or exited, or the most turns were drawn before; 1 where an epoch faulted; 2 where the image or
+/// the number of cores is refused; 3 where the history is full, memory ran out or a write failed. With 2 and 3 one line on the error
+/// stream says which. All that is written was made before the first byte: after a failed write a prefix of it was written.
+pub fn do_paced<S: EpochStore, R: Read, W: Write, E: Write>(
     alloc: Global,
+    pace: Pace,
     cores: u32,
     room: u32,
     reader: &mut R,
@@ -38,15 +49,16 @@ pub fn do_even<S: EpochStore, R: Read, W: Write, E: Write>(
     requires least { 16 ≤ room }
     requires most { room ≤ 1048576 }
     ensures outcome { ForText (R.remaining reader.old) (λ text.
-        Conclusion (spec.IsEvenOutcome S.view S.waits cores room text (W.contents writer.old) (W.contents writer.new)) (E.contents errors.old) (E.contents errors.new) result) }
+        Conclusion (spec.IsPacedOutcome S.view S.waits pace cores room text (W.contents writer.old) (W.contents writer.new)) (E.contents errors.old) (E.contents errors.new) result) }
     ensures taken { TakesAtMost (R.remaining reader.old) (R.remaining reader.new) (longest_image_text + 1) }
 {
-    even_input::<S, R, W>(alloc, cores, room, reader, writer).conclude(errors)
+    paced_input::<S, R, W>(alloc, pace, cores, room, reader, writer).conclude(errors)
 }
 
 /// Runs an input, all but its line on the error stream.
-fn even_input<S: EpochStore, R: Read, W: Write>(
+fn paced_input<S: EpochStore, R: Read, W: Write>(
     alloc: Global,
+    pace: Pace,
     cores: u32,
     room: u32,
     reader: &mut R,
@@ -56,17 +68,18 @@ fn even_input<S: EpochStore, R: Read, W: Write>(
     requires least { 16 ≤ room }
     requires most { room ≤ 1048576 }
     ensures outcome { ForText (R.remaining reader.old) (λ text.
-        spec.IsEvenOutcome S.view S.waits cores room text (W.contents writer.old) (W.contents writer.new) result) }
+        spec.IsPacedOutcome S.view S.waits pace cores room text (W.contents writer.old) (W.contents writer.new) result) }
     ensures taken { TakesAtMost (R.remaining reader.old) (R.remaining reader.new) (longest_image_text + 1) }
 {
     match read_image(alloc, reader) {
-        Ok(image) => even_image::<S, W>(alloc, &image, cores, room, writer),
+        Ok(image) => paced_image::<S, W>(alloc, pace, &image, cores, room, writer),
         Err(fault) => Outcome::of_fault(fault),
     }
 }
 
-fn even_image<S: EpochStore, W: Write>(
+fn paced_image<S: EpochStore, W: Write>(
     alloc: Global,
+    pace: Pace,
     image: &Image,
     cores: u32,
     room: u32,
@@ -75,12 +88,12 @@ fn even_image<S: EpochStore, W: Write>(
     requires cores { 1 ≤ cores }
     requires least { 16 ≤ room }
     requires most { room ≤ 1048576 }
-    ensures { spec.IsEvenOf S.view S.waits (loop_on image.now cores room) (W.contents writer.old) (W.contents writer.new) result }
+    ensures { spec.IsPacedOf S.view S.waits pace (loop_on image.now cores room) (W.contents writer.old) (W.contents writer.new) result }
 {
     if image.version().limits().most_cores < cores {
         return Outcome::Usage;
     }
-    let (outcome, printed) = match show_even::<S>(alloc, image, cores, room) {
+    let (outcome, printed) = match show_paced::<S>(alloc, pace, image, cores, room) {
         Ok(shown) => shown,
         Err(cause) => return Outcome::Stopped(cause),
     };
@@ -88,6 +101,26 @@ fn even_image<S: EpochStore, W: Write>(
         outcome
     } else {
         Outcome::Stopped(StopCause::Write)
+    }
+}
+
+/// Runs by this pace, and shows what the turns made.
+fn show_paced<S: EpochStore>(
+    alloc: Global,
+    pace: Pace,
+    image: &Image,
+    cores: u32,
+    room: u32,
+) -> Result<(Outcome, Vec<u8>), StopCause>
+    requires cores { IsCoreCount image.now cores }
+    requires least { 16 ≤ room }
+    requires most { room ≤ 1048576 }
+    ensures { MatchResult result (λ shown. spec.IsPacedText S.view S.waits pace (loop_on image.now cores room) shown.0 shown.1.items)
+        (spec.IsPacedStop S.view S.waits pace (loop_on image.now cores room)) }
+{
+    match pace {
+        Pace::Even => show_even::<S>(alloc, image, cores, room),
+        Pace::Seeded(seed) => show_seeded::<S>(alloc, seed, image, cores, room),
     }
 }
 
@@ -101,10 +134,34 @@ fn show_even<S: EpochStore>(
     requires cores { IsCoreCount image.now cores }
     requires least { 16 ≤ room }
     requires most { room ≤ 1048576 }
-    ensures { MatchResult result (λ shown. spec.IsEvenText S.view S.waits (loop_on image.now cores room) shown.0 shown.1.items)
-        (spec.IsEvenStop S.view S.waits (loop_on image.now cores room)) }
+    ensures { MatchResult result (λ shown. spec.IsPacedText S.view S.waits Pace.Even (loop_on image.now cores room) shown.0 shown.1.items)
+        (spec.IsPacedStop S.view S.waits Pace.Even (loop_on image.now cores room)) }
 {
     match run_evenly::<S>(alloc, image, cores, room) {
+        Ok(made) => match print_turns(alloc, image, cores, made.schedule.as_slice(), &made.book) {
+            Ok(shown) => Ok(shown),
+            Err(AllocError) => Err(StopCause::NoMemory),
+        },
+        Err(TurnFault::HistoryFull) => Err(StopCause::HistoryFull),
+        Err(TurnFault::NoMemory) => Err(StopCause::NoMemory),
+    }
+}
+
+/// Takes the turns that the seed draws, and shows what the turns made.
+fn show_seeded<S: EpochStore>(
+    alloc: Global,
+    seed: u64,
+    image: &Image,
+    cores: u32,
+    room: u32,
+) -> Result<(Outcome, Vec<u8>), StopCause>
+    requires cores { IsCoreCount image.now cores }
+    requires least { 16 ≤ room }
+    requires most { room ≤ 1048576 }
+    ensures { MatchResult result (λ shown. spec.IsPacedText S.view S.waits (Pace.Seeded seed) (loop_on image.now cores room) shown.0 shown.1.items)
+        (spec.IsPacedStop S.view S.waits (Pace.Seeded seed) (loop_on image.now cores room)) }
+{
+    match run_seeded::<S>(alloc, image, cores, room, seed) {
         Ok(made) => match print_turns(alloc, image, cores, made.schedule.as_slice(), &made.book) {
             Ok(shown) => Ok(shown),
             Err(AllocError) => Err(StopCause::NoMemory),

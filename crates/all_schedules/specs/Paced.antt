@@ -1,0 +1,72 @@
+-- What a run comes to whose turns the program takes by its own pace, at even speed or as a seed draws them, and what was written of it.
+-- Source: this project.
+use Rattle.std.specs.Prelude.{◌≡◌, ℕ, ◌<◌, ◌++◌, List, Option, Ok, MatchResult}
+use Rattle.std.specs.Io.KnownBytes.{Appends, Keeps}
+use Rattle.rv32_image.specs.Version.{limits_of}
+use Rattle.rv32_image.specs.ImageText.{image_text}
+use Rattle.spec_history.specs.declared.entry.Entry.{Entry}
+use Rattle.violations.specs.View.{StoreView, Waits}
+use Rattle.violations.specs.Rule.{IsCoreCount}
+use Rattle.homefree.specs.declared.book.Loop.{Loop}
+use Rattle.homefree.specs.declared.fault.TurnFault.TheVariants as fault
+use Rattle.trace_commands.specs.declared.outcome.Outcome.{Outcome}
+use Rattle.trace_commands.specs.declared.outcome.Outcome.TheVariants.{Reported, Open, Usage, BadImage, Stopped}
+use Rattle.trace_commands.specs.declared.outcome.StopCause.{StopCause}
+use Rattle.trace_commands.specs.declared.outcome.StopCause.TheVariants.{Write, NoMemory, HistoryFull}
+use Rattle.trace_commands.specs.Outcome.{AppendsPrefix, IsRefusal}
+use Rattle.homefree.specs.declared.fault.TurnFault.{TurnFault}
+use Rattle.rv32_exec.specs.declared.sequential.End.{End}
+use Rattle.even_speed.specs.declared.run.Ran.{Ran}
+use Rattle.all_schedules.specs.Made.{loop_on}
+use Rattle.all_schedules.specs.Evenly.{IsEvenFault, MakesEvenly}
+use Rattle.all_schedules.specs.Drawn.{IsDrawnFault, MakesDrawn}
+use Rattle.all_schedules.specs.SurveyText.{turns_line}
+use Rattle.all_schedules.specs.declared.paced.Pace.{Pace}
+use Rattle.all_schedules.specs.declared.paced.Pace.TheVariants.{Even, Seeded}
+use Rattle.all_schedules.specs.Replay.{IsShown}
+
+-- the schedule is that of the pace, and makes this history
+abbrev pub MakesAt : {S : Type 0} → (S → StoreView) → (S → Waits) → Pace → Loop → List ℕ → List Entry → Type 0
+MakesAt view waits Even l schedule history = (ran : Option Ran) × MakesEvenly view waits l schedule (Ok ran) history
+MakesAt view waits (Seeded seed) l schedule history = (end : Option End) × MakesDrawn view waits l seed schedule (Ok end) history
+
+-- the run may end in this fault
+abbrev pub IsFaultAt : {S : Type 0} → (S → StoreView) → (S → Waits) → Pace → Loop → TurnFault → Type 0
+IsFaultAt view waits Even l fault = IsEvenFault view waits l fault
+IsFaultAt view waits (Seeded seed) l fault = IsDrawnFault view waits l seed fault
+
+-- the line of turns of the run, and below it what shows the history that it makes
+pub record IsPacedText {S : Type 0} (view : S → StoreView) (waits : S → Waits) (pace : Pace) (l : Loop) (outcome : Outcome) (text : List ℕ) : Type 0 where
+  pub schedule : List ℕ
+  pub history : List Entry
+  pub makes : MakesAt view waits pace l schedule history
+  pub below : List ℕ
+  pub shown : IsShown l.image l.cores history outcome below
+  pub text_is : text ≡ turns_line schedule ++ below
+
+-- the run may stop so
+abbrev pub IsPacedStop : {S : Type 0} → (S → StoreView) → (S → Waits) → Pace → Loop → StopCause → Type 0
+IsPacedStop view waits pace l HistoryFull = IsFaultAt view waits pace l fault.HistoryFull
+IsPacedStop view waits pace l NoMemory = Unit {0}
+IsPacedStop view waits pace l other = ⊥
+
+-- it was written
+abbrev pub IsPacedWritten : {S : Type 0} → (S → StoreView) → (S → Waits) → Pace → Loop → Option (List ℕ) → Option (List ℕ) → Outcome → Type 0
+IsPacedWritten view waits pace l old new outcome = IsCoreCount l.image l.cores × (text : List ℕ) × IsPacedText view waits pace l outcome text × Appends old new text
+
+-- what the run of an image came to is right, and this was written
+abbrev pub IsPacedOf : {S : Type 0} → (S → StoreView) → (S → Waits) → Pace → Loop → Option (List ℕ) → Option (List ℕ) → Outcome → Type 0
+IsPacedOf view waits pace l old new (Reported end) = IsPacedWritten view waits pace l old new (Reported end)
+IsPacedOf view waits pace l old new (Open homefree) = IsPacedWritten view waits pace l old new (Open homefree)
+IsPacedOf view waits pace l old new (Stopped Write) =
+    IsCoreCount l.image l.cores × (outcome : Outcome) × (text : List ℕ) × IsPacedText view waits pace l outcome text × AppendsPrefix old new text
+IsPacedOf view waits pace l old new (Stopped cause) = IsPacedStop view waits pace l cause × Keeps old new
+IsPacedOf view waits pace l old new Usage = ((limits_of l.image.version).most_cores < l.cores) × Keeps old new
+IsPacedOf view waits pace l old new outcome = ⊥
+
+-- and so of a text
+abbrev pub IsPacedOutcome : {S : Type 0} → (S → StoreView) → (S → Waits) → Pace → ℕ → ℕ → List ℕ → Option (List ℕ) → Option (List ℕ) → Outcome → Type 0
+IsPacedOutcome view waits pace cores room text old new (BadImage fault) = IsRefusal fault.kind fault (image_text text) × Keeps old new
+IsPacedOutcome view waits pace cores room text old new (Stopped NoMemory) = Keeps old new
+IsPacedOutcome view waits pace cores room text old new outcome =
+    MatchResult (image_text text) (λ image. IsPacedOf view waits pace (loop_on image cores room) old new outcome) (λ fault. ⊥)
