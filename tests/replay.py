@@ -5,7 +5,7 @@ Usage: tests/replay.py [COMMAND ..]
 
 COMMAND is a command of `trace_cli` that ends with the word `seq`, such as crates/trace_cli/out/trace_cli seq; `replay` is the program that was built beside it.
 Without it ./replay of this repository is tested. Where no such program is beside it the test is skipped, and a line says so.
-What comes of each schedule was worked out by hand from the cases of a turn. The input ends in a failed read after each number of its bytes, and the
+What comes of each schedule was worked out by hand from the cases of a turn; what a run on threads printed has to come of its trace. The input ends in a failed read after each number of its bytes, and the
 output after each number of bytes that are taken: once by what the kernel does of itself, and once, where the C compiler `cc` is
 installed, by calls in the place of `read` and `write` that take few bytes at a time and are interrupted. Needs Linux: pipes whose reads give what
 one write took. Exits with 1 where an outcome differs.
@@ -14,6 +14,7 @@ one write took. Exits with 1 where an outcome differs.
 import fcntl
 import itertools
 import os
+import random
 import resource
 import shutil
 import subprocess
@@ -186,7 +187,8 @@ trace 1
 """
 NOT_BEGUN = "open 0\ncounts 0 0 0 0\ntrace 2\n"
 # The first turn finds the loop over.
-DRAWN = "turns 1\nend done 0\ncounts 0 0 0 0\ntrace 2\n"
+DONE_AT_ONCE = "end done 0\ncounts 0 0 0 0\ntrace 2\n"
+DRAWN = "turns 1\n" + DONE_AT_ONCE
 # Start, store and commit of each of the two epochs.
 ONE_CORE = """\
 schedules 1
@@ -205,6 +207,21 @@ MOST_SCHEDULES = (
 )
 SIX_AND_SIX = "turns 0 0 0 0 0 0\nturns 1 1 1 1 1 1\n# then\n\nturns 0 1 1"
 
+# (store, image, what is printed, status): the trace below each image says whose turns make it
+TRACES = [
+    *[(store, *row) for store in ("plain", "caches") for row in [
+        (SIGNAL, VIOLATED, 0), (LOAD_FIRST, NOT_VIOLATED, 0), (BYTES, BOTH_BYTES, 0), (SIGNAL, COMMITTED, 0), (CALL, FAULTED, 1),
+        (SIGNAL, NOT_BEGUN, 0), (NOTHING, DONE_AT_ONCE, 0)]],
+    ("caches", ONE_SET, PUBLISHED, 0), ("plain", ONE_SET, NOT_PUBLISHED, 0),
+    ("caches", FIVE_LOADS_FIRST, WAITED, 0), ("plain", FIVE_LOADS_FIRST, NOT_WAITED, 0),
+]
+
+
+def trace_of(printed):
+    """The trace in what was printed."""
+    return printed[printed.index("trace "):]
+
+
 # (words, image, the lines below it, status, standard output, standard error)
 ROWS = [
     (PLAIN, SIGNAL, "turns 0 1 0 1 0 1 1 1\n", 0, VIOLATED, ""),
@@ -221,7 +238,7 @@ ROWS = [
     (CACHES, SIGNAL, "turns 0 1 0 1 0\n", 0, COMMITTED, ""),
     (["plain", "1"], CALL, "turns 0 0 0 0 0\n", 1, FAULTED, ""),
     (PLAIN, SIGNAL, "", 0, NOT_BEGUN, ""),
-    (CACHES, NOTHING, "", 0, "end done 0\ncounts 0 0 0 0\ntrace 2\n", ""),
+    (CACHES, NOTHING, "", 0, DONE_AT_ONCE, ""),
     # the first draw of this seed is odd
     (["seeded", "1234567", "plain", "2"], NOTHING, "", 0, DRAWN, ""),
     *[(["seeded", seed, "plain", "2"], SIGNAL, "", 2, "", "usage\n")
@@ -249,6 +266,26 @@ ROWS = [
     (["all", "plain", "4", "8"], NOTHING, "", 0, MOST_SCHEDULES, ""),
     (["all", "plain", "5", "7"], NOTHING, "", 2, "", "usage\n"),
     (["all", "caches", "3", "11"], NOTHING, "", 2, "", "usage\n"),
+    # traces: what a schedule made is made again, over the store that it was made over
+    *[([store, *cores], image_text, trace_of(printed), status, printed, "")
+      for store, image_text, printed, status in TRACES for cores in ([], [trace_of(printed).split()[1]])],
+    (CACHES, ONE_SET, trace_of(NOT_PUBLISHED), 4, "", "differs 4\n"),
+    (PLAIN, ONE_SET, trace_of(PUBLISHED), 4, "", "differs 6\n"),
+    (CACHES, FIVE_LOADS_FIRST, trace_of(NOT_WAITED), 4, "", "differs 11\n"),
+    *[(["caches"], SIGNAL, trace_of(VIOLATED).replace(old, new), 4, "", f"differs {place}\n") for old, new, place in [
+        ("0 hurt 1\n", "", 4), ("1 restart\n", "", 6), ("0 store 00000040 4 00000001", "0 store 00000040 4 00000002", 2),
+        ("0 store", "1 store", 2), ("0 hurt 1", "1 hurt 1", 4), ("0 start 0\n", "", 0), ("trace 2\n", "trace 2\n2 start 0\n", 0)]],
+    (["caches"], SIGNAL, trace_of(VIOLATED) + "0 hurt 1\n", 4, "", "differs 9\n"),
+    (["caches"], SIGNAL, trace_of(VIOLATED) + "# the end\n\n", 0, VIOLATED, ""),
+    (["caches"], SIGNAL, "trace 9\n", 2, "", "trace 5 Head\n"),
+    (["caches"], SIGNAL, "trace 2\n0 begin 0\n", 2, "", "trace 6 Line\n"),
+    (["caches"], SIGNAL, "trace\n", 2, "", "usage\n"),
+    (CACHES, SIGNAL, "turns 0\ntrace 2\n", 2, "", "image 5 Line\n"),
+    (["caches"], LONG_IMAGE, "trace 2\n", 2, "", "image 0 TooLong\n"),
+    (["caches", "3"], SIGNAL, trace_of(VIOLATED), 2, "", "usage\n"),
+    (["caches", "1"], SIGNAL, "trace 2\n", 2, "", "usage\n"),
+    (["caches"], SIGNAL, "", 2, "", "usage\n"),
+    (["bus"], SIGNAL, "trace 2\n", 2, "", "usage\n"),
     # words that are no UTF-8
     ([b"plain\xff", "2"], SIGNAL, "turns 0\n", 2, "", "usage\n"),
     (["plain", b"2\xc3"], SIGNAL, "turns 0\n", 2, "", "usage\n"),
@@ -326,6 +363,21 @@ def seeded(program, command):
             yield f"{name}, in order", (below.partition("counts ")[0], errors, status), in_order
 
 
+def traced(program, command):
+    """(what it shows, outcome, expected outcome) of runs on threads: the schedule of their traces makes the same bytes, and that of a trace
+    with another value differs there."""
+    chance = random.Random(5)
+    for file, cores in itertools.product(sorted((ROOT / "examples").glob("*.image")), [2, 8]):
+        text, name = file.read_text(), f"a run of {file.name} on {cores} cores"
+        printed, errors, status = run([*command[:-1], "run"], ["--cores", str(cores), "--trace"], text)
+        trace = trace_of(printed)
+        yield name, run([str(program)], ["caches"], f"{text}\n{trace}"), (printed, errors, status)
+        lines = trace.splitlines()
+        place = chance.choice([place for place, line in enumerate(lines) if line.split()[1] in ("start", "load", "store", "hurt")])
+        lines[place] = lines[place][:-1] + ("1" if lines[place][-1] == "0" else "0")
+        yield f"{name}, another {lines[place]}", run([str(program)], ["caches"], "\n".join([text, *lines])), ("", f"differs {place - 1}\n", 4)
+
+
 def program_of(command):
     """The built program `replay` that belongs to a command of `trace_cli`, or None."""
     if Path(command[0]).resolve() != ROOT / "trace_cli":
@@ -388,6 +440,7 @@ STREAMS = [
     (PLAIN, SIGNAL, NOT_BEGUN, "turns 0 Read\n"),
     (CACHES, SIGNAL, NOT_BEGUN, "turns 0 Read\n"),
     (["seeded", "1234567", "plain", "2"], NOTHING, DRAWN, "image 0 Read\n"),
+    (["caches"], NOTHING + "trace 2\n", DONE_AT_ONCE, "turns 0 Read\n"),
 ]
 
 
@@ -425,7 +478,7 @@ def main():
             subprocess.run(["cc", "-shared", "-fPIC", "-O1", "-o", shim, source], check=True)
         else:
             print("SKIPPED: interrupted reads of replay, since cc isn't installed")
-        results += [*streams(program, shim), *seeded(program, command)]
+        results += [*streams(program, shim), *seeded(program, command), *traced(program, command)]
     wrong = [f"{name}\n  expected {expected}\n  got      {got}" for name, got, expected in results if got != expected]
     wrong += [*full_history(program), *longest(program)]
     for text in wrong:

@@ -1,4 +1,4 @@
--- Each turn that a text says is of a core that is there, and its only faults are those of lines.
+-- Each turn that a text says is of a core that is there.
 use Rattle.std.proofs.Common.{◌≡◌, ℕ, ◌+◌, ◌<◌, nat_lt, Bool, true, false, cond, List, [], ◌∷◌, All, drop, Option, Some, None, Result, Ok, Err, refl, subst, arith}
 use Rattle.std.proofs.lemmas.Bool.Decides.{nat_tests}
 use Rattle.std.proofs.lemmas.List.Elements.{All-append, All-nil}
@@ -10,7 +10,7 @@ use Rattle.all_schedules.specs.Turns.{alone, begins_turns, below_image, core_in,
 
 abbrev AreCores : ℕ → Result (List ℕ) TraceFault → Type 0
 AreCores cores (Ok turns) = All (λ k. k < cores) turns
-AreCores cores (Err fault) = fault.kind ≡ Line
+AreCores cores (Err fault) = Unit {0}
 
 abbrev IsCore : ℕ → Option ℕ → Type 0
 IsCore cores (Some k) = k < cores
@@ -34,7 +34,7 @@ of_core cores word = of_number cores (where_ok (number_in word))
 
 of_alone : (cores n : ℕ) (core : Option ℕ) → IsCore cores core → AreCores cores (alone (or_fault core n Line))
 of_alone cores n (Some k) is = λ i d below. let first : i ≡ 0 = omega (arith, below) in rw first is
-of_alone cores n None is = refl
+of_alone cores n None is = tt
 
 of_joined : (cores : ℕ) (one other : Result (List ℕ) TraceFault) → AreCores cores one → AreCores cores other → AreCores cores (joined one other)
 of_joined cores (Ok xs) (Ok ys) p q = All-append (λ k. k < cores) xs ys p q
@@ -53,7 +53,7 @@ of_line cores n line =
     let refused : Result (List ℕ) TraceFault = Err (record { line = n; kind = Line }) in
     let words = words_read cores n (pieces 32 (drop 6 line)) in
     either cores (is_remark line) (Ok []) (cond (begins_turns line) words refused) (All-nil (λ k. k < cores))
-    (either cores (begins_turns line) words refused (of_words cores n (pieces 32 (drop 6 line))) refl)
+    (either cores (begins_turns line) words refused (of_words cores n (pieces 32 (drop 6 line))) tt)
 
 of_lines : (cores n : ℕ) (lines : List (List ℕ)) → AreCores cores (lines_read cores n lines)
 unfolding lines_read
@@ -74,7 +74,3 @@ of_text cores text = of_below cores 1 (pieces 10 text)
 -- a core that is there takes each turn
 pub are_cores : (cores : ℕ) (text turns : List ℕ) → schedule_text cores text ≡ Ok turns → All (λ k. k < cores) turns
 are_cores cores text turns is = subst (AreCores cores) is (of_text cores text)
-
--- a fault is that of a line
-pub is_line : (cores : ℕ) (text : List ℕ) (fault : TraceFault) → schedule_text cores text ≡ Err fault → fault.kind ≡ Line
-is_line cores text fault is = subst (AreCores cores) is (of_text cores text)

@@ -10,6 +10,7 @@ pub mod Lines
 pub mod Cores
 pub mod Shows
 pub mod Outcomes
+pub mod Retraces
 pub mod Works
 pub mod Alls
 pub mod Paces

@@ -1,5 +1,5 @@
 -- What the replay of a text comes to, from what its parts answer.
-use Rattle.std.proofs.Common.{◌≡◌, ℕ, ◌+◌, ◌<◌, List, length, replicate, Option, Some, None, Result, Ok, Err, IfSome, MatchResult, refl, sym, subst, arith}
+use Rattle.std.proofs.Common.{◌≡◌, ℕ, ◌+◌, ◌<◌, List, length, replicate, Option, Some, None, Result, Ok, Err, IfSome, MatchResult, Bool, true, false, inl, inr, refl, sym, subst, arith}
 use Rattle.std.proofs.lemmas.List.{length-replicate}
 use Rattle.std.specs.Io.KnownBytes.{Appends, Keeps}
 use Rattle.rv32_image.specs.declared.fault.ImageFault.{ImageFault}
@@ -14,18 +14,19 @@ use Rattle.violations.specs.Rule.{IsCoreCount}
 use Rattle.homefree.specs.declared.book.Loop.{Loop}
 use Rattle.trace_text.specs.declared.fault.TraceFault.{TraceFault}
 use Rattle.trace_text.specs.declared.fault.TraceFaultKind.{TraceFaultKind}
-use Rattle.trace_text.specs.declared.fault.TraceFaultKind.TheVariants.{Head, Line, TooLong, Read, NoMemory}
+use Rattle.trace_text.specs.declared.fault.TraceFaultKind.TheVariants.{Read, NoMemory}
 use Rattle.trace_text.specs.Reading.{IsFaultOf, input_fault}
 use Rattle.trace_text.specs.TraceText.{longest_trace_text}
 use Rattle.trace_commands.specs.declared.outcome.Outcome.{Outcome}
-use Rattle.trace_commands.specs.declared.outcome.Outcome.TheVariants.{Reported, Audited, Usage, BadImage, BadTrace, Open, BadTurns, Stopped}
+use Rattle.trace_commands.specs.declared.outcome.Outcome.TheVariants.{Reported, Open, BadTurns, Stopped}
 use Rattle.trace_commands.specs.declared.outcome.StopCause.{StopCause}
 use Rattle.trace_commands.specs.declared.outcome.StopCause.TheVariants as cause
 use Rattle.trace_commands.specs.Outcome.{outcome_of_turns_fault}
 use Rattle.all_schedules.specs.Made.{IsFull, loop_on}
-use Rattle.all_schedules.specs.Replay.{IsNoReplay, IsReplay, IsReplayOn, IsReplayOutcome, IsStop, OfText, outcome_at}
+use Rattle.all_schedules.specs.Replay.{IsNoReplay, IsPrinted, IsReplay, IsReplayOutcome, IsStop, IsUnprinted, OfText}
+use Rattle.all_schedules.specs.Shown.{outcome_at}
+use Rattle.all_schedules.specs.Traced.{has_trace}
 use Rattle.all_schedules.specs.Turns.{image_part, schedule_text}
-use Rattle.all_schedules.proofs.Cores.{is_line}
 
 -- what holds of the image that the text says
 pub by_image : (text : List ℕ) (image : LoadedImage) (P : LoadedImage → Type 0) → image_text (image_part text) ≡ Ok image → P image
@@ -54,60 +55,77 @@ module _ {S : Type 0} (view : S → StoreView) (waits : S → Waits) (cores room
   pub refused_turns : (line : ℕ) (kind : TraceFaultKind) (image : LoadedImage) → image_text (image_part text) ≡ Ok image → IsCoreCount image cores
       → IsFaultOf kind (record { line = line; kind = kind }) (schedule_text cores text)
       → IsNoReplay view waits cores room text (outcome_of_turns_fault kind (record { line = line; kind = kind }))
-  refused_turns line Line image said allowed is =
-      by_image text image (λ l. IsCoreCount l cores × (schedule_text cores text ≡ Err (record { line = line; kind = Line }))) said (allowed, is)
-  refused_turns line Head image said allowed is = let no : Head ≡ Line = is_line cores text (record { line = line; kind = Head }) is in absurd cc
-  refused_turns line TooLong image said allowed is = let no : TooLong ≡ Line = is_line cores text (record { line = line; kind = TooLong }) is in absurd cc
   refused_turns line Read image said allowed is = absurd is
   refused_turns line NoMemory image said allowed is = tt
+  refused_turns line kind image said allowed is =
+      by_image text image (λ l. IsCoreCount l cores × (schedule_text cores text ≡ Err (record { line = line; kind = kind }))) said (allowed, is)
 
-  module _ (old new : Option (List ℕ)) where
+-- ---- a trace, or lines of turns
+
+module _ {S : Type 0} (view : S → StoreView) (waits : S → Waits) (room : ℕ) (text : List ℕ) where
+  -- what isn't printed is neither a report nor a failed write
+  no_report : (form : Bool) (cores : Option ℕ) (end : End) → IsUnprinted view waits form cores room text (Reported end) → ⊥
+  no_report true cores end is = is
+  no_report false (Some k) end is = is
+  no_report false None end is = is
+
+  no_open : (form : Bool) (cores : Option ℕ) (homefree : ℕ) → IsUnprinted view waits form cores room text (Open homefree) → ⊥
+  no_open true cores homefree is = is
+  no_open false (Some k) homefree is = is
+  no_open false None homefree is = is
+
+  no_write : (form : Bool) (cores : Option ℕ) → IsUnprinted view waits form cores room text (Stopped cause.Write) → ⊥
+  no_write true cores is = is
+  no_write false (Some k) is = is
+  no_write false None is = is
+
+  -- what is shown is reported or open
+  of_turns : (cores : ℕ) (outcome : Outcome) (printed : List ℕ) (r : Result LoadedImage ImageFault) (q : Result (List ℕ) TraceFault)
+      → MatchResult r (λ image. IsCoreCount image cores × MatchResult q (λ schedule. IsReplay view waits (loop_on image cores room) schedule outcome printed) (λ fault. ⊥)) (λ fault. ⊥)
+      → (end : Option End) × (homefree : ℕ) × (outcome ≡ outcome_at end homefree)
+  of_turns cores outcome printed (Ok image) (Ok schedule) is = let show = is.1.3 in (show.state.end, show.state.homefree, show.outcome_is)
+  of_turns cores outcome printed (Ok image) (Err fault) is = absurd is.1
+  of_turns cores outcome printed (Err fault) q is = absurd is
+
+  shown_at : (form : Bool) (cores : Option ℕ) (outcome : Outcome) (printed : List ℕ) → IsPrinted view waits form cores room text outcome printed
+      → (end : Option End) × (homefree : ℕ) × (outcome ≡ outcome_at end homefree)
+  shown_at true cores outcome printed is = let show = is.holds.shown in (show.state.end, show.state.homefree, show.outcome_is)
+  shown_at false (Some k) outcome printed is = of_turns k outcome printed (image_text (image_part text)) (schedule_text k text) is
+  shown_at false None outcome printed is = absurd is
+
+  module _ (cores : Option ℕ) (old new : Option (List ℕ)) where
     -- nothing is printed
-    pub unprinted : (outcome : Outcome) → IsNoReplay view waits cores room text outcome → Keeps old new → IsReplayOutcome view waits cores room text old new outcome
-    unprinted (Reported end) is keeps = absurd is
-    unprinted (Open homefree) is keeps = absurd is
-    unprinted (Audited verdict) is keeps = absurd is
-    unprinted Usage is keeps = (is, keeps)
-    unprinted (BadImage fault) is keeps = (is, keeps)
-    unprinted (BadTrace fault) is keeps = absurd is
-    unprinted (BadTurns fault) is keeps = (is, keeps)
-    unprinted (Stopped cause.Write) is keeps = absurd is
-    unprinted (Stopped cause.NoMemory) is keeps = (is, keeps)
-    unprinted (Stopped cause.HistoryFull) is keeps = (is, keeps)
-    unprinted (Stopped cause.NoThread) is keeps = absurd is
-    unprinted (Stopped cause.Spent) is keeps = absurd is
-    unprinted (Stopped cause.Shut) is keeps = absurd is
+    pub unprinted : (outcome : Outcome) → IsUnprinted view waits (has_trace text) cores room text outcome → Keeps old new
+        → IsReplayOutcome view waits cores room text old new outcome
+    unprinted (Reported end) is keeps = absurd (no_report (has_trace text) cores end is)
+    unprinted (Open homefree) is keeps = absurd (no_open (has_trace text) cores homefree is)
+    unprinted (Stopped cause.Write) is keeps = absurd (no_write (has_trace text) cores is)
+    unprinted (Stopped cause.NoMemory) is keeps = keeps
+    unprinted (BadTurns fault) is keeps = (inr is, keeps)
+    unprinted outcome is keeps = (is, keeps)
 
-    -- a replay that is shown is reported or open
-    shown_at : (outcome : Outcome) (printed : List ℕ) (r : Result LoadedImage ImageFault) (q : Result (List ℕ) TraceFault)
-        → MatchResult r (λ image. IsCoreCount image cores × MatchResult q (λ schedule. IsReplay view waits (loop_on image cores room) schedule outcome printed) (λ fault. ⊥)) (λ fault. ⊥)
-        → (end : Option End) × (homefree : ℕ) × (outcome ≡ outcome_at end homefree)
-    shown_at outcome printed (Ok image) (Ok schedule) is = let show = is.1.3 in (show.state.end, show.state.homefree, show.outcome_is)
-    shown_at outcome printed (Ok image) (Err fault) is = absurd is.1
-    shown_at outcome printed (Err fault) q is = absurd is
-
-    printed_at : (end : Option End) (homefree : ℕ) (printed : List ℕ) → IsReplayOn view waits cores room text (outcome_at end homefree) printed
+    printed_at : (end : Option End) (homefree : ℕ) (printed : List ℕ) → IsPrinted view waits (has_trace text) cores room text (outcome_at end homefree) printed
         → Appends old new printed → IsReplayOutcome view waits cores room text old new (outcome_at end homefree)
     printed_at (Some end) homefree printed is grows = (printed, is, grows)
     printed_at None homefree printed is grows = (printed, is, grows)
 
-    pub printed_whole : (outcome : Outcome) (printed : List ℕ) → IsReplayOn view waits cores room text outcome printed → Appends old new printed
+    pub printed_whole : (outcome : Outcome) (printed : List ℕ) → IsPrinted view waits (has_trace text) cores room text outcome printed → Appends old new printed
         → IsReplayOutcome view waits cores room text old new outcome
     printed_whole outcome printed is grows =
-        let at = shown_at outcome printed (image_text (image_part text)) (schedule_text cores text) is in
+        let at = shown_at (has_trace text) cores outcome printed is in
         subst (λ (o : Outcome). IsReplayOutcome view waits cores room text old new o) (sym at.2)
-        (printed_at at.0 at.1 printed (subst (λ (o : Outcome). IsReplayOn view waits cores room text o printed) at.2 is) grows)
+        (printed_at at.0 at.1 printed (subst (λ (o : Outcome). IsPrinted view waits (has_trace text) cores room text o printed) at.2 is) grows)
 
 keeps_itself : (known : Option (List ℕ)) → Keeps known known
 keeps_itself None = tt
 keeps_itself (Some bytes) = refl
 
-module _ {S : Type 0} (view : S → StoreView) (waits : S → Waits) (cores room : ℕ) where
+module _ {S : Type 0} (view : S → StoreView) (waits : S → Waits) (cores : Option ℕ) (room : ℕ) where
   refused : (fault : InputFault) (text : List ℕ) (output : Option (List ℕ)) → (fault ≡ input.TooLong → longest_trace_text < length text)
       → IsReplayOutcome view waits cores room text output output (outcome_of_turns_fault (input_fault fault).kind (input_fault fault))
-  refused input.TooLong text output long = ((refl, long refl), keeps_itself output)
-  refused input.Read text output long = (refl, keeps_itself output)
-  refused input.NoMemory text output long = (tt, keeps_itself output)
+  refused input.TooLong text output long = (inl (refl, long refl), keeps_itself output)
+  refused input.Read text output long = (inl refl, keeps_itself output)
+  refused input.NoMemory text output long = keeps_itself output
 
   -- a text that is longer than this
   long_text : (n : ℕ) → (text : List ℕ) × (n < length text)

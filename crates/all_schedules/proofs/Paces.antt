@@ -19,7 +19,7 @@ use Rattle.trace_commands.specs.Outcome.{outcome_of_fault}
 use Rattle.all_schedules.specs.Made.{loop_on}
 use Rattle.all_schedules.specs.Paced.{IsPacedOf, IsPacedOutcome, IsPacedStop, IsPacedText}
 use Rattle.all_schedules.specs.declared.paced.Pace.{Pace}
-use Rattle.all_schedules.specs.Replay.{outcome_at}
+use Rattle.all_schedules.specs.Shown.{outcome_at}
 use Rattle.all_schedules.proofs.Works.{keeps_itself}
 
 module _ {S : Type 0} (view : S → StoreView) (waits : S → Waits) (pace : Pace) (l : Loop) (old new : Option (List ℕ)) where

@@ -1,5 +1,5 @@
 -- Turns that a seed draws over an empty book make its history.
-use Rattle.std.proofs.Common.{◌≡◌, ◌≢◌, ℕ, List, [], Option, None, Result, Ok, Err}
+use Rattle.std.proofs.Common.{◌≡◌, ◌≢◌, ℕ, List, [], Option, None, Result, Err}
 use Rattle.rv32_image.specs.Image.{LoadedImage}
 use Rattle.rv32_exec.specs.declared.sequential.End.{End}
 use Rattle.run_ledger.specs.declared.counts.Counts.{Counts}
@@ -9,7 +9,6 @@ use Rattle.violations.specs.Rule.{IsFresh}
 use Rattle.homefree.specs.declared.fault.TurnFault.{TurnFault}
 use Rattle.homefree.specs.declared.fault.TurnFault.TheVariants.{HistoryFull, NoMemory}
 use Rattle.homefree.specs.BookView.{BookView}
-use Rattle.homefree.specs.declared.book.Loop.{Loop}
 use Rattle.homefree.specs.Driven.{driver}
 use Rattle.homefree.specs.InStep.{InStep}
 use Rattle.homefree.specs.LockView.{loop_of}

@@ -18,7 +18,7 @@ use Rattle.trace_text.specs.Printing.{printed_trace}
 use Rattle.run_command.specs.Run.{counts_line}
 use Rattle.run_command.proofs.Committing.{committed_is_memory}
 use Rattle.run_command.proofs.Printing.{result_is}
-use Rattle.all_schedules.specs.Replay.{IsReport, IsShown, outcome_at}
+use Rattle.all_schedules.specs.Shown.{IsReport, IsShown, outcome_at}
 
 one_state : (o : Option FlatState) (s t : FlatState) → o ≡ Some s → o ≡ Some t → s ≡ t
 one_state o s t p q = let e : Some s ≡ Some t = sym p ∙ q in cc

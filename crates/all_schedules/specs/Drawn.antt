@@ -1,6 +1,6 @@
 -- The schedule that a seed draws, a turn at a time.
 -- Source: Steele, Lea and Flood, "Fast Splittable Pseudorandom Number Generators", OOPSLA 2014, as the generator; this project, as the cores.
-use Rattle.std.specs.Prelude.{◌≡◌, ◌≢◌, ℕ, zero, suc, ◌%◌, List, [], ◌∷◌, ◌++◌, length, Option, None, Result, Ok, Err}
+use Rattle.std.specs.Prelude.{◌≡◌, ℕ, zero, suc, ◌%◌, List, [], ◌∷◌, ◌++◌, length, Option, None, Result, Ok, Err}
 use Rattle.rand_xoshiro.specs.SplitMix64.{mix_u64, next_state}
 use Rattle.rv32_exec.specs.declared.sequential.End.{End}
 use Rattle.spec_history.specs.declared.entry.Entry.{Entry}

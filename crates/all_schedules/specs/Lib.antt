@@ -5,8 +5,10 @@ pub mod Evenly
 pub mod Drawn
 pub mod Survey
 pub mod SurveyText
--- And what the commands of `replay` come to: what lines of turns say, the replay of a schedule, every schedule, and the run by a pace.
+-- And what the commands of `replay` come to: what lines of turns say, the replay of a schedule and of a trace, every schedule, and the run by a pace.
 pub mod Turns
+pub mod Shown
+pub mod Traced
 pub mod Replay
 pub mod Streams
 pub mod AllSchedules

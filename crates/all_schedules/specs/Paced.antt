@@ -23,7 +23,7 @@ use Rattle.all_schedules.specs.Drawn.{IsDrawnFault, MakesDrawn}
 use Rattle.all_schedules.specs.SurveyText.{turns_line}
 use Rattle.all_schedules.specs.declared.paced.Pace.{Pace}
 use Rattle.all_schedules.specs.declared.paced.Pace.TheVariants.{Even, Seeded}
-use Rattle.all_schedules.specs.Replay.{IsShown}
+use Rattle.all_schedules.specs.Shown.{IsShown}
 
 -- the schedule is that of the pace, and makes this history
 abbrev pub MakesAt : {S : Type 0} → (S → StoreView) → (S → Waits) → Pace → Loop → List ℕ → List Entry → Type 0

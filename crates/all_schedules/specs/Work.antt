@@ -1,5 +1,5 @@
 -- What the program answers.
-use Rattle.std.specs.Prelude.{◌≡◌, ◌⊎◌, ℕ, ◌+◌, ◌^◌, ◌≤◌, List}
+use Rattle.std.specs.Prelude.{◌≡◌, ◌⊎◌, ℕ, ◌+◌, ◌^◌, ◌≤◌, List, IfSome}
 use Rattle.std.specs.Io.KnownBytes.{Keeps}
 use Rattle.rv32_image.specs.ImageText.{longest_image_text}
 use Rattle.rv32_image.specs.Input.{TakesAtMost}
@@ -19,42 +19,35 @@ use Rattle.all_schedules.specs.Paced.{IsPacedOutcome}
 use Rattle.all_schedules.specs.Replay.{IsReplayOutcome}
 use Rattle.all_schedules.specs.Streams.{Stream}
 
--- 1 to 16 turns, where every schedule of so many is driven
-abbrev pub IsUpTo16 : Turns → Type 0
-IsUpTo16 Given = Unit {0}
-IsUpTo16 (Every turns) = (1 ≤ turns) × (turns ≤ 16)
-IsUpTo16 (Paced pace) = Unit {0}
+abbrev pub IsUpTo16 : ℕ → Type 0
+IsUpTo16 n = (1 ≤ n) × (n ≤ 16)
 
--- and of such schedules there are at most 65,536
-abbrev pub AreFew : ℕ → Turns → Type 0
-AreFew cores Given = Unit {0}
-AreFew cores (Every turns) = (1 ≤ turns) × (turns ≤ 16) × (cores ^ turns ≤ 65536)
-AreFew cores (Paced pace) = Unit {0}
+-- 1 to 16 cores, and at most 65,536 schedules of 1 to 16 turns
+abbrev pub AreTurns : Turns → Type 0
+AreTurns (Given cores) = IfSome cores IsUpTo16
+AreTurns (Every cores turns) = IsUpTo16 cores × IsUpTo16 turns × (cores ^ turns ≤ 65536)
+AreTurns (Paced pace cores) = IsUpTo16 cores
 
--- 1 to 16 cores, and no more schedules than that
-abbrev pub IsRequest : Request → Type 0
-IsRequest request = (1 ≤ request.cores) × (request.cores ≤ 16) × AreFew request.cores request.turns
-
--- over a store, on so many cores: the schedule of the input was replayed, every schedule of so many turns was driven, or the run was by
+-- over a store: the trace or the schedule of the input was replayed, every schedule of so many turns was driven, or the run was by
 -- this pace; and of the input no more than it may be long, and one byte, was taken
-abbrev pub TurnsAnswer : {S : Type 0} → (S → StoreView) → (S → Waits) → ℕ → ℕ → Turns → List ℕ → Stream → Stream → Stream → ℕ → Type 0
-TurnsAnswer view waits cores room Given text input output errors status =
+abbrev pub TurnsAnswer : {S : Type 0} → (S → StoreView) → (S → Waits) → ℕ → Turns → List ℕ → Stream → Stream → Stream → ℕ → Type 0
+TurnsAnswer view waits room (Given cores) text input output errors status =
     Conclusion (IsReplayOutcome view waits cores room text output.old output.new) errors.old errors.new status
     × TakesAtMost input.old input.new (longest_trace_text + 1)
-TurnsAnswer view waits cores room (Every turns) text input output errors status =
+TurnsAnswer view waits room (Every cores turns) text input output errors status =
     AllAnswers view waits cores room turns text output errors status × TakesAtMost input.old input.new (longest_image_text + 1)
-TurnsAnswer view waits cores room (Paced pace) text input output errors status =
+TurnsAnswer view waits room (Paced pace cores) text input output errors status =
     Conclusion (IsPacedOutcome view waits pace cores room text output.old output.new) errors.old errors.new status
     × TakesAtMost input.old input.new (longest_image_text + 1)
 
-abbrev pub StoreAnswers : Store → ℕ → ℕ → Turns → List ℕ → Stream → Stream → Stream → ℕ → Type 0
-StoreAnswers Caches cores room turns text input output errors status = TurnsAnswer caches.store_view caches.waits cores room turns text input output errors status
-StoreAnswers Plain cores room turns text input output errors status = TurnsAnswer plain.store_view (λ _. never_waits) cores room turns text input output errors status
+abbrev pub StoreAnswers : Store → ℕ → Turns → List ℕ → Stream → Stream → Stream → ℕ → Type 0
+StoreAnswers Caches room turns text input output errors status = TurnsAnswer caches.store_view caches.waits room turns text input output errors status
+StoreAnswers Plain room turns text input output errors status = TurnsAnswer plain.store_view (λ _. never_waits) room turns text input output errors status
 
 -- a request was answered
 abbrev pub IsDone : ℕ → List ℕ → Stream → Stream → Stream → ℕ → Type 0
-IsDone room text input output errors status = (request : Request) × IsRequest request
-    × StoreAnswers request.store request.cores room request.turns text input output errors status
+IsDone room text input output errors status = (request : Request) × AreTurns request.turns
+    × StoreAnswers request.store room request.turns text input output errors status
 
 -- the words ask for nothing: nothing was read, and nothing written but the error line
 abbrev pub IsRefused : Stream → Stream → Stream → ℕ → Type 0

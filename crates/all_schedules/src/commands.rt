@@ -13,7 +13,7 @@ use std::io::{Read, Write};
 use trace_commands::Outcome;
 use violations::{EpochStore, PlainStore};
 
-/// The whole program: replays over the store and on the cores that the words ask for, the first of which is the program's name, or
+/// The whole program: replays over the store that the words ask for, the first of which is the program's name, or
 /// drives every schedule of so many turns, or runs by a pace, and answers its status.
 ///
 /// Other words are refused as `usage`, with status 2, and nothing is read or written. The room is 16 to 1,048,576 entries.
@@ -54,21 +54,20 @@ fn answer<S: EpochStore, R: Read, W: Write, E: Write>(
     writer: &mut W,
     errors: &mut E,
 ) -> u8
-    requires request { spec.IsRequest request }
+    requires turns { spec.AreTurns request.turns }
     requires least { 16 ≤ room }
     requires most { room ≤ 1048576 }
-    ensures { ForText (R.remaining reader.old) (λ text. spec.TurnsAnswer S.view S.waits request.cores room request.turns text
+    ensures { ForText (R.remaining reader.old) (λ text. spec.TurnsAnswer S.view S.waits room request.turns text
         (record { old = R.remaining reader.old; new = R.remaining reader.new })
         (record { old = W.contents writer.old; new = W.contents writer.new })
         (record { old = E.contents errors.old; new = E.contents errors.new }) result) }
 {
-    let cores = request.cores;
     match request.turns {
-        Turns::Given => do_replay::<S, R, W, E>(alloc, cores, room, reader, writer, errors),
-        Turns::Every(turns) => {
+        Turns::Given(cores) => do_replay::<S, R, W, E>(alloc, cores, room, reader, writer, errors),
+        Turns::Every { cores, turns } => {
             do_all::<S, R, W, E>(alloc, cores, room, turns, reader, writer, errors)
         }
-        Turns::Paced(pace) => {
+        Turns::Paced { pace, cores } => {
             do_paced::<S, R, W, E>(alloc, pace, cores, room, reader, writer, errors)
         }
     }

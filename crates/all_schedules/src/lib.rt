@@ -14,6 +14,7 @@ mod schedules;
 mod seeded;
 mod survey;
 mod text;
+mod traced;
 mod turns;
 mod words;
 

@@ -7,7 +7,7 @@ ghost use Rattle.trace_commands.specs.Outcome.{Conclusion};
 ghost use Rattle.violations.specs.Rule.{IsCoreCount};
 ghost use Rattle.all_schedules.specs.Made.{loop_on};
 ghost use Rattle.all_schedules.specs.SurveyText.{turns_line};
-ghost use Rattle.all_schedules.specs.Replay.{IsShown};
+ghost use Rattle.all_schedules.specs.Shown.{IsShown};
 ghost use Rattle.all_schedules.specs.Paced as spec;
 
 use crate::even::run_evenly;

@@ -3,7 +3,7 @@ ghost use Rattle.std.specs.Prelude.{◌≡◌, Some, IfOk};
 ghost use Rattle.spec_history.specs.FlatState.{FlatState};
 ghost use Rattle.spec_history.specs.Replay.{replay};
 ghost use Rattle.homefree.specs.InStep.{InStep};
-ghost use Rattle.all_schedules.specs.Replay as spec;
+ghost use Rattle.all_schedules.specs.Shown as spec;
 
 use homefree::Book;
 use run_command::with_history;

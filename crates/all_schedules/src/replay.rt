@@ -1,15 +1,17 @@
-//! The replay of a schedule over any store, reader and writers.
-ghost use Rattle.std.specs.Prelude.{◌≡◌, ◌≤◌, ◌<◌, ◌+◌, All, MatchResult, IfOk, IfErr, length};
+//! The replay of a schedule or of a trace over any store, reader and writers.
+ghost use Rattle.std.specs.Prelude.{◌≡◌, ◌≤◌, ◌<◌, ◌+◌, All, MatchResult, IfOk, IfErr, IfSome, length};
 ghost use Rattle.rv32_image.specs.Input.{TakesAtMost};
 ghost use Rattle.rv32_image.specs.Reading.{ForText};
 ghost use Rattle.trace_text.specs.TraceText.{longest_trace_text};
 ghost use Rattle.trace_commands.specs.Outcome.{Conclusion};
 ghost use Rattle.violations.specs.Rule.{IsCoreCount};
 ghost use Rattle.all_schedules.specs.Made.{loop_on};
+ghost use Rattle.all_schedules.specs.Traced.{has_trace};
 ghost use Rattle.all_schedules.specs.Replay as spec;
 
 use crate::driving::drive_schedule;
 use crate::print::print_book;
+use crate::traced::{begins_trace, retrace};
 use crate::turns::{image_part, parts_of, read_turns};
 use homefree::TurnFault;
 use rv32_image::{Image, image_of, read_input};
@@ -19,21 +21,23 @@ use trace_commands::{Outcome, StopCause, write_whole};
 use trace_text::{LONGEST_TRACE_TEXT, TraceFault};
 use violations::EpochStore;
 
-/// Replays the schedule that the reader gives below its image: takes its turns over a fresh store, on one thread, and writes what
-/// they make, the counts and the trace. The cores are at least 1, and the room is 16 to 1,048,576 entries.
+/// Replays what the reader gives below its image: the schedule of a trace, or that of lines of turns for so many cores. Takes its turns over a
+/// fresh store, on one thread, and writes what they make, the counts and the trace. The cores are at least 1; where none are said, the
+/// trace says how many. The room is 16 to 1,048,576 entries.
 ///
 /// The status is 0 where the loop is done or exited, or the schedule was used up before; 1 where an epoch faulted; 2 where the image, the
-/// number of cores or the lines of turns are refused; 3 where the history is full, memory ran out or a write failed. With 2 and 3 one
-/// line on the error stream says which. All that is written was made before the first byte: after a failed write a prefix of it was written.
+/// number of cores, the trace or the lines of turns are refused; 3 where the history is full, memory ran out or a write failed; 4 where the
+/// turns of a trace make another history. With 2 to 4 one line on the error stream says which. All that is written was made
+/// before the first byte: after a failed write a prefix of it was written.
 pub fn do_replay<S: EpochStore, R: Read, W: Write, E: Write>(
     alloc: Global,
-    cores: u32,
+    cores: Option<u32>,
     room: u32,
     reader: &mut R,
     writer: &mut W,
     errors: &mut E,
 ) -> u8
-    requires cores { 1 ≤ cores }
+    requires cores { IfSome cores (λ k. 1 ≤ k) }
     requires least { 16 ≤ room }
     requires most { room ≤ 1048576 }
     ensures outcome { ForText (R.remaining reader.old) (λ text.
@@ -46,12 +50,12 @@ pub fn do_replay<S: EpochStore, R: Read, W: Write, E: Write>(
 /// Replays an input, all but its line on the error stream.
 fn replay_input<S: EpochStore, R: Read, W: Write>(
     alloc: Global,
-    cores: u32,
+    cores: Option<u32>,
     room: u32,
     reader: &mut R,
     writer: &mut W,
 ) -> Outcome
-    requires cores { 1 ≤ cores }
+    requires cores { IfSome cores (λ k. 1 ≤ k) }
     requires least { 16 ≤ room }
     requires most { room ≤ 1048576 }
     ensures outcome { ForText (R.remaining reader.old) (λ text.
@@ -66,18 +70,18 @@ fn replay_input<S: EpochStore, R: Read, W: Write>(
 
 fn replay_text<S: EpochStore, W: Write>(
     alloc: Global,
-    cores: u32,
+    cores: Option<u32>,
     room: u32,
     text: &[u8],
     writer: &mut W,
 ) -> Outcome
-    requires cores { 1 ≤ cores }
+    requires cores { IfSome cores (λ k. 1 ≤ k) }
     requires least { 16 ≤ room }
     requires most { room ≤ 1048576 }
     requires short { length text.now ≤ longest_trace_text }
     ensures { spec.IsReplayOutcome S.view S.waits cores room text.now (W.contents writer.old) (W.contents writer.new) result }
 {
-    let (outcome, printed) = match replay_of::<S>(alloc, cores, room, text) {
+    let (outcome, printed) = match print_replay::<S>(alloc, cores, room, text) {
         Ok(shown) => shown,
         Err(outcome) => return outcome,
     };
@@ -88,7 +92,30 @@ fn replay_text<S: EpochStore, W: Write>(
     }
 }
 
-/// What the schedule of a text came to, with all that is printed of it; or what it came to where nothing is printed.
+/// What the trace or the lines of turns of a text came to, with all that is printed of it; or what it came to where nothing is printed.
+fn print_replay<S: EpochStore>(
+    alloc: Global,
+    cores: Option<u32>,
+    room: u32,
+    text: &[u8],
+) -> Result<(Outcome, Vec<u8>), Outcome>
+    requires cores { IfSome cores (λ k. 1 ≤ k) }
+    requires least { 16 ≤ room }
+    requires most { room ≤ 1048576 }
+    requires short { length text.now ≤ longest_trace_text }
+    ensures { MatchResult result (λ shown. spec.IsPrinted S.view S.waits (has_trace text.now) cores room text.now shown.0 shown.1.items)
+        (spec.IsUnprinted S.view S.waits (has_trace text.now) cores room text.now) }
+{
+    if begins_trace(text) {
+        return retrace::<S>(alloc, cores, room, text);
+    }
+    match cores {
+        Some(cores) => replay_of::<S>(alloc, cores, room, text),
+        None => Err(Outcome::Usage),
+    }
+}
+
+/// What the lines of turns of a text came to, with all that is printed of it; or what it came to where nothing is printed.
 fn replay_of<S: EpochStore>(
     alloc: Global,
     cores: u32,
@@ -99,7 +126,7 @@ fn replay_of<S: EpochStore>(
     requires least { 16 ≤ room }
     requires most { room ≤ 1048576 }
     requires short { length text.now ≤ longest_trace_text }
-    ensures { MatchResult result (λ shown. spec.IsReplayOn S.view S.waits cores room text.now shown.0 shown.1.items) (spec.IsNoReplay S.view S.waits cores room text.now) }
+    ensures { MatchResult result (λ shown. spec.OfText cores room text.now (λ l schedule. spec.IsReplay S.view S.waits l schedule shown.0 shown.1.items)) (spec.IsNoReplay S.view S.waits cores room text.now) }
 {
     let parts = parts_of(text);
     let image = match image_of(alloc, image_part(text, &parts)) {

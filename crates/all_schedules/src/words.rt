@@ -1,5 +1,5 @@
-ghost use Rattle.std.specs.Prelude.{◌≡◌, ◌≤◌, ◌↔◌, IfSome, IsTrue};
-ghost use Rattle.all_schedules.specs.Work.{AreFew, IsRequest, IsUpTo16};
+ghost use Rattle.std.specs.Prelude.{◌≡◌, ◌≤◌, ◌↔◌, ◌^◌, IfSome, IsTrue};
+ghost use Rattle.all_schedules.specs.Work.{AreTurns, IsUpTo16};
 
 use crate::paced::Pace;
 use rv32_image::number_in;
@@ -14,86 +14,72 @@ pub enum Store {
     Plain,
 }
 
-/// Whose turns are taken.
+/// Whose turns are taken, on 1 to 16 cores.
 #[derive(Clone, Copy, Debug, PartialEq, Eq)]
 pub enum Turns {
-    /// Those of the schedule of the input.
-    Given,
-    /// Those of every schedule of so many.
-    Every(u32),
+    /// Those of the input, on so many cores. None: as many as its trace has.
+    Given(Option<u32>),
+    /// Those of every schedule of so many turns.
+    Every { cores: u32, turns: u32 },
     /// Those of the run by this pace.
-    Paced(Pace),
+    Paced { pace: Pace, cores: u32 },
 }
 
-/// What the words of a command line ask for: a store, and 1 to 16 cores.
+/// What the words of a command line ask for.
 #[derive(Clone, Copy, Debug, PartialEq, Eq)]
 pub struct Request {
     pub store: Store,
-    pub cores: u32,
     pub turns: Turns,
 }
 
-/// What these words ask for, `STORE CORES`, `even STORE CORES`, `seeded SEED STORE CORES` or `all STORE CORES TURNS` below the
+/// What these words ask for, `STORE`, `STORE CORES`, `even STORE CORES`, `seeded SEED STORE CORES` or `all STORE CORES TURNS` below the
 /// program's name. None: other words.
 pub fn request_of<S: AsStr>(words: &[S]) -> Option<Request>
-    ensures { IfSome result IsRequest }
+    ensures { IfSome result (λ request. AreTurns request.turns) }
 {
-    if words.len() == 3 {
-        return asked(words[1].as_str(), words[2].as_str(), Turns::Given);
+    match words.len() {
+        2 => asked(words[1].as_str(), Turns::Given(None)),
+        3 => {
+            let cores = number_up_to_16(words[2].as_str())?;
+            asked(words[1].as_str(), Turns::Given(Some(cores)))
+        }
+        4 if words[1].as_str() == "even" => {
+            let cores = number_up_to_16(words[3].as_str())?;
+            let pace = Pace::Even;
+            asked(words[2].as_str(), Turns::Paced { pace, cores })
+        }
+        5 if words[1].as_str() == "seeded" => {
+            let pace = Pace::Seeded(seed_in(words[2].as_str())?);
+            let cores = number_up_to_16(words[4].as_str())?;
+            asked(words[3].as_str(), Turns::Paced { pace, cores })
+        }
+        5 if words[1].as_str() == "all" => {
+            let cores = number_up_to_16(words[3].as_str())?;
+            let turns = number_up_to_16(words[4].as_str())?;
+            if !is_small(cores, turns) {
+                return None;
+            }
+            asked(words[2].as_str(), Turns::Every { cores, turns })
+        }
+        _ => None,
     }
-    if words.len() == 4 && words[1].as_str() == "even" {
-        return asked(
-            words[2].as_str(),
-            words[3].as_str(),
-            Turns::Paced(Pace::Even),
-        );
-    }
-    if words.len() != 5 {
-        return None;
-    }
-    if words[1].as_str() == "seeded" {
-        let seed = seed_in(words[2].as_str())?;
-        return asked(
-            words[3].as_str(),
-            words[4].as_str(),
-            Turns::Paced(Pace::Seeded(seed)),
-        );
-    }
-    if words[1].as_str() != "all" {
-        return None;
-    }
-    let turns = number_up_to_16(words[4].as_str())?;
-    asked(words[2].as_str(), words[3].as_str(), Turns::Every(turns))
 }
 
-/// The request of these words. None: they name no store or number, or there are more than 65,536 schedules of so many turns.
-fn asked(store: &str, cores: &str, turns: Turns) -> Option<Request>
-    requires { IsUpTo16 turns }
-    ensures { IfSome result IsRequest }
+/// The request of these turns over the store that a word names.
+fn asked(store: &str, turns: Turns) -> Option<Request>
+    ensures { IfSome result (λ request. request.turns ≡ turns) }
 {
     let store = store_named(store)?;
-    let cores = number_up_to_16(cores)?;
-    if !is_small(cores, turns) {
-        return None;
-    }
-    Some(Request {
-        store,
-        cores,
-        turns,
-    })
+    Some(Request { store, turns })
 }
 
 /// Whether there are at most 65,536 schedules of so many turns.
-fn is_small(cores: u32, turns: Turns) -> bool
-    requires { IsUpTo16 turns }
-    ensures { IsTrue result ↔ AreFew cores turns }
+fn is_small(cores: u32, turns: u32) -> bool
+    ensures { IsTrue result ↔ (cores ^ turns ≤ 65536) }
 {
-    match turns {
-        Turns::Every(turns) => cores
-            .checked_pow(turns)
-            .is_some_and(|count| count <= 65_536),
-        Turns::Given | Turns::Paced(_) => true,
-    }
+    cores
+        .checked_pow(turns)
+        .is_some_and(|count| count <= 65_536)
 }
 
 fn store_named(word: &str) -> Option<Store> {
@@ -106,7 +92,7 @@ fn store_named(word: &str) -> Option<Store> {
 
 /// A number of cores or of turns, 1 to 16.
 fn number_up_to_16(word: &str) -> Option<u32>
-    ensures { IfSome result (λ n. (1 ≤ n) × (n ≤ 16)) }
+    ensures { IfSome result IsUpTo16 }
 {
     match number_in(word.as_bytes()) {
         Ok(n) if 1 <= n && n <= 16 => Some(n as u32),

@@ -1,5 +1,5 @@
-//! Runs that can be repeated: `replay STORE CORES` takes an image and lines of turns on standard input, and prints what exactly
-//! that schedule makes, over the store `caches` or `plain`.
+//! Runs that can be repeated: `replay STORE CORES` takes an image and lines of turns on standard input, `replay STORE` an image and a
+//! trace, and prints what exactly that schedule makes, over the store `caches` or `plain`.
 #![tactic(auto)]
 
 use all_schedules::work;

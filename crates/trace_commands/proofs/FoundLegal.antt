@@ -16,7 +16,7 @@ use Rattle.trace_text.specs.declared.fault.TraceFaultKind.TheVariants as kind
 use Rattle.trace_text.specs.TraceText.{Trace, image_part, longest_trace_text, trace_text}
 use Rattle.trace_text.proofs.Above.{reads_back}
 use Rattle.trace_commands.specs.declared.outcome.Outcome.{Outcome}
-use Rattle.trace_commands.specs.declared.outcome.Outcome.TheVariants.{Reported, Audited, Usage, BadImage, BadTrace, Open, BadTurns, Stopped}
+use Rattle.trace_commands.specs.declared.outcome.Outcome.TheVariants.{Reported, Audited, Usage, BadImage, BadTrace, Open, BadTurns, Differs, Stopped}
 use Rattle.trace_commands.specs.declared.outcome.StopCause.TheVariants as cause
 use Rattle.trace_commands.specs.declared.outcome.Verdict.{Verdict}
 use Rattle.trace_commands.specs.declared.outcome.Verdict.TheVariants.{Legal, Illegal as Refused}
@@ -105,6 +105,7 @@ module _ (image : LoadedImage) (cores : ℕ) where
       finds_legal old new Usage is = absurd is.0
       finds_legal old new (Open homefree) is = absurd is.0
       finds_legal old new (BadTurns fault) is = absurd is.0
+      finds_legal old new (Differs place) is = absurd is.0
 
 pub printed_is_legal : PrintedIsLegal
 printed_is_legal lines image cores entries s said count are replays short =

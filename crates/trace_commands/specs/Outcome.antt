@@ -16,7 +16,7 @@ use Rattle.trace_text.specs.declared.fault.TraceFaultKind.{TraceFaultKind}
 use Rattle.trace_text.specs.declared.fault.TraceFaultKind.TheVariants as trace
 use Rattle.trace_text.specs.Reading.{name_of as trace_name_of}
 use Rattle.trace_commands.specs.declared.outcome.Outcome.{Outcome}
-use Rattle.trace_commands.specs.declared.outcome.Outcome.TheVariants.{Reported, Audited, Usage, BadImage, BadTrace, Open, BadTurns, Stopped}
+use Rattle.trace_commands.specs.declared.outcome.Outcome.TheVariants.{Reported, Audited, Usage, BadImage, BadTrace, Open, BadTurns, Differs, Stopped}
 use Rattle.trace_commands.specs.declared.outcome.Verdict.{Verdict}
 use Rattle.trace_commands.specs.declared.outcome.Verdict.TheVariants.{Legal, Illegal}
 use Rattle.trace_commands.specs.declared.outcome.StopCause.{StopCause}
@@ -48,6 +48,7 @@ status_of (BadImage fault) = 2
 status_of (BadTrace fault) = 2
 status_of (Open homefree) = 0
 status_of (BadTurns fault) = 2
+status_of (Differs place) = 4
 status_of (Stopped cause) = 3
 
 abbrev pub image_line : ImageFault → List ℕ
@@ -58,6 +59,9 @@ trace_line fault = codes "trace " ++ decimal fault.line ++ codes " " ++ trace_na
 
 abbrev pub turns_line : TraceFault → List ℕ
 turns_line fault = codes "turns " ++ decimal fault.line ++ codes " " ++ trace_name_of fault.kind ++ codes "\n"
+
+abbrev pub differs_line : ℕ → List ℕ
+differs_line place = codes "differs " ++ decimal place ++ codes "\n"
 
 abbrev pub stopped_line : StopCause → List ℕ
 stopped_line cause = codes "stopped " ++ cause_name cause ++ codes "\n"
@@ -71,6 +75,7 @@ error_line (BadImage fault) = image_line fault
 error_line (BadTrace fault) = trace_line fault
 error_line (Open homefree) = []
 error_line (BadTurns fault) = turns_line fault
+error_line (Differs place) = differs_line place
 error_line (Stopped cause) = stopped_line cause
 
 -- known bytes grow by some of the first of these
@@ -94,6 +99,7 @@ IsSeqOutcome text old new (BadImage fault) = IsRefusal fault.kind fault (image_t
 IsSeqOutcome text old new (BadTrace fault) = ⊥
 IsSeqOutcome text old new (Open homefree) = ⊥
 IsSeqOutcome text old new (BadTurns fault) = ⊥
+IsSeqOutcome text old new (Differs place) = ⊥
 IsSeqOutcome text old new (Stopped NoMemory) = Keeps old new
 IsSeqOutcome text old new (Stopped Write) =
     MatchResult (image_text text) (λ image. AppendsPrefix old new (report_of image (sequential_result image))) (λ fault. ⊥)

@@ -13,5 +13,5 @@ pub use audit::{do_audit, verdict_line, verdict_of};
 pub use outcome::{Outcome, StopCause, Verdict};
 pub use report::{print_open_report, print_report};
 pub use seq::do_seq;
-pub use traced::{Traced, read_traced};
+pub use traced::{Traced, read_traced, traced_in};
 pub use write::write_whole;

@@ -69,6 +69,8 @@ pub enum Outcome {
     Open(u32),
     /// The lines of turns were refused. They are read as a trace is, and have its faults.
     BadTurns(TraceFault),
+    /// The schedule of a trace made another history: the first place, counted from 0, at which they differ.
+    Differs(usize),
     /// The command stopped.
     Stopped(StopCause),
 }
@@ -104,7 +106,7 @@ impl Outcome {
         Outcome::BadTurns(fault)
     }
 
-    /// The status: 0 done, exited, legal or open, 1 an epoch faulted, 2 refused, 3 stopped, 4 illegal.
+    /// The status: 0 done, exited, legal or open, 1 an epoch faulted, 2 refused, 3 stopped, 4 illegal or another history.
     pub fn status(self) -> u8
         ensures { result ≡ spec.status_of self }
     {
@@ -116,6 +118,7 @@ impl Outcome {
             Outcome::Open(_) => 0,
             Outcome::Usage => 2,
             Outcome::BadImage(_) | Outcome::BadTrace(_) | Outcome::BadTurns(_) => 2,
+            Outcome::Differs(_) => 4,
             Outcome::Stopped(_) => 3,
         }
     }
@@ -130,6 +133,7 @@ impl Outcome {
             Outcome::BadImage(fault) => Some(refused_line("image ", fault.line, fault.name())),
             Outcome::BadTrace(fault) => Some(refused_line("trace ", fault.line, fault.name())),
             Outcome::BadTurns(fault) => Some(refused_line("turns ", fault.line, fault.name())),
+            Outcome::Differs(place) => Some(differs_line(place)),
             Outcome::Stopped(cause) => Some(stopped_line(cause)),
         }
     }
@@ -166,6 +170,17 @@ fn refused_line(whose: &str, number: u32, name: &str) -> ArrayString<64>
     line.push_str(digits.format(number));
     line.push_str(" ");
     line.push_str(name);
+    line.push_str("\n");
+    line
+}
+
+fn differs_line(place: usize) -> ArrayString<64>
+    ensures { result.bytes ≡ spec.differs_line place }
+{
+    let mut line = ArrayString::new();
+    let mut digits = Buffer::new();
+    line.push_str("differs ");
+    line.push_str(digits.format(place));
     line.push_str("\n");
     line
 }

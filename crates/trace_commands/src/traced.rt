@@ -39,7 +39,9 @@ pub fn read_traced<R: Read>(alloc: Global, reader: &mut R) -> Result<Traced, Out
 }
 
 /// The image and the trace of an input.
-fn traced_in(alloc: Global, text: &[u8]) -> Result<Traced, Outcome>
+///
+/// An Err is what a command comes to that needs them: the image or the trace is refused, or memory ran out.
+pub fn traced_in(alloc: Global, text: &[u8]) -> Result<Traced, Outcome>
     requires { length text.now ≤ longest_trace_text }
     ensures { MatchResult result (λ t. spec.IsTracedBy text.now t.image t.cores t.entries.items) (spec.IsNoVerdict text.now) }
 {

@@ -16,12 +16,12 @@ returns-in-Caches g c =
     let output : Stream = record { old = g.W.Write.contents c.args.writer.now; new = g.W.Write.contents c.answer.new.writer } in
     let errors : Stream = record { old = g.E.Write.contents c.args.errors.now; new = g.E.Write.contents c.answer.new.errors } in
     for_text (g.R.Read.remaining c.args.reader.now)
-    (λ text. TurnsAnswer caches.store_view caches.waits request.cores c.args.room request.turns text input output errors c.answer.result)
+    (λ text. TurnsAnswer caches.store_view caches.waits c.args.room request.turns text input output errors c.answer.result)
     (λ text. WorkAnswers c.args.room text input output errors c.answer.result)
     (λ text so. inl (
       request,
       c.in-Some.ensures,
-      subst (λ (s : Store). StoreAnswers s request.cores c.args.room request.turns text input output errors c.answer.result)
+      subst (λ (s : Store). StoreAnswers s c.args.room request.turns text input output errors c.answer.result)
           (sym c.in-Caches.is) so,
     )) c.answer.ensures
 
@@ -32,12 +32,12 @@ returns-in-Plain g c =
     let output : Stream = record { old = g.W.Write.contents c.args.writer.now; new = g.W.Write.contents c.answer-in-Plain.new.writer } in
     let errors : Stream = record { old = g.E.Write.contents c.args.errors.now; new = g.E.Write.contents c.answer-in-Plain.new.errors } in
     for_text (g.R.Read.remaining c.args.reader.now)
-    (λ text. TurnsAnswer plain.store_view (λ _. never_waits) request.cores c.args.room request.turns text input output errors c.answer-in-Plain.result)
+    (λ text. TurnsAnswer plain.store_view (λ _. never_waits) c.args.room request.turns text input output errors c.answer-in-Plain.result)
     (λ text. WorkAnswers c.args.room text input output errors c.answer-in-Plain.result)
     (λ text so. inl (
       request,
       c.in-Some.ensures,
-      subst (λ (s : Store). StoreAnswers s request.cores c.args.room request.turns text input output errors c.answer-in-Plain.result)
+      subst (λ (s : Store). StoreAnswers s c.args.room request.turns text input output errors c.answer-in-Plain.result)
           (sym c.in-Plain.is) so,
     )) c.answer-in-Plain.ensures
 

@@ -1,4 +1,4 @@
-use Rattle.std.proofs.Common.{◌≡◌, ℕ, ◌%◌, Some, None, Ok, Err, refl, sym, ap, subst, ◌∙◌, ◌+◌, ◌<◌, ◌≤◌, [], ◌++◌, arith}
+use Rattle.std.proofs.Common.{◌≡◌, ℕ, ◌%◌, Some, None, Ok, Err, refl, sym, ap, subst, ◌∙◌, ◌+◌, ◌≤◌, [], ◌++◌, arith}
 use Rattle.std.proofs.lemmas.Result.{err_from_is_err_and}
 use Rattle.rand_xoshiro.specs.SplitMix64.{mix_u64, next_state}
 use Rattle.homefree.specs.Acted.{IfArrived}

@@ -1,5 +1,4 @@
-use Rattle.std.proofs.Common.{List, ℕ, MatchResult, sym, subst}
-use Rattle.trace_commands.specs.declared.outcome.Outcome.{Outcome}
+use Rattle.std.proofs.Common.{MatchResult, sym, subst}
 use Rattle.all_schedules.specs.Made.{loop_on}
 use Rattle.all_schedules.specs.declared.paced.Pace.{Pace}
 use Rattle.all_schedules.specs.Paced.{IsPacedStop, IsPacedText}

@@ -1,7 +1,7 @@
 use Rattle.std.proofs.Common.{◌∙◌, ℕ, List, ap, sym, subst}
 use Rattle.rv32_image.specs.Image.{LoadedImage}
 use Rattle.violations.specs.View.{IsCommitted}
-use Rattle.all_schedules.specs.Replay.{IsReport, outcome_at}
+use Rattle.all_schedules.specs.Shown.{IsReport, outcome_at}
 use Rattle.all_schedules.proofs.Shows.{of_ended, of_open}
 use Rattle.all_schedules.proofs.print.report_of.Goals as goal
 

@@ -1,0 +1,106 @@
+-- What the replay of a trace comes to: the schedule that the trace shows, driven again.
+-- Source: this project.
+use Rattle.std.specs.Prelude.{◌≡◌, ◌≢◌, ℕ, Bool, true, false, not, nat_lt, ◌==◌, ◌&&◌, List, [], ◌∷◌, length, take, slice_get, Option, Some, None, Ok, if◌then◌else◌}
+use Rattle.std.specs.List.{flat_map}
+use Rattle.rv32_image.specs.Image.{LoadedImage}
+use Rattle.rv32_exec.specs.declared.sequential.End.{End}
+use Rattle.spec_history.specs.declared.entry.Entry.{Entry}
+use Rattle.spec_history.specs.declared.entry.What.{What}
+use Rattle.spec_history.specs.declared.entry.What.TheVariants.{Hurt, Cancel, Publish}
+use Rattle.violations.specs.View.{StoreView, Waits}
+use Rattle.homefree.specs.declared.book.Loop.{Loop}
+use Rattle.trace_text.specs.TraceText.{image_part}
+use Rattle.trace_commands.specs.declared.outcome.Outcome.{Outcome}
+use Rattle.trace_commands.specs.declared.outcome.Outcome.TheVariants.{Differs, Stopped, Usage}
+use Rattle.trace_commands.specs.declared.outcome.StopCause.TheVariants.{NoMemory, HistoryFull}
+use Rattle.trace_commands.specs.Audit.{IsNoVerdict, IsTracedBy}
+use Rattle.all_schedules.specs.Made.{IsFull, Makes, loop_on}
+use Rattle.all_schedules.specs.Shown.{IsShown}
+
+-- ---- the schedule of a trace
+
+-- the entry stands for a turn: violations, cancellations and publications are of the turn whose entry stands below them
+abbrev pub is_of_own : What → Bool
+is_of_own (Hurt epoch) = false
+is_of_own (Cancel epoch) = false
+is_of_own Publish = false
+is_of_own what = true
+
+-- of a core that is there
+abbrev pub takes_turn : ℕ → Entry → Bool
+takes_turn cores entry = nat_lt entry.by cores && is_of_own entry.what
+
+abbrev pub turn_of : ℕ → Entry → List ℕ
+turn_of cores entry = if takes_turn cores entry then entry.by ∷ [] else []
+
+-- whose turns the entries are, in order
+abbrev pub turns_of : ℕ → List Entry → List ℕ
+turns_of cores entries = flat_map (turn_of cores) entries
+
+-- ---- its replay
+
+-- two histories part at this place, counted from 0: up to it they are the same, and at it they aren't
+pub record PartAt (made given : List Entry) (place : ℕ) : Type 0 where
+  pub same : take place made ≡ take place given
+  pub other : slice_get made place ≢ slice_get given place
+
+-- nothing is shown of a history: it parts from the entries, or memory ran out
+abbrev pub IsNotSame : List Entry → List Entry → Outcome → Type 0
+IsNotSame made given (Differs place) = PartAt made given place
+IsNotSame made given (Stopped NoMemory) = Unit {0}
+IsNotSame made given outcome = ⊥
+
+-- the turns make the entries again, and the text shows them
+pub record IsRetraced {S : Type 0} (view : S → StoreView) (waits : S → Waits) (l : Loop) (entries : List Entry) (outcome : Outcome) (text : List ℕ) : Type 0 where
+  pub result : Option End
+  pub makes : Makes view waits l (turns_of l.cores entries) (Ok result) entries
+  pub shown : IsShown l.image l.cores entries outcome text
+
+-- they make a history that parts from the entries at this place
+pub record Parts {S : Type 0} (view : S → StoreView) (waits : S → Waits) (l : Loop) (entries : List Entry) (place : ℕ) : Type 0 where
+  pub result : Option End
+  pub history : List Entry
+  pub makes : Makes view waits l (turns_of l.cores entries) (Ok result) history
+  pub part : PartAt history entries place
+
+-- or nothing is shown since they stop
+abbrev pub IsNotRetraced : {S : Type 0} → (S → StoreView) → (S → Waits) → Loop → List Entry → Outcome → Type 0
+IsNotRetraced view waits l entries (Differs place) = Parts view waits l entries place
+IsNotRetraced view waits l entries (Stopped HistoryFull) = IsFull view waits l (turns_of l.cores entries)
+IsNotRetraced view waits l entries (Stopped NoMemory) = Unit {0}
+IsNotRetraced view waits l entries outcome = ⊥
+
+-- ---- of a text
+
+-- a line begins a trace: it ends the image
+abbrev pub has_trace : List ℕ → Bool
+has_trace text = nat_lt (length (image_part text)) (length text)
+
+-- so many cores are said, and the trace has another number of them
+abbrev pub is_other : Option ℕ → ℕ → Bool
+is_other (Some cores) number = not (cores == number)
+is_other None number = false
+
+-- of the image and the trace that a text says, where no other number of cores is said
+pub record OfTrace (cores : Option ℕ) (room : ℕ) (text : List ℕ) (P : Loop → List Entry → Type 0) : Type 0 where
+  pub image : LoadedImage
+  pub number : ℕ
+  pub entries : List Entry
+  pub traced : IsTracedBy text image number entries
+  pub same : is_other cores number ≡ false
+  pub holds : P (loop_on image number room) entries
+
+-- where another is
+pub record IsOfOther (cores : Option ℕ) (text : List ℕ) : Type 0 where
+  pub image : LoadedImage
+  pub number : ℕ
+  pub entries : List Entry
+  pub traced : IsTracedBy text image number entries
+  pub other : is_other cores number ≡ true
+
+-- nothing is printed, since the image, the trace or the number of cores is refused, or the trace isn't made again
+abbrev pub IsNoRetrace : {S : Type 0} → (S → StoreView) → (S → Waits) → Option ℕ → ℕ → List ℕ → Outcome → Type 0
+IsNoRetrace view waits cores room text Usage = IsOfOther cores text
+IsNoRetrace view waits cores room text (Differs place) = OfTrace cores room text (λ l entries. Parts view waits l entries place)
+IsNoRetrace view waits cores room text (Stopped HistoryFull) = OfTrace cores room text (λ l entries. IsFull view waits l (turns_of l.cores entries))
+IsNoRetrace view waits cores room text outcome = IsNoVerdict text outcome
