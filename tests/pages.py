@@ -27,6 +27,9 @@ PAGES = ["README.md", "CONTRIBUTING.md", "docs/**/*.md", "examples/*.md", "tests
 FOLDERS = ["bench", "docs", "examples", "tests", "tools"]
 # How a command begins that is this project's own.
 OWN = re.compile(r"(?m)^(?:\./|tools/|tests/|bench/|\.ci/).*")
+PROGRAMS = ["why", "replay", "gain"]
+# The programs that a tool calls.
+TOOLS = {"named": ["why"], "picture": ["why"], "verdict": PROGRAMS, "study": [*PROGRAMS, "snakemake"]}
 # Commands that no test runs, with the reason.
 NOT_RUN = {
     ".ci/run": "runs for an hour, and this test with the others",
@@ -45,10 +48,10 @@ def blocks(page):
 def programs(command):
     """The built programs by their names, where they are there."""
     if not command:
-        return {name: ROOT / name for name in ("trace_cli", "why", "replay", "gain")}
+        return {name: ROOT / name for name in ["trace_cli", *PROGRAMS]}
     given = Path(command[0]).resolve()
     crates = given.parents[2] if len(given.parents) > 2 else given.parent
-    beside = {name: crates / name / "out" / name for name in ("why", "replay", "gain")}
+    beside = {name: crates / name / "out" / name for name in PROGRAMS}
     return {"trace_cli": given} | {name: path for name, path in beside.items() if path.is_file()}
 
 
@@ -61,12 +64,11 @@ def can_compile():
 
 def lacks(command, found):
     """What a command needs that isn't there, or None."""
-    for name in ("why", "replay", "gain"):
-        if re.search(rf"\./{name}\b", command) and name not in found:
+    called = [name for name in PROGRAMS if re.search(rf"\./{name}\b", command)]
+    called += [name for tool, names in TOOLS.items() if f"tools/{tool} " in command for name in names]
+    for name in called:
+        if not (name in found if name in PROGRAMS else shutil.which(name)):
             return f"the program {name}"
-    for tool in ("named", "picture"):
-        if f"tools/{tool} " in command and "why" not in found:
-            return "the program why"
     if "image-of" in command and not can_compile():
         return "what tools/image-of needs"
     needed = [COMPILER] if "image-of" in command else ["clang", "ld.lld"] if command.startswith("clang") else []

@@ -28,7 +28,7 @@ TWO = ("store {} cores 2 steps 10 gain 1.20 useful 12 lost 4 dropped 0 waiting 0
 GAIN = "".join(line.format(store) for store in ("caches", "plain") for line in (ONE, TWO))
 SAID = ("waits gains 1.20 on 2 cores at even speed: 10 steps in place of 12. Over a plain store of bytes it gains 1.20. Of all steps 60 % are useful, 20 % are lost and "
         "20 % are idle. What holds it back: 1 rollback by true sharing lost 3 instructions. 3 instructions where the store at waits.c:4 hits the load at waits.c:7: it "
-        "usually helps to wait for flag, or let each epoch keep its own and put them together at the end. 20 % of the steps cores have no epoch: the loop has 2; it "
+        "usually helps to wait for flag, or let each epoch keep its own and put them together at the end. In 20 % of the steps cores have no epoch: the loop has 2; it "
         "usually helps to have more, or shorter ones. What helps is advice, and no claim.")
 # Of an example on four cores: words of its verdict.
 EXAMPLES = {

@@ -81,7 +81,7 @@ def holding(found: Findings) -> list[tuple[int, str]]:
     parts += [(getattr(caches, cause), f"In {percent(getattr(caches, cause), caches):.0f} % of the steps cores {told}.") for cause, told in waits(found).items()]
     parts.append((caches.dropped, f"{percent(caches.dropped, caches):.0f} % of the steps are of epochs that the loop's exit cancelled, or the end cut off."))
     parts = sorted((one for one in parts if percent(one[0], caches) >= LEAST), key=lambda one: -one[0])
-    idle = f"{percent(caches.idle, caches):.0f} % of the steps cores have no epoch: the loop has {image.epochs:,}; it usually helps to have more, or shorter ones."
+    idle = f"In {percent(caches.idle, caches):.0f} % of the steps cores have no epoch: the loop has {image.epochs:,}; it usually helps to have more, or shorter ones."
     return parts + [(caches.idle, idle)] * (percent(caches.idle, caches) >= LEAST)
 
 
