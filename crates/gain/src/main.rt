@@ -4,8 +4,7 @@
 
 use std::alloc::Global;
 use std::process::ExitCode;
-use std::{env, io};
-use trace_commands::{Outcome, StopCause};
+use trace_commands::{ROOM, words_given};
 use work::work;
 
 mod gains;
@@ -14,9 +13,6 @@ mod lines;
 mod measure;
 mod text;
 mod work;
-
-/// How many entries the history of a run may have.
-const ROOM: u32 = 1_048_576;
 
 fn main(rt: HostRuntime) -> ExitCode {
     let status = match words_given(&rt) {
@@ -31,19 +27,4 @@ fn main(rt: HostRuntime) -> ExitCode {
         Err(outcome) => outcome.conclude(&mut rt.stderr()),
     };
     ExitCode::from(status)
-}
-
-/// The words of the command line, the program's name first. One that is no UTF-8 is no word of this program.
-fn words_given(rt: &HostRuntime) -> Result<Vec<String>, Outcome> {
-    let args = env::args(rt).map_err(|error| match error.kind() {
-        io::ErrorKind::OutOfMemory => Outcome::Stopped(StopCause::NoMemory),
-        _ => Outcome::Usage,
-    })?;
-    let mut words = Vec::new(rt.alloc());
-    for word in args {
-        words
-            .push(word)
-            .map_err(|_| Outcome::Stopped(StopCause::NoMemory))?;
-    }
-    Ok(words)
 }

@@ -5,15 +5,11 @@
 use core_threads::Open;
 use std::alloc::Global;
 use std::process::ExitCode;
-use std::{env, io};
-use trace_commands::{Outcome, StopCause};
+use trace_commands::{ROOM, words_given};
 use work::work;
 
 mod words;
 mod work;
-
-/// How many entries the history of a run may have.
-const ROOM: u32 = 1_048_576;
 
 fn main(rt: HostRuntime) -> ExitCode {
     let status = match words_given(&rt) {
@@ -30,19 +26,4 @@ fn main(rt: HostRuntime) -> ExitCode {
         Err(outcome) => outcome.conclude(&mut rt.stderr()),
     };
     ExitCode::from(status)
-}
-
-/// The words of the command line, the program's name first. One that is no UTF-8 is no word of a command.
-fn words_given(rt: &HostRuntime) -> Result<Vec<String>, Outcome> {
-    let args = env::args(rt).map_err(|error| match error.kind() {
-        io::ErrorKind::OutOfMemory => Outcome::Stopped(StopCause::NoMemory),
-        _ => Outcome::Usage,
-    })?;
-    let mut words = Vec::new(rt.alloc());
-    for word in args {
-        words
-            .push(word)
-            .map_err(|_| Outcome::Stopped(StopCause::NoMemory))?;
-    }
-    Ok(words)
 }

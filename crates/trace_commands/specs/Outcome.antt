@@ -142,3 +142,9 @@ pub record Conclusion (Is : Outcome → Type 0) (errors errors' : Option (List �
 -- what `seq` answers for an input
 abbrev pub SeqAnswers : List ℕ → Option (List ℕ) → Option (List ℕ) → Option (List ℕ) → Option (List ℕ) → ℕ → Type 0
 SeqAnswers text old new errors errors' status = Conclusion (IsSeqOutcome text old new) errors errors' status
+
+-- the words of a command line can't be told: one is no UTF-8, or memory ran out
+abbrev pub IsNoWords : Outcome → Type 0
+IsNoWords Usage = Unit {0}
+IsNoWords (Stopped NoMemory) = Unit {0}
+IsNoWords outcome = ⊥

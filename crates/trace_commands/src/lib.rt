@@ -4,6 +4,7 @@
 mod audit;
 pub mod laws;
 mod outcome;
+mod program;
 mod report;
 mod seq;
 mod traced;
@@ -11,6 +12,7 @@ mod write;
 
 pub use audit::{do_audit, verdict_line, verdict_of};
 pub use outcome::{Outcome, StopCause, Verdict};
+pub use program::{ROOM, words_given};
 pub use report::{print_open_report, print_report};
 pub use seq::do_seq;
 pub use traced::{Traced, read_traced, traced_in};
