@@ -55,6 +55,15 @@ pub fn two_after(n: u32) -> u32
     n + 2
 }
 
+/// The same, by steps with longer names.
+pub fn number_that_comes_two_steps_after_another_number(n: u32) -> u32
+    requires { n < 99 }
+    ensures { result ≡ n + 2 }
+{
+    let number_that_comes_one_step_after_it = next(n);
+    next(number_that_comes_one_step_after_it)
+}
+
 /// A size.
 #[derive(Clone, Copy)]
 pub enum Size {
@@ -107,6 +116,8 @@ two-steps c = let one = c.next-one.ensures in let two = c.next.ensures in omega 
 pub returns : goal.returns
 returns = two-steps
 """
+LONG_NAME = "number_that_comes_two_steps_after_another_number"
+LONG_STEP = "number_that_comes_one_step_after_it"
 # Where a step has another name, `two-steps` names one that isn't there, and `returns` depends on it, "which was rejected".
 # Name of an edit: its pairs of old and new text, and what has to be told of it.
 EDITS = {
@@ -121,6 +132,9 @@ EDITS = {
     "next_of_a_text_that_is_not_there": ([("    n + 7", "    n + 1")], "FAILED, BAD EDIT: a text of it stands in src/lib.rt 0 times"),
     "next_but_one_renames_a_step": (
         [("let one = next(n);\n    next(one)", "let first = next(n);\n    next(first)")], "FAILED, NOT REFUSED by a message at next_but_one"),
+    "a_step_with_a_long_name_is_renamed": (
+        [(f"let {LONG_STEP} = next(n);\n    next({LONG_STEP})", "let first = next(n);\n    next(first)")],
+        f"FAILED, NOT REFUSED by a message at {LONG_NAME}"),
     "next_but_two_is_right_over_a_broken_one": (
         [("    next_but_one(after)", "    next(next_but_one(n))")], "FAILED, NOT REFUSED by a message at next_but_two: proved"),
     "next_but_two_beside_a_change_that_is_taken_back": (
@@ -157,6 +171,8 @@ def repository(top):
     write(top / "crates.txt", "steps:\n")
     write(top / "crates/steps/src/lib.rt", SOURCE)
     write(top / "crates/steps/proofs/next_but_one/Answers.antt", ANSWERS)
+    long_answers = ANSWERS.replace("next_but_one", LONG_NAME).replace("next-one", f"next-{LONG_STEP}")
+    write(top / f"crates/steps/proofs/{LONG_NAME}/Answers.antt", long_answers)
     for name, (pairs, _) in EDITS.items():
         write(top / f"tests/wrong-bodies/steps/{name}.edit", edit_text(pairs))
     for file in [*(TOP / "tests/wrong-bodies").glob("*.py"), TOP / "tests/wrong-bodies/run", TOP / "tools/crates.py"]:
