@@ -33,6 +33,10 @@ more_explained image count s entries place xs found replays shown explained was 
 
 -- ---- what is summed of them
 
+-- one more at the end of a list
+pub kept : {A B : Type 0} (f : A → B) (found : Option A) (x : A) (made : B) (old new : List B) → found ≡ Some x → made ≡ f x → new ≡ old ++ made ∷ [] → new ≡ old ++ option_to_list (option_map f found)
+kept f found x made old new is by grown = grown ∙ (ap (λ y. old ++ y ∷ []) by ∙ ap (λ o. old ++ option_to_list (option_map f o)) (sym is))
+
 pub none_summed : (image : LoadedImage) (count : ℕ) (entries : List Entry) (sites : List (Option Site)) (rollbacks : List Rollback) → rollbacks ≡ [] → AreSummed image count entries sites 0 rollbacks
 none_summed image count entries sites rollbacks none = record { found = []; are = none_explained image count entries; summed = none }
 
