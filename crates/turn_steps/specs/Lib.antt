@@ -1,3 +1,5 @@
--- Definitions to believe: what a cache and a buffer hold as lines of text (Places), the line of a turn and those of what a core runs (Turns)
+-- Definitions to believe: what a cache and a buffer hold as lines of text (Places), the line of a turn and those of what a core runs (Turns), what a core on
+-- the bus holds (Caches)
 pub mod Places
 pub mod Turns
+pub mod Caches

@@ -1,6 +1,7 @@
 //! What a core's cache and buffer hold as lines of text, and those of them that are not as they were before.
 #![tactic(auto)]
 
+mod caches;
 mod changed;
 mod cores;
 mod names;
@@ -8,6 +9,7 @@ mod orbs;
 mod turns;
 mod ways;
 
+pub use caches::ShownCore;
 pub use cores::{push_attempt_change, push_hart_change};
 pub use orbs::push_orb_change;
 pub use turns::push_turn;

@@ -10,7 +10,7 @@ use std::alloc::{AllocError, Global};
 use trace_text::{push_hex, push_number};
 
 /// How many lines a cache has.
-const PLACES: usize = SETS * WAYS;
+pub(crate) const PLACES: usize = SETS * WAYS;
 
 /// Adds a line of text for each way of a core's cache whose text isn't as it was, set by set, and in a set way by way. Before there
 /// were the old lines, of 16 or 32 bytes; now there are the new ones.

@@ -1,0 +1,22 @@
+-- What was shown of a core at first, and a buffer's lines taken one by one.
+use Rattle.std.proofs.Common.{◌≡◌, ℕ, ◌+◌, ◌<◌, List, [], ◌∷◌, ◌++◌, length, take, slice_get, unwrap_or, replicate, sym, ap, ◌∙◌}
+use Rattle.std.proofs.lemmas.List.{take_more}
+use Rattle.std.proofs.lemmas.Option.{unwrap_or-slice_get}
+use Rattle.cache_lines.specs.Lines.{invalid_line}
+use Rattle.turn_steps.specs.Caches.{Held, nothing}
+
+-- empty ways, and these lines in the buffer
+abbrev pub empty_with : List ℕ → Held
+empty_with lines = record { ways = replicate 8 invalid_line; orb = lines }
+
+-- a buffer without lines leaves nothing
+pub empty_without : (lines : List ℕ) → lines ≡ [] → empty_with lines ≡ nothing
+empty_without lines none = ap empty_with none
+
+-- the line at a place goes behind those before it
+pub next_taken : (lines taken : List ℕ) (place : ℕ) → place < length lines → taken ≡ take place lines
+    → taken ++ unwrap_or (slice_get lines place) 0 ∷ [] ≡ take (place + 1) lines
+next_taken lines taken place inside so =
+    ap (λ these. these ++ unwrap_or (slice_get lines place) 0 ∷ []) so
+    ∙ ap (λ line. take place lines ++ line ∷ []) (unwrap_or-slice_get lines place 0)
+    ∙ sym (take_more lines place 0 inside)
