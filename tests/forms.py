@@ -17,7 +17,7 @@ from pathlib import Path
 ROOT = Path(__file__).resolve().parent.parent
 sys.path.insert(0, str(ROOT / "tools"))
 
-from loops import Stopped, read_conflicts, read_image, with_trace  # noqa: E402
+from loops import Programs, Stopped, read_conflicts, read_image, with_trace  # noqa: E402
 from loops.documents import FORMS, SCHEMA, content_of, document, form_of  # noqa: E402
 from loops.programs import call  # noqa: E402
 from loops.runs import read_output  # noqa: E402
@@ -161,6 +161,8 @@ def examples(command):
             yield f"{path.name}: its conflicts", wrong_with("conflicts", printed(programs["why"], [], traced))
         if "replay" in programs:
             yield f"{path.name}: every schedule", wrong_with("survey", printed(programs["replay"], ["all", "plain", "2", "6"], text))
+            again = Programs(programs["replay"].parent).retrace(traced, "caches")
+            yield f"{path.name}: its trace taken again", None if again == read_output(run) else "is another"
             yield f"{path.name}: a run at even speed", wrong_with("output", printed(programs["replay"], ["even", "caches", "4"], text))
         if "gain" in programs:
             yield f"{path.name}: its gains", wrong_with("gains", printed(programs["gain"], ["4"], text))

@@ -68,6 +68,10 @@ class Programs:
         text = ended(text_of(image)) + " ".join(["turns", *map(str, turns)]) + "\n"
         return read_output(call(self.folder / "replay", [store, str(cores)], text))
 
+    def retrace(self, traced: Traced | str, store: str) -> Output:
+        """The turns of a trace, taken again; Stopped where they make another history."""
+        return read_output(call(self.folder / "replay", [store], text_of(traced)))
+
     def even(self, image: Image | str, store: str, cores: int) -> Output:
         """The loop at even speed, with the schedule."""
         return read_output(call(self.folder / "replay", ["even", store, str(cores)], text_of(image)))
