@@ -30,7 +30,7 @@ not_equal false no_way = refl
 apart : (a b : ℕ) → nat_lt a b ≡ true → (a == b) ≡ false
 apart a b less = not_equal (a == b) (λ same. omega (arith, ltb-true a b less, eqb-true a b same))
 
-pub at_pair : (p q : Pair) → is_eq (by_addresses (p.store, p.load) (q.store, q.load)) ≡ is_pair p q
+at_pair : (p q : Pair) → is_eq (by_addresses (p.store, p.load) (q.store, q.load)) ≡ is_pair p q
 at_pair p q =
     first_so (nat_lt p.store q.store) (p.store == q.store) (nat_cmp p.load q.load) (apart p.store q.store)
     ∙ ap (λ b. (p.store == q.store) && b) (second_so (nat_lt p.load q.load) (p.load == q.load) (apart p.load q.load))

@@ -17,4 +17,5 @@ mod Parting
 mod Listing
 mod Keyed
 mod Grouping
+mod Numbering
 mod Pairless

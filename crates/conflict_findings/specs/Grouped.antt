@@ -1,9 +1,8 @@
--- What the code keeps of pairs of instructions: which were noted, and the violations of each.
-use Rattle.std.specs.Prelude.{◌≡◌, ℕ, List, [], Option, Some, None, Vec}
-use Rattle.std.specs.BTreeMap.{BTreeMap, get}
+-- What the code keeps of pairs of instructions: which were noted, and the violations of each, side by side.
+use Rattle.std.specs.Prelude.{◌≡◌, ℕ, ◌+◌, ◌*◌, ◌^◌, ◌<◌, All, IfSome, List, Option, Some, None}
 use Rattle.std.specs.BTreeSet.{BTreeSet, contains}
 use Rattle.std.specs.List.{list_any}
-use Rattle.std.specs.declared.alloc.Global.{Global}
+use Rattle.std.specs.List.Sorted.{IsNonDecreasingBy}
 use Rattle.std.specs.declared.cmp.Ordering.{Ordering}
 use Rattle.std.specs.Ordering.{nat_cmp, ordering_then}
 use Rattle.conflict_findings.specs.declared.rollback.Pair.{Pair}
@@ -19,14 +18,24 @@ by_addresses x y = ordering_then (nat_cmp x.0 y.0) (nat_cmp x.1 y.1)
 abbrev pub AreSeen : List Pair → BTreeSet (ℕ × ℕ) → Type 0
 AreSeen pairs seen = (p : Pair) → contains by_addresses seen (p.store, p.load) ≡ list_any (is_pair p) pairs
 
-abbrev pub items_of : Option (Vec Rollback Global) → List Rollback
-items_of None = []
-items_of (Some those) = those.items
+-- a number for each pair of addresses of 32 bits, and 0 for none
+abbrev pub number_of : Option Pair → ℕ
+number_of None = 0
+number_of (Some p) = p.store * 2 ^ 32 + p.load + 1
 
--- the violations that are kept of a pair
-abbrev pub group : BTreeMap (ℕ × ℕ) (Vec Rollback Global) → Pair → List Rollback
-group groups p = items_of (get by_addresses groups (p.store, p.load))
+-- the second address is one of 32 bits
+abbrev pub IsFit : Option Pair → Type 0
+IsFit found = IfSome found (λ (p : Pair). p.load < 2 ^ 32)
 
--- they are those of each pair
-abbrev pub AreGrouped : List Rollback → BTreeMap (ℕ × ℕ) (Vec Rollback Global) → Type 0
-AreGrouped rollbacks groups = (p : Pair) → group groups p ≡ of_pair p rollbacks
+abbrev pub AreFit : List Rollback → Type 0
+AreFit those = All (λ (r : Rollback). IsFit r.pair) those
+
+-- the numbers of their pairs ascend
+abbrev pub AreOrdered : List Rollback → Type 0
+AreOrdered those = IsNonDecreasingBy (λ (r : Rollback). number_of r.pair) those
+
+-- they are those of each pair, side by side
+pub record AreGrouped (rollbacks those : List Rollback) : Type 0 where
+  pub each : (p : Pair) → IsFit (Some p) → of_pair p those ≡ of_pair p rollbacks
+  pub ordered : AreOrdered those
+  pub fit : AreFit those

@@ -28,7 +28,7 @@ fn sums_of_pairs(
     let groups = groups_of(alloc, rollbacks)?;
     let mut found = Vec::new(alloc);
     for pair in pairs {
-        found.push(sum_in(&groups, *pair))?;
+        found.push(sum_in(groups.as_slice(), *pair))?;
     }
     Ok(found)
 }

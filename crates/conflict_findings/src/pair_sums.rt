@@ -30,11 +30,9 @@ pub struct Bounds {
     pub greatest: u64,
 }
 
-/// What the violations of a pair cost, and what became of them.
+/// What the violations of a pair cost, and what became of them. The fields stand in an order that leaves no gap between them.
 #[derive(Clone, Copy, Debug, PartialEq, Eq)]
 pub struct PairSum {
-    /// The instructions.
-    pub pair: Pair,
     /// How many violations they are, and what they lost.
     pub sum: Sum,
     /// How many are of each kind.
@@ -45,6 +43,8 @@ pub struct PairSum {
     pub distance: Option<Bounds>,
     /// Where they met: the lowest address, and the one after the highest.
     pub bytes: Option<Bounds>,
+    /// The instructions.
+    pub pair: Pair,
 }
 
 /// What of violations has bounds.

@@ -5,8 +5,10 @@ ghost use Rattle.std.specs.BTreeMap.{get};
 ghost use Rattle.std.specs.Ordering.{nat_cmp};
 ghost use Rattle.conflict_findings.specs.declared.keys.Key.TheVariants.{Load};
 ghost use Rattle.conflict_findings.specs.Keys.{sum_at};
+ghost use Rattle.conflict_findings.specs.Grouped.{AreFit};
 ghost use Rattle.conflict_findings.specs.Roles as spec;
 
+use crate::groups::number_of;
 use crate::keys::{Key, sums_by};
 use crate::rollback::{Pair, Rollback};
 use crate::sum::Sum;
@@ -40,12 +42,13 @@ fn both_roles(alloc: Global, rollbacks: &[Rollback]) -> Result<Vec<Rollback>, Al
 }
 
 /// Those violations of which the two instructions are known.
-fn paired(alloc: Global, rollbacks: &[Rollback]) -> Result<Vec<Rollback>, AllocError>
-    ensures { IfOk result (λ found. found.items ≡ filter spec.is_paired rollbacks.now) }
+pub(crate) fn paired(alloc: Global, rollbacks: &[Rollback]) -> Result<Vec<Rollback>, AllocError>
+    ensures those { IfOk result (λ found. found.items ≡ filter spec.is_paired rollbacks.now) }
+    ensures fit { IfOk result (λ found. AreFit found.items) }
 {
     let mut found = Vec::new(alloc);
     for rollback in rollbacks {
-        if rollback.pair.is_some() {
+        if number_of(rollback.pair) > 0 {
             found.push(*rollback)?;
         }
     }

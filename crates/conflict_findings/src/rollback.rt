@@ -20,29 +20,29 @@ pub struct Pair {
     pub load: u32,
 }
 
-/// A violation, as it is summed.
+/// A violation, as it is summed. The fields stand in an order that leaves no gap between them.
 #[derive(Clone, Copy, Debug, PartialEq, Eq)]
 pub struct Rollback {
-    /// What made it necessary, or not.
-    pub kind: Kind,
-    /// The violated epoch.
-    pub epoch: u32,
+    /// How many instructions were lost.
+    pub lost: u64,
     /// The instructions that met, if they are known.
     pub pair: Option<Pair>,
     /// The number of the line of the caches in which they met, if it is known: its address over the length of a line.
     pub line: Option<u32>,
-    /// How many instructions were lost.
-    pub lost: u64,
+    /// The bytes at which they met, if these are known; for a full buffer the line that was asked for.
+    pub bytes: Option<ByteRange>,
+    /// The violated epoch.
+    pub epoch: u32,
+    /// By how many epochs the victim stands after the causer: at least 1 of a violation that the flat machine accepts.
+    pub distance: u32,
+    /// What made it necessary, or not.
+    pub kind: Kind,
     /// The blamed store stands before the blamed load.
     pub stale: bool,
     /// The causer's attempt was itself violated or cancelled.
     pub vain: bool,
     /// False sharing by an attempt that afterwards stores to a byte that the victim had read.
     pub later: bool,
-    /// By how many epochs the victim stands after the causer: at least 1 of a violation that the flat machine accepts.
-    pub distance: u32,
-    /// The bytes at which they met, if these are known; for a full buffer the line that was asked for.
-    pub bytes: Option<ByteRange>,
 }
 
 /// What of each explanation is summed, in order. It takes the sites of the history.

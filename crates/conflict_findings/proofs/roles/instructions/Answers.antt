@@ -11,5 +11,5 @@ follows (Err e) P Q f is = tt
 
 pub returns : goal.returns
 returns c =
-    let those = c.as_slice-2.ensures.value ∙ (c.in_ok-both.ensures ∙ ap in_both_roles (c.as_slice.ensures.value ∙ c.in_ok-paired.ensures)) in
+    let those = c.as_slice-2.ensures.value ∙ (c.in_ok-both.ensures ∙ ap in_both_roles (c.as_slice.ensures.value ∙ c.in_ok-paired.ensures.those)) in
     follows c.sums_by.result _ _ (λ sums is at. is at ∙ (ap (λ rs. sum_at Load rs at) those ∙ of_instructions c.args.rollbacks.now at)) c.sums_by.ensures
