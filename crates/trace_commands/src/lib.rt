@@ -16,4 +16,4 @@ pub use program::{ROOM, words_given};
 pub use report::{print_open_report, print_report};
 pub use seq::do_seq;
 pub use traced::{Traced, read_traced, traced_in};
-pub use write::write_whole;
+pub use write::{write_bytes, write_whole};

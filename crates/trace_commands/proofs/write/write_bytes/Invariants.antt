@@ -1,6 +1,6 @@
 use Rattle.std.proofs.Common.{◌-◌, ◌≤◌, length, take}
 use Rattle.std.specs.Io.KnownBytes.{Appends}
-use Rattle.trace_commands.proofs.write.write_whole.Given as goal
+use Rattle.trace_commands.proofs.write.write_bytes.Given as goal
 
 -- the bytes that are done were written
 abbrev pub invariant-loop-done : goal.invariant-loop-done

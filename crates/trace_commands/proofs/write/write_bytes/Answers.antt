@@ -2,7 +2,7 @@ use Rattle.std.proofs.Common.{◌-◌, ◌++◌, length, take, drop, sym, ap, su
 use Rattle.std.proofs.Math.Seq.{take-add, take-take}
 use Rattle.std.specs.Io.KnownBytes.{Appends}
 use Rattle.std.proofs.KnownBytes.{Appends-trans}
-use Rattle.trace_commands.proofs.write.write_whole.Goals as goal
+use Rattle.trace_commands.proofs.write.write_bytes.Goals as goal
 
 pub loop-done-preserved : goal.loop-done-preserved
 loop-done-preserved g c =
