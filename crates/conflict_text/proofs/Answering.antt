@@ -1,6 +1,10 @@
 -- What `why` comes to, from what its parts answer.
-use Rattle.std.proofs.Common.{◌≡◌, ◌≢◌, ◌++◌, ℕ, List, Option, Some, length, map, inl, inr, subst, sym, ap, ◌∙◌}
-use Rattle.std.proofs.lemmas.List.{append_assoc}
+use Rattle.std.proofs.Common.{◌≡◌, ◌≢◌, ◌+◌, ◌++◌, ℕ, List, Option, Some, length, map, take, drop, inl, inr, subst, sym, ap, ◌∙◌}
+use Rattle.std.proofs.Math.Seq.{take-append-add, take-append_seam}
+use Rattle.std.specs.Io.KnownBytes.{Appends}
+use Rattle.std.proofs.KnownBytes.{Appends-trans}
+use Rattle.trace_commands.specs.Outcome.{AppendsPrefix}
+use Rattle.std.proofs.lemmas.List.{append_assoc, take-append-drop}
 use Rattle.rv32_image.specs.Image.{LoadedImage, IsImage}
 use Rattle.spec_history.specs.declared.entry.Entry.{Entry}
 use Rattle.trace_commands.specs.declared.outcome.Outcome.{Outcome}
@@ -48,6 +52,19 @@ told_outcome image cores history verdict told old new (Audited given) right is =
     (told, subst (λ v. IsAnswer image cores history v told) (sym is.0) right, is.1)
 told_outcome image cores history verdict told old new (Stopped Write) right is = (verdict, told, right, is)
 told_outcome image cores history verdict told old new outcome right is = absurd is
+
+-- some of the first of one text is some of the first of that with another below it
+pub of_first : (old new : Option (List ℕ)) (first rest : List ℕ) → AppendsPrefix old new first → AppendsPrefix old new (first ++ rest)
+of_first old new first rest is =
+    let front = take is.0 first in
+    let behind = drop is.0 first in
+    let whole : front ++ (behind ++ rest) ≡ first ++ rest = sym (append_assoc front behind rest) ∙ ap (λ t. t ++ rest) (take-append-drop is.0 first) in
+    (length front, subst (Appends old new) (sym (take-append_seam front (behind ++ rest)) ∙ ap (take (length front)) whole) is.1)
+
+-- all of one text was written, and then some of the first of another
+pub of_rest : (old between new : Option (List ℕ)) (first rest : List ℕ) → Appends old between first → AppendsPrefix between new rest → AppendsPrefix old new (first ++ rest)
+of_rest old between new first rest whole is =
+    (length first + is.0, subst (Appends old new) (sym (take-append-add first rest is.0)) (Appends-trans old between new first (take is.0 rest) whole is.1))
 
 -- the lines of the violations, with the rest below them, are the report
 pub is_report : (image : LoadedImage) (cores : ℕ) (history : List Entry) (homefree : ℕ) (violations rest text : List ℕ) (last : FlatState) → IsImage image → replay image cores history ≡ Some last

@@ -20,11 +20,11 @@ pub same_lines : {X : Type 0} (f g : X → List ℕ) → ((x : X) → f x ≡ g 
 same_lines f g each [] = refl
 same_lines f g each (x ∷ xs) = ap (λ t. t ++ flat_map f xs) (each x) ∙ ap (λ t. g x ++ t) (same_lines f g each xs)
 
--- the six groups of lines
-pub six_parts : (t0 t1 t2 t3 t4 t5 new a b c d e f b' c' d' f' : List ℕ) → t0 ≡ [] → t1 ≡ t0 ++ a → t2 ≡ t1 ++ b → t3 ≡ t2 ++ c → t4 ≡ t3 ++ d → t5 ≡ t4 ++ e → new ≡ t5 ++ f
-    → b ≡ b' → c ≡ c' → d ≡ d' → f ≡ f' → new ≡ a ++ b' ++ c' ++ d' ++ e ++ f'
-six_parts t0 t1 t2 t3 t4 t5 new a b c d e f b' c' d' f' zero one two three four five six same2 same3 same4 same6 =
-    six ∙ rw (five, four, three, two, one, zero, same2, same3, same4, same6) (simp append_assoc)
+-- the groups of lines, of which the last are two
+pub five_parts : (t0 t1 t2 t3 t4 new a b c d e b' c' d' f g : List ℕ) → t1 ≡ t0 ++ a → t2 ≡ t1 ++ b → t3 ≡ t2 ++ c → t4 ≡ t3 ++ d → new ≡ t4 ++ e
+    → b ≡ b' → c ≡ c' → d ≡ d' → e ≡ f ++ g → new ≡ t0 ++ (a ++ b' ++ c' ++ d' ++ f ++ g)
+five_parts t0 t1 t2 t3 t4 new a b c d e b' c' d' f g one two three four five same2 same3 same4 same5 =
+    five ∙ rw (four, three, two, one, same2, same3, same4, same5) (simp append_assoc)
 
 -- the end of a line, if there was memory for it
 pub ended : {A B : Type 0} (r : Result A B) (new old e : List ℕ) → new ≡ cond (is_ok r) (old ++ e) old → OnOk r (new ≡ old ++ e)

@@ -8,5 +8,6 @@ pub mod Explaining
 -- Words of contracts: what the command and the program come to.
 pub mod Why
 pub mod Work
+pub mod Totals
 -- What is kept of attempts that were told of.
 pub mod Followed

@@ -23,6 +23,8 @@ use Rattle.conflict_text.specs.Ends.{attempt_lines}
 use Rattle.conflict_text.specs.Further.{told_lines}
 use Rattle.conflict_text.specs.Lines.{violation_lines}
 use Rattle.conflict_text.specs.Report.{IsSummary}
+use Rattle.conflict_text.specs.declared.report.Totals.{Totals}
+use Rattle.conflict_text.specs.Totals.{AreTotals}
 use Rattle.conflict_text.specs.Explaining.{IsReport}
 
 -- these explain the violations before a place of the history, one each, in order, and each is right
@@ -46,6 +48,14 @@ pub record AreTold (image : LoadedImage) (cores : ℕ) (history : List Entry) (s
 abbrev pub lines_of : LoadedImage → FlatState → List Entry → List (Option Site) → Option Explanation → List ℕ
 lines_of image s history sites None = []
 lines_of image s history sites (Some e) = violation_lines image history sites (runs_in image history e (Some s)) e
+
+-- the lines of attempts, and the sums over the violations of the history
+pub record AreCounted (image : LoadedImage) (cores : ℕ) (history : List Entry) (homefree : ℕ) (text : List ℕ) (sums : Totals) : Type 0 where
+  pub found : List Explanation
+  pub are : AreExplained image cores history (length history) found
+  pub counted : AreTotals image homefree (map (rollback_of image history (sites_before image cores history (length history))) found)
+      (ended_before image cores history (length history)) (running_after image cores history) sums
+  pub printed : text ≡ attempt_lines history (ended_before image cores history (length history)) (running_after image cores history)
 
 -- the lines of attempts, and those of the sums over the violations of the history
 pub record IsRest (image : LoadedImage) (cores : ℕ) (history : List Entry) (homefree : ℕ) (text : List ℕ) : Type 0 where

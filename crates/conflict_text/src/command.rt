@@ -1,4 +1,4 @@
-ghost use Rattle.std.specs.Prelude.{◌≡◌, ◌+◌};
+ghost use Rattle.std.specs.Prelude.{◌≡◌, ◌+◌, ◌++◌};
 ghost use Rattle.rv32_image.specs.Input.{TakesAtMost};
 ghost use Rattle.rv32_image.specs.Reading.{ForText};
 ghost use Rattle.trace_text.specs.TraceText.{longest_trace_text};
@@ -8,7 +8,9 @@ use crate::finding::report_of;
 use spec_history::Illegal;
 use std::alloc::Global;
 use std::io::{Read, Write};
-use trace_commands::{Outcome, StopCause, Traced, Verdict, read_traced, verdict_line, write_whole};
+use trace_commands::{
+    Outcome, StopCause, Traced, Verdict, read_traced, verdict_line, write_bytes, write_whole,
+};
 
 /// `why`: replays the trace that the reader gives below its image on the flat machine, and writes the report of which conflicts
 /// rolled back; where the trace is illegal, the line of an audit.
@@ -44,28 +46,35 @@ fn explain_traced<W: Write>(alloc: Global, traced: &Traced, writer: &mut W) -> O
     ensures { spec.IsTracedOutcome traced.now.image traced.now.cores traced.now.entries.items (W.contents writer.old) (W.contents writer.new) result }
 {
     match report_of(alloc, traced) {
-        Ok((text, homefree)) => {
+        Ok(report) => {
             let verdict = Verdict::Legal {
                 entries: traced.entries.len(),
-                homefree,
+                homefree: report.homefree,
             };
-            tell(verdict, text.as_slice(), writer)
+            tell(
+                verdict,
+                report.violations.as_slice(),
+                report.rest.as_slice(),
+                writer,
+            )
         }
         Err((_, Illegal::NoMemory)) => Outcome::Stopped(StopCause::NoMemory),
         Err((place, refusal)) => {
             let verdict = Verdict::Illegal { place, refusal };
-            tell(verdict, verdict_line(verdict).as_bytes(), writer)
+            tell(verdict, verdict_line(verdict).as_bytes(), b"", writer)
         }
     }
 }
 
-/// Writes what is told by a verdict.
-fn tell<W: Write>(verdict: Verdict, told: &[u8], writer: &mut W) -> Outcome
-    ensures { spec.IsToldBy verdict told.now (W.contents writer.old) (W.contents writer.new) result }
+/// Writes what is told by a verdict, and the rest of it.
+fn tell<W: Write>(verdict: Verdict, told: &[u8], rest: &[u8], writer: &mut W) -> Outcome
+    ensures { spec.IsToldBy verdict (told.now ++ rest.now) (W.contents writer.old) (W.contents writer.new) result }
 {
-    if write_whole(writer, told) {
-        Outcome::Audited(verdict)
-    } else {
-        Outcome::Stopped(StopCause::Write)
+    if !write_bytes(writer, told) {
+        return Outcome::Stopped(StopCause::Write);
     }
+    if !write_whole(writer, rest) {
+        return Outcome::Stopped(StopCause::Write);
+    }
+    Outcome::Audited(verdict)
 }

@@ -18,7 +18,7 @@ ghost use Rattle.conflict_text.specs.Why as spec;
 use crate::ends::attempt_lines;
 use crate::followed::Followed;
 use crate::lines::push_violation;
-use crate::report::summary;
+use crate::report::{Totals, push_totals, totals_of};
 use conflict_findings::{
     Ended, Ends, KnownEnds, Rollback, ended_by, further_runs, rollback_with, running_in,
 };
@@ -27,6 +27,17 @@ use rv32_exec::Image;
 use spec_history::{Entry, Flat, Illegal};
 use std::alloc::{AllocError, Global};
 use trace_commands::Traced;
+
+/// The report of a history, in two parts that are written one after the other, so that they need not be joined in memory.
+#[derive(Drop)]
+pub(crate) struct Report {
+    /// The lines of its violations.
+    pub violations: Vec<u8>,
+    /// Those below them.
+    pub rest: Vec<u8>,
+    /// The homefree epoch after it.
+    pub homefree: u32,
+}
 
 /// What is gathered of a history for its sums.
 #[derive(Drop)]
@@ -39,14 +50,14 @@ struct Gathered {
     homefree: u32,
 }
 
-/// The report of the history of a trace, and the homefree epoch after it.
+/// The report of the history of a trace.
 ///
 /// An Err is that of an audit: the place, counted from 0, of the first entry that is refused, and its refusal. `NoMemory` has
 /// the place at which memory was refused, and the number of entries where there was none for the machine itself or for the
 /// report.
-pub(crate) fn report_of(alloc: Global, traced: &Traced) -> Result<(Vec<u8>, u32), (usize, Illegal)>
-    ensures report { IfOk result (λ told. IsReport traced.now.image traced.now.cores traced.now.entries.items told.1 told.0.items) }
-    ensures verdict { MatchResult result (λ told. IsVerdict traced.now.image traced.now.cores traced.now.entries.items (Legal (length traced.now.entries.items) told.1))
+pub(crate) fn report_of(alloc: Global, traced: &Traced) -> Result<Report, (usize, Illegal)>
+    ensures report { IfOk result (λ told. IsReport traced.now.image traced.now.cores traced.now.entries.items told.homefree (told.violations.items ++ told.rest.items)) }
+    ensures verdict { MatchResult result (λ told. IsVerdict traced.now.image traced.now.cores traced.now.entries.items (Legal (length traced.now.entries.items) told.homefree))
         (λ fault. IsAuditFault traced.now.image traced.now.cores traced.now.entries.items fault.0 fault.1) }
 {
     let image = &traced.image;
@@ -65,15 +76,18 @@ fn print(
     cores: u32,
     entries: &[Entry],
     sites: &[Option<Site>],
-) -> Result<(Vec<u8>, u32), AllocError>
+) -> Result<Report, AllocError>
     requires { sites.now ≡ sites_before image.now cores entries.now (length entries.now) }
-    ensures report { IfOk result (λ told. IsReport image.now cores entries.now told.1 told.0.items) }
-    ensures verdict { IfOk result (λ told. IsVerdict image.now cores entries.now (Legal (length entries.now) told.1)) }
+    ensures report { IfOk result (λ told. IsReport image.now cores entries.now told.homefree (told.violations.items ++ told.rest.items)) }
+    ensures verdict { IfOk result (λ told. IsVerdict image.now cores entries.now (Legal (length entries.now) told.homefree)) }
 {
     let (rest, homefree) = rest(alloc, image, cores, entries, sites)?;
-    let mut text = violations(alloc, image, cores, entries, sites)?;
-    text.extend_from_slice(rest.as_slice())?;
-    Ok((text, homefree))
+    let violations = violations(alloc, image, cores, entries, sites)?;
+    Ok(Report {
+        violations,
+        rest,
+        homefree,
+    })
 }
 
 /// The lines of attempts and of sums, and the homefree epoch after the history.
@@ -89,15 +103,32 @@ fn rest(
     ensures verdict { IfOk result (λ told. IsVerdict image.now cores entries.now (Legal (length entries.now) told.1)) }
     ensures image { IfOk result (λ _. IsImage image.now) }
 {
+    let (mut text, totals, homefree) = attempts(alloc, image, cores, entries, sites)?;
+    push_totals(&mut text, image, &totals)?;
+    Ok((text, homefree))
+}
+
+/// The lines of attempts, the sums, and the homefree epoch after the history. What was gathered for them is given back.
+fn attempts(
+    alloc: Global,
+    image: &Image,
+    cores: u32,
+    entries: &[Entry],
+    sites: &[Option<Site>],
+) -> Result<(Vec<u8>, Totals, u32), AllocError>
+    requires { sites.now ≡ sites_before image.now cores entries.now (length entries.now) }
+    ensures found { IfOk result (λ told. spec.AreCounted image.now cores entries.now told.2 told.0.items told.1) }
+    ensures verdict { IfOk result (λ told. IsVerdict image.now cores entries.now (Legal (length entries.now) told.2)) }
+    ensures image { IfOk result (λ _. IsImage image.now) }
+{
     let Gathered {
         rollbacks,
         ends,
         homefree,
     } = gather(alloc, image, cores, entries, sites)?;
-    let mut text = attempt_lines(alloc, entries, &ends)?;
-    let sums = summary(alloc, image, homefree, rollbacks.as_slice(), &ends)?;
-    text.extend_from_slice(sums.as_slice())?;
-    Ok((text, homefree))
+    let text = attempt_lines(alloc, entries, &ends)?;
+    let totals = totals_of(alloc, image, homefree, rollbacks.as_slice(), &ends)?;
+    Ok((text, totals, homefree))
 }
 
 /// What is gathered of a history, in one replay.
