@@ -183,6 +183,8 @@ def whole_way(command, folder):
         if not shutil.which(compiler if compiler == "clang" else GCC[0]):
             continue
         image = image_of(folder, "--compiler", compiler, "-g", source)[0]
+        made = re.search(r"(?m)^# Made from own_counters\.c by image-of, with (.+) -O2 -g\.$", image)
+        yield f"what it was made with, by {compiler}", None if made and compiler in made[1] else f"got {made}"
         done = subprocess.run([replay, "caches", "2"], input=image + "turns" + " 0 1" * 200 + "\n", capture_output=True, text=True, check=False)
         traced = image + done.stdout[re.search(r"(?m)^trace ", done.stdout).start():]
         told = [subprocess.run([TOOLS / name, "--why", why], input=traced, capture_output=True, text=True, check=False).stdout for name in ("named", "picture")]

@@ -63,7 +63,8 @@ def studied(folder, programs):
     got = {(row["loop"], row["version"]): (row["committed"], row["useful"], row["entries"]) for row in rows}
     yield "its runs", None if got == RUNS and all((row["ending"], row["rollbacks"]) == ("done", "0") for row in rows) else f"{rows}"
     told = json.loads((out / "manifest.json").read_text())
-    yield "its manifest", None if told["plan"]["versions"] == [1, 2] and len(told["programs"]["why"]) == 64 else f"{told}"
+    yield "its manifest", None if told["plan"]["versions"] == [1, 2] and len(told["programs"]["why"]) == 64 and told["made"]["counter"] is None \
+        and "own_counters.c" in told["made"]["own_counters"] and "clang version 14" in told["made"]["own_counters"] else f"{told}"
     page = (out / "page.html").read_text()
     cells = ElementTree.fromstring(page.partition("<table>")[2].partition("</table>")[0].join(["<table>", "</table>"])).findall("tr/td")
     yield "its page", None if len(cells) == 4 * 16 and "runs.csv" in page else f"{len(cells)} cells"

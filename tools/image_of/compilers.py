@@ -159,6 +159,15 @@ def further_flags(options, language):
     return level + (["-g"] if options.g else []) + given
 
 
+def made_with(options):
+    """The compiler of the first source and its flags, as words of a remark; none where nothing is compiled."""
+    kinds = [kind for _, kind in options.inputs if kind in LANGUAGES]
+    if not kinds or not options.tools:
+        return ""
+    done = subprocess.run([options.tools.compiler[0], "--version"], capture_output=True, text=True, check=False)
+    return ", with " + " ".join([done.stdout.partition("\n")[0], *further_flags(options, kinds[0])])
+
+
 def compiled(source, kind, number, options, directory):
     """The path of the object file of a source. Warnings are shown."""
     made = Path(directory, f"{number}.o")

@@ -1,6 +1,6 @@
 """The text of the image of a linked program."""
 
-from .compilers import REMARK, text_of
+from .compilers import REMARK, made_with, text_of
 from .elf import ALLOCATED, EXECUTABLE, WRITABLE
 from .reasons import Refused
 from .words import jump, stack_code, uses_register
@@ -154,7 +154,7 @@ def image_text(program, options):
                       "or give --stack BYTES")
     size = size_of(layout.top + (options.stack or 0) * options.epochs, options)
     names = " and ".join(path.name for path, _ in options.inputs)
-    heading = remarks(*options.inputs[0]) + [f"# Made from {names} by {options.program}."] + map_of(program, options, layout)
+    heading = remarks(*options.inputs[0]) + [f"# Made from {names} by {options.program}{made_with(options)}."] + map_of(program, options, layout)
     # a version line stands above all but remarks
     lines = (["version 2"] if options.version == 2 else []) + (["exit"] if options.exit else [])
     lines += [f"size {size}", f"epochs {options.epochs}", f"limit {options.limit}", f"code {layout.code.hex()}"]

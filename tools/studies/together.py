@@ -32,7 +32,7 @@ def manifest(plan: Plan) -> dict:
     """By what the study was made: the same from the same plan, images and programs."""
     commit = subprocess.run(["git", "-C", TREE, "rev-parse", "HEAD"], capture_output=True, text=True, check=False).stdout.strip()
     return {"commit": commit, "plan": plan.text(), "images": {name: digest(Path(path)) for name, path in plan.loops.items()},
-            "made": {name: next((line[1:].strip() for line in Path(path).read_text(errors="replace").splitlines() if line.startswith("# Made by")), None)
+            "made": {name: next((line[1:].strip() for line in Path(path).read_text(errors="replace").splitlines() if line.startswith("# Made from")), None)
                      for name, path in plan.loops.items()},
             "programs": {name: digest(folder() / name) for name in ("trace_cli", "replay", "why", "gain")}}
 
