@@ -1,7 +1,10 @@
 pub mod Lengths
 pub mod Numbers
 pub mod Lines
+pub mod FirstWords
+pub mod Keywords
 pub mod FaultKinds
 pub mod Words
+pub mod EightDigits
 pub mod ReadsBack
 pub mod Above

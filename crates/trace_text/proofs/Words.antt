@@ -31,15 +31,15 @@ split_append p c (x ∷ xs) ys is =
     let some : 1 ≤ length (slice_split p xs) = omega (arith, length-slice_split p xs) in
     either (p x) x (slice_split p (xs ++ c ∷ ys)) (slice_split p xs) (slice_split p ys) some (split_append p c xs ys is)
 
-and_left : (a b : Bool) → (a && b) ≡ true → a ≡ true
+pub and_left : (a b : Bool) → (a && b) ≡ true → a ≡ true
 and_left true b both = refl
 and_left false b both = both
 
-and_right : (a b : Bool) → (a && b) ≡ true → b ≡ true
+pub and_right : (a b : Bool) → (a && b) ≡ true → b ≡ true
 and_right true b both = both
 and_right false b both = absurd cc
 
-not_false : (b : Bool) → not b ≡ true → b ≡ false
+pub not_false : (b : Bool) → not b ≡ true → b ≡ false
 not_false true is = absurd cc
 not_false false is = refl
 
@@ -76,7 +76,7 @@ of_digits w is = record {
   no_space = weaken is_ascii_digit (λ b. not (b == 32)) w (λ x digit. grind (arith, nat_tests, digit)) is;
 }
 
-hex_no : (c x : ℕ) → c < 48 → is_hex_digit x ≡ true → not (x == c) ≡ true
+pub hex_no : (c x : ℕ) → c < 48 → is_hex_digit x ≡ true → not (x == c) ≡ true
 hex_no c x small digit = grind (arith, nat_tests)
 
 pub decimal_word : (n : ℕ) → n < 2 ^ 32 → IsWord (decimal n)

@@ -5,5 +5,7 @@ pub mod TraceText
 pub mod Reading
 -- What the code finds.
 pub mod Starts
+pub mod Front
+pub mod Keywords
 -- What the laws say.
 pub mod Laws

@@ -1,37 +1,80 @@
-ghost use Rattle.std.specs.Prelude.{◌≡◌};
-ghost use Rattle.rv32_image.specs.ImageText.{pieces};
-ghost use Rattle.rv32_image.specs.Cutting.{pieces_after};
+ghost use Rattle.std.specs.Prelude.{◌≡◌, ◌∷◌, [], MatchOption, None, false, codes, true};
+ghost use Rattle.std.specs.Str.{bytes_eq};
 ghost use Rattle.trace_text.specs.TraceText as spec;
+ghost use Rattle.trace_text.specs.Front.{Says, below, words_after, words_in};
+ghost use Rattle.trace_text.specs.Keywords as front;
+ghost use Rattle.trace_text.specs.Keywords.{IsOther};
 
-use rv32_image::{Words, cut, number_in, word_in, words_of};
+use crate::front::{digits_at, next_word, number_at, only_at, word_at};
+use rv32_image::{number_in, word_in};
 use spec_history::{Entry, What};
 
-/// The entry that a line says.
-#[tactic(auto, unfolding(crate::specs::TraceText::entry_in))]
-pub(crate) fn entry_in(line: &[u8]) -> Option<Entry>
-    ensures { result ≡ spec.entry_in (pieces 32 line.now) }
+/// The entry that the first line of a text says, and the text below that line, if there is one.
+pub(crate) fn entry_at(text: &[u8]) -> Option<(Entry, Option<&[u8]>)>
+    ensures { MatchOption result (spec.entry_in (words_in text.now) ≡ None) (λ r. Says (spec.entry_in (words_in text.now)) (below text.now) r.0 r.1) }
 {
-    let (core, rest) = cut(line, b' ');
-    let (keyword, rest) = cut(rest?, b' ');
-    let by = number(core)?;
-    let what = what_in(keyword, rest)?;
-    Some(Entry { by, what })
+    let (by, left) = number_at(text)?;
+    let words = next_word(left)?;
+    let (keyword, left) = word_at(words);
+    let (what, rest) = what_at(keyword, left)?;
+    Some((Entry { by, what }, rest))
 }
 
 /// What an entry says whose keyword is this, with what follows that.
-#[tactic(auto, unfolding(crate::specs::TraceText::what_in))]
-fn what_in(keyword: &[u8], rest: Option<&[u8]>) -> Option<What>
-    ensures { result ≡ spec.what_in keyword.now (pieces_after 32 rest.entry) }
+fn what_at<'a>(keyword: &[u8], left: &'a [u8]) -> Option<(What, Option<&'a [u8]>)>
+    ensures { MatchOption result (spec.what_in keyword.now (words_after left.now) ≡ None) (λ r. Says (spec.what_in keyword.now (words_after left.now)) (below left.now) r.0 r.1) }
 {
-    let Some(rest) = rest else {
-        return one_word(keyword);
+    let Some(text) = next_word(left) else {
+        let what = one_word(keyword)?;
+        return only_at(what, left);
     };
-    match words_of(rest) {
-        Words::One(first) => two_words(keyword, first),
-        Words::Two(first, second) => three_words(keyword, first, second),
-        Words::Three(first, second, third) => four_words(keyword, first, second, third),
-        Words::Other => None,
+    if is_access(keyword) {
+        access_at(keyword, text)
+    } else if keyword == b"fault".as_slice() {
+        fault_at(text)
+    } else {
+        epoch_at(keyword, text)
     }
+}
+
+fn is_access(keyword: &[u8]) -> bool
+    ensures { result ≡ front.is_access keyword.now }
+{
+    keyword == b"load".as_slice() || keyword == b"store".as_slice()
+}
+
+/// An access: its address, its width and its value.
+fn access_at<'a>(keyword: &[u8], text: &'a [u8]) -> Option<(What, Option<&'a [u8]>)>
+    requires { front.is_access keyword.now ≡ true }
+    ensures { MatchOption result (spec.what_in keyword.now (words_in text.now) ≡ None) (λ r. Says (spec.what_in keyword.now (words_in text.now)) (below text.now) r.0 r.1) }
+{
+    let (addr, left) = digits_at(text)?;
+    let second = next_word(left)?;
+    let (width, left) = number_at(second)?;
+    let third = next_word(left)?;
+    let (value, left) = digits_at(third)?;
+    let what = access(keyword, addr, width, value)?;
+    only_at(what, left)
+}
+
+/// A fault: its cause and its program counter.
+fn fault_at(text: &[u8]) -> Option<(What, Option<&[u8]>)>
+    ensures { MatchOption result (spec.what_in (codes "fault") (words_in text.now) ≡ None) (λ r. Says (spec.what_in (codes "fault") (words_in text.now)) (below text.now) r.0 r.1) }
+{
+    let (cause, left) = number_at(text)?;
+    let second = next_word(left)?;
+    let (pc, left) = digits_at(second)?;
+    only_at(What::Fault { cause, pc }, left)
+}
+
+/// What is said of an epoch.
+fn epoch_at<'a>(keyword: &[u8], text: &'a [u8]) -> Option<(What, Option<&'a [u8]>)>
+    requires { IsOther keyword.now }
+    ensures { MatchOption result (spec.what_in keyword.now (words_in text.now) ≡ None) (λ r. Says (spec.what_in keyword.now (words_in text.now)) (below text.now) r.0 r.1) }
+{
+    let (epoch, left) = number_at(text)?;
+    let what = of_epoch(keyword, epoch)?;
+    only_at(what, left)
 }
 
 #[tactic(auto, unfolding(crate::specs::TraceText::one_word))]
@@ -49,13 +92,6 @@ fn one_word(keyword: &[u8]) -> Option<What>
     }
 }
 
-#[tactic(auto, unfolding(crate::specs::TraceText::two_words))]
-fn two_words(keyword: &[u8], word: &[u8]) -> Option<What>
-    ensures { result ≡ spec.two_words keyword.now word.now }
-{
-    of_epoch(keyword, number(word)?)
-}
-
 fn of_epoch(keyword: &[u8], epoch: u32) -> Option<What>
     ensures { result ≡ spec.of_epoch keyword.now epoch }
 {
@@ -68,29 +104,6 @@ fn of_epoch(keyword: &[u8], epoch: u32) -> Option<What>
     } else {
         None
     }
-}
-
-#[tactic(auto, unfolding(crate::specs::TraceText::three_words))]
-fn three_words(keyword: &[u8], first: &[u8], second: &[u8]) -> Option<What>
-    ensures { result ≡ spec.three_words keyword.now first.now second.now }
-{
-    let cause = number(first)?;
-    let pc = digits(second)?;
-    if keyword == b"fault".as_slice() {
-        Some(What::Fault { cause, pc })
-    } else {
-        None
-    }
-}
-
-#[tactic(auto, unfolding(crate::specs::TraceText::four_words))]
-fn four_words(keyword: &[u8], first: &[u8], second: &[u8], third: &[u8]) -> Option<What>
-    ensures { result ≡ spec.four_words keyword.now first.now second.now third.now }
-{
-    let addr = digits(first)?;
-    let width = number(second)?;
-    let value = digits(third)?;
-    access(keyword, addr, width, value)
 }
 
 fn access(keyword: &[u8], addr: u32, width: u32, value: u32) -> Option<What>
@@ -118,7 +131,7 @@ pub(crate) fn number(word: &[u8]) -> Option<u32>
 
 /// Eight hexadecimal digits.
 #[tactic(auto, unfolding(crate::specs::TraceText::digits))]
-fn digits(word: &[u8]) -> Option<u32>
+pub(crate) fn digits(word: &[u8]) -> Option<u32>
     ensures { result ≡ spec.digits word.now }
 {
     word_in(word).ok()

@@ -4,6 +4,7 @@
 mod digits;
 mod entry;
 mod fault;
+mod front;
 pub mod laws;
 mod print;
 mod read;

@@ -1,11 +1,12 @@
-ghost use Rattle.std.specs.Prelude.{◌≡◌, ◌<◌, ◌+◌, ◌^◌, MatchOption, length, Ok};
-ghost use Rattle.rv32_image.specs.ImageText.{pieces};
+ghost use Rattle.std.specs.Prelude.{◌≡◌, ◌<◌, ◌+◌, ◌^◌, IfOk, MatchOption, length, Ok};
+ghost use Rattle.rv32_image.specs.ImageText.{is_remark, pieces};
 ghost use Rattle.rv32_image.specs.Cutting.{pieces_after};
 ghost use Rattle.trace_text.specs.TraceText as spec;
+ghost use Rattle.trace_text.specs.Front.{below, first_line};
 ghost use Rattle.trace_text.specs.Reading.{Answers};
 ghost use Rattle.trace_text.specs.Starts.{IsStart, HasNoStart};
 
-use crate::entry::{entry_in, number};
+use crate::entry::{entry_at, number};
 use crate::fault::{LONGEST_TRACE_TEXT, TraceFault, TraceFaultKind};
 use rv32_image::{Version, Words, cut, words_of};
 use spec_history::Entry;
@@ -116,30 +117,46 @@ fn read_lines(alloc: Global, lines: Option<&[u8]>, first: u32) -> Result<Vec<Ent
     let mut number = first;
     let mut rest = lines;
     while let Some(text) = rest {
-        let (line, next) = cut(text, b'\n');
-        push_line(&mut entries, number, line)?;
+        rest = push_line(&mut entries, number, text)?;
         number += 1;
-        rest = next;
     }
     Ok(entries)
 }
 
-/// Adds the entry of a line; a remark has none.
-#[tactic(auto, unfolding(crate::specs::TraceText::line_read))]
-fn push_line(entries: &mut Vec<Entry>, number: u32, line: &[u8]) -> Result<(), TraceFault>
-    ensures { Answers (λ _. entries.new.items) result (spec.joined (Ok entries.old.items) (spec.line_read number line.now)) }
+/// Adds the entry of the first line of a text, where it is no remark. The text below that line, if there is one.
+#[tactic(auto, unfolding(crate::specs::TraceText::line_read, crate::specs::Front::words_in))]
+fn push_line<'a>(
+    entries: &mut Vec<Entry>,
+    number: u32,
+    text: &'a [u8],
+) -> Result<Option<&'a [u8]>, TraceFault>
+    ensures reads { Answers (λ _. entries.new.items) result (spec.joined (Ok entries.old.items) (spec.line_read number (first_line text.now))) }
+    ensures below { IfOk result (λ rest. pieces_after 10 rest ≡ below text.now) }
 {
-    if line.is_empty() || line[0] == b'#' {
-        return Ok(());
+    if is_remark_at(text) {
+        return Ok(cut(text, b'\n').1);
     }
-    let Some(entry) = entry_in(line) else {
+    let Some((entry, rest)) = entry_at(text) else {
         return Err(TraceFault {
             line: number,
             kind: TraceFaultKind::Line,
         });
     };
-    entries.push(entry).map_err(|_| TraceFault {
-        line: 0,
-        kind: TraceFaultKind::NoMemory,
-    })
+    match entries.push(entry) {
+        Ok(()) => Ok(rest),
+        Err(_) => Err(TraceFault {
+            line: 0,
+            kind: TraceFaultKind::NoMemory,
+        }),
+    }
+}
+
+/// Whether the first line of a text is a remark.
+fn is_remark_at(text: &[u8]) -> bool
+    ensures { result ≡ is_remark (first_line text.now) }
+{
+    if text.is_empty() {
+        return true;
+    }
+    text[0] == b'\n' || text[0] == b'#'
 }
