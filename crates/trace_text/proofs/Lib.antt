@@ -6,5 +6,6 @@ pub mod Keywords
 pub mod FaultKinds
 pub mod Words
 pub mod EightDigits
+pub mod Spelled
 pub mod ReadsBack
 pub mod Above

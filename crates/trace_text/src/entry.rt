@@ -6,10 +6,11 @@ ghost use Rattle.trace_text.specs.Keywords as front;
 ghost use Rattle.trace_text.specs.Keywords.{IsOther};
 
 use crate::front::{digits_at, next_word, number_at, only_at, word_at};
-use rv32_image::{number_in, word_in};
+use rv32_image::word_in;
 use spec_history::{Entry, What};
 
 /// The entry that the first line of a text says, and the text below that line, if there is one.
+#[inline(never)]
 pub(crate) fn entry_at(text: &[u8]) -> Option<(Entry, Option<&[u8]>)>
     ensures { MatchOption result (spec.entry_in (words_in text.now) ≡ None) (λ r. Says (spec.entry_in (words_in text.now)) (below text.now) r.0 r.1) }
 {
@@ -119,14 +120,31 @@ fn access(keyword: &[u8], addr: u32, width: u32, value: u32) -> Option<What>
 }
 
 /// A decimal number of 32 bits.
-#[tactic(auto, unfolding(crate::specs::TraceText::number))]
 pub(crate) fn number(word: &[u8]) -> Option<u32>
     ensures { result ≡ spec.number word.now }
 {
-    match number_in(word) {
-        Ok(n) if n < 1 << 32 => Some(n as u32),
-        _ => None,
+    if !is_spelled(word) {
+        return None;
     }
+    let mut number = 0;
+    for digit in word {
+        if !digit.is_ascii_digit() {
+            return None;
+        }
+        number = number * 10 + u64::from(*digit - b'0');
+    }
+    if number < 1 << 32 {
+        Some(number as u32)
+    } else {
+        None
+    }
+}
+
+/// Whether a word is as long as a number, with no leading 0 but 0 itself.
+fn is_spelled(word: &[u8]) -> bool
+    ensures { result ≡ front.is_spelled word.now }
+{
+    !word.is_empty() && word.len() <= 10 && (word.len() == 1 || word[0] != b'0')
 }
 
 /// Eight hexadecimal digits.

@@ -30,10 +30,7 @@ pub(crate) fn number_at(text: &[u8]) -> Option<(u32, &[u8])>
     ensures { MatchOption result (spec.number (first_word text.now) ≡ None) (λ r. IsRead spec.number text.now r.0 r.1.now) }
 {
     let (word, left) = word_at(text);
-    let Some(n) = number(word) else {
-        return None;
-    };
-    Some((n, left))
+    Some((number(word)?, left))
 }
 
 /// The number that the first word of a text writes in eight hexadecimal digits, and what follows it.
