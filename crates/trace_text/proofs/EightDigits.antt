@@ -21,7 +21,7 @@ decodes : (r : Result (List ℕ) FromHexError) (n : ℕ) → where_ok (hex_or_fa
 decodes (Ok bytes) n is = refl
 decodes (Err e) n is = absurd cc
 
-eight_long : (word : List ℕ) (n : ℕ) → digits word ≡ Some n → length word ≡ 8
+pub eight_long : (word : List ℕ) (n : ℕ) → digits word ≡ Some n → length word ≡ 8
 unfolding digits
 eight_long word n is = let ok = (IsOk-decode_sized word 4).0 (decodes (decode_sized word 4) n is) in omega (arith, ok.0)
 
@@ -29,7 +29,7 @@ all_hex : (word : List ℕ) (n : ℕ) → digits word ≡ Some n → list_all is
 unfolding digits
 all_hex word n is = list_all-from_AllPass is_hex_digit word ((IsOk-decode_sized word 4).0 (decodes (decode_sized word 4) n is)).1
 
-none_unless : (r : Option ℕ) → ((n : ℕ) → r ≡ Some n → ⊥) → r ≡ None
+pub none_unless : (r : Option ℕ) → ((n : ℕ) → r ≡ Some n → ⊥) → r ≡ None
 none_unless None is = refl
 none_unless (Some n) is = absurd (is n refl)
 

@@ -1,11 +1,10 @@
 -- A text parts into its first word and what follows, and into its first line and the lines below.
-use Rattle.std.proofs.Common.{◌≡◌, ◌≢◌, ℕ, ◌+◌, ◌-◌, ◌<◌, ◌≤◌, ◌==◌, ◌||◌, nat_eq, slice_index_or, Bool, true, false, cond, List, [], ◌∷◌, ◌++◌, get_or, take, drop, length, Option, Some, None, MatchOption, Bor, refl, ap, sym, ◌∙◌, append_assoc, add-one, arith, take_all, length-drop, drop-cons}
+use Rattle.std.proofs.Common.{◌≡◌, ◌≢◌, ℕ, ◌+◌, ◌-◌, ◌<◌, ◌≤◌, ◌==◌, ◌||◌, nat_eq, slice_index_or, Bool, true, false, cond, List, [], ◌∷◌, ◌++◌, get_or, take, drop, length, Option, None, MatchOption, Bor, refl, ap, sym, ◌∙◌, append_assoc, add-one, arith, take_all, length-drop, drop-cons}
 use Rattle.std.proofs.lemmas.List.{append-nil, take_more}
 use Rattle.std.proofs.lemmas.Bool.Decides.{nat_tests}
 use Rattle.std.proofs.lemmas.List.Splits.{slice_split-cons_no, slice_split-cons_yes}
 use Rattle.std.specs.List.{onto_first}
 use Rattle.rv32_image.specs.ImageText.{is_remark, pieces}
-use Rattle.rv32_image.specs.Cutting.{pieces_after}
 use Rattle.trace_text.specs.Front.{HasNext, IsFront, Says, after_word, below, first_line, first_word, ends_word, words_after, words_in}
 
 -- ---- one byte more
@@ -145,11 +144,11 @@ pub record IsWithin (text : List ℕ) (at : ℕ) : Type 0 where
   pub first : first_word text ≡ take at text ++ first_word (drop at text)
   pub after : after_word text ≡ after_word (drop at text)
 
-no_bytes : (text : List ℕ) → length text ≡ 0 → text ≡ []
+pub no_bytes : (text : List ℕ) → length text ≡ 0 → text ≡ []
 no_bytes [] is = refl
 no_bytes (b ∷ text) is = absurd (omega (arith, is))
 
-drop_more : (text : List ℕ) (at : ℕ) → at < length text → drop at text ≡ get_or text at 0 ∷ drop (at + 1) text
+pub drop_more : (text : List ℕ) (at : ℕ) → at < length text → drop at text ≡ get_or text at 0 ∷ drop (at + 1) text
 drop_more text at within = rw add-one (drop-cons text at 0 within)
 
 pub one_more : (text : List ℕ) (at : ℕ) → at < length text → ends_word (get_or text at 0) ≡ false → IsWithin text at → IsWithin text (at + 1)

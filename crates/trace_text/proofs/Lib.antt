@@ -7,5 +7,6 @@ pub mod FaultKinds
 pub mod Words
 pub mod EightDigits
 pub mod Spelled
+pub mod HexFold
 pub mod ReadsBack
 pub mod Above

@@ -1,11 +1,12 @@
 -- A decimal number is read as its digits are met.
-use Rattle.std.proofs.Common.{◌≡◌, ℕ, ◌+◌, ◌*◌, ◌-◌, ◌<◌, ◌^◌, ◌==◌, ◌&&◌, ◌||◌, nat_lt, nat_le, not, slice_index, Bool, true, false, cond, List, [], ◌∷◌, drop, get_or, length, Option, Some, None, refl, ap, sym, ◌∙◌, arith, add-one, drop-cons}
+use Rattle.std.proofs.Common.{◌≡◌, ℕ, ◌+◌, ◌<◌, ◌^◌, ◌==◌, ◌&&◌, ◌||◌, nat_lt, nat_le, not, slice_index, Bool, true, false, cond, List, drop, get_or, length, Some, None, refl, ap, sym, ◌∙◌}
 use Rattle.std.specs.List.{list_all}
 use Rattle.std.specs.Char.{is_ascii_digit}
 use Rattle.std.specs.Str.Parse.{digits_value, digits_value_after}
 use Rattle.rv32_image.specs.ImageText.{is_number}
 use Rattle.trace_text.specs.TraceText.{number}
 use Rattle.trace_text.specs.Keywords.{is_spelled}
+use Rattle.trace_text.proofs.FirstWords.{drop_more, no_bytes}
 
 none_of : (a b c d : Bool) → (a && b && d) ≡ false → (a && b && c && d) ≡ false
 none_of true true true d is = is
@@ -40,9 +41,6 @@ number_is word n small spelled all value is =
     let whole : is_number word ≡ true = all_of (not (length word == 0)) (nat_le (length word) 10) (list_all is_ascii_digit word) (length word == 1 || not (slice_index word 0 == 48)) spelled all in
     rw (whole, value, is) refl
 
-drop_more : (word : List ℕ) (i : ℕ) → i < length word → drop i word ≡ get_or word i 0 ∷ drop (i + 1) word
-drop_more word i within = rw add-one (drop-cons word i 0 within)
-
 -- a byte that is no digit
 pub missed : (word : List ℕ) (i : ℕ) → i < length word → is_ascii_digit (get_or word i 0) ≡ false → list_all is_ascii_digit (drop i word) ≡ list_all is_ascii_digit word
     → number word ≡ None
@@ -54,10 +52,6 @@ pub next_digits : (word : List ℕ) (i : ℕ) → i < length word → is_ascii_d
     → list_all is_ascii_digit (drop (i + 1) word) ≡ list_all is_ascii_digit word
 next_digits word i within is same =
     sym (ap (list_all is_ascii_digit) (drop_more word i within) ∙ ap (λ d. d && list_all is_ascii_digit (drop (i + 1) word)) is) ∙ same
-
-no_bytes : (text : List ℕ) → length text ≡ 0 → text ≡ []
-no_bytes [] is = refl
-no_bytes (b ∷ text) is = absurd (omega (arith, is))
 
 -- the digits are all read
 pub ended : (word : List ℕ) (i n : ℕ) (small : Bool) → length (drop i word) ≡ 0 → is_spelled word ≡ true → list_all is_ascii_digit (drop i word) ≡ list_all is_ascii_digit word

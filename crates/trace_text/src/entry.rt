@@ -1,12 +1,12 @@
-ghost use Rattle.std.specs.Prelude.{◌≡◌, ◌∷◌, [], MatchOption, None, false, codes, true};
+ghost use Rattle.std.specs.Prelude.{◌≡◌, ◌∷◌, [], ◌<◌, IfSome, MatchOption, None, false, codes, true};
+ghost use Rattle.hex.specs.Hex.{hex_digit_value};
 ghost use Rattle.std.specs.Str.{bytes_eq};
 ghost use Rattle.trace_text.specs.TraceText as spec;
 ghost use Rattle.trace_text.specs.Front.{Says, below, words_after, words_in};
-ghost use Rattle.trace_text.specs.Keywords as front;
+ghost use Rattle.trace_text.specs.Keywords as keywords;
 ghost use Rattle.trace_text.specs.Keywords.{IsOther};
 
 use crate::front::{digits_at, next_word, number_at, only_at, word_at};
-use rv32_image::word_in;
 use spec_history::{Entry, What};
 
 /// The entry that the first line of a text says, and the text below that line, if there is one.
@@ -39,14 +39,14 @@ fn what_at<'a>(keyword: &[u8], left: &'a [u8]) -> Option<(What, Option<&'a [u8]>
 }
 
 fn is_access(keyword: &[u8]) -> bool
-    ensures { result ≡ front.is_access keyword.now }
+    ensures { result ≡ keywords.is_access keyword.now }
 {
     keyword == b"load".as_slice() || keyword == b"store".as_slice()
 }
 
 /// An access: its address, its width and its value.
 fn access_at<'a>(keyword: &[u8], text: &'a [u8]) -> Option<(What, Option<&'a [u8]>)>
-    requires { front.is_access keyword.now ≡ true }
+    requires { keywords.is_access keyword.now ≡ true }
     ensures { MatchOption result (spec.what_in keyword.now (words_in text.now) ≡ None) (λ r. Says (spec.what_in keyword.now (words_in text.now)) (below text.now) r.0 r.1) }
 {
     let (addr, left) = digits_at(text)?;
@@ -142,15 +142,33 @@ pub(crate) fn number(word: &[u8]) -> Option<u32>
 
 /// Whether a word is as long as a number, with no leading 0 but 0 itself.
 fn is_spelled(word: &[u8]) -> bool
-    ensures { result ≡ front.is_spelled word.now }
+    ensures { result ≡ keywords.is_spelled word.now }
 {
     !word.is_empty() && word.len() <= 10 && (word.len() == 1 || word[0] != b'0')
 }
 
-/// Eight hexadecimal digits.
-#[tactic(auto, unfolding(crate::specs::TraceText::digits))]
+/// Eight hexadecimal digits, of either case.
 pub(crate) fn digits(word: &[u8]) -> Option<u32>
     ensures { result ≡ spec.digits word.now }
 {
-    word_in(word).ok()
+    if word.len() != 8 {
+        return None;
+    }
+    let mut n = 0;
+    for digit in word {
+        n = n * 16 + digit_value(*digit)?;
+    }
+    Some(n)
+}
+
+fn digit_value(digit: u8) -> Option<u32>
+    ensures value { result ≡ hex_digit_value digit }
+    ensures small { IfSome result (λ v. v < 16) }
+{
+    match digit {
+        b'A'..=b'F' => Some(u32::from(digit - b'A') + 10),
+        b'a'..=b'f' => Some(u32::from(digit - b'a') + 10),
+        b'0'..=b'9' => Some(u32::from(digit - b'0')),
+        _ => None,
+    }
 }

@@ -1,4 +1,4 @@
-use Rattle.std.proofs.Common.{◌≡◌, ◌∷◌, [], codes, ap, sym, ◌∙◌}
+use Rattle.std.proofs.Common.{◌∷◌, ap, sym, ◌∙◌}
 use Rattle.trace_text.specs.TraceText.{what_in}
 use Rattle.trace_text.specs.Front.{first_word}
 use Rattle.trace_text.proofs.FirstWords.{first_words, more_words, one_word, same_says, under_word, under_words, words}

@@ -1,4 +1,4 @@
-use Rattle.std.proofs.Common.{◌≡◌, ◌∷◌, [], codes, ap, sym, ◌∙◌}
+use Rattle.std.proofs.Common.{◌∷◌, ap, sym, ◌∙◌}
 use Rattle.trace_text.specs.TraceText.{entry_in}
 use Rattle.trace_text.specs.Front.{first_word}
 use Rattle.trace_text.proofs.FirstWords.{more_words, one_word, under_word, under_words, word_words, words}

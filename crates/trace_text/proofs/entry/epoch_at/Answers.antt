@@ -1,4 +1,4 @@
-use Rattle.std.proofs.Common.{◌≡◌, ◌∷◌, [], codes, ap, sym, ◌∙◌}
+use Rattle.std.proofs.Common.{ap, sym, ◌∙◌}
 use Rattle.trace_text.specs.TraceText.{what_in}
 use Rattle.trace_text.proofs.FirstWords.{first_words, same_says, under_word, words}
 use Rattle.trace_text.proofs.Keywords.{epoch-no_number, epoch-no_what, epoch-some}

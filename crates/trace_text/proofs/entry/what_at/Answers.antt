@@ -1,4 +1,4 @@
-use Rattle.std.proofs.Common.{◌≡◌, ap, sym, ◌∙◌, refl}
+use Rattle.std.proofs.Common.{ap, sym, ◌∙◌, refl}
 use Rattle.trace_text.specs.TraceText.{what_in}
 use Rattle.trace_text.specs.Front.{only}
 use Rattle.trace_text.proofs.FirstWords.{same_says}

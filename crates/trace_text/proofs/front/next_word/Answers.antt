@@ -1,4 +1,4 @@
-use Rattle.std.proofs.Common.{sym, ◌∙◌, arith}
+use Rattle.std.proofs.Common.{arith}
 use Rattle.trace_text.proofs.FirstWords.{next_is, none_after, other_after}
 use Rattle.trace_text.proofs.front.next_word.Goals as goal
 

@@ -1,4 +1,4 @@
-use Rattle.std.proofs.Common.{◌≡◌, ◌∙◌, ap}
+use Rattle.std.proofs.Common.{◌∙◌, ap}
 use Rattle.trace_text.specs.Front.{only}
 use Rattle.trace_text.proofs.FirstWords.{after_line, words}
 use Rattle.trace_text.proofs.Keywords.{only_more, only_none}

@@ -1,4 +1,4 @@
-use Rattle.std.proofs.Common.{◌≡◌, sym, ◌∙◌, refl, take, drop, length, take_all, length-drop, arith}
+use Rattle.std.proofs.Common.{sym, ◌∙◌, refl, arith}
 use Rattle.trace_text.proofs.FirstWords.{ends_here, ends_last, one_more}
 use Rattle.trace_text.proofs.front.word_at.Goals as goal
 

@@ -1,4 +1,4 @@
-use Rattle.std.proofs.Common.{sym, ◌∙◌, arith}
+use Rattle.std.proofs.Common.{sym, arith}
 use Rattle.trace_text.proofs.FirstWords.{remark_feed, remark_none, remark_other}
 use Rattle.trace_text.proofs.read.is_remark_at.Goals as goal
 
