@@ -9,6 +9,7 @@ document is held to tools/loops/schema.json where python3-jsonschema is installe
 """
 
 import json
+import os
 import re
 import subprocess
 import sys
@@ -27,7 +28,9 @@ try:
 except ImportError:
     Draft202012Validator = None
 
-TOOLS = ["picture", "named", "trace", "json", "image-of", "plot", "verdict", "study"]
+# What a shell tells of a program that SIGPIPE ends.
+UNREAD = 141
+TOOLS = ["build", "definitions", "picture", "named", "trace", "json", "image-of", "plot", "verdict", "study"]
 HURT = ("hurt 4 true epoch 1 try 1 core 1 lost 3 entered 2 since 2 by 0 core 0 cause 5 commit load 3 00000004 store 2 00000014 at 00000040 4\n"
         "also 4 silent load 3 00000004 store 2 00000014 at 00000080 4\nlater 4 store 7 00000014\nvain 4 hurt\nmoot 4\n")
 TOTAL = "total epochs 2 committed 2 useful 8 rollbacks 1 lost 3 cancelled 0 dropped 0 open 0 unsettled 0\n"
@@ -81,6 +84,15 @@ def tool(name, text, *words):
     return done.stdout, done.stderr, done.returncode
 
 
+def unread(name, *words):
+    """What a tool says on standard error, and its status, where the reader of its standard output has gone."""
+    reader, writer = os.pipe()
+    os.close(reader)
+    with open(writer, "wb") as nowhere:
+        done = subprocess.run([ROOT / "tools" / name, *words], stdin=subprocess.DEVNULL, stdout=nowhere, stderr=subprocess.PIPE, text=True, check=False)
+    return done.stderr, done.returncode
+
+
 def by_hand():
     """(what it shows, what is wrong or None)"""
     for form, text in TEXTS:
@@ -100,6 +112,14 @@ def by_hand():
     for name in TOOLS:
         out, errors, status = tool(name, "", "--help")
         yield f"tools/{name} --help", None if (errors, status) == ("", 0) and out.startswith("usage: ") and len(out.split()) > 20 else f"got {out!r}, {errors!r}"
+        said, _ = unread(name, "--help")
+        yield f"tools/{name} --help, which nobody reads", f"says {said!r}" if said else None
+    for words in ((), ("--cited",), ("do_why",)):
+        got = unread("definitions", *words)
+        yield f"tools/definitions {' '.join(words)}, which nobody reads", None if got == ("", UNREAD) else f"got {got}"
+    for name in ("build", "definitions"):
+        out, errors, status = tool(name, "", "one", "two")
+        yield f"tools/{name} with two words", None if (out, status) == ("", 2) and errors.startswith("usage: ") else f"got {out!r}, {errors!r}, {status}"
 
 
 def packages():

@@ -139,13 +139,18 @@ def names(folder):
     yield "no name without a pair", named(BARE).stdout == BARE.replace("at - -\n", "at - - -\n")
     refused = named("", error="trace 3 Line", status=2)
     yield "a refused trace is not named", (refused.stdout, refused.stderr, refused.returncode) == ("", "trace 3 Line\n", 2)
+    text, report = long_run(1_000)
+    command = f"{ROOT}/tools/named --why {stub(folder, 'why', report)} | head -1; echo ${{PIPESTATUS[0]}}"
+    read = subprocess.run(["bash", "-c", command], input=text, capture_output=True, text=True, check=False)
+    yield "of a long report one line is read", (read.stdout, read.stderr) == (HURT.replace("true", "false").replace(" 4\n", " 4 flag\n") + "141\n", "")
 
 
 def traces(folder):
     """The same of tools/trace, in a tree of its own."""
     tools = Path(folder, "tools")
     tools.mkdir()
-    shutil.copy(ROOT / "tools" / "trace", tools)
+    for name in ("trace", "endings.py"):
+        shutil.copy(ROOT / "tools" / name, tools)
     shutil.copytree(ROOT / "tools" / "loops", tools / "loops")
     image = Path(folder, "waits.image")
     image.write_text(IMAGE)

@@ -75,7 +75,7 @@ class Tree:
         self.write("HANDLES", "none")
         self.write("crates/trace_cli/src/main.rt", "program")
         self.write("crates/bench/src/main.rt", "bench")
-        for name in ("trace_cli", "tools/build", "tools/crates.py", "tools/help/trace_cli"):
+        for name in ("trace_cli", "tools/build", "tools/crates.py", "tools/endings.py", "tools/help/trace_cli"):
             self.write(name, (TOP / name).read_text()).chmod(0o755)
         for path, text in ((self.bin / "rt", RT), (self.kit / "bin/rattle", CHECKER), (self.kit / "bin/rattle-link", LINKER)):
             path.parent.mkdir(parents=True, exist_ok=True)
