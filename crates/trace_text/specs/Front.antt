@@ -1,4 +1,5 @@
 -- The front of a text that is read on: its first word, the words of its first line, and the lines below that.
+-- Source: this project.
 use Rattle.std.specs.Prelude.{◌≡◌, ℕ, Bool, true, ◌==◌, ◌||◌, Option, Some, None, List, [], ◌∷◌, if◌then◌else◌}
 use Rattle.std.specs.Borrow.{Bor}
 use Rattle.rv32_image.specs.ImageText.{pieces}

@@ -1,4 +1,5 @@
 -- Which entries a keyword may begin, and which words may be numbers.
+-- Source: this project.
 use Rattle.std.specs.Prelude.{◌≡◌, ℕ, Bool, ◌||◌, ◌&&◌, ◌==◌, not, nat_le, slice_index, length, false, List, codes}
 use Rattle.std.specs.Str.{bytes_eq}
 
