@@ -24,6 +24,8 @@ pub mod Causing
 pub mod Caused
 pub mod Sharing
 pub mod Knowing
+pub mod Notices
+pub mod Victims
 pub mod Explaining
 pub mod Books
 pub mod Following
