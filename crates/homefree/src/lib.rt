@@ -19,4 +19,4 @@ mod straight;
 pub use answer::{Answer, Cause, StopCause};
 pub use book::{Book, Loop};
 pub use fault::TurnFault;
-pub use schedule::drive;
+pub use schedule::{drive, step};

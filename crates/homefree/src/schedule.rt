@@ -5,6 +5,7 @@ ghost use Rattle.spec_history.specs.Replay.{replay};
 ghost use Rattle.homefree.specs.Counted.{IsNoMore};
 ghost use Rattle.homefree.specs.Driven.{Driven, TurnedWith, IfEnded, IsInOrder, driver, held_after, with_held};
 ghost use Rattle.homefree.specs.BookView.{IsOfSameLoop};
+ghost use Rattle.homefree.specs.Grown.{GrowsBy};
 ghost use Rattle.homefree.specs.Held.{HaveArrived, harts_of, held_at, held_by};
 
 use crate::answer::Answer;
@@ -45,8 +46,11 @@ pub fn drive<S: EpochStore>(
     Ok(None)
 }
 
-/// One turn of a core with what it has in hand, and what it has in hand then.
-fn step<S: EpochStore>(
+/// One turn of a core with what it has in hand: where `advance` came to from the hart that its last turn gave it, or nothing. What the
+/// core has in hand then is put there; that of the other cores stays.
+///
+/// A fault is that of the turn, and leaves what is in hand.
+pub fn step<S: EpochStore>(
     book: &mut Book<S>,
     held: &mut [Option<Arrived>; MAX_CORES],
     core: u32,
@@ -56,6 +60,7 @@ fn step<S: EpochStore>(
     requires held { HaveArrived book.old.image held.old }
     requires shares { IsNoMore shares.old book.old.totals }
     ensures turned { TurnedWith S.view S.waits (driver book.old shares.old) core (harts_of held.old core) result (driver book.new shares.new) }
+    ensures grows { GrowsBy core book.old book.new shares.old shares.new }
     ensures same { IsOfSameLoop book.old book.new }
     ensures shares { IsNoMore shares.new book.new.totals }
     ensures over { (end : End) (s : FlatState) → result ≡ Ok (Answer.Over end) → replay book.new.image book.new.cores book.new.history ≡ Some s → s.end ≡ Some end }
