@@ -11,5 +11,5 @@ mod read;
 
 pub use digits::{push_hex, push_number};
 pub use fault::{LONGEST_TRACE_TEXT, TraceFault, TraceFaultKind};
-pub use print::print_trace;
+pub use print::{print_trace, push_entry};
 pub use read::{image_part, read_trace};

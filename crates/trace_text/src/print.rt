@@ -32,9 +32,11 @@ fn trace_lines(alloc: Global, cores: u32, entries: &[Entry]) -> Result<Vec<u8>, 
     Ok(text)
 }
 
-/// The line of an entry.
+/// Adds the line of an entry: its core, and what it says.
+///
+/// `AllocError`: memory ran out. Some of the line may be there.
 #[tactic(auto, unfolding(crate::specs::Printing::entry_line))]
-fn push_entry(text: &mut Vec<u8>, entry: Entry) -> Result<(), AllocError>
+pub fn push_entry(text: &mut Vec<u8>, entry: Entry) -> Result<(), AllocError>
     ensures text { OnOk result (text.new.items ≡ text.old.items ++ spec.entry_line entry) }
     ensures numbers { (entry.by < 2 ^ 32) × IsWhat entry.what }
 {
