@@ -1,4 +1,4 @@
-ghost use Rattle.std.specs.Prelude.{◌≡◌, ◌<◌, ◌≤◌, ◌+◌, ◌^◌, ◌==◌, ℕ, IfOk, OnOk, Some, None, true, false, length, slice_get, slice_index};
+ghost use Rattle.std.specs.Prelude.{◌≡◌, ◌<◌, ◌≤◌, ◌+◌, ◌^◌, ◌==◌, ℕ, IfOk, IfSome, OnOk, Some, None, true, false, is_some, length, slice_get, slice_index};
 ghost use Rattle.violations.specs.Plain as spec;
 ghost use Rattle.violations.specs.View as view_spec;
 ghost use Rattle.violations.specs.Rule as rule;
@@ -51,6 +51,39 @@ impl Model for PlainStore {
 }
 
 impl PlainStore {
+    /// How many bytes of memory there are.
+    pub fn size(&self) -> u32
+        ensures size { result ≡ (spec.store_view self.now).shape.size }
+        ensures small { result ≤ 1048576 }
+    {
+        self.size
+    }
+
+    /// What a core runs.
+    pub fn attempt(&self, core: u32) -> Option<Attempt>
+        ensures { result ≡ (spec.store_view self.now).attempt core }
+    {
+        self.states.get(core as usize)?.attempt
+    }
+
+    /// Whether a core guards the byte at an address: it has loaded it from outside its own.
+    pub fn guards(&self, core: u32, addr: u32) -> bool
+        ensures { result ≡ (spec.store_view self.now).guarded core addr }
+    {
+        match self.states.get(core as usize) {
+            Some(state) => state.guarded.get(addr).is_some(),
+            None => false,
+        }
+    }
+
+    /// The byte that a core has stored at an address, if there is one.
+    pub fn own_byte(&self, core: u32, addr: u32) -> Option<u8>
+        ensures owned { is_some result ≡ (spec.store_view self.now).own core addr }
+        ensures byte { IfSome result (λ byte. byte ≡ (spec.store_view self.now).sees core addr) }
+    {
+        self.states.get(core as usize)?.own.get(addr)
+    }
+
     /// Makes room for some more calls.
     fn grow(&mut self) -> Result<(), NoMemory>
         ensures view { rule.IsSameView (spec.store_view self.old) (spec.store_view self.new) }
