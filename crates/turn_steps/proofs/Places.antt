@@ -1,10 +1,10 @@
 -- How the lines of text of a cache go on.
-use Rattle.std.proofs.Common.{◌≡◌, ℕ, suc, ◌+◌, Bool, List, [], ◌++◌, if◌then◌else◌, refl, ap, sym, subst, ◌∙◌, add-one, append_assoc}
+use Rattle.std.proofs.Common.{◌≡◌, ℕ, suc, ◌+◌, List, ◌++◌, refl, ap, sym, subst, ◌∙◌, add-one, append_assoc}
 use Rattle.std.proofs.lemmas.List.{append-nil}
-use Rattle.std.proofs.lemmas.Slice.Eq.{bytes_eq-Decides}
 use Rattle.std.specs.List.{slice_index_or}
 use Rattle.cache_lines.specs.declared.line.Line.{Line}
 use Rattle.turn_steps.specs.Places.{changed, no_line, way_changes, way_line}
+use Rattle.turn_steps.proofs.Changes.{changed-same}
 
 pub way_changes-none : (text : List ℕ) (size core : ℕ) (old now : List Line) → text ≡ text ++ way_changes size core old now 0
 unfolding way_changes
@@ -24,10 +24,6 @@ pub way_changes-more : (text : List ℕ) (size core : ℕ) (old now : List Line)
 way_changes-more text size core old now place =
     append_assoc text (way_changes size core old now place) (change_at size core old now place)
     ∙ ap (λ l. text ++ l) (sym (more size core old now place) ∙ sym (ap (way_changes size core old now) (add-one place)))
-
-changed-same : (text line : List ℕ) → text ≡ text ++ changed line line
-changed-same text line =
-    subst (λ (b : Bool). text ≡ text ++ (if b then [] else line)) (sym ((bytes_eq-Decides line line).1 refl)) (sym (append-nil text))
 
 -- the line is the one that was there
 pub unchanged : (text : List ℕ) (size core place : ℕ) (old now : Line) → old ≡ now

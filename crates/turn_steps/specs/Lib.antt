@@ -1,6 +1,12 @@
 -- Definitions to believe: what a cache and a buffer hold as lines of text (Places), rows of memory as lines of text (Rows), the line of a
--- turn and those of what a core runs (Turns), what a core on the bus holds (Caches)
+-- turn and those of what a core runs (Turns); what was shown, and what of it may be otherwise: of a core on the bus (Caches), of committed
+-- memory (Memory), of a core of a plain store (KeptRow, Kept)
 pub mod Places
 pub mod Rows
 pub mod Turns
 pub mod Caches
+pub mod Memory
+pub mod KeptRow
+pub mod Kept
+-- Words of contracts inside.
+pub mod Passes

@@ -3,7 +3,11 @@
 
 mod caches;
 mod changed;
+mod committed_row;
 mod cores;
+mod kept;
+mod kept_row;
+mod memory;
 mod names;
 mod orbs;
 mod turns;
@@ -11,6 +15,8 @@ mod ways;
 
 pub use caches::ShownCore;
 pub use cores::{push_attempt_change, push_hart_change};
+pub use kept::ShownKept;
+pub use memory::ShownMemory;
 pub use orbs::push_orb_change;
 pub use turns::push_turn;
 pub use ways::push_way_changes;
