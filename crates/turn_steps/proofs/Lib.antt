@@ -6,3 +6,7 @@ pub mod Reading
 pub mod Shown
 pub mod Keeping
 pub mod Owning
+pub mod Lines
+pub mod Sparing
+pub mod Leaving
+pub mod Outside

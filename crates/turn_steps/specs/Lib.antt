@@ -10,3 +10,4 @@ pub mod KeptRow
 pub mod Kept
 -- Words of contracts inside.
 pub mod Passes
+pub mod Laws
