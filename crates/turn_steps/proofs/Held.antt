@@ -1,17 +1,7 @@
--- What was shown of a core at first, and a buffer's lines taken one by one.
-use Rattle.std.proofs.Common.{◌≡◌, ℕ, ◌+◌, ◌<◌, List, [], ◌∷◌, ◌++◌, length, take, slice_get, unwrap_or, replicate, sym, ap, ◌∙◌}
+-- A buffer's lines taken one by one.
+use Rattle.std.proofs.Common.{◌≡◌, ℕ, ◌+◌, ◌<◌, List, [], ◌∷◌, ◌++◌, length, take, slice_get, unwrap_or, sym, ap, ◌∙◌}
 use Rattle.std.proofs.lemmas.List.{take_more}
 use Rattle.std.proofs.lemmas.Option.{unwrap_or-slice_get}
-use Rattle.cache_lines.specs.Lines.{invalid_line}
-use Rattle.turn_steps.specs.Caches.{Held, nothing}
-
--- empty ways, and these lines in the buffer
-abbrev pub empty_with : List ℕ → Held
-empty_with lines = record { ways = replicate 8 invalid_line; orb = lines }
-
--- a buffer without lines leaves nothing
-pub empty_without : (lines : List ℕ) → lines ≡ [] → empty_with lines ≡ nothing
-empty_without lines none = ap empty_with none
 
 -- the line at a place goes behind those before it
 pub next_taken : (lines taken : List ℕ) (place : ℕ) → place < length lines → taken ≡ take place lines

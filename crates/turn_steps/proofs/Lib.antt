@@ -6,7 +6,14 @@ pub mod Reading
 pub mod Shown
 pub mod Keeping
 pub mod Owning
+pub mod PlainCores
 pub mod Lines
 pub mod Sparing
 pub mod Leaving
 pub mod Outside
+pub mod Attempts
+pub mod BusRows
+pub mod Buses
+pub mod Steps
+pub mod TurnText
+pub mod Followed

@@ -1,6 +1,7 @@
 //! What a core runs, and the hart that it has in hand.
-ghost use Rattle.std.specs.Prelude.{◌≡◌, ◌++◌, IfOk, OnOk};
+ghost use Rattle.std.specs.Prelude.{◌≡◌, ◌++◌, ◌≤◌, IfOk, OnOk};
 ghost use Rattle.turn_steps.specs.Places.{changed};
+ghost use Rattle.turn_steps.specs.Stepped.{attempt_changes, attempt_in};
 ghost use Rattle.turn_steps.specs.Turns as spec;
 
 use crate::changed::push_changed;
@@ -8,7 +9,7 @@ use itoa::Buffer;
 use rv32_exec::Hart;
 use std::alloc::{AllocError, Global};
 use trace_text::{push_hex, push_number};
-use violations::Attempt;
+use violations::{Attempt, MAX_CORES};
 
 /// Adds the line of what a core runs, where it isn't as it was.
 ///
@@ -25,6 +26,26 @@ pub fn push_attempt_change(
     let before = attempt_line(alloc, core, old)?;
     let after = attempt_line(alloc, core, now)?;
     push_changed(text, before.as_slice(), after.as_slice())
+}
+
+/// Adds the line of what each of so many cores runs, where it isn't as it was, by its place in the lists.
+///
+/// `AllocError`: memory ran out. Some of the text may be there.
+pub fn push_attempt_changes(
+    alloc: Global,
+    text: &mut Vec<u8>,
+    cores: u32,
+    old: &[Option<Attempt>; MAX_CORES],
+    now: &[Option<Attempt>; MAX_CORES],
+) -> Result<(), AllocError>
+    requires { cores ≤ 16 }
+    ensures { OnOk result (text.new.items ≡ text.old.items ++ attempt_changes (attempt_in old.now) (attempt_in now.now) cores) }
+{
+    for core in 0..cores {
+        let place = core as usize;
+        push_attempt_change(alloc, text, core, old[place], now[place])?;
+    }
+    Ok(())
 }
 
 /// The line of what a core runs.

@@ -1,24 +1,33 @@
-//! What a core's cache and buffer hold as lines of text, and those of them that are not as they were before.
+//! Turns as lines of text: what a core was answered, the entries of the turn, and what of all that a store holds isn't as it was before.
 #![tactic(auto)]
 
+mod bus;
 mod caches;
 mod changed;
 mod committed_row;
 mod cores;
+mod entries;
 mod kept;
 mod kept_row;
+mod loop_shown;
 mod memory;
-mod entries;
 mod names;
 mod orbs;
+mod plain;
+mod stepping;
+mod store;
 mod turns;
 mod ways;
 
+pub use bus::ShownBus;
 pub use caches::ShownCore;
-pub use cores::{push_attempt_change, push_hart_change};
+pub use cores::{push_attempt_change, push_attempt_changes, push_hart_change};
+pub use entries::{add_stored_rows, add_touched_rows, has_commit};
 pub use kept::ShownKept;
 pub use memory::ShownMemory;
-pub use entries::{add_stored_rows, add_touched_rows, has_commit};
 pub use orbs::push_orb_change;
-pub use turns::push_turn;
+pub use plain::ShownPlain;
+pub use stepping::drive_steps;
+pub use store::ShownStore;
+pub use turns::{push_entries, push_turn};
 pub use ways::push_way_changes;

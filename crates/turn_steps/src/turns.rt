@@ -1,11 +1,14 @@
 //! The head of a turn.
 ghost use Rattle.std.specs.Prelude.{◌≡◌, ◌++◌, OnOk};
+ghost use Rattle.turn_steps.specs.Stepped.{entries_text, step_entry};
 ghost use Rattle.turn_steps.specs.Turns as spec;
 
 use homefree::{Answer, Cause};
+use itoa::Buffer;
 use rv32_exec::End;
+use spec_history::Entry;
 use std::alloc::AllocError;
-use trace_text::{push_hex, push_number};
+use trace_text::{push_entry, push_hex, push_number};
 
 /// Adds the line of a turn: its number, its core, and what it was answered.
 ///
@@ -13,14 +16,14 @@ use trace_text::{push_hex, push_number};
 #[tactic(auto, unfolding(crate::specs::Turns::turn_line))]
 pub fn push_turn(
     text: &mut Vec<u8>,
-    number: u32,
+    number: usize,
     core: u32,
     answer: &Answer,
 ) -> Result<(), AllocError>
     ensures { OnOk result (text.new.items ≡ text.old.items ++ spec.turn_line number core answer.now) }
 {
     text.extend_from_slice(b"turn ")?;
-    push_number(text, number)?;
+    text.extend_from_slice(Buffer::new().format(number).as_bytes())?;
     text.extend_from_slice(b" ")?;
     push_number(text, core)?;
     text.extend_from_slice(b" ")?;
@@ -82,4 +85,23 @@ fn push_end(text: &mut Vec<u8>, end: End) -> Result<(), AllocError>
             push_hex(text, &pc.to_be_bytes())
         }
     }
+}
+
+/// Adds a line for each entry of a turn.
+///
+/// `AllocError`: memory ran out. Some of the text may be there.
+pub fn push_entries(text: &mut Vec<u8>, entries: &[Entry]) -> Result<(), AllocError>
+    ensures { OnOk result (text.new.items ≡ text.old.items ++ entries_text entries.now) }
+{
+    for entry in entries {
+        push_step_entry(text, *entry)?;
+    }
+    Ok(())
+}
+
+fn push_step_entry(text: &mut Vec<u8>, entry: Entry) -> Result<(), AllocError>
+    ensures { OnOk result (text.new.items ≡ text.old.items ++ step_entry entry) }
+{
+    text.extend_from_slice(b"entry ")?;
+    push_entry(text, entry)
 }

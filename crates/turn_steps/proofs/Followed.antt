@@ -1,0 +1,50 @@
+-- What was shown before a turn, after it.
+use Rattle.std.proofs.Common.{◌≡◌, ℕ, ◌/◌, ◌==◌, true, List, Option, Result, option_map, if◌then◌else◌, sym, ap, subst, ◌∙◌, arith}
+use Rattle.std.proofs.lemmas.Bool.Decides.{nat_tests}
+use Rattle.rv32_exec.specs.Hart.{HartState}
+use Rattle.run_ledger.specs.declared.counts.Counts.{Counts}
+use Rattle.violations.specs.View.{Shape, StoreView, Waits}
+use Rattle.violations.specs.Rule.{shape_of}
+use Rattle.homefree.specs.declared.answer.Answer.{Answer}
+use Rattle.homefree.specs.declared.fault.TurnFault.{TurnFault}
+use Rattle.homefree.specs.BookView.{BookView}
+use Rattle.homefree.specs.Driven.{TurnedWith, arrival_of, driver, with_held}
+use Rattle.homefree.specs.Grown.{GrowsBy}
+use Rattle.homefree.specs.InStep.{InStep}
+use Rattle.turn_steps.specs.Telling.{Fits, Follows, IsCurrent}
+use Rattle.turn_steps.proofs.Leaving.{turn_keeps_memory, turn_keeps_rows}
+
+module _ {S H : Type 0} (view : S → StoreView) (waits : S → Waits) (fits : H → Shape → Type 0) (shows : H → S → Type 0) (store : H) (memory : List (List ℕ))
+    (old new : BookView S) (shares shares' : Counts) (core : ℕ) (hart : Option HartState) (answer : Result Answer TurnFault) (step : InStep view old) (after : InStep view new)
+    (grows : GrowsBy core old new shares shares') (current : IsCurrent view fits shows store memory old) where
+  -- the store is of the shape that it had
+  shape : (view new.store).shape ≡ (view old.store).shape
+  shape = after.shape ∙ ((λ k. shape_of (grows.image k) (grows.cores k)) ∙ sym step.shape)
+
+  pub follows : TurnedWith view waits (driver old shares) core hart answer (driver new shares') → Follows view shows store memory core old new grows.entries
+  follows turned = record {
+    history = grows.history;
+    leads = record {
+      store_is = current.store_is;
+      memory_is = current.memory_is;
+      shape = shape;
+      rows = turn_keeps_rows view waits old new shares shares' core (option_map (arrival_of old.image) hart) answer grows.entries step grows.history turned;
+      committed = turn_keeps_memory view waits old new shares shares' core (option_map (arrival_of old.image) hart) answer grows.entries step grows.history turned;
+    };
+  }
+
+  pub fits_still : Fits view fits store memory new.store
+  fits_still = record {
+    store_fits = subst (fits store) (sym shape) current.store_fits;
+    memory_fits = current.memory_is.long ∙ ap (λ (s : Shape). s.size / 16) (sym shape);
+  }
+
+  -- it is on as many cores
+  pub core_count : (cores : ℕ) → old.cores ≡ cores → (view new.store).shape.cores ≡ cores
+  core_count cores is = ap (λ (s : Shape). s.cores) after.shape ∙ (grows.cores ∙ is)
+
+-- the hart that the core has in hand
+pub held_here : (harts : ℕ → Option HartState) (core : ℕ) (hart : Option HartState) → with_held harts core hart core ≡ hart
+held_here harts core hart =
+    let same : (core == core) ≡ true = grind (arith, nat_tests) in
+    ap (λ b. if b then hart else harts core) same

@@ -1,0 +1,21 @@
+use Rattle.std.proofs.Common.{◌≡◌, ◌<◌, ◌∙◌, Some, slice_get, length, refl, arith}
+use Rattle.std.proofs.lemmas.Option.{slice_get_read}
+use Rattle.turn_steps.proofs.Buses.{bus_changes-none, bus_changes-more, more_held, none_held}
+use Rattle.turn_steps.proofs.bus.push_bus_changes.Goals as goal
+
+pub loop-core-init : goal.loop-core-init
+loop-core-init c = record {
+  held = none_held c.args.size c.args.caches.now c.new-now.result.items c.new-now.ensures.items;
+  text = λ old _. bus_changes-none c.args.text.now.items c.args.size old c.args.caches.now;
+}
+
+pub loop-core-preserved : goal.loop-core-preserved
+loop-core-preserved c =
+    let core = c.loop-core.core in
+    let below : core < length c.args.shown.now = omega (arith, c.loop-core-test.true, c.requires.shown) in
+    let there : slice_get c.args.shown.now core ≡ Some c.index-shown-core.result = slice_get_read c.args.shown.now _ core c.index-shown-core.result refl below c.index-shown-core.is in record {
+      held = more_held c.args.size c.args.caches.now core c.loop-core.now.items c.in_ok-held.held c.push.new.self.items c.loop-core.invariant.held c.in_ok-held.ensures c.in_ok-push.ensures.items;
+      text = λ old held. c.in_ok-push_changes.ensures
+          ∙ bus_changes-more c.args.text.now.items c.loop-core.text.items c.args.size old c.args.caches.now c.args.cores c.args.shown.now core c.index-shown-core.result c.in_ok-held.held there
+          c.loop-core-test.true held c.in_ok-held.ensures (c.loop-core.invariant.text old held);
+    }

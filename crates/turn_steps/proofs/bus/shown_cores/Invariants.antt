@@ -1,0 +1,6 @@
+use Rattle.turn_steps.specs.Caches.{AreHeld}
+use Rattle.turn_steps.proofs.bus.shown_cores.Given as goal
+
+-- the cores so far
+abbrev pub invariant-loop-core : goal.invariant-loop-core
+invariant-loop-core l = AreHeld l.size l.caches l.core l.shown.items

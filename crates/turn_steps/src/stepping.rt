@@ -1,0 +1,185 @@
+//! The turns of a schedule one by one, as text.
+ghost use Rattle.std.specs.Prelude.{◌≡◌, ◌≢◌, ◌++◌, ◌<◌, ◌≤◌, ◌==◌, ℕ, All, List, None, Ok, Err, Option, IfOk, OnOk, length, if◌then◌else◌};
+ghost use Rattle.rv32_exec.specs.declared.sequential.End.{End as LoopEnd};
+ghost use Rattle.spec_history.specs.declared.entry.Entry.{Entry as HistoryEntry};
+ghost use Rattle.violations.specs.Rule.{IsFresh};
+ghost use Rattle.homefree.specs.BookView.{BookView, IsOfSameLoop};
+ghost use Rattle.homefree.specs.Counted.{IsNoMore};
+ghost use Rattle.homefree.specs.Driven.{Driven, TurnedWith, driver, held_after, with_held};
+ghost use Rattle.homefree.specs.Held.{HaveArrived, harts_of};
+ghost use Rattle.turn_steps.specs.Stepped as spec;
+ghost use Rattle.turn_steps.specs.Telling as telling;
+
+use crate::cores::{push_attempt_changes, push_hart_change};
+use crate::loop_shown::ShownLoop;
+use crate::store::ShownStore;
+use crate::turns::{push_entries, push_turn};
+use homefree::{Answer, Book, TurnFault, step};
+use run_ledger::Shares;
+use rv32_exec::{Arrived, Hart, Image};
+use std::alloc::{AllocError, Global};
+use violations::{Attempt, EpochStore, MAX_CORES};
+
+/// Takes turns as `drive` of `homefree` does, over a fresh store of this image on so many cores, and answers the text of each: the
+/// number of the turn, counted from 0, its core and what it was answered; its entries; and what isn't as it was before it, of what the cores
+/// run, of the core's hart, of what the store holds for the cores, and of committed memory.
+///
+/// `HistoryFull`: a turn found too few free entries. `NoMemory`: memory ran out.
+pub fn drive_steps<S: ShownStore>(
+    alloc: Global,
+    book: &mut Book<S>,
+    image: &Image,
+    cores: u32,
+    schedule: &[u32],
+    shares: &mut Shares,
+) -> Result<Vec<u8>, TurnFault>
+    requires image { book.old.image ≡ image.now }
+    requires cores { book.old.cores ≡ cores }
+    requires fresh { IsFresh image.now cores (S.view book.old.store) }
+    requires schedule { All (λ core. core < cores) schedule.now }
+    requires shares { IsNoMore shares.old book.old.totals }
+    ensures stepped { IfOk result (λ text. (end : Option LoopEnd)
+        × spec.Stepped S.view S.waits S.changes 0 (λ _. None) (driver book.old shares.old) schedule.now end (driver book.new shares.new) text.items) }
+    ensures full { result ≡ Err TurnFault.HistoryFull
+        → Driven S.view S.waits (λ _. None) (driver book.old shares.old) schedule.now (Err TurnFault.HistoryFull) (driver book.new shares.new) }
+    ensures same { IsOfSameLoop book.old book.new }
+    ensures shares { IsNoMore shares.new book.new.totals }
+{
+    let Ok(mut shown) = ShownLoop::of(alloc, book.store(), image, cores) else {
+        return Err(TurnFault::NoMemory);
+    };
+    let mut text = Vec::new(alloc);
+    let mut held = [None; MAX_CORES];
+    for number in 0..schedule.len() {
+        let place = Place {
+            number,
+            core: schedule[number],
+            cores,
+        };
+        let answer = step_shown(alloc, book, &mut held, place, shares, &mut shown, &mut text)?;
+        match answer {
+            Answer::Over(_) => return Ok(text),
+            Answer::Stopped(_) => return Ok(text),
+            _ => (),
+        }
+    }
+    Ok(text)
+}
+
+/// Where a turn stands in a schedule, its core, and how many there are.
+#[derive(Clone, Copy)]
+struct Place {
+    number: usize,
+    core: u32,
+    cores: u32,
+}
+
+/// One turn of a core, as `step` of `homefree`, and its text.
+fn step_shown<S: ShownStore>(
+    alloc: Global,
+    book: &mut Book<S>,
+    held: &mut [Option<Arrived>; MAX_CORES],
+    place: Place,
+    shares: &mut Shares,
+    shown: &mut ShownLoop<S>,
+    text: &mut Vec<u8>,
+) -> Result<Answer, TurnFault>
+    requires place { (place.core < place.cores) × (book.old.cores ≡ place.cores) }
+    requires held { HaveArrived book.old.image held.old }
+    requires shares { IsNoMore shares.old book.old.totals }
+    requires shown { telling.IsCurrent S.view S.fits S.shows shown.old.store shown.old.memory book.old }
+    ensures turned { result ≢ Err TurnFault.NoMemory → TurnedWith S.view S.waits (driver book.old shares.old) place.core (harts_of held.old place.core) result (driver book.new shares.new) }
+    ensures same { IsOfSameLoop book.old book.new }
+    ensures shares { IsNoMore shares.new book.new.totals }
+    ensures held { HaveArrived book.new.image held.new }
+    ensures harts { IfOk result (λ answer. (k : ℕ) → harts_of held.new k ≡ with_held (harts_of held.old) place.core (held_after answer (harts_of held.old place.core)) k) }
+    ensures told { IfOk result (λ answer. (first : List ℕ) × spec.IsTold S.view S.changes place.number place.core answer (harts_of held.old place.core) book.old book.new first
+        × (text.new.items ≡ text.old.items ++ first)) }
+    ensures shown { OnOk result (telling.IsCurrent S.view S.fits S.shows shown.new.store shown.new.memory book.new) }
+{
+    book.look();
+    let before = Before {
+        entries: book.len(),
+        attempts: attempts_of(book.store(), place.cores),
+        hart: hart_of(held, place.core),
+    };
+    let answer = step(book, held, place.core, shares)?;
+    book.look();
+    let hart = hart_of(held, place.core);
+    match push_step(alloc, text, shown, book, place, &before, &answer, hart) {
+        Ok(()) => Ok(answer),
+        Err(AllocError) => Err(TurnFault::NoMemory),
+    }
+}
+
+/// What there was before a turn: so many entries, what each core ran, and the hart that the turn's core had in hand.
+#[derive(Drop)]
+struct Before {
+    entries: usize,
+    attempts: [Option<Attempt>; MAX_CORES],
+    hart: Option<Hart>,
+}
+
+/// Adds the text of a turn, after which the book is this, and the core's hart.
+fn push_step<S: ShownStore>(
+    alloc: Global,
+    text: &mut Vec<u8>,
+    shown: &mut ShownLoop<S>,
+    book: &Book<S>,
+    place: Place,
+    before: &Before,
+    answer: &Answer,
+    hart: Option<Hart>,
+) -> Result<(), AllocError>
+    requires cores { (place.core < place.cores) × (place.cores ≤ 16) × ((S.view book.now.store).shape.cores ≡ place.cores) }
+    requires entries { before.now.entries ≤ length book.now.history }
+    requires fits { telling.Fits S.view S.fits shown.old.store shown.old.memory book.now.store }
+    ensures text { (old : BookView S) (added : List HistoryEntry) → telling.Follows S.view S.shows shown.old.store shown.old.memory place.core old book.now added
+        → telling.IsBefore S.view before.now.entries before.now.attempts old → old.cores ≡ place.cores
+        → OnOk result (text.new.items ≡ text.old.items ++ spec.turn_text S.view S.changes place.number place.core answer.now added before.now.hart hart old book.now) }
+    ensures shown { (old : BookView S) (added : List HistoryEntry) → telling.Follows S.view S.shows shown.old.store shown.old.memory place.core old book.now added
+        → telling.IsBefore S.view before.now.entries before.now.attempts old
+        → OnOk result (telling.IsCurrent S.view S.fits S.shows shown.new.store shown.new.memory book.now) }
+{
+    let added = &book.history()[before.entries..];
+    push_turn(text, place.number, place.core, answer)?;
+    push_entries(text, added)?;
+    let attempts = attempts_of(book.store(), place.cores);
+    push_attempt_changes(alloc, text, place.cores, &before.attempts, &attempts)?;
+    push_hart_change(alloc, text, place.core, before.hart, hart)?;
+    shown.push_changes(alloc, text, book.store(), place.core, added)?;
+    Ok(())
+}
+
+/// What each core runs, of so many.
+fn attempts_of<S: ShownStore>(store: &S, cores: u32) -> [Option<Attempt>; MAX_CORES]
+    requires cores { (S.view store.now).shape.cores ≡ cores }
+    requires most { cores ≤ 16 }
+    ensures { (k : ℕ) → spec.attempt_in result k ≡ (S.view store.now).attempt k }
+{
+    store.look();
+    let mut attempts = [None; MAX_CORES];
+    for core in 0..cores {
+        set_attempt(&mut attempts, core, store.attempt_of(core));
+    }
+    attempts
+}
+
+/// Sets what a core runs.
+fn set_attempt(attempts: &mut [Option<Attempt>; MAX_CORES], core: u32, now: Option<Attempt>)
+    requires { core < 16 }
+    ensures { (k : ℕ) → spec.attempt_in attempts.new k ≡ (if k == core then now else spec.attempt_in attempts.old k) }
+{
+    attempts[core as usize] = now;
+}
+
+/// The hart that a core has in hand.
+fn hart_of(held: &[Option<Arrived>; MAX_CORES], core: u32) -> Option<Hart>
+    requires { core < 16 }
+    ensures { result ≡ harts_of held.now core }
+{
+    match held[core as usize] {
+        Some(arrived) => Some(arrived.base()),
+        None => None,
+    }
+}
