@@ -1,18 +1,17 @@
 //! Turns that a generator draws, on one thread.
-ghost use Rattle.std.specs.Prelude.{◌≡◌, ◌≢◌, ◌≤◌, ◌<◌, ◌==◌, ◌%◌, [], ℕ, None, Ok, Err, if◌then◌else◌};
+ghost use Rattle.std.specs.Prelude.{◌≡◌, ◌≢◌, ◌≤◌, ◌<◌, ◌%◌, [], None, Err};
 ghost use Rattle.rand_xoshiro.specs.SplitMix64.{mix_u64, next_state};
 ghost use Rattle.homefree.specs.BookView.{IsOfSameLoop};
 ghost use Rattle.homefree.specs.Counted.{IsNoMore};
-ghost use Rattle.homefree.specs.Driven.{TurnedWith, driver, held_after, with_held};
-ghost use Rattle.homefree.specs.Held.{HaveArrived, harts_of, held_at, held_by};
+ghost use Rattle.homefree.specs.Driven.{driver};
 ghost use Rattle.all_schedules.specs.Drawn as spec;
 
-use homefree::{Answer, Book, TurnFault};
+use homefree::{Answer, Book, TurnFault, step};
 use rand_core::SeedableRng;
 use rand_core::utils::NextWord;
 use rand_xoshiro::SplitMix64;
 use run_ledger::Shares;
-use rv32_exec::{Arrived, End, Image, advance};
+use rv32_exec::End;
 use violations::{EpochStore, MAX_CORES};
 
 /// The most turns that are drawn: no more than `replay` takes in lines of turns, which have at most 3 bytes for each.
@@ -25,14 +24,12 @@ const MOST_TURNS: u32 = 8_388_608;
 /// `NoMemory` may also be that there was none for the schedule.
 pub fn drive_drawn<S: EpochStore>(
     book: &mut Book<S>,
-    image: &Image,
     cores: u32,
     seed: u64,
     schedule: &mut Vec<u32>,
     shares: &mut Shares,
 ) -> Result<Option<End>, TurnFault>
     requires least { 1 ≤ cores }
-    requires image { book.old.image ≡ image.now }
     requires cores { book.old.cores ≡ cores }
     requires schedule { schedule.old.items ≡ [] }
     requires shares { IsNoMore shares.old book.old.totals }
@@ -48,7 +45,7 @@ pub fn drive_drawn<S: EpochStore>(
         let Ok(()) = schedule.push(core) else {
             return Err(TurnFault::NoMemory);
         };
-        let answer = step(book, &mut held, core, image, shares)?;
+        let answer = step(book, &mut held, core, shares)?;
         match answer {
             Answer::Over(end) => return Ok(Some(end)),
             Answer::Stopped(_) => return Ok(None),
@@ -66,50 +63,4 @@ fn draw(generator: &mut SplitMix64, cores: u32) -> u32
     ensures state { generator.new ≡ next_state generator.old }
 {
     (generator.next_word() % u64::from(cores)) as u32
-}
-
-/// One turn of a core with what it has in hand, and what it has in hand then.
-fn step<S: EpochStore>(
-    book: &mut Book<S>,
-    held: &mut [Option<Arrived>; MAX_CORES],
-    core: u32,
-    image: &Image,
-    shares: &mut Shares,
-) -> Result<Answer, TurnFault>
-    requires image { book.old.image ≡ image.now }
-    requires core { core < book.old.cores }
-    requires held { HaveArrived book.old.image held.old }
-    requires shares { IsNoMore shares.old book.old.totals }
-    ensures turned { TurnedWith S.view S.waits (driver book.old shares.old) core (harts_of held.old core) result (driver book.new shares.new) }
-    ensures same { IsOfSameLoop book.old book.new }
-    ensures shares { IsNoMore shares.new book.new.totals }
-    ensures held { HaveArrived book.new.image held.new }
-    ensures harts { (k : ℕ) → harts_of held.new k ≡ with_held (harts_of held.old) core (held_by result (harts_of held.old core)) k }
-{
-    book.look();
-    let answer = book.turn(core, held[core as usize].as_ref(), shares)?;
-    take(held, core, image, &answer);
-    Ok(answer)
-}
-
-/// What a core has in hand after an answer.
-fn take(held: &mut [Option<Arrived>; MAX_CORES], core: u32, image: &Image, answer: &Answer)
-    requires core { core < 16 }
-    requires held { HaveArrived image.now held.old }
-    ensures held { HaveArrived image.now held.new }
-    ensures harts { (k : ℕ) → harts_of held.new k ≡ with_held (harts_of held.old) core (held_after answer.now (harts_of held.old core)) k }
-{
-    match answer {
-        Answer::Go(hart) => hold(held, core, Some(advance(image, *hart))),
-        Answer::Again(_) => (),
-        _ => hold(held, core, None),
-    }
-}
-
-/// Sets what a core has in hand.
-fn hold(held: &mut [Option<Arrived>; MAX_CORES], core: u32, now: Option<Arrived>)
-    requires { core < 16 }
-    ensures { (k : ℕ) → held_at held.new k ≡ (if k == core then now else held_at held.old k) }
-{
-    held[core as usize] = now;
 }

@@ -42,7 +42,7 @@ pub fn run_seeded<S: EpochStore>(
         return Err(TurnFault::NoMemory);
     };
     let mut schedule = Vec::new(alloc);
-    let driven = drive_drawn(&mut book, image, cores, seed, &mut schedule, &mut shares);
+    let driven = drive_drawn(&mut book, cores, seed, &mut schedule, &mut shares);
     book.look();
     match driven {
         Ok(_) => Ok(SeededRun { book, schedule }),
