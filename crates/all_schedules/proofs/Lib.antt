@@ -1,5 +1,6 @@
 pub mod Every
 pub mod Drives
+pub mod Telling
 pub mod Evens
 pub mod Draws
 pub mod Seeds

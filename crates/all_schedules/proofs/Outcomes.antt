@@ -9,6 +9,7 @@ use Rattle.rv32_image.specs.Image.{LoadedImage}
 use Rattle.rv32_image.specs.ImageText.{image_text}
 use Rattle.rv32_image.specs.Reading.{ForText}
 use Rattle.rv32_exec.specs.declared.sequential.End.{End}
+use Rattle.spec_history.specs.declared.entry.Entry.{Entry}
 use Rattle.violations.specs.View.{StoreView, Waits}
 use Rattle.violations.specs.Rule.{IsCoreCount}
 use Rattle.homefree.specs.declared.book.Loop.{Loop}
@@ -62,7 +63,7 @@ module _ {S : Type 0} (view : S → StoreView) (waits : S → Waits) (cores room
 
 -- ---- a trace, or lines of turns
 
-module _ {S : Type 0} (view : S → StoreView) (waits : S → Waits) (room : ℕ) (text : List ℕ) where
+module _ {S : Type 0} (view : S → StoreView) (waits : S → Waits) (heads : Loop → List ℕ → List Entry → List ℕ → Type 0) (room : ℕ) (text : List ℕ) where
   -- what isn't printed is neither a report nor a failed write
   no_report : (form : Bool) (cores : Option ℕ) (end : End) → IsUnprinted view waits form cores room text (Reported end) → ⊥
   no_report true cores end is = is
@@ -81,13 +82,13 @@ module _ {S : Type 0} (view : S → StoreView) (waits : S → Waits) (room : ℕ
 
   -- what is shown is reported or open
   of_turns : (cores : ℕ) (outcome : Outcome) (printed : List ℕ) (r : Result LoadedImage ImageFault) (q : Result (List ℕ) TraceFault)
-      → MatchResult r (λ image. IsCoreCount image cores × MatchResult q (λ schedule. IsReplay view waits (loop_on image cores room) schedule outcome printed) (λ fault. ⊥)) (λ fault. ⊥)
+      → MatchResult r (λ image. IsCoreCount image cores × MatchResult q (λ schedule. IsReplay view waits heads (loop_on image cores room) schedule outcome printed) (λ fault. ⊥)) (λ fault. ⊥)
       → (end : Option End) × (homefree : ℕ) × (outcome ≡ outcome_at end homefree)
-  of_turns cores outcome printed (Ok image) (Ok schedule) is = let show = is.1.3 in (show.state.end, show.state.homefree, show.outcome_is)
+  of_turns cores outcome printed (Ok image) (Ok schedule) is = let show = is.1.shown in (show.state.end, show.state.homefree, show.outcome_is)
   of_turns cores outcome printed (Ok image) (Err fault) is = absurd is.1
   of_turns cores outcome printed (Err fault) q is = absurd is
 
-  shown_at : (form : Bool) (cores : Option ℕ) (outcome : Outcome) (printed : List ℕ) → IsPrinted view waits form cores room text outcome printed
+  shown_at : (form : Bool) (cores : Option ℕ) (outcome : Outcome) (printed : List ℕ) → IsPrinted view waits heads form cores room text outcome printed
       → (end : Option End) × (homefree : ℕ) × (outcome ≡ outcome_at end homefree)
   shown_at true cores outcome printed is = let show = is.holds.shown in (show.state.end, show.state.homefree, show.outcome_is)
   shown_at false (Some k) outcome printed is = of_turns k outcome printed (image_text (image_part text)) (schedule_text k text) is
@@ -96,7 +97,7 @@ module _ {S : Type 0} (view : S → StoreView) (waits : S → Waits) (room : ℕ
   module _ (cores : Option ℕ) (old new : Option (List ℕ)) where
     -- nothing is printed
     pub unprinted : (outcome : Outcome) → IsUnprinted view waits (has_trace text) cores room text outcome → Keeps old new
-        → IsReplayOutcome view waits cores room text old new outcome
+        → IsReplayOutcome view waits heads cores room text old new outcome
     unprinted (Reported end) is keeps = absurd (no_report (has_trace text) cores end is)
     unprinted (Open homefree) is keeps = absurd (no_open (has_trace text) cores homefree is)
     unprinted (Stopped cause.Write) is keeps = absurd (no_write (has_trace text) cores is)
@@ -104,25 +105,25 @@ module _ {S : Type 0} (view : S → StoreView) (waits : S → Waits) (room : ℕ
     unprinted (BadTurns fault) is keeps = (inr is, keeps)
     unprinted outcome is keeps = (is, keeps)
 
-    printed_at : (end : Option End) (homefree : ℕ) (printed : List ℕ) → IsPrinted view waits (has_trace text) cores room text (outcome_at end homefree) printed
-        → Appends old new printed → IsReplayOutcome view waits cores room text old new (outcome_at end homefree)
+    printed_at : (end : Option End) (homefree : ℕ) (printed : List ℕ) → IsPrinted view waits heads (has_trace text) cores room text (outcome_at end homefree) printed
+        → Appends old new printed → IsReplayOutcome view waits heads cores room text old new (outcome_at end homefree)
     printed_at (Some end) homefree printed is grows = (printed, is, grows)
     printed_at None homefree printed is grows = (printed, is, grows)
 
-    pub printed_whole : (outcome : Outcome) (printed : List ℕ) → IsPrinted view waits (has_trace text) cores room text outcome printed → Appends old new printed
-        → IsReplayOutcome view waits cores room text old new outcome
+    pub printed_whole : (outcome : Outcome) (printed : List ℕ) → IsPrinted view waits heads (has_trace text) cores room text outcome printed → Appends old new printed
+        → IsReplayOutcome view waits heads cores room text old new outcome
     printed_whole outcome printed is grows =
         let at = shown_at (has_trace text) cores outcome printed is in
-        subst (λ (o : Outcome). IsReplayOutcome view waits cores room text old new o) (sym at.2)
-        (printed_at at.0 at.1 printed (subst (λ (o : Outcome). IsPrinted view waits (has_trace text) cores room text o printed) at.2 is) grows)
+        subst (λ (o : Outcome). IsReplayOutcome view waits heads cores room text old new o) (sym at.2)
+        (printed_at at.0 at.1 printed (subst (λ (o : Outcome). IsPrinted view waits heads (has_trace text) cores room text o printed) at.2 is) grows)
 
 keeps_itself : (known : Option (List ℕ)) → Keeps known known
 keeps_itself None = tt
 keeps_itself (Some bytes) = refl
 
-module _ {S : Type 0} (view : S → StoreView) (waits : S → Waits) (cores : Option ℕ) (room : ℕ) where
+module _ {S : Type 0} (view : S → StoreView) (waits : S → Waits) (heads : Loop → List ℕ → List Entry → List ℕ → Type 0) (cores : Option ℕ) (room : ℕ) where
   refused : (fault : InputFault) (text : List ℕ) (output : Option (List ℕ)) → (fault ≡ input.TooLong → longest_trace_text < length text)
-      → IsReplayOutcome view waits cores room text output output (outcome_of_turns_fault (input_fault fault).kind (input_fault fault))
+      → IsReplayOutcome view waits heads cores room text output output (outcome_of_turns_fault (input_fault fault).kind (input_fault fault))
   refused input.TooLong text output long = (inl (refl, long refl), keeps_itself output)
   refused input.Read text output long = (inl refl, keeps_itself output)
   refused input.NoMemory text output long = keeps_itself output
@@ -134,6 +135,6 @@ module _ {S : Type 0} (view : S → StoreView) (waits : S → Waits) (cores : Op
   -- an input that could not be read whole
   pub refused_input : (known : Option (List ℕ)) (fault : InputFault) (output : Option (List ℕ))
       → (fault ≡ input.TooLong → IfSome known (λ whole. longest_trace_text < length whole))
-      → ForText known (λ text. IsReplayOutcome view waits cores room text output output (outcome_of_turns_fault (input_fault fault).kind (input_fault fault)))
+      → ForText known (λ text. IsReplayOutcome view waits heads cores room text output output (outcome_of_turns_fault (input_fault fault).kind (input_fault fault)))
   refused_input None fault output long = let text = long_text longest_trace_text in (text.0, refused fault text.0 output (λ _. text.1))
   refused_input (Some text) fault output long = refused fault text output long

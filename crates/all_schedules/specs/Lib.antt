@@ -8,6 +8,7 @@ pub mod SurveyText
 -- And what the commands of `replay` come to: what lines of turns say, the replay of a schedule and of a trace, every schedule, and the run by a pace.
 pub mod Turns
 pub mod Shown
+pub mod Told
 pub mod Traced
 pub mod Replay
 pub mod Streams

@@ -1,6 +1,6 @@
 -- What the replay of a schedule or of a trace comes to, and what it wrote.
 -- Source: this project.
-use Rattle.std.specs.Prelude.{◌≡◌, ◌⊎◌, ℕ, ◌<◌, ◌≤◌, Bool, true, false, List, length, Option, Some, None, Ok, Err, MatchResult}
+use Rattle.std.specs.Prelude.{◌≡◌, ◌⊎◌, ℕ, ◌<◌, ◌≤◌, Bool, true, false, List, ◌++◌, length, Option, Some, None, Ok, Err, MatchResult}
 use Rattle.std.specs.Io.KnownBytes.{Appends, Keeps}
 use Rattle.rv32_image.specs.Version.{limits_of}
 use Rattle.rv32_image.specs.ImageText.{image_text}
@@ -27,10 +27,17 @@ use Rattle.all_schedules.specs.Turns.{image_part, schedule_text}
 
 -- ---- of a schedule
 
--- the text shows the history that the schedule makes
-abbrev pub IsReplay : {S : Type 0} → (S → StoreView) → (S → Waits) → Loop → List ℕ → Outcome → List ℕ → Type 0
-IsReplay view waits l schedule outcome text = (result : Option End) × (history : List Entry)
-    × Makes view waits l schedule (Ok result) history × IsShown l.image l.cores history outcome text
+-- the text shows the history that the schedule makes, below such a head
+pub record IsReplay {S : Type 0} (view : S → StoreView) (waits : S → Waits) (heads : Loop → List ℕ → List Entry → List ℕ → Type 0) (l : Loop) (schedule : List ℕ) (outcome : Outcome)
+    (text : List ℕ) : Type 0 where
+  pub result : Option End
+  pub history : List Entry
+  pub makes : Makes view waits l schedule (Ok result) history
+  pub head : List ℕ
+  pub is_head : heads l schedule history head
+  pub below : List ℕ
+  pub shown : IsShown l.image l.cores history outcome below
+  pub text_is : text ≡ head ++ below
 
 -- the cause of a turn's fault
 abbrev pub cause_of : TurnFault → StopCause
@@ -66,10 +73,10 @@ IsNoReplay view waits cores room text outcome = ⊥
 -- ---- the whole input: a trace, or lines of turns for so many cores
 
 -- this is printed
-abbrev pub IsPrinted : {S : Type 0} → (S → StoreView) → (S → Waits) → Bool → Option ℕ → ℕ → List ℕ → Outcome → List ℕ → Type 0
-IsPrinted view waits true cores room text outcome printed = OfTrace cores room text (λ l entries. IsRetraced view waits l entries outcome printed)
-IsPrinted view waits false (Some cores) room text outcome printed = OfText cores room text (λ l schedule. IsReplay view waits l schedule outcome printed)
-IsPrinted view waits false None room text outcome printed = ⊥
+abbrev pub IsPrinted : {S : Type 0} → (S → StoreView) → (S → Waits) → (Loop → List ℕ → List Entry → List ℕ → Type 0) → Bool → Option ℕ → ℕ → List ℕ → Outcome → List ℕ → Type 0
+IsPrinted view waits heads true cores room text outcome printed = OfTrace cores room text (λ l entries. IsRetraced view waits heads l entries outcome printed)
+IsPrinted view waits heads false (Some cores) room text outcome printed = OfText cores room text (λ l schedule. IsReplay view waits heads l schedule outcome printed)
+IsPrinted view waits heads false None room text outcome printed = ⊥
 
 -- nothing is
 abbrev pub IsUnprinted : {S : Type 0} → (S → StoreView) → (S → Waits) → Bool → Option ℕ → ℕ → List ℕ → Outcome → Type 0
@@ -84,15 +91,15 @@ IsUnread kind.TooLong fault text = (fault.line ≡ 0) × (longest_trace_text < l
 IsUnread kind.Read fault text = fault.line ≡ 0
 IsUnread kind fault text = ⊥
 
--- what `replay` came to over this store is right for this input, and this was written
-abbrev pub IsReplayOutcome : {S : Type 0} → (S → StoreView) → (S → Waits) → Option ℕ → ℕ → List ℕ → Option (List ℕ) → Option (List ℕ) → Outcome → Type 0
-IsReplayOutcome view waits cores room text old new (Reported end) =
-    (printed : List ℕ) × IsPrinted view waits (has_trace text) cores room text (Reported end) printed × Appends old new printed
-IsReplayOutcome view waits cores room text old new (Open homefree) =
-    (printed : List ℕ) × IsPrinted view waits (has_trace text) cores room text (Open homefree) printed × Appends old new printed
-IsReplayOutcome view waits cores room text old new (Stopped Write) =
-    (outcome : Outcome) × (printed : List ℕ) × IsPrinted view waits (has_trace text) cores room text outcome printed × AppendsPrefix old new printed
-IsReplayOutcome view waits cores room text old new (Stopped NoMemory) = Keeps old new
-IsReplayOutcome view waits cores room text old new (BadTurns fault) =
+-- what `replay` came to over this store is right for this input, and this was written, with such a head
+abbrev pub IsReplayOutcome : {S : Type 0} → (S → StoreView) → (S → Waits) → (Loop → List ℕ → List Entry → List ℕ → Type 0) → Option ℕ → ℕ → List ℕ → Option (List ℕ) → Option (List ℕ) → Outcome → Type 0
+IsReplayOutcome view waits heads cores room text old new (Reported end) =
+    (printed : List ℕ) × IsPrinted view waits heads (has_trace text) cores room text (Reported end) printed × Appends old new printed
+IsReplayOutcome view waits heads cores room text old new (Open homefree) =
+    (printed : List ℕ) × IsPrinted view waits heads (has_trace text) cores room text (Open homefree) printed × Appends old new printed
+IsReplayOutcome view waits heads cores room text old new (Stopped Write) =
+    (outcome : Outcome) × (printed : List ℕ) × IsPrinted view waits heads (has_trace text) cores room text outcome printed × AppendsPrefix old new printed
+IsReplayOutcome view waits heads cores room text old new (Stopped NoMemory) = Keeps old new
+IsReplayOutcome view waits heads cores room text old new (BadTurns fault) =
     (IsUnread fault.kind fault text ⊎ IsUnprinted view waits (has_trace text) cores room text (BadTurns fault)) × Keeps old new
-IsReplayOutcome view waits cores room text old new outcome = IsUnprinted view waits (has_trace text) cores room text outcome × Keeps old new
+IsReplayOutcome view waits heads cores room text old new outcome = IsUnprinted view waits (has_trace text) cores room text outcome × Keeps old new

@@ -1,6 +1,6 @@
 -- What the replay of a trace comes to: the schedule that the trace shows, driven again.
 -- Source: this project.
-use Rattle.std.specs.Prelude.{◌≡◌, ◌≢◌, ℕ, Bool, true, false, not, nat_lt, ◌==◌, ◌&&◌, List, [], ◌∷◌, length, take, slice_get, Option, Some, None, Ok, if◌then◌else◌}
+use Rattle.std.specs.Prelude.{◌≡◌, ◌≢◌, ℕ, Bool, true, false, not, nat_lt, ◌==◌, ◌&&◌, List, [], ◌∷◌, ◌++◌, length, take, slice_get, Option, Some, None, Ok, if◌then◌else◌}
 use Rattle.std.specs.List.{flat_map}
 use Rattle.rv32_image.specs.Image.{LoadedImage}
 use Rattle.rv32_exec.specs.declared.sequential.End.{End}
@@ -50,11 +50,16 @@ IsNotSame made given (Differs place) = PartAt made given place
 IsNotSame made given (Stopped NoMemory) = Unit {0}
 IsNotSame made given outcome = ⊥
 
--- the turns make the entries again, and the text shows them
-pub record IsRetraced {S : Type 0} (view : S → StoreView) (waits : S → Waits) (l : Loop) (entries : List Entry) (outcome : Outcome) (text : List ℕ) : Type 0 where
+-- the turns make the entries again, and the text shows them, below such a head
+pub record IsRetraced {S : Type 0} (view : S → StoreView) (waits : S → Waits) (heads : Loop → List ℕ → List Entry → List ℕ → Type 0) (l : Loop) (entries : List Entry) (outcome : Outcome)
+    (text : List ℕ) : Type 0 where
   pub result : Option End
   pub makes : Makes view waits l (turns_of l.cores entries) (Ok result) entries
-  pub shown : IsShown l.image l.cores entries outcome text
+  pub head : List ℕ
+  pub is_head : heads l (turns_of l.cores entries) entries head
+  pub below : List ℕ
+  pub shown : IsShown l.image l.cores entries outcome below
+  pub text_is : text ≡ head ++ below
 
 -- they make a history that parts from the entries at this place
 pub record Parts {S : Type 0} (view : S → StoreView) (waits : S → Waits) (l : Loop) (entries : List Entry) (place : ℕ) : Type 0 where

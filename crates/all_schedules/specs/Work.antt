@@ -7,6 +7,8 @@ use Rattle.violations.specs.View.{StoreView, Waits, never_waits}
 use Rattle.violations.specs.Plain as plain
 use Rattle.spec_bus.specs.Cached as caches
 use Rattle.trace_text.specs.TraceText.{longest_trace_text}
+use Rattle.turn_steps.specs.Caches.{cached_changes}
+use Rattle.turn_steps.specs.KeptCores.{plain_changes}
 use Rattle.trace_commands.specs.declared.outcome.Outcome.TheVariants.{Usage}
 use Rattle.trace_commands.specs.Outcome.{Conclusion}
 use Rattle.all_schedules.specs.declared.words.Store.{Store}
@@ -18,31 +20,32 @@ use Rattle.all_schedules.specs.AllSchedules.{AllAnswers}
 use Rattle.all_schedules.specs.Paced.{IsPacedOutcome}
 use Rattle.all_schedules.specs.Replay.{IsReplayOutcome}
 use Rattle.all_schedules.specs.Streams.{Stream}
+use Rattle.all_schedules.specs.Told.{IsHead}
 
 abbrev pub IsUpTo16 : ℕ → Type 0
 IsUpTo16 n = (1 ≤ n) × (n ≤ 16)
 
 -- 1 to 16 cores, and at most 65,536 schedules of 1 to 16 turns
 abbrev pub AreTurns : Turns → Type 0
-AreTurns (Given cores) = IfSome cores IsUpTo16
+AreTurns (Given detail cores) = IfSome cores IsUpTo16
 AreTurns (Every cores turns) = IsUpTo16 cores × IsUpTo16 turns × (cores ^ turns ≤ 65536)
 AreTurns (Paced pace cores) = IsUpTo16 cores
 
 -- over a store: the trace or the schedule of the input was replayed, every schedule of so many turns was driven, or the run was by
 -- this pace; and of the input no more than it may be long, and one byte, was taken
-abbrev pub TurnsAnswer : {S : Type 0} → (S → StoreView) → (S → Waits) → ℕ → Turns → List ℕ → Stream → Stream → Stream → ℕ → Type 0
-TurnsAnswer view waits room (Given cores) text input output errors status =
-    Conclusion (IsReplayOutcome view waits cores room text output.old output.new) errors.old errors.new status
+abbrev pub TurnsAnswer : {S : Type 0} → (S → StoreView) → (S → Waits) → (ℕ → S → S → List ℕ) → ℕ → Turns → List ℕ → Stream → Stream → Stream → ℕ → Type 0
+TurnsAnswer view waits changes room (Given detail cores) text input output errors status =
+    Conclusion (IsReplayOutcome view waits (IsHead view waits changes detail) cores room text output.old output.new) errors.old errors.new status
     × TakesAtMost input.old input.new (longest_trace_text + 1)
-TurnsAnswer view waits room (Every cores turns) text input output errors status =
+TurnsAnswer view waits changes room (Every cores turns) text input output errors status =
     AllAnswers view waits cores room turns text output errors status × TakesAtMost input.old input.new (longest_image_text + 1)
-TurnsAnswer view waits room (Paced pace cores) text input output errors status =
+TurnsAnswer view waits changes room (Paced pace cores) text input output errors status =
     Conclusion (IsPacedOutcome view waits pace cores room text output.old output.new) errors.old errors.new status
     × TakesAtMost input.old input.new (longest_image_text + 1)
 
 abbrev pub StoreAnswers : Store → ℕ → Turns → List ℕ → Stream → Stream → Stream → ℕ → Type 0
-StoreAnswers Caches room turns text input output errors status = TurnsAnswer caches.store_view caches.waits room turns text input output errors status
-StoreAnswers Plain room turns text input output errors status = TurnsAnswer plain.store_view (λ _. never_waits) room turns text input output errors status
+StoreAnswers Caches room turns text input output errors status = TurnsAnswer caches.store_view caches.waits cached_changes room turns text input output errors status
+StoreAnswers Plain room turns text input output errors status = TurnsAnswer plain.store_view (λ _. never_waits) plain_changes room turns text input output errors status
 
 -- a request was answered
 abbrev pub IsDone : ℕ → List ℕ → Stream → Stream → Stream → ℕ → Type 0

@@ -11,7 +11,8 @@ use std::alloc::Global;
 use std::convert::AsStr;
 use std::io::{Read, Write};
 use trace_commands::Outcome;
-use violations::{EpochStore, PlainStore};
+use turn_steps::ShownStore;
+use violations::PlainStore;
 
 /// The whole program: replays over the store that the words ask for, the first of which is the program's name, or
 /// drives every schedule of so many turns, or runs by a pace, and answers its status.
@@ -46,7 +47,7 @@ pub fn work<S: AsStr, R: Read, W: Write, E: Write>(
 }
 
 /// Answers a request over this store.
-fn answer<S: EpochStore, R: Read, W: Write, E: Write>(
+fn answer<S: ShownStore, R: Read, W: Write, E: Write>(
     alloc: Global,
     request: Request,
     room: u32,
@@ -57,13 +58,15 @@ fn answer<S: EpochStore, R: Read, W: Write, E: Write>(
     requires turns { spec.AreTurns request.turns }
     requires least { 16 ≤ room }
     requires most { room ≤ 1048576 }
-    ensures { ForText (R.remaining reader.old) (λ text. spec.TurnsAnswer S.view S.waits room request.turns text
+    ensures { ForText (R.remaining reader.old) (λ text. spec.TurnsAnswer S.view S.waits S.changes room request.turns text
         (record { old = R.remaining reader.old; new = R.remaining reader.new })
         (record { old = W.contents writer.old; new = W.contents writer.new })
         (record { old = E.contents errors.old; new = E.contents errors.new }) result) }
 {
     match request.turns {
-        Turns::Given(cores) => do_replay::<S, R, W, E>(alloc, cores, room, reader, writer, errors),
+        Turns::Given { detail, cores } => {
+            do_replay::<S, R, W, E>(alloc, detail, cores, room, reader, writer, errors)
+        }
         Turns::Every { cores, turns } => {
             do_all::<S, R, W, E>(alloc, cores, room, turns, reader, writer, errors)
         }

@@ -4,6 +4,7 @@
 
 mod all;
 mod commands;
+mod detail;
 mod drawing;
 mod driving;
 mod even;
@@ -14,12 +15,14 @@ mod schedules;
 mod seeded;
 mod survey;
 mod text;
+mod told;
 mod traced;
 mod turns;
 mod words;
 
 pub use all::do_all;
 pub use commands::work;
+pub use detail::Detail;
 pub use driving::drive_schedule;
 pub use even::{EvenRun, run_evenly};
 pub use paced::do_paced;
@@ -28,3 +31,4 @@ pub use schedules::every_schedule;
 pub use seeded::{SeededRun, run_seeded};
 pub use survey::{Extreme, Survey, survey_schedules};
 pub use text::{print_survey, push_turns};
+pub use told::{drive_told, print_told};

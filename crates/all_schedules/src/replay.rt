@@ -8,9 +8,10 @@ ghost use Rattle.violations.specs.Rule.{IsCoreCount};
 ghost use Rattle.all_schedules.specs.Made.{loop_on};
 ghost use Rattle.all_schedules.specs.Traced.{has_trace};
 ghost use Rattle.all_schedules.specs.Replay as spec;
+ghost use Rattle.all_schedules.specs.Told.{IsHead};
 
-use crate::driving::drive_schedule;
-use crate::print::print_book;
+use crate::detail::Detail;
+use crate::told::{drive_told, print_told};
 use crate::traced::{begins_trace, retrace};
 use crate::turns::{image_part, parts_of, read_turns};
 use homefree::TurnFault;
@@ -19,18 +20,20 @@ use std::alloc::{AllocError, Global};
 use std::io::{Read, Write};
 use trace_commands::{Outcome, StopCause, write_whole};
 use trace_text::{LONGEST_TRACE_TEXT, TraceFault};
+use turn_steps::ShownStore;
 use violations::EpochStore;
 
 /// Replays what the reader gives below its image: the schedule of a trace, or that of lines of turns for so many cores. Takes its turns over a
-/// fresh store, on one thread, and writes what they make, the counts and the trace. The cores are at least 1; where none are said, the
+/// fresh store, on one thread, and writes what they make, the counts and the trace; above it, where that is asked for, each turn and a line `end`. The cores are at least 1; where none are said, the
 /// trace says how many. The room is 16 to 1,048,576 entries.
 ///
 /// The status is 0 where the loop is done or exited, or the schedule was used up before; 1 where an epoch faulted; 2 where the image, the
 /// number of cores, the trace or the lines of turns are refused; 3 where the history is full, memory ran out or a write failed; 4 where the
 /// turns of a trace make another history. With 2 to 4 one line on the error stream says which. All that is written was made
 /// before the first byte: after a failed write a prefix of it was written.
-pub fn do_replay<S: EpochStore, R: Read, W: Write, E: Write>(
+pub fn do_replay<S: ShownStore, R: Read, W: Write, E: Write>(
     alloc: Global,
+    detail: Detail,
     cores: Option<u32>,
     room: u32,
     reader: &mut R,
@@ -41,15 +44,16 @@ pub fn do_replay<S: EpochStore, R: Read, W: Write, E: Write>(
     requires least { 16 ≤ room }
     requires most { room ≤ 1048576 }
     ensures outcome { ForText (R.remaining reader.old) (λ text.
-        Conclusion (spec.IsReplayOutcome S.view S.waits cores room text (W.contents writer.old) (W.contents writer.new)) (E.contents errors.old) (E.contents errors.new) result) }
+        Conclusion (spec.IsReplayOutcome S.view S.waits (IsHead S.view S.waits S.changes detail) cores room text (W.contents writer.old) (W.contents writer.new)) (E.contents errors.old) (E.contents errors.new) result) }
     ensures taken { TakesAtMost (R.remaining reader.old) (R.remaining reader.new) (longest_trace_text + 1) }
 {
-    replay_input::<S, R, W>(alloc, cores, room, reader, writer).conclude(errors)
+    replay_input::<S, R, W>(alloc, detail, cores, room, reader, writer).conclude(errors)
 }
 
 /// Replays an input, all but its line on the error stream.
-fn replay_input<S: EpochStore, R: Read, W: Write>(
+fn replay_input<S: ShownStore, R: Read, W: Write>(
     alloc: Global,
+    detail: Detail,
     cores: Option<u32>,
     room: u32,
     reader: &mut R,
@@ -59,17 +63,18 @@ fn replay_input<S: EpochStore, R: Read, W: Write>(
     requires least { 16 ≤ room }
     requires most { room ≤ 1048576 }
     ensures outcome { ForText (R.remaining reader.old) (λ text.
-        spec.IsReplayOutcome S.view S.waits cores room text (W.contents writer.old) (W.contents writer.new) result) }
+        spec.IsReplayOutcome S.view S.waits (IsHead S.view S.waits S.changes detail) cores room text (W.contents writer.old) (W.contents writer.new) result) }
     ensures taken { TakesAtMost (R.remaining reader.old) (R.remaining reader.new) (longest_trace_text + 1) }
 {
     match read_input(alloc, reader, LONGEST_TRACE_TEXT) {
-        Ok(text) => replay_text::<S, W>(alloc, cores, room, text.as_slice(), writer),
+        Ok(text) => replay_text::<S, W>(alloc, detail, cores, room, text.as_slice(), writer),
         Err(fault) => Outcome::of_turns_fault(TraceFault::from(fault)),
     }
 }
 
-fn replay_text<S: EpochStore, W: Write>(
+fn replay_text<S: ShownStore, W: Write>(
     alloc: Global,
+    detail: Detail,
     cores: Option<u32>,
     room: u32,
     text: &[u8],
@@ -79,9 +84,9 @@ fn replay_text<S: EpochStore, W: Write>(
     requires least { 16 ≤ room }
     requires most { room ≤ 1048576 }
     requires short { length text.now ≤ longest_trace_text }
-    ensures { spec.IsReplayOutcome S.view S.waits cores room text.now (W.contents writer.old) (W.contents writer.new) result }
+    ensures { spec.IsReplayOutcome S.view S.waits (IsHead S.view S.waits S.changes detail) cores room text.now (W.contents writer.old) (W.contents writer.new) result }
 {
-    let (outcome, printed) = match print_replay::<S>(alloc, cores, room, text) {
+    let (outcome, printed) = match print_replay::<S>(alloc, detail, cores, room, text) {
         Ok(shown) => shown,
         Err(outcome) => return outcome,
     };
@@ -93,8 +98,9 @@ fn replay_text<S: EpochStore, W: Write>(
 }
 
 /// What the trace or the lines of turns of a text came to, with all that is printed of it; or what it came to where nothing is printed.
-fn print_replay<S: EpochStore>(
+fn print_replay<S: ShownStore>(
     alloc: Global,
+    detail: Detail,
     cores: Option<u32>,
     room: u32,
     text: &[u8],
@@ -103,21 +109,22 @@ fn print_replay<S: EpochStore>(
     requires least { 16 ≤ room }
     requires most { room ≤ 1048576 }
     requires short { length text.now ≤ longest_trace_text }
-    ensures { MatchResult result (λ shown. spec.IsPrinted S.view S.waits (has_trace text.now) cores room text.now shown.0 shown.1.items)
+    ensures { MatchResult result (λ shown. spec.IsPrinted S.view S.waits (IsHead S.view S.waits S.changes detail) (has_trace text.now) cores room text.now shown.0 shown.1.items)
         (spec.IsUnprinted S.view S.waits (has_trace text.now) cores room text.now) }
 {
     if begins_trace(text) {
-        return retrace::<S>(alloc, cores, room, text);
+        return retrace::<S>(alloc, detail, cores, room, text);
     }
     match cores {
-        Some(cores) => replay_of::<S>(alloc, cores, room, text),
+        Some(cores) => replay_of::<S>(alloc, detail, cores, room, text),
         None => Err(Outcome::Usage),
     }
 }
 
 /// What the lines of turns of a text came to, with all that is printed of it; or what it came to where nothing is printed.
-fn replay_of<S: EpochStore>(
+fn replay_of<S: ShownStore>(
     alloc: Global,
+    detail: Detail,
     cores: u32,
     room: u32,
     text: &[u8],
@@ -126,7 +133,7 @@ fn replay_of<S: EpochStore>(
     requires least { 16 ≤ room }
     requires most { room ≤ 1048576 }
     requires short { length text.now ≤ longest_trace_text }
-    ensures { MatchResult result (λ shown. spec.OfText cores room text.now (λ l schedule. spec.IsReplay S.view S.waits l schedule shown.0 shown.1.items)) (spec.IsNoReplay S.view S.waits cores room text.now) }
+    ensures { MatchResult result (λ shown. spec.OfText cores room text.now (λ l schedule. spec.IsReplay S.view S.waits (IsHead S.view S.waits S.changes detail) l schedule shown.0 shown.1.items)) (spec.IsNoReplay S.view S.waits cores room text.now) }
 {
     let parts = parts_of(text);
     let image = match image_of(alloc, image_part(text, &parts)) {
@@ -140,15 +147,16 @@ fn replay_of<S: EpochStore>(
         Ok(schedule) => schedule,
         Err(fault) => return Err(Outcome::of_turns_fault(fault)),
     };
-    match replay_turns::<S>(alloc, &image, cores, room, schedule.as_slice()) {
+    match replay_turns::<S>(alloc, detail, &image, cores, room, schedule.as_slice()) {
         Ok(shown) => Ok(shown),
         Err(cause) => Err(Outcome::Stopped(cause)),
     }
 }
 
 /// Takes the turns of a schedule, and shows what they made.
-fn replay_turns<S: EpochStore>(
+fn replay_turns<S: ShownStore>(
     alloc: Global,
+    detail: Detail,
     image: &Image,
     cores: u32,
     room: u32,
@@ -158,11 +166,11 @@ fn replay_turns<S: EpochStore>(
     requires least { 16 ≤ room }
     requires most { room ≤ 1048576 }
     requires schedule { All (λ core. core < cores) schedule.now }
-    ensures shown { IfOk result (λ shown. spec.IsReplay S.view S.waits (loop_on image.now cores room) schedule.now shown.0 shown.1.items) }
+    ensures shown { IfOk result (λ shown. spec.IsReplay S.view S.waits (IsHead S.view S.waits S.changes detail) (loop_on image.now cores room) schedule.now shown.0 shown.1.items) }
     ensures stopped { IfErr result (spec.IsStop S.view S.waits (loop_on image.now cores room) schedule.now) }
 {
-    match drive_schedule::<S>(alloc, image, cores, room, schedule) {
-        Ok(book) => match print_book(alloc, image, cores, &book) {
+    match drive_told::<S>(alloc, detail, image, cores, room, schedule) {
+        Ok((book, head)) => match print_told(alloc, image, cores, &book, head) {
             Ok(shown) => Ok(shown),
             Err(AllocError) => Err(StopCause::NoMemory),
         },

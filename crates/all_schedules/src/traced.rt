@@ -1,20 +1,22 @@
 //! The replay of a trace: its schedule, driven again.
-ghost use Rattle.std.specs.Prelude.{◌≡◌, ◌≤◌, ◌++◌, MatchOption, MatchResult, IfOk, OnOk, length};
+ghost use Rattle.std.specs.Prelude.{◌≡◌, ◌≤◌, ◌++◌, ℕ, List, MatchOption, MatchResult, IfOk, OnOk, length};
 ghost use Rattle.trace_text.specs.TraceText.{longest_trace_text};
 ghost use Rattle.violations.specs.Rule.{IsCoreCount};
 ghost use Rattle.all_schedules.specs.Made.{loop_on};
 ghost use Rattle.all_schedules.specs.Shown.{IsShown};
+ghost use Rattle.all_schedules.specs.Told.{IsHead};
 ghost use Rattle.all_schedules.specs.Traced as spec;
 
-use crate::driving::drive_schedule;
-use crate::print::print_book;
+use crate::detail::Detail;
 use crate::replay::cause_of;
+use crate::told::{drive_told, print_told};
 use homefree::Book;
 use rv32_image::Image;
 use spec_history::{Entry, What};
 use std::alloc::{AllocError, Global};
 use trace_commands::{Outcome, StopCause, traced_in};
 use trace_text::image_part;
+use turn_steps::ShownStore;
 use violations::EpochStore;
 
 /// Whether a trace stands below the image of a text.
@@ -26,8 +28,9 @@ pub fn begins_trace(text: &[u8]) -> bool
 
 /// What the schedule of a text's trace came to, with all that is printed of it, where it makes that trace again; or what it came to where
 /// nothing is printed. The cores, where some are said, have to be those of the trace.
-pub fn retrace<S: EpochStore>(
+pub fn retrace<S: ShownStore>(
     alloc: Global,
+    detail: Detail,
     cores: Option<u32>,
     room: u32,
     text: &[u8],
@@ -35,7 +38,7 @@ pub fn retrace<S: EpochStore>(
     requires least { 16 ≤ room }
     requires most { room ≤ 1048576 }
     requires short { length text.now ≤ longest_trace_text }
-    ensures { MatchResult result (λ shown. spec.OfTrace cores room text.now (λ l entries. spec.IsRetraced S.view S.waits l entries shown.0 shown.1.items))
+    ensures { MatchResult result (λ shown. spec.OfTrace cores room text.now (λ l entries. spec.IsRetraced S.view S.waits (IsHead S.view S.waits S.changes detail) l entries shown.0 shown.1.items))
         (spec.IsNoRetrace S.view S.waits cores room text.now) }
 {
     let traced = match traced_in(alloc, text) {
@@ -46,7 +49,7 @@ pub fn retrace<S: EpochStore>(
         return Err(Outcome::Usage);
     }
     let entries = traced.entries.as_slice();
-    match drive_trace::<S>(alloc, &traced.image, traced.cores, room, entries) {
+    match drive_trace::<S>(alloc, detail, &traced.image, traced.cores, room, entries) {
         Ok(shown) => Ok(shown),
         Err(outcome) => Err(outcome),
     }
@@ -63,8 +66,9 @@ fn is_other(cores: Option<u32>, number: u32) -> bool
 }
 
 /// Takes the turns of a trace, and shows what they made where that is the trace.
-fn drive_trace<S: EpochStore>(
+fn drive_trace<S: ShownStore>(
     alloc: Global,
+    detail: Detail,
     image: &Image,
     cores: u32,
     room: u32,
@@ -73,14 +77,14 @@ fn drive_trace<S: EpochStore>(
     requires cores { IsCoreCount image.now cores }
     requires least { 16 ≤ room }
     requires most { room ≤ 1048576 }
-    ensures { MatchResult result (λ shown. spec.IsRetraced S.view S.waits (loop_on image.now cores room) entries.now shown.0 shown.1.items)
+    ensures { MatchResult result (λ shown. spec.IsRetraced S.view S.waits (IsHead S.view S.waits S.changes detail) (loop_on image.now cores room) entries.now shown.0 shown.1.items)
         (spec.IsNotRetraced S.view S.waits (loop_on image.now cores room) entries.now) }
 {
     let Ok(schedule) = turns_of(alloc, cores, entries) else {
         return Err(Outcome::Stopped(StopCause::NoMemory));
     };
-    match drive_schedule::<S>(alloc, image, cores, room, schedule.as_slice()) {
-        Ok(book) => show_same(alloc, image, cores, &book, entries),
+    match drive_told::<S>(alloc, detail, image, cores, room, schedule.as_slice()) {
+        Ok((book, head)) => show_same(alloc, image, cores, &book, entries, head),
         Err(fault) => Err(Outcome::Stopped(cause_of(fault))),
     }
 }
@@ -116,23 +120,25 @@ fn is_of_own(what: What) -> bool
     }
 }
 
-/// Shows the history of a book where it is that of the entries.
+/// Shows the history of a book, below this head, where it is that of the entries.
 fn show_same<S: EpochStore>(
     alloc: Global,
     image: &Image,
     cores: u32,
     book: &Book<S>,
     entries: &[Entry],
+    head: Vec<u8>,
 ) -> Result<(Outcome, Vec<u8>), Outcome>
     requires image { book.now.image ≡ image.now }
     requires cores { book.now.cores ≡ cores }
-    ensures { MatchResult result (λ shown. (book.now.history ≡ entries.now) × IsShown image.now cores book.now.history shown.0 shown.1.items)
+    ensures { MatchResult result (λ shown. (book.now.history ≡ entries.now)
+        × ((below : List ℕ) × IsShown image.now cores book.now.history shown.0 below × (shown.1.items ≡ head.items ++ below)))
         (spec.IsNotSame book.now.history entries.now) }
 {
     if let Some(place) = parting(book.history(), entries) {
         return Err(Outcome::Differs(place));
     }
-    match print_book(alloc, image, cores, book) {
+    match print_told(alloc, image, cores, book, head) {
         Ok(shown) => Ok(shown),
         Err(AllocError) => Err(Outcome::Stopped(StopCause::NoMemory)),
     }

@@ -1,6 +1,7 @@
 ghost use Rattle.std.specs.Prelude.{◌≡◌, ◌≤◌, ◌↔◌, ◌^◌, IfSome, IsTrue};
 ghost use Rattle.all_schedules.specs.Work.{AreTurns, IsUpTo16};
 
+use crate::detail::Detail;
 use crate::paced::Pace;
 use rv32_image::number_in;
 use std::convert::AsStr;
@@ -18,7 +19,7 @@ pub enum Store {
 #[derive(Clone, Copy, Debug, PartialEq, Eq)]
 pub enum Turns {
     /// Those of the input, on so many cores. None: as many as its trace has.
-    Given(Option<u32>),
+    Given { detail: Detail, cores: Option<u32> },
     /// Those of every schedule of so many turns.
     Every { cores: u32, turns: u32 },
     /// Those of the run by this pace.
@@ -32,16 +33,17 @@ pub struct Request {
     pub turns: Turns,
 }
 
-/// What these words ask for, `STORE`, `STORE CORES`, `even STORE CORES`, `seeded SEED STORE CORES` or `all STORE CORES TURNS` below the
+/// What these words ask for, `STORE`, `STORE CORES`, both also behind `steps`, `even STORE CORES`, `seeded SEED STORE CORES` or `all STORE CORES TURNS` below the
 /// program's name. None: other words.
 pub fn request_of<S: AsStr>(words: &[S]) -> Option<Request>
     ensures { IfSome result (λ request. AreTurns request.turns) }
 {
     match words.len() {
-        2 => asked(words[1].as_str(), Turns::Given(None)),
-        3 => {
-            let cores = number_up_to_16(words[2].as_str())?;
-            asked(words[1].as_str(), Turns::Given(Some(cores)))
+        2 => given(Detail::Whole, words[1].as_str(), None),
+        3 if words[1].as_str() == "steps" => given(Detail::Steps, words[2].as_str(), None),
+        3 => given(Detail::Whole, words[1].as_str(), Some(words[2].as_str())),
+        4 if words[1].as_str() == "steps" => {
+            given(Detail::Steps, words[2].as_str(), Some(words[3].as_str()))
         }
         4 if words[1].as_str() == "even" => {
             let cores = number_up_to_16(words[3].as_str())?;
@@ -63,6 +65,17 @@ pub fn request_of<S: AsStr>(words: &[S]) -> Option<Request>
         }
         _ => None,
     }
+}
+
+/// The request of the turns of the input over the store that a word names, on so many cores as another word says.
+fn given(detail: Detail, store: &str, cores: Option<&str>) -> Option<Request>
+    ensures { IfSome result (λ request. AreTurns request.turns) }
+{
+    let cores = match cores {
+        Some(word) => Some(number_up_to_16(word)?),
+        None => None,
+    };
+    asked(store, Turns::Given { detail, cores })
 }
 
 /// The request of these turns over the store that a word names.

@@ -9,6 +9,7 @@ use Rattle.all_schedules.specs.AllSchedules.{AllAnswers}
 use Rattle.all_schedules.specs.Paced.{IsPacedOutcome}
 use Rattle.all_schedules.specs.Replay.{IsReplayOutcome}
 use Rattle.all_schedules.specs.Streams.{Stream}
+use Rattle.all_schedules.specs.Told.{IsHead}
 use Rattle.all_schedules.specs.Work.{TurnsAnswer}
 use Rattle.all_schedules.proofs.Works.{for_both}
 use Rattle.all_schedules.proofs.commands.answer.Goals as goal
@@ -21,7 +22,7 @@ returns-in-Every g c =
     let input : Stream = record { old = g.R.Read.remaining c.args.reader.now; new = g.R.Read.remaining c.do_all.new.reader } in
     let output : Stream = record { old = g.W.Write.contents c.args.writer.now; new = g.W.Write.contents c.do_all.new.writer } in
     let errors : Stream = record { old = g.E.Write.contents c.args.errors.now; new = g.E.Write.contents c.do_all.new.errors } in
-    subst (λ (turns : Turns). ForText input.old (λ text. TurnsAnswer view waits c.args.room turns text input output errors c.do_all.result)) (sym c.in-Every.is)
+    subst (λ (turns : Turns). ForText input.old (λ text. TurnsAnswer view waits g.S.ShownStore.changes c.args.room turns text input output errors c.do_all.result)) (sym c.in-Every.is)
     (for_both input.old (λ text. AllAnswers view waits cores c.args.room c.in-Every.turns text output errors c.do_all.result)
     (TakesAtMost input.old input.new (longest_image_text + 1)) c.do_all.ensures.outcome c.do_all.ensures.taken)
 
@@ -33,8 +34,8 @@ returns-in-Given g c =
     let input : Stream = record { old = g.R.Read.remaining c.args.reader.now; new = g.R.Read.remaining c.do_replay.new.reader } in
     let output : Stream = record { old = g.W.Write.contents c.args.writer.now; new = g.W.Write.contents c.do_replay.new.writer } in
     let errors : Stream = record { old = g.E.Write.contents c.args.errors.now; new = g.E.Write.contents c.do_replay.new.errors } in
-    subst (λ (turns : Turns). ForText input.old (λ text. TurnsAnswer view waits c.args.room turns text input output errors c.do_replay.result)) (sym c.in-Given.is)
-    (for_both input.old (λ text. Conclusion (IsReplayOutcome view waits cores c.args.room text output.old output.new) errors.old errors.new c.do_replay.result)
+    subst (λ (turns : Turns). ForText input.old (λ text. TurnsAnswer view waits g.S.ShownStore.changes c.args.room turns text input output errors c.do_replay.result)) (sym c.in-Given.is)
+    (for_both input.old (λ text. Conclusion (IsReplayOutcome view waits (IsHead view waits g.S.ShownStore.changes c.in-Given.detail) cores c.args.room text output.old output.new) errors.old errors.new c.do_replay.result)
     (TakesAtMost input.old input.new (longest_trace_text + 1)) c.do_replay.ensures.outcome c.do_replay.ensures.taken)
 
 pub returns-in-Paced : goal.returns-in-Paced
@@ -45,6 +46,6 @@ returns-in-Paced g c =
     let input : Stream = record { old = g.R.Read.remaining c.args.reader.now; new = g.R.Read.remaining c.do_paced.new.reader } in
     let output : Stream = record { old = g.W.Write.contents c.args.writer.now; new = g.W.Write.contents c.do_paced.new.writer } in
     let errors : Stream = record { old = g.E.Write.contents c.args.errors.now; new = g.E.Write.contents c.do_paced.new.errors } in
-    subst (λ (turns : Turns). ForText input.old (λ text. TurnsAnswer view waits c.args.room turns text input output errors c.do_paced.result)) (sym c.in-Paced.is)
+    subst (λ (turns : Turns). ForText input.old (λ text. TurnsAnswer view waits g.S.ShownStore.changes c.args.room turns text input output errors c.do_paced.result)) (sym c.in-Paced.is)
     (for_both input.old (λ text. Conclusion (IsPacedOutcome view waits c.in-Paced.pace cores c.args.room text output.old output.new) errors.old errors.new c.do_paced.result)
     (TakesAtMost input.old input.new (longest_image_text + 1)) c.do_paced.ensures.outcome c.do_paced.ensures.taken)

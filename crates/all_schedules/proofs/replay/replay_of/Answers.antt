@@ -4,6 +4,7 @@ use Rattle.violations.specs.Rule.{IsCoreCount}
 use Rattle.trace_text.specs.Reading.{IsFaultOf}
 use Rattle.all_schedules.specs.Made.{loop_on}
 use Rattle.all_schedules.specs.Replay.{IsReplay}
+use Rattle.all_schedules.specs.Told.{IsHead}
 use Rattle.all_schedules.proofs.Cores.{are_cores}
 use Rattle.all_schedules.proofs.Outcomes.{by_text, refused_turns}
 use Rattle.all_schedules.proofs.replay.replay_of.Goals as goal
@@ -26,8 +27,8 @@ returns-in-Ok-replay_turns g c =
     let image_is = ap image_text (sym c.image_part.ensures) ∙ c.in-Ok.ensures in
     let allowed : IsCoreCount image cores = record { least = c.requires.cores; most = search rules } in
     let turns = c.parts_of-parts.ensures.reads cores ∙ c.in-Ok-read_turns.ensures in
-    by_text cores c.args.room c.args.text.now image c.in-Ok-read_turns.schedule.items (λ l schedule. IsReplay g.S.EpochStore.view g.S.EpochStore.waits l schedule shown.0 shown.1.items) image_is allowed turns
-    (subst (λ s. IsReplay g.S.EpochStore.view g.S.EpochStore.waits (loop_on image cores c.args.room) s shown.0 shown.1.items) c.as_slice.ensures.value c.in-Ok-replay_turns.ensures.shown)
+    by_text cores c.args.room c.args.text.now image c.in-Ok-read_turns.schedule.items (λ l schedule. IsReplay g.S.EpochStore.view g.S.EpochStore.waits (IsHead g.S.EpochStore.view g.S.EpochStore.waits g.S.ShownStore.changes c.args.detail) l schedule shown.0 shown.1.items) image_is allowed turns
+    (subst (λ s. IsReplay g.S.EpochStore.view g.S.EpochStore.waits (IsHead g.S.EpochStore.view g.S.EpochStore.waits g.S.ShownStore.changes c.args.detail) (loop_on image cores c.args.room) s shown.0 shown.1.items) c.as_slice.ensures.value c.in-Ok-replay_turns.ensures.shown)
 
 pub replay_turns-requires-clause-schedule : goal.replay_turns-requires-clause-schedule
 replay_turns-requires-clause-schedule g c κs within =
