@@ -25,6 +25,7 @@ from pathlib import Path
 
 from audit_rows import EXIT, NINE, SIX, WAIT, illegal, legal, traced, trace_refused, without
 from seq_rows import COUNTER, FOUR, SEARCH, at, done, exited, fault, image, refused
+from steps_rows import COUNTED_CACHES, COUNTED_PLAIN, steps
 
 ROOT = Path(__file__).resolve().parent.parent
 STOPPED = ("", "stopped NoMemory\n", 3)
@@ -119,6 +120,9 @@ OTHERS = [
     *[("a run on one core by its own schedule", "replay", [*pace, "plain", "1"], image(COUNTER),
        ("turns 0 0 0 0\nend done 1\ncounts 1 1 0 1\ntrace 1\n0 start 0\n0 load 00000040 4 00000000\n0 store 00000040 4 00000000\n0 commit\n", "", 0))
       for pace in (["even"], ["seeded", "5"])],
+    *[("each turn of a schedule", "replay", ["steps", store, "1"], image(COUNTER) + "turns 0 0 0 0\n",
+       (steps(above, "end done 1\ncounts 1 1 0 1\ntrace 1\n0 start 0\n0 load 00000040 4 00000000\n0 store 00000040 4 00000000\n0 commit\n"), "", 0))
+      for store, above in (("caches", COUNTED_CACHES), ("plain", COUNTED_PLAIN))],
     *[("a trace", "replay", ["caches"], image(COUNTER) + f"trace 1\n0 start 0\n0 load 00000040 4 0000000{value}\n0 store 00000040 4 00000000\n0 commit\n", shown)
       for value, shown in [(0, ("end done 1\ncounts 1 1 0 1\ntrace 1\n0 start 0\n0 load 00000040 4 00000000\n0 store 00000040 4 00000000\n0 commit\n", "", 0)),
                            (1, ("", "differs 1\n", 4))]],

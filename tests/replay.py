@@ -25,6 +25,8 @@ from pathlib import Path
 from memory import beside
 from run_rows import loads
 from seq_rows import ROOT, image, run
+from steps_rows import (BYTES_PLAIN, FAULTED_CACHES, FAULTED_PLAIN, NOT_VIOLATED_CACHES, NOT_VIOLATED_PLAIN, OVER_AT_ONCE, VIOLATED_CACHES,
+                        VIOLATED_PLAIN, answers, buffer, copies, entries, standing, steps, turns_of)
 from streams import piecewise
 
 # Epoch 0 stores 1 to 64. Epoch 1 loops until it loads it.
@@ -37,6 +39,8 @@ BYTES = image("9302f00f2300550467800000", epochs=2)
 ONE_SET = image("83220004032300088323000c67800000", epochs=2)
 # Epoch 0 loads the words at 64, 80, 96, 112 and 128. Epoch 1 stores 1 to them.
 FIVE_LOADS_FIRST = image("630e05002320a0042328a0042320a0062328a0062320a00867800000832200048322000583220006832200078322000867800000", epochs=2)
+# Epoch 0 stores 0 to these words. Epoch 1 loads them.
+FIVE_STORES_FIRST = image("630e050083220004832200058322000683220007832200086780000" + "02320a0042328a0042320a0062328a0062320a00867800000", epochs=2)
 # Each of two epochs adds 1 to the word at 64, and then faults.
 CALL = image("83220004938212002320500473000000", epochs=2, limit=50)
 # Nothing is to be run.
@@ -300,6 +304,39 @@ ROWS = [
 JUST_ROOM = 1_048_576 - 16 + 1
 OPEN = ["open 61680", "counts 925200 0 0 61680", "trace 2"]
 
+# (words, image, turns, what steps print above the line `end`, what is printed of the turns, status)
+STEPS = [
+    (CACHES, SIGNAL, "0 1 0 1 0 1 1 1", VIOLATED_CACHES, VIOLATED, 0),
+    (PLAIN, SIGNAL, "0 1 0 1 0 1 1 1", VIOLATED_PLAIN, VIOLATED, 0),
+    (CACHES, LOAD_FIRST, "0 1 0 1 0 1", NOT_VIOLATED_CACHES, NOT_VIOLATED, 0),
+    (PLAIN, LOAD_FIRST, "0 1 0 1 0 1", NOT_VIOLATED_PLAIN, NOT_VIOLATED, 0),
+    (PLAIN, BYTES, "0 1 0 1 0 1", BYTES_PLAIN, BOTH_BYTES, 0),
+    (["caches", "1"], CALL, "0 0 0 0 0", FAULTED_CACHES, FAULTED, 1),
+    (["plain", "1"], CALL, "0 0 0 0 0", FAULTED_PLAIN, FAULTED, 1),
+    (CACHES, NOTHING, "0", OVER_AT_ONCE, DONE_AT_ONCE, 0),
+    (PLAIN, NOTHING, "0", OVER_AT_ONCE, DONE_AT_ONCE, 0),
+]
+
+# Over caches on two cores: (image, turns, the answers, and of some cores what stands after so many turns: copies, buffer)
+STANDING = [
+    (BYTES, "0 1 0 1 0 1", ["go"] * 4 + ["left", "over done 2"], [
+        (4, "0", ["00000040 SpS - 00000001"], ["00000040"]), (4, "1", ["00000040 SpS - 00000002"], ["00000040"])]),
+    (ONE_SET, "0 1 1 1 1 0 0 0", ["go"] * 4 + ["again NoWay"] + ["go"] * 3, [
+        (5, "1", ["00000040 SpE loaded 00000000", "00000080 SpE loaded 00000000"], []),
+        (7, "0", ["00000040 SpS loaded 00000000", "00000080 SpS loaded 00000000"], []),
+        (7, "1", ["00000040 SpS loaded 00000000", "00000080 SpS loaded 00000000"], [])]),
+    (FIVE_LOADS_FIRST, "0 0 0 0 0 0 1 1 1 1 1 1 0 1 1", ["go"] * 11 + ["again OrbFull", "left", "go", "over done 2"], [
+        (12, "1", [f"000000{line}0 SpS - 0000000f" for line in "4567"], [f"000000{line}0" for line in "4567"])]),
+    (FIVE_STORES_FIRST, "0 0 0 0 0 0 1 1 1 1 1 1 0", ["go"] * 11 + ["again OrbBusy", "left"], [
+        (6, "0", [f"000000{line}0 SpE - 0000000f" for line in "45678"], []),
+        (12, "0", [f"000000{line}0 SpS - 0000000f" for line in "4567"] + ["00000080 SpE - 0000000f"], [f"000000{line}0" for line in "4567"]),
+        (12, "1", [f"000000{line}0 SpS loaded 00000000" for line in "4567"], []),
+        (13, "1", [], [])]),
+]
+
+# Words below `steps` that ask for nothing.
+NO_STEPS = [[], ["bus", "2"], ["plain", "9"], ["plain", "02"], ["all", "plain", "2", "2"], ["seeded", "1", "plain", "2"], ["steps", "plain", "2"]]
+
 # The bytes that an image and lines of turns may have together.
 LONGEST = 33_554_432
 
@@ -378,6 +415,38 @@ def traced(program, command):
         yield f"{name}, another {lines[place]}", run([str(program)], ["caches"], "\n".join([text, *lines])), ("", f"differs {place - 1}\n", 4)
 
 
+def stepped(program):
+    """(what it shows, outcome, expected outcome) of steps: worked outputs; what stands after turns, worked out too; and words that are
+    refused."""
+    for words, text, turns, above, below, status in STEPS:
+        outcome = run([str(program)], ["steps", *words], f"{text}turns {turns}\n")
+        yield f"steps {words} of {turns} on {len(text)} bytes", outcome, (steps(above, below), "", status)
+    for text, turns, answered, after in STANDING:
+        output, errors, status = run([str(program)], ["steps", *CACHES], f"{text}turns {turns}\n")
+        seen, name = turns_of(output), f"steps of {turns} on {len(text)} bytes"
+        yield name, (answers(seen), errors, status), (answered, "", 0)
+        for count, core, held, buffered in after:
+            yield f"{name}: core {core} after {count}", (copies(seen[:count], core), buffer(seen[:count], core)), (held, buffered)
+    for words in NO_STEPS:
+        yield f"steps {words}", run([str(program)], ["steps", *words], SIGNAL + "turns 0\n"), ("", "usage\n", 2)
+
+
+def summed_up(program):
+    """(what it shows, outcome, expected outcome) of steps: below the line `end` is what is printed without them, which the entries and the
+    committed bytes above it come to."""
+    for words, text, below, status, output, errors in ROWS:
+        if words[0] in ("all", "seeded"):
+            continue
+        name = f"steps {words} on {len(text)} bytes and {below!r}"
+        printed, *others = run([str(program)], ["steps", *words], text + below)
+        yield name, (printed.partition("end\n")[2] if output else printed, *others), (output, errors, status)
+        if output:
+            turns, lines = turns_of(printed), output.splitlines()
+            rows = {f"at {place[1]} {those[0]}" for place, those in standing(turns).items() if place[0] == "at"}
+            yield f"{name}: entries", entries(turns), lines[[line.split()[0] for line in lines].index("trace") + 1:]
+            yield f"{name}: committed bytes", rows, {line for line in lines if line.startswith("at ")}
+
+
 def program_of(command):
     """The built program `replay` that belongs to a command of `trace_cli`, or None."""
     if Path(command[0]).resolve() != ROOT / "trace_cli":
@@ -441,6 +510,7 @@ STREAMS = [
     (CACHES, SIGNAL, NOT_BEGUN, "turns 0 Read\n"),
     (["seeded", "1234567", "plain", "2"], NOTHING, DRAWN, "image 0 Read\n"),
     (["caches"], NOTHING + "trace 2\n", DONE_AT_ONCE, "turns 0 Read\n"),
+    *[(["steps", *words], NOTHING + "turns 0\n", steps(OVER_AT_ONCE, DONE_AT_ONCE), "turns 0 Read\n") for words in (PLAIN, CACHES)],
 ]
 
 
@@ -478,7 +548,7 @@ def main():
             subprocess.run(["cc", "-shared", "-fPIC", "-O1", "-o", shim, source], check=True)
         else:
             print("SKIPPED: interrupted reads of replay, since cc isn't installed")
-        results += [*streams(program, shim), *seeded(program, command), *traced(program, command)]
+        results += [*stepped(program), *summed_up(program), *streams(program, shim), *seeded(program, command), *traced(program, command)]
     wrong = [f"{name}\n  expected {expected}\n  got      {got}" for name, got, expected in results if got != expected]
     wrong += [*full_history(program), *longest(program)]
     for text in wrong:
