@@ -272,6 +272,10 @@ def steps(above, below):
     return re.sub(r"{(\w+)}", lambda found: found[1].ljust(32, "0"), above) + "end\n" + below
 
 
+# How many words name a place.
+NAMED = {"attempt": 2, "hart": 2, "line": 4, "orb": 2, "kept": 3, "at": 2}
+
+
 def turns_of(output):
     """(head, entries, changes) of each turn."""
     turns = []
@@ -298,9 +302,8 @@ def entries(turns):
 
 def standing(turns):
     """What stands at each place after these turns: the words below the name of the place."""
-    named = {"attempt": 2, "hart": 2, "line": 4, "orb": 2, "kept": 3, "at": 2}
     words = [line.split() for _, _, changes in turns for line in changes]
-    return {tuple(line[:named[line[0]]]): line[named[line[0]]:] for line in words}
+    return {tuple(line[:NAMED[line[0]]]): line[NAMED[line[0]]:] for line in words}
 
 
 def copies(turns, core):
