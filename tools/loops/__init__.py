@@ -13,8 +13,9 @@ from .conflicts import Access, Conflicts, Violation, read_conflicts
 from .images import Image, Unreadable, read_image
 from .programs import Programs, Stopped, with_trace
 from .runs import Counts, Entry, Output, Report, Survey, Trace, Traced, Verdict, read_output, read_report, read_survey, read_traced, read_verdict
+from .steps import Step, Steps, read_steps
 
 __all__ = [
-    "Access", "Conflicts", "Counts", "Entry", "Image", "Output", "Programs", "Report", "Stopped", "Survey", "Trace", "Traced", "Unreadable", "Verdict",
-    "Violation", "read_conflicts", "read_image", "read_output", "read_report", "read_survey", "read_traced", "read_verdict", "with_trace",
+    "Access", "Conflicts", "Counts", "Entry", "Image", "Output", "Programs", "Report", "Step", "Steps", "Stopped", "Survey", "Trace", "Traced", "Unreadable", "Verdict",
+    "Violation", "read_conflicts", "read_image", "read_output", "read_report", "read_steps", "read_survey", "read_traced", "read_verdict", "with_trace",
 ]

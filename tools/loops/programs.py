@@ -9,6 +9,7 @@ from .conflicts import Conflicts, read_conflicts
 from .gains import Gains, read_gains
 from .images import Image
 from .runs import Output, Survey, Trace, Traced, Verdict, read_output, read_survey, read_verdict
+from .steps import Steps, read_steps
 
 # Statuses with which a program has printed its answer: the loop is done or exited, or an epoch faulted.
 ENDED = (0, 1)
@@ -79,6 +80,11 @@ class Programs:
     def seeded(self, image: Image | str, seed: int, store: str, cores: int) -> Output:
         """The loop by the schedule that is drawn from a seed."""
         return read_output(call(self.folder / "replay", ["seeded", str(seed), store, str(cores)], text_of(image)))
+
+    def steps(self, text: str, store: str, cores: int | None = None) -> Steps:
+        """A run turn by turn, with what changed: that of the lines of turns below an image, for so many cores, or of a trace below it."""
+        words = ["steps", store] + ([] if cores is None else [str(cores)])
+        return read_steps(call(self.folder / "replay", words, text))
 
     def gain(self, image: Image | str, cores: int) -> Gains:
         """What the loop gains on up to so many cores."""

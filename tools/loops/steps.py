@@ -1,0 +1,69 @@
+"""What `replay steps` prints: each turn of a run with its entries, and what it changed in what the store and the cores hold."""
+
+from collections.abc import Iterator
+from dataclasses import dataclass, field
+
+from .images import Unreadable
+from .runs import Entry, entry_of
+
+# How many words of each line of a change name its place. Those behind them are what stands there now.
+PLACE_WORDS = {"attempt": 2, "hart": 2, "line": 4, "orb": 2, "kept": 3, "at": 2}
+
+
+@dataclass(slots=True)
+class Step:
+    """One turn."""
+    turn: int
+    core: int
+    answer: str                                                 # `go`, `again NoWay`, `left`, `over done 2`
+    entries: list[Entry] = field(default_factory=list)
+    changes: dict[str, str] = field(default_factory=dict)       # what stands at a place now: `line 0 3 0`: `00000030 SpE loaded ..`
+
+    def text(self) -> str:
+        lines = [f"turn {self.turn} {self.core} {self.answer}\n", *(f"entry {entry.text()}" for entry in self.entries)]
+        return "".join(lines + [f"{place} {now}".rstrip(" ") + "\n" for place, now in self.changes.items()])
+
+
+@dataclass
+class Steps:
+    """The turns in order, and what stands below the line `end`: report, counts and trace of the whole run."""
+    steps: list[Step] = field(default_factory=list)
+    rest: str = ""
+
+    def states(self) -> Iterator[dict[str, str]]:
+        """After each turn, what was last said of each place. It is one dictionary, which goes on: copy what is to be kept."""
+        state: dict[str, str] = {}
+        for step in self.steps:
+            state.update(step.changes)
+            yield state
+
+    def text(self) -> str:
+        return "".join(step.text() for step in self.steps) + "end\n" + self.rest
+
+
+def take_line(steps: list[Step], place: int, line: str) -> int:
+    """Takes one line of the turns in. The place is that of the next entry, and what is answered is that of the one after this line."""
+    words = line.split(" ")
+    if words[0] == "turn":
+        steps.append(Step(int(words[1]), int(words[2]), " ".join(words[3:])))
+    elif words[0] == "entry":
+        steps[-1].entries.append(entry_of(place, " ".join(words[1:])))
+        return place + 1
+    else:
+        named = PLACE_WORDS[words[0]]
+        steps[-1].changes[" ".join(words[:named])] = " ".join(words[named:])
+    return place
+
+
+def read_steps(text: str) -> Steps:
+    """The turns that `replay steps` printed."""
+    told, place = Steps(), 0
+    head, end, told.rest = ("\n" + text).partition("\nend\n")
+    for number, line in enumerate(head[1:].splitlines(), 1):
+        try:
+            place = take_line(told.steps, place, line)
+        except (ValueError, IndexError, KeyError):
+            raise Unreadable(f"line {number} of the steps: {line!r}") from None
+    if not end:
+        raise Unreadable("the steps have no line `end`")
+    return told
