@@ -30,7 +30,7 @@ except ImportError:
 
 # What a shell tells of a program that SIGPIPE ends.
 UNREAD = 141
-TOOLS = ["build", "definitions", "picture", "named", "trace", "json", "image-of", "plot", "verdict", "study"]
+TOOLS = ["build", "definitions", "picture", "named", "trace", "json", "image-of", "plot", "verdict", "study", "view"]
 HURT = ("hurt 4 true epoch 1 try 1 core 1 lost 3 entered 2 since 2 by 0 core 0 cause 5 commit load 3 00000004 store 2 00000014 at 00000040 4\n"
         "also 4 silent load 3 00000004 store 2 00000014 at 00000080 4\nlater 4 store 7 00000014\nvain 4 hurt\nmoot 4\n")
 TOTAL = "total epochs 2 committed 2 useful 8 rollbacks 1 lost 3 cancelled 0 dropped 0 open 0 unsettled 0\n"

@@ -1,0 +1,79 @@
+// The lanes: what each core ran, turn by turn from left to right, and a cursor at the turn that is shown.
+const LANE = 22, BAR = 15, MARGIN = 52;
+const FILLS = { committed: "#7fb7d9", fault: "#7fb7d9", violated: "#f5c66b" };
+
+const across = number => MARGIN + number * (element("lanes").clientWidth - MARGIN) / Math.max(1, steps.length);
+
+function hatch(pen, left, top, wide) {
+  pen.save();
+  pen.beginPath();
+  pen.rect(left, top, wide, BAR);
+  pen.clip();
+  pen.strokeStyle = "#b36b00";
+  pen.beginPath();
+  for (let x = left - BAR; x < left + wide; x += 6) {
+    pen.moveTo(x, top + BAR);
+    pen.lineTo(x + BAR, top);
+  }
+  pen.stroke();
+  pen.restore();
+}
+
+// Words that can be read on a hatch too.
+function write(pen, words, x, y) {
+  pen.strokeStyle = "#fff";
+  pen.lineWidth = 3;
+  pen.strokeText(words, x, y);
+  pen.lineWidth = 1;
+  pen.fillStyle = "#000";
+  pen.fillText(words, x, y);
+}
+
+// A box from the first turn of an attempt to its end; that of one that was rolled back ends there, and a line leads on to where its core begins again.
+function drawAttempt(pen, [core, epoch, number, first, end, fate, undone]) {
+  const stop = fate === "violated" ? undone + 0.5 : end, left = across(Math.max(first, 0)), top = core * LANE + 3;
+  const wide = Math.max(1, across(Math.min(stop, steps.length)) - left), name = number > 1 ? `e${epoch} #${number}` : `e${epoch}`;
+  pen.fillStyle = FILLS[fate] ?? "#ddd";
+  pen.fillRect(left, top, wide, BAR);
+  if (fate === "violated") hatch(pen, left, top, wide);
+  pen.strokeStyle = "#333";
+  if (wide > 3) pen.strokeRect(left + 0.5, top + 0.5, wide - 1, BAR);
+  pen.beginPath();
+  pen.moveTo(left + wide, top + BAR / 2);
+  pen.lineTo(across(Math.min(end, steps.length)), top + BAR / 2);
+  pen.stroke();
+  if (pen.measureText(name).width + 6 < wide) write(pen, name, left + 3, top + 11);
+}
+
+function drawRollback(pen, [number, by, victim]) {
+  const x = across(number + 0.5), middle = core => core * LANE + 3 + BAR / 2;
+  pen.strokeStyle = pen.fillStyle = "#000";
+  pen.beginPath();
+  pen.moveTo(x, middle(by));
+  pen.lineTo(x, middle(victim));
+  pen.stroke();
+  pen.beginPath();
+  pen.arc(x, middle(by), 2.5, 0, 7);
+  pen.fill();
+  pen.font = "bold 14px sans-serif";
+  write(pen, "!", x + 2, middle(victim) + 5);
+  pen.font = "11px sans-serif";
+}
+
+function drawLanes() {
+  const canvas = element("drawn"), sharp = devicePixelRatio || 1, wide = element("lanes").clientWidth, high = run.cores * LANE + 4;
+  canvas.width = wide * sharp;
+  canvas.height = high * sharp;
+  canvas.style.height = `${high}px`;
+  const pen = canvas.getContext("2d");
+  pen.scale(sharp, sharp);
+  pen.font = "11px sans-serif";
+  for (let core = 0; core < run.cores; core++) pen.fillText(`core ${core}`, 4, core * LANE + 14);
+  for (const attempt of run.attempts) drawAttempt(pen, attempt);
+  for (const one of run.rollbacks) drawRollback(pen, one);
+}
+
+function showCursor() {
+  element("cursor").style.left = `${across(now)}px`;
+  element("cursor").style.width = `${Math.max(2, across(now + 1) - across(now))}px`;
+}

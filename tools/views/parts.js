@@ -1,0 +1,179 @@
+// The parts of the page that show places.
+const SETS = 4, WAYS = 2, MOST_CODE = 120, AROUND = 20;
+
+const hex = (number, digits) => number.toString(16).padStart(digits, "0");
+
+// `bins`, or `bins+4..19`, of the variables that a stretch of memory has.
+function namesIn(address, length) {
+  const told = [];
+  for (const [name, first, bytes] of run.variables) {
+    const from = Math.max(first, address), to = Math.min(first + bytes, address + length);
+    if (from < to) told.push(to - from === bytes ? name : `${name}+${from - first}..${to - first - 1}`);
+  }
+  return told.join(", ");
+}
+
+function made(tag, text = "", kind = "") {
+  const one = document.createElement(tag);
+  one.textContent = text;
+  if (kind) one.className = kind;
+  return one;
+}
+
+// In a word, how a place isn't as it was before the turn.
+function wordOf(place, was) {
+  if (!place.startsWith("line ")) return "changed";
+  const old = (was ?? "-").split(" "), is = at(place).split(" ");
+  if (is[0] === "-") return `gone: was ${old[0]} ${old[1]}`;
+  if (old[0] === "-") return "new";
+  if (old[0] !== is[0]) return `new, in place of ${old[0]} ${old[1]}`;
+  return old[1] === is[1] ? "changed" : `was ${old[1]}`;
+}
+
+// A part that shows a place; where its turn changed that, it says so.
+function placed(tag, place) {
+  const part = made(tag), changes = steps[now][CHANGES];
+  part.dataset.place = place;
+  if (place in changes) {
+    part.className = "changed";
+    part.append(made("span", wordOf(place, before[now][place]), "word"), " ");
+  }
+  return part;
+}
+
+// Bytes in words of four: those of a mask are underlined, and those that are not as they were are framed.
+function bytesShown(bytes, mask, was) {
+  const all = made("span", "", "bytes"), count = bytes.length / 2;
+  for (let place = 0; place < count; place++) {
+    if (place) all.append(place % 16 ? place % 4 ? "" : " " : made("br"));
+    const byte = bytes.slice(2 * place, 2 * place + 2), isNew = was !== undefined && was.slice(2 * place, 2 * place + 2) !== byte;
+    const kinds = [mask >>> place & 1 ? "stored" : "", isNew ? "new" : ""].filter(Boolean).join(" ");
+    all.append(kinds ? made("span", byte, kinds) : byte);
+  }
+  return all;
+}
+
+function wayCell(place) {
+  const cell = placed("td", place), text = at(place);
+  if (text === "-") {
+    cell.append(made("span", "empty", "none"));
+    return cell;
+  }
+  const [address, kind, loaded, mask, bytes] = text.split(" "), stored = parseInt(mask, 16);
+  const [oldAddress, , , , oldBytes] = (before[now][place] ?? "-").split(" ");
+  cell.append(made("span", address, "address"), " ", made("b", kind, kind.startsWith("Sp") ? "state speculative" : "state"));
+  if (loaded === "loaded") cell.append(" ", made("span", "loaded", "mark"));
+  if (stored) cell.append(" mask ", made("span", mask.slice(-run.length / 4), "mask"));
+  cell.append(made("br"), bytesShown(bytes, stored, oldAddress === address ? oldBytes : undefined));
+  cell.append(made("br"), made("span", namesIn(parseInt(address, 16), run.length), "names"));
+  return cell;
+}
+
+function cacheTable(core) {
+  const table = made("table", "", "cache"), head = table.insertRow();
+  head.append(made("th", "set"), ...Array.from({ length: WAYS }, (_, way) => made("th", `way ${way}`)));
+  for (let set = 0; set < SETS; set++) {
+    const row = table.insertRow();
+    row.append(made("th", String(set)), ...Array.from({ length: WAYS }, (_, way) => wayCell(`line ${core} ${set} ${way}`)));
+  }
+  return table;
+}
+
+function bufferPart(core) {
+  const part = placed("p", `orb ${core}`), lines = at(`orb ${core}`, "").split(" ").filter(Boolean);
+  const told = lines.map(line => `${line} ${namesIn(parseInt(line, 16), run.length)}`.trim());
+  part.append(`buffer, ${lines.length} of ${run.length / 4} lines${told.length ? ": " : ""}${told.join("; ")}`);
+  return part;
+}
+
+// Over the plain store: the bytes that an epoch has read and stored.
+function keptTable(core) {
+  const table = made("table"), head = table.insertRow(), changes = steps[now][CHANGES];
+  head.append(...["keeps of", "read (mask)", "stored (mask)", "stored bytes"].map(text => made("th", text)));
+  for (const place of [...state.keys()].filter(one => one.startsWith(`kept ${core} `)).sort()) {
+    const [read, own, bytes] = at(place).split(" "), address = place.split(" ")[2];
+    if (read + own === "00000000" && !(place in changes)) continue;
+    const row = table.insertRow(), cell = placed("td", place);
+    cell.append(made("span", `${address} ${namesIn(parseInt(address, 16), 16)}`, "names"));
+    row.append(cell, made("td", read, "mark"), made("td", own, "mask"), made("td"));
+    row.lastChild.append(bytesShown(bytes, parseInt(own, 16), before[now][place]?.split(" ")[2]));
+  }
+  return table;
+}
+
+const attemptAt = core => run.attempts.findLast(([by, , , first, end]) => by === core && first <= now && now <= end);
+
+function attemptPart(core) {
+  const part = placed("h3", `attempt ${core}`), [epoch, mode] = at(`attempt ${core}`).split(" "), last = attemptAt(core);
+  const undone = last && last[6] !== null && last[6] <= now;
+  const idle = undone ? `epoch ${last[1]}, attempt ${last[2]}, was ${last[5] === "violated" ? "rolled back" : "cancelled"}` : "no epoch";
+  part.append(`Core ${core}: ${epoch === "-" ? idle : `epoch ${epoch}, attempt ${last ? last[2] : 1}, ${mode}`}`);
+  return part;
+}
+
+function hartPart(core) {
+  const part = placed("p", `hart ${core}`), [pc, done] = at(`hart ${core}`).split(" ");
+  if (pc === "-") part.append("nothing in hand");
+  else part.append(`${done} executed; next ${pc} `, made("code", run.code[pc] ?? ""), run.sources[pc] ? ` ${run.sources[pc]}` : "");
+  if (pc !== "-" && at(`attempt ${core}`) === "-") part.append(" (given up)");
+  return part;
+}
+
+function waitPart(core) {
+  const place = `wait ${core}`, wait = at(place);
+  if (wait === "-" && !(place in steps[now][CHANGES])) return "";
+  const part = placed("p", place);
+  part.append(wait === "-" ? "waits no more" : `waits (${wait}): ${run.causes[wait] ?? wait}`);
+  return part;
+}
+
+function coreCard(core) {
+  const card = made("div", "", steps[now][CORE] === core ? "core turns" : "core");
+  card.id = `core-${core}`;
+  card.append(attemptPart(core), hartPart(core), waitPart(core));
+  card.append(...(run.store === "caches" ? [bufferPart(core), cacheTable(core)] : [keptTable(core)]));
+  return card;
+}
+
+// ---- memory: a row each, made once; what a walk changed is shown anew
+
+const memoryRows = new Map();
+
+function memoryCell(place) {
+  const cell = placed("td", place);
+  cell.append(bytesShown(at(place), 0, before[now][place]));
+  return cell;
+}
+
+function makeMemory() {
+  const rows = [...state.keys()].filter(place => place.startsWith("at ")).sort();
+  for (const place of rows) {
+    const row = element("memory").insertRow(), address = place.slice(3);
+    row.append(made("th", address), made("td", namesIn(parseInt(address, 16), 16), "names"), memoryCell(place));
+    memoryRows.set(place, row);
+  }
+}
+
+function showMemory() {
+  const marked = [...element("memory").querySelectorAll(".changed")].map(cell => cell.dataset.place);
+  for (const place of new Set([...walked, ...marked, ...Object.keys(steps[now][CHANGES])]))
+    if (memoryRows.has(place)) memoryRows.get(place).lastChild.replaceWith(memoryCell(place));
+}
+
+// ---- code: all of it, or what stands around the next instruction of the turn's core
+
+function showCode() {
+  const pcs = Object.keys(run.code), cores = new Map();
+  for (let core = 0; core < run.cores; core++) {
+    const pc = at(`hart ${core}`).split(" ")[0];
+    cores.set(pc, [...cores.get(pc) ?? [], core]);
+  }
+  const middle = Math.max(0, pcs.indexOf(at(`hart ${steps[now][CORE]}`).split(" ")[0]));
+  const shown = pcs.length <= MOST_CODE ? pcs : pcs.slice(Math.max(0, middle - AROUND), middle + AROUND);
+  element("code").replaceChildren(...shown.map(pc => {
+    const row = made("tr", "", cores.has(pc) ? "here" : ""), next = cores.get(pc) ?? [];
+    row.append(made("th", pc), made("td", run.code[pc]), made("td", run.sources[pc] ?? ""));
+    row.append(made("td", next.length ? `\u25c0 next of core ${next.join(", ")}` : ""));
+    return row;
+  }));
+}

@@ -1,0 +1,83 @@
+"""What a turn did, in sentences."""
+
+from pictures.words import plural, sentence
+
+CAUSES = {
+    "NoEpoch": "no epoch is left for it",
+    "NotHomefree": "its epoch is at its end, and an earlier one has not committed yet",
+    "NoWay": "both ways of the set hold lines that its epoch has marked",
+    "OrbFull": "the line would have to enter its buffer, which is full",
+    "OrbBusy": "an earlier core holds the line, whose buffer has no place for it",
+}
+ENDS = {"done": "all epochs have committed, and the loop is over", "exit": "its exit ends the loop", "fault": "the loop is over"}
+OF_OTHERS = ("hurt", "cancel", "publish")
+
+
+def access(image, entry, pc):
+    """`loads 00000001 from bins+4, by lw x4,4(x3) at 00000010`"""
+    value = f"{entry.value:0{2 * entry.width}x}"
+    told = f"loads {value} from" if entry.what == "load" else f"stores {value} to"
+    by = image.instruction_at(pc)
+    return f"{told} {image.name_of(entry.address)}" + (f", by {by} at {image.spelled(pc)}" if by else "")
+
+
+def act(image, entry, epoch, pc):
+    """What the turn's own entry says."""
+    if entry.what in ("load", "store"):
+        return f"epoch {epoch} {access(image, entry, pc)}"
+    return {
+        "start": f"core {entry.core} begins epoch {entry.epoch}",
+        "restart": f"core {entry.core} begins epoch {epoch} again",
+        "publish": f"epoch {epoch}, which is homefree, publishes what it has stored, and is straight from here on",
+        "commit": f"epoch {epoch} commits",
+        "fault": f"epoch {epoch} faults with cause {entry.cause}, at {image.spelled(entry.pc or 0)}",
+        "cancel": f"epoch {entry.epoch} is cancelled",
+    }[entry.what]
+
+
+def rolled_back(run, entry, violations):
+    """That an epoch is rolled back, and why."""
+    why = violations.get(entry.place)
+    lead = f"epoch {entry.epoch} is rolled back"
+    return lead if why is None else f"{lead}: {sentence(run, why)}"
+
+
+def turn_told(run, step, epoch, pc, violations):
+    """What a turn did: its own act first, then what it did to others and why."""
+    said, answer = [], step.answer.split(" ")
+    if answer[0] == "again":
+        said.append(f"core {step.core} waits: {CAUSES.get(answer[1], answer[1])}")
+    own = [entry for entry in step.entries if entry.what not in ("hurt", "cancel")]
+    said += [act(run.image, entry, epoch, pc) for entry in own]
+    said += [act(run.image, entry, epoch, pc) for entry in step.entries if entry.what == "cancel"]
+    said += [rolled_back(run, entry, violations) for entry in step.entries if entry.what == "hurt"]
+    if answer[0] == "over":
+        said.append(ENDS.get(answer[1], answer[1]))
+    text = "; ".join(said) or f"core {step.core}: {step.answer}"
+    return text[0].upper() + text[1:] + "."
+
+
+def copy_moved(before, now):
+    """What became of a way of a cache: `00000040 from SpE to SpS`."""
+    old, new = before.split(" "), now.split(" ")
+    if old[0] == new[0]:
+        return [f"{new[0]} from {old[1]} to {new[1]}"] if old[1] != new[1] else []
+    return ([f"{old[0]} goes"] if before != "-" else []) + ([f"{new[0]} comes as {new[1]}"] if now != "-" else [])
+
+
+def buffer_moved(before, now):
+    """What entered a buffer and what left it."""
+    old, new = before.split(), now.split()
+    return [f"{line} enters its buffer" for line in new if line not in old] + [f"{line} leaves its buffer" for line in old if line not in new]
+
+
+def moves_told(step, state):
+    """What the caches did in a turn, core by core, by the state before it."""
+    said = {}
+    for place, now in step.changes.items():
+        kind, core = place.split(" ")[:2]
+        if kind == "line":
+            said.setdefault(core, []).extend(copy_moved(state.get(place, "-"), now))
+        elif kind == "orb":
+            said.setdefault(core, []).extend(buffer_moved(state.get(place, ""), now))
+    return " ".join(f"Core {core}: {', '.join(moved)}." for core, moved in said.items() if moved)
