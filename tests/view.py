@@ -1,0 +1,405 @@
+#!/usr/bin/env python3
+"""Tests tools/view in a real browser: steps, clicks, and compares what the page shows with what `replay steps` prints.
+
+Usage: tests/view.py [COMMAND ..]
+
+COMMAND is a command of `trace_cli` that ends with the word `seq`; `why` and `replay` are the programs that were built beside it. Without it those of this repository
+are tested. Where Debian's packages chromium, chromium-driver and python3-selenium aren't installed, or a program isn't built, the pages are left out, and a line says
+so. Exits with 1 where a check failed.
+"""
+
+import importlib.util
+import os
+import re
+import shutil
+import subprocess
+import sys
+import tempfile
+from pathlib import Path
+
+ROOT = Path(__file__).resolve().parent.parent
+DEBIANS = "/usr/bin/python3"
+sys.path.insert(0, str(ROOT / "tools"))
+sys.dont_write_bytecode = True
+
+from loops import Programs, Unreadable, read_image, read_steps      # noqa: E402
+from loops.instructions import spelled                              # noqa: E402
+
+# Each of two epochs loads from, or stores to, five lines in turn: on two cores the buffer of the second one is full, or that of the first one is when the second asks.
+LOADS_FIRST = "630e05002320a0042328a0042320a0062328a0062320a00867800000832200048322000583220006832200078322000867800000"
+STORES_FIRST = "630e05008322000483220005832200068322000783220008678000002320a0042328a0042320a0062328a0062320a00867800000"
+FIVE_LINES = "0 0 0 0 0 0 1 1 1 1 1 1 0 1 1"
+# Each epoch loads the word at 40 and stores it.
+SHORT = "83220004232050046780000013000000"
+# What the page shows: the turn, the text of each core, and each place, without the word that says a change; and that word. A walk presses a key so many times, and
+# answers what is shown before each time and at the end.
+SCRIPT = """
+function shownPlace(part) {
+  const copy = part.dataset.place.startsWith('kept ') ? part.closest('tr').cloneNode(true) : part.cloneNode(true), words = [...copy.querySelectorAll('.word')], told = {};
+  words.forEach(one => one.remove());
+  for (const kind of ['address', 'state', 'mark', 'mask', 'bytes', 'none']) told[kind] = copy.querySelector('.' + kind)?.textContent.replace(/ /g, '') ?? '';
+  const word = words.map(one => one.textContent).join(' '), text = copy.textContent.replace(/\\s+/g, ' ').trim();
+  return { ...told, text, word, marked: part.classList.contains('changed') };
+}
+function shown() {
+  const places = [...document.querySelectorAll('[data-place]')].map(part => [part.dataset.place, shownPlace(part)]);
+  return { turn: Number(document.getElementById('turn').value), places: Object.fromEntries(places), cores: [...document.querySelectorAll('.core')].map(one => one.textContent) };
+}
+function walked(key, times) {
+  const all = [shown()];
+  for (let time = 0; time < times; time++) {
+    document.body.dispatchEvent(new KeyboardEvent('keydown', { key, bubbles: true }));
+    all.push(shown());
+  }
+  return all;
+}
+"""
+
+
+def image(code, epochs=2, remarks=""):
+    return f"{remarks}size 256\nepochs {epochs}\nlimit 100\ncode {code}\n"
+
+
+def example(name):
+    return (ROOT / "examples" / f"{name}.image").read_text(encoding="latin-1")
+
+
+# --- What needs no browser ----------------------------------------------------
+
+def spelled_by_as(text, word, pc):
+    """The text of a row of the vectors, as the GNU assembler takes it, in the manner of the page: `beq x6,x7,.+8` has its target as an address."""
+    if text.startswith("fence") and word & 0x7000 == 0 or word & 0x707F == 0x0F:
+        return "fence"
+    name, _, rest = text.partition(" ")
+    return re.sub(r"\.([+-]\d+)$", lambda found: f"{(pc + int(found[1])) & 0xFFFFFFFF:08x}", f"{name} {rest}".strip())
+
+
+def disassembly():
+    """Each instruction of the vectors, and words that are none."""
+    pc, seen = 0x1000, set()
+    for path in sorted((ROOT / "tests" / "vectors").glob("*.txt")):
+        rows = [line.split(" | ")[:2] for line in path.read_text().splitlines() if not line.startswith("#")]
+        wanted = {int(word, 16): f".word 0x{word}" if path.stem == "illegal" else spelled_by_as(text, int(word, 16), pc) for text, word in rows}
+        wrong = {word: (spelled(word, pc), text) for word, text in wanted.items() if spelled(word, pc) != text}
+        seen |= {text.split(" ")[0] for text in wanted.values()}
+        yield f"the words of {path.name}", f"{list(wrong.values())[:3]}" if wrong else None
+    yield "all instructions", None if len(seen - {".word"}) == 40 else f"{len(seen)}: {sorted(seen)}"
+
+
+def forms():
+    """What isn't of the form is refused, and what is can be written again."""
+    text = ("turn 0 1 go\nentry 1 load 00000040 4 00000000\nattempt 1 0 speculative\nhart 1 00000004 1\norb 1 00000040\norb 1\nat 00000040 00\n"
+            "turn 1 1 over fault 0 5 00000000\nend\nopen 1\n")
+    told = read_steps(text.replace("orb 1 00000040\n", ""))
+    yield "written again", None if told.text() == text.replace("orb 1 00000040\n", "") else told.text()
+    for wrong in ("turn 0 1 go\n", "attempt 1 -\nend\n", "turn 0 1 go\nway 1 -\nend\n", "turn 0 go\nend\n"):
+        try:
+            yield f"refused: {wrong!r}", f"is read as {read_steps(wrong)}"
+        except Unreadable:
+            yield f"refused: {wrong!r}", None
+
+
+# --- The browser ----------------------------------------------------------------
+
+def find_selenium():
+    """Runs this program anew by Debian's Python, where the one that runs it has no selenium."""
+    if importlib.util.find_spec("selenium") is None and Path(DEBIANS).exists() and Path(DEBIANS).resolve() != Path(sys.executable).resolve():
+        os.execv(DEBIANS, [DEBIANS, *sys.argv])
+
+
+def driver():
+    """A browser, or None where one isn't installed."""
+    try:
+        from selenium import webdriver
+        from selenium.webdriver.chrome.service import Service
+    except ImportError:
+        return None
+    if not all(shutil.which(name) for name in ("chromium", "chromedriver")):
+        return None
+    options = webdriver.ChromeOptions()
+    options.binary_location = shutil.which("chromium")
+    options.set_capability("goog:loggingPrefs", {"browser": "ALL"})
+    for word in ("--headless", "--no-sandbox", "--disable-gpu", "--disable-dev-shm-usage", "--window-size=1280,1400"):
+        options.add_argument(word)
+    return webdriver.Chrome(options=options, service=Service(shutil.which("chromedriver")))
+
+
+class Page:
+    """A page in the browser: what a person does to it, and what it shows."""
+
+    def __init__(self, browser, path, link=""):
+        from selenium.webdriver.common.by import By
+        from selenium.webdriver.common.keys import Keys
+        self.browser, self.by, self.keys = browser, By, Keys
+        browser.get("about:blank")
+        browser.get(f"file://{path}{link}")
+
+    def element(self, name):
+        return self.browser.find_element(self.by.ID, name)
+
+    def text(self, name):
+        return " ".join(self.element(name).text.split())
+
+    def shown(self):
+        return self.browser.execute_script(SCRIPT + "return shown()")
+
+    def walked(self, key, times):
+        return self.browser.execute_script(SCRIPT + "return walked(...arguments)", key, times)
+
+    def press(self, *keys):
+        self.browser.find_element(self.by.TAG_NAME, "body").send_keys(*keys)
+
+    def click(self, name):
+        self.element(name).click()
+
+    def turn(self):
+        return int(self.element("turn").get_attribute("value"))
+
+    def link(self, hash):
+        self.browser.execute_script("location.hash = arguments[0]", hash)
+
+    def press_until(self, key, words, most=400):
+        """Presses a key until the page says these words. Answers the turn, or None."""
+        for _ in range(most):
+            if words in self.text("said"):
+                return self.turn()
+            self.press(key)
+        return None
+
+    def errors(self):
+        return [it["message"] for it in self.browser.get_log("browser") if it["level"] == "SEVERE"]
+
+
+# --- What a page has to show of a place ---------------------------------------------
+
+def of_line(text, got):
+    if text == "-":
+        return got["none"] == "empty"
+    address, state, loaded, mask, data = text.split(" ")
+    return (got["address"], got["state"], got["mark"], int(got["mask"] or "0", 16), got["bytes"]) == (
+        address, state, "loaded" if loaded == "loaded" else "", int(mask, 16), data)
+
+
+def of_buffer(text, got):
+    lines = re.findall(r"\b[0-9a-f]{8}\b", got["text"])
+    return lines == text.split() and got["text"].startswith(f"buffer, {len(lines)} of ")
+
+
+def of_kept(text, got):
+    return [got["mark"], got["mask"], got["bytes"]] == text.split(" ")
+
+
+def of_hart(text, got):
+    pc, _, done = text.partition(" ")
+    return got["text"] == "nothing in hand" if pc == "-" else got["text"].startswith(f"{done} executed; next {pc} ")
+
+
+def of_attempt(text, got):
+    epoch, _, mode = text.partition(" ")
+    if epoch == "-":
+        return got["text"].endswith(("no epoch", "was rolled back", "was cancelled"))
+    return f": epoch {epoch}, attempt " in got["text"] and got["text"].endswith(f", {mode}")
+
+
+OF_PLACE = {"line": of_line, "orb": of_buffer, "kept": of_kept, "hart": of_hart, "attempt": of_attempt, "at": lambda text, got: got["bytes"] == text}
+
+
+def differences(shown, state, step):
+    """Where the page shows something else than the state after a turn, or doesn't say what changed."""
+    places, waits = shown["places"], step.answer.split(" ")[1] if step.answer.startswith("again ") else ""
+    for place, text in state.items():
+        kind, got = place.split(" ")[0], places.get(place)
+        is_changed, is_gone = place in step.changes, kind == "kept" and int("".join(text.split(" ")[:2]), 16) == 0
+        if got is None and is_gone and not is_changed:
+            continue
+        if got is None or not OF_PLACE[kind](text, got):
+            yield f"{place}: {got}, and not {text!r}"
+        elif (got["marked"], got["word"] != "") != (is_changed, is_changed):
+            yield f"{place}: marked {got['marked']}, with the word {got['word']!r}"
+    yield from (f"{place}: marked" for place, got in places.items() if place not in state and got["marked"] and not place.startswith("wait "))
+    if shown["turn"] != step.turn or waits not in shown["cores"][step.core]:
+        yield f"turn {shown['turn']}, and not {step.turn} {step.answer}: {shown['cores'][step.core][:100]}"
+
+
+def whole_run(page, steps):
+    """(what it shows, what is wrong or None) of all turns, by the keys."""
+    states, count = [dict(state) for state in steps.states()], len(steps.steps)
+    for number in range(3):
+        wrong = list(differences(page.shown(), states[number], steps.steps[number]))
+        yield f"turn {number}", wrong[:3] or None
+        page.press(page.keys.ARROW_RIGHT)
+    page.press(page.keys.HOME)
+    for key, numbers in (("ArrowRight", range(count)), ("ArrowLeft", range(count - 1, -1, -1))):
+        all_shown = page.walked(key, count - 1)
+        wrong = [f"turn {number}: {one}" for number, shown in zip(numbers, all_shown) for one in differences(shown, states[number], steps.steps[number])]
+        yield f"all turns by {key}", wrong[:3] or None
+    page.press(page.keys.END, page.keys.ARROW_RIGHT)
+    yield "no turn beyond the last", None if page.turn() == steps.steps[-1].turn else f"{page.turn()}"
+
+
+def moves(page, steps):
+    """(what it shows, what is wrong or None) of buttons, keys, links and the lanes."""
+    hurts = [step.turn for step in steps.steps if any(entry.what == "hurt" for entry in step.entries)]
+    page.click("first")
+    seen = []
+    for _ in hurts:
+        page.click("rollback-on")
+        seen.append((page.turn(), "is rolled back: epoch" in page.text("said")))
+    yield "its rollbacks, by clicks", None if seen == [(turn, True) for turn in hurts] else f"{seen}, and not {hurts}"
+    page.press("R")
+    yield "the rollback before", None if not hurts[1:] or page.turn() == hurts[-2] else f"{page.turn()}"
+    of_one = [step.turn for step in steps.steps if step.core == 1]
+    page.press(page.keys.HOME, "1", "1")
+    yield "the second turn of core 1, by its key", None if page.turn() == of_one[1] else f"{page.turn()}, and not {of_one[1]}"
+    page.click("back-1")
+    yield "the turn of core 1 before", None if page.turn() == of_one[0] else f"{page.turn()}, and not {of_one[0]}"
+    middle = steps.steps[len(steps.steps) // 2].turn
+    page.link(f"#turn={middle}")
+    yield "a link", None if page.turn() == middle else f"{page.turn()}, and not {middle}"
+    page.element("turn").send_keys(page.keys.CONTROL, "a")
+    page.element("turn").send_keys("3", page.keys.ENTER)
+    yield "a number that is typed", None if page.turn() == steps.steps[3].turn else f"{page.turn()}"
+    place = page.browser.execute_script("return across(arguments[0] + 0.5) - element('lanes').clientWidth / 2", 5)
+    from selenium.webdriver import ActionChains
+    ActionChains(page.browser).move_to_element_with_offset(page.element("drawn"), round(place), 0).click().perform()
+    yield "a click on a lane", None if abs(page.turn() - steps.steps[5].turn) <= 1 else f"{page.turn()}"
+    page.press(page.keys.HOME, page.keys.ARROW_RIGHT)
+    page.browser.execute_async_script("setTimeout(arguments[0], 400)")
+    hash = page.browser.execute_script("return location.hash")
+    yield "the link of what is shown", None if hash == f"#turn={steps.steps[1].turn}" else hash
+
+
+# --- The checks -----------------------------------------------------------------------
+
+class Views:
+    """Makes pages of inputs, by the programs of a folder."""
+
+    def __init__(self, browser, folder, programs):
+        self.browser, self.folder, self.programs, self.made = browser, Path(folder), programs, 0
+
+    def view(self, text, *words):
+        """Standard output, the error stream and the status."""
+        done = subprocess.run([sys.executable, ROOT / "tools" / "view", *words], input=text.encode("latin-1"), capture_output=True,
+                              env={**os.environ, "LOOPS_PROGRAMS": str(self.programs.folder)}, check=False)
+        return done.stdout.decode("utf-8"), done.stderr.decode("latin-1"), done.returncode
+
+    def page(self, text, *words, link=""):
+        """The page in the browser, and the file that it stands in."""
+        out, errors, status = self.view(text, *words)
+        if errors or status:
+            raise AssertionError(f"no page: {errors!r}, status {status}")
+        self.made += 1
+        path = self.folder / f"{self.made}.html"
+        path.write_text(out, encoding="utf-8")
+        return Page(self.browser, path, link), out
+
+    def evenly(self, text, store, cores):
+        """An image with the turns at even speed."""
+        return text + " ".join(["turns", *map(str, self.programs.even(text, store, cores).turns)]) + "\n"
+
+
+def runs(views):
+    """Whole runs: a trace, and turns over both stores."""
+    traced = (ROOT / "examples" / "traces" / "histogram.trace").read_text()
+    inputs = [("a histogram's trace", traced, "caches", None, True), ("wide lines", views.evenly(example("wide_lines"), "caches", 3), "caches", 3, False),
+              ("a histogram over the plain store", views.evenly(example("histogram"), "plain", 2), "plain", 2, False)]
+    for name, text, store, cores, is_moved in inputs:
+        steps = views.programs.steps(text, store, cores)
+        page, out = views.page(text, "--store", store, *([] if cores is None else ["--cores", str(cores)]))
+        yield f"{name}: alone", None if not re.search(r"(?:src|href)=(?!\"data:,\")|https?:|@import|url\(", out) else "names something outside"
+        for shows, wrong in [*whole_run(page, steps), *(moves(page, steps) if is_moved else ())]:
+            yield f"{name}: {shows}", wrong
+        yield f"{name}: no errors in the browser", page.errors() or None
+
+
+def first_turn(steps, holds):
+    return next((step.turn for step in steps.steps if holds(step)), None)
+
+
+def found(views):
+    """What a person looks for, found by keys; `replay steps` says where it is."""
+    inputs = [("a full set", views.evenly(example("queens"), "caches", 2), 2, "w", "both ways of the set hold lines", lambda step: step.answer == "again NoWay"),
+              ("a full buffer", image(LOADS_FIRST) + f"turns {FIVE_LINES}\n", 2, "w", "its buffer, which is full", lambda step: step.answer == "again OrbFull"),
+              ("a full buffer of another core", image(STORES_FIRST) + f"turns {FIVE_LINES}\n", 2, "w", "whose buffer has no place", lambda step: step.answer == "again OrbBusy"),
+              ("false sharing", views.evenly(example("own_counters"), "caches", 4), 4, "r", "false sharing", lambda step: any(entry.what == "hurt" for entry in step.entries)),
+              ("an exit with a cancel", views.evenly(example("first_match"), "caches", 4), 4, None, "is cancelled; its exit ends the loop",
+               lambda step: any(entry.what == "cancel" for entry in step.entries))]
+    for name, text, cores, key, words, holds in inputs:
+        steps = views.programs.steps(text, "caches", cores)
+        page, _ = views.page(text, "--cores", str(cores))
+        turn, wanted = page.press_until(key or page.keys.ARROW_RIGHT, words), first_turn(steps, holds)
+        yield f"{name}, found by stepping", None if turn is not None and turn == wanted else f"turn {turn}, and not {wanted}: {page.text('said')}"
+        if name.startswith("a full buffer"):
+            core = 1 if name == "a full buffer" else 0
+            told = page.text(f"core-{core}")
+            yield f"{name}: its lines", None if "buffer, 4 of 4 lines: 00000040; 00000050; 00000060; 00000070" in told else told
+        yield f"{name}: no errors in the browser", page.errors() or None
+
+
+def windows(views):
+    """Parts of runs, and what is refused."""
+    text = views.evenly(example("histogram"), "caches", 2)
+    steps = views.programs.steps(text, "caches", 2)
+    states = [dict(state) for state in steps.states()]
+    page, _ = views.page(text, "--cores", "2", "--from", "20", "--to", "39", link="#turn=25")
+    told = [page.turn(), page.text("cut")]
+    yield "a window", None if told == [25, f"Turns 20 to 39 of {len(states)} are on this page: --from and --to of tools/view choose others."] else f"{told}"
+    yield "a window's state", [*differences(page.shown(), states[25], steps.steps[25])][:3] or None
+    page.press(page.keys.HOME)
+    yield "a window's first turn", None if page.turn() == 20 else f"{page.turn()}"
+    page.press(page.keys.END)
+    yield "a window's last turn", None if page.turn() == 39 else f"{page.turn()}"
+    long = views.evenly(image(SHORT, 1300), "caches", 2)
+    page, _ = views.page(long, "--cores", "2", link="#turn=30000")
+    count = long.rpartition("turns ")[2].count(" ") + 1
+    told = [page.turn(), page.text("cut")]
+    yield "a long run", None if count > 10_000 and told == [9999, f"Turns 0 to 9,999 of {count:,} are on this page: --from and --to of tools/view choose others."] else f"{told}, {count}"
+    yield "windows: no errors in the browser", page.errors() or None
+    for name, wrong, words, answer in (("an image", "size 7\n", ["--cores", "2"], ("", "image 1 Range\n", 2)), ("no cores", text, [], ("", "usage\n", 2))):
+        got = views.view(wrong, *words)
+        yield f"refused: {name}", None if got == answer else f"{got}"
+
+
+def beside(command):
+    """The programs that were built beside a command of `trace_cli`."""
+    given = Path(command[0]).resolve()
+    top = ROOT if given == ROOT / "trace_cli" else given.parents[2] if len(given.parents) > 2 else given.parent
+    found_there = {name: ROOT / name if top == ROOT else top / name / "out" / name for name in ("why", "replay")}
+    return {name: path for name, path in found_there.items() if path.is_file()}
+
+
+def in_browser(folder, command):
+    """The checks that need programs and a browser."""
+    programs = beside(command)
+    if len(programs) < 2:
+        print("SKIPPED: pages, since why and replay weren't built beside the program that is tested")
+        return
+    for name, path in programs.items():
+        Path(folder, name).symlink_to(path)
+    browser = driver()
+    if browser is None:
+        print("SKIPPED: pages, since chromium, chromium-driver and python3-selenium aren't all installed")
+        return
+    try:
+        views = Views(browser, folder, Programs(Path(folder)))
+        for part in (runs, found, windows):
+            yield from part(views)
+    finally:
+        browser.quit()
+
+
+def main():
+    find_selenium()
+    command = sys.argv[1:] or [str(ROOT / "trace_cli"), "seq"]
+    with tempfile.TemporaryDirectory() as folder:
+        results = [*disassembly(), *forms(), *in_browser(folder, command)]
+    for name, wrong in results:
+        if wrong:
+            print(f"FAILED {name}: {wrong}")
+    failed = sum(wrong is not None for _, wrong in results)
+    print(f"{len(results) - failed} checks passed, {failed} failed")
+    return 1 if failed else 0
+
+
+if __name__ == "__main__":
+    sys.exit(main())
