@@ -186,7 +186,9 @@ def of_buffer(text, got):
 
 
 def of_kept(text, got):
-    return [got["mark"], got["mask"], got["bytes"]] == text.split(" ")
+    read, own, data = text.split(" ")
+    stored = "".join(data[2 * at:2 * at + 2] if int(own, 16) >> at & 1 else "--" for at in range(16))
+    return [got["mark"], got["mask"], got["bytes"]] == [read, own, stored]
 
 
 def of_hart(text, got):

@@ -1,5 +1,7 @@
 // The lanes: what each core ran, turn by turn from left to right, and a cursor at the turn that is shown.
 const LANE = 22, BAR = 15, MARGIN = 52;
+// So many pixels a box needs for its hatch and its name, and a turn for the signs of its rollback.
+const LEAST_BOX = 8, LEAST_TURN = 2;
 const FILLS = { committed: "#7fb7d9", fault: "#7fb7d9", violated: "#f5c66b" };
 
 const across = number => MARGIN + number * (element("lanes").clientWidth - MARGIN) / Math.max(1, steps.length);
@@ -35,9 +37,10 @@ function drawAttempt(pen, [core, epoch, number, first, end, fate, undone]) {
   const wide = Math.max(1, across(Math.min(stop, steps.length)) - left), name = number > 1 ? `e${epoch} #${number}` : `e${epoch}`;
   pen.fillStyle = FILLS[fate] ?? "#ddd";
   pen.fillRect(left, top, wide, BAR);
+  if (wide < LEAST_BOX) return;
   if (fate === "violated") hatch(pen, left, top, wide);
   pen.strokeStyle = "#333";
-  if (wide > 3) pen.strokeRect(left + 0.5, top + 0.5, wide - 1, BAR);
+  pen.strokeRect(left + 0.5, top + 0.5, wide - 1, BAR);
   pen.beginPath();
   pen.moveTo(left + wide, top + BAR / 2);
   pen.lineTo(across(Math.min(end, steps.length)), top + BAR / 2);
@@ -45,8 +48,14 @@ function drawAttempt(pen, [core, epoch, number, first, end, fate, undone]) {
   if (pen.measureText(name).width + 6 < wide) write(pen, name, left + 3, top + 11);
 }
 
+// A line from the core that made it to the one that is rolled back; in a long run a tick below the lane of that one.
 function drawRollback(pen, [number, by, victim]) {
   const x = across(number + 0.5), middle = core => core * LANE + 3 + BAR / 2;
+  if (across(1) - across(0) < LEAST_TURN) {
+    pen.fillStyle = "#000";
+    pen.fillRect(x, victim * LANE + 3 + BAR, 1, LANE - BAR - 3);
+    return;
+  }
   pen.strokeStyle = pen.fillStyle = "#000";
   pen.beginPath();
   pen.moveTo(x, middle(by));

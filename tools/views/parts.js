@@ -41,14 +41,14 @@ function placed(tag, place) {
   return part;
 }
 
-// Bytes in words of four: those of a mask are underlined, and those that are not as they were are framed.
-function bytesShown(bytes, mask, was) {
+// Bytes in words of four: those of a mask are underlined, and those that are not as they were are framed. Where they are of the mask alone, no others are shown.
+function bytesShown(bytes, mask, was, alone = false) {
   const all = made("span", "", "bytes"), count = bytes.length / 2;
   for (let place = 0; place < count; place++) {
     if (place) all.append(place % 16 ? place % 4 ? "" : " " : made("br"));
-    const byte = bytes.slice(2 * place, 2 * place + 2), isNew = was !== undefined && was.slice(2 * place, 2 * place + 2) !== byte;
-    const kinds = [mask >>> place & 1 ? "stored" : "", isNew ? "new" : ""].filter(Boolean).join(" ");
-    all.append(kinds ? made("span", byte, kinds) : byte);
+    const byte = bytes.slice(2 * place, 2 * place + 2), isStored = mask >>> place & 1, isNew = was !== undefined && was.slice(2 * place, 2 * place + 2) !== byte;
+    const kinds = [isStored ? "stored" : "", isNew ? "new" : ""].filter(Boolean).join(" "), shown = alone && !isStored ? "--" : byte;
+    all.append(kinds ? made("span", shown, kinds) : shown);
   }
   return all;
 }
@@ -56,7 +56,7 @@ function bytesShown(bytes, mask, was) {
 function wayCell(place) {
   const cell = placed("td", place), text = at(place);
   if (text === "-") {
-    cell.append(made("span", "empty", "none"));
+    cell.prepend(made("span", "empty", "none"), " ");
     return cell;
   }
   const [address, kind, loaded, mask, bytes] = text.split(" "), stored = parseInt(mask, 16);
@@ -65,7 +65,7 @@ function wayCell(place) {
   if (loaded === "loaded") cell.append(" ", made("span", "loaded", "mark"));
   if (stored) cell.append(" mask ", made("span", mask.slice(-run.length / 4), "mask"));
   cell.append(made("br"), bytesShown(bytes, stored, oldAddress === address ? oldBytes : undefined));
-  cell.append(made("br"), made("span", namesIn(parseInt(address, 16), run.length), "names"));
+  cell.append(made("br"), made("span", namesIn(parseInt(address, 16), run.length), "names"), " ", cell.querySelector(".word") ?? "");
   return cell;
 }
 
@@ -96,7 +96,7 @@ function keptTable(core) {
     const row = table.insertRow(), cell = placed("td", place);
     cell.append(made("span", `${address} ${namesIn(parseInt(address, 16), 16)}`, "names"));
     row.append(cell, made("td", read, "mark"), made("td", own, "mask"), made("td"));
-    row.lastChild.append(bytesShown(bytes, parseInt(own, 16), before[now][place]?.split(" ")[2]));
+    row.lastChild.append(bytesShown(bytes, parseInt(own, 16), before[now][place]?.split(" ")[2], true));
   }
   return table;
 }
@@ -163,7 +163,7 @@ function showMemory() {
 // ---- code: all of it, or what stands around the next instruction of the turn's core
 
 function showCode() {
-  const pcs = Object.keys(run.code), cores = new Map();
+  const pcs = Object.keys(run.code), cores = new Map(), hasSources = Object.keys(run.sources).length > 0;
   for (let core = 0; core < run.cores; core++) {
     const pc = at(`hart ${core}`).split(" ")[0];
     cores.set(pc, [...cores.get(pc) ?? [], core]);
@@ -172,7 +172,8 @@ function showCode() {
   const shown = pcs.length <= MOST_CODE ? pcs : pcs.slice(Math.max(0, middle - AROUND), middle + AROUND);
   element("code").replaceChildren(...shown.map(pc => {
     const row = made("tr", "", cores.has(pc) ? "here" : ""), next = cores.get(pc) ?? [];
-    row.append(made("th", pc), made("td", run.code[pc]), made("td", run.sources[pc] ?? ""));
+    row.append(made("th", pc), made("td", run.code[pc]));
+    if (hasSources) row.append(made("td", run.sources[pc] ?? ""));
     row.append(made("td", next.length ? `\u25c0 next of core ${next.join(", ")}` : ""));
     return row;
   }));
