@@ -29,7 +29,7 @@ FOLDERS = ["bench", "docs", "examples", "tests", "tools"]
 OWN = re.compile(r"(?m)^(?:\./|tools/|tests/|bench/|\.ci/).*")
 PROGRAMS = ["why", "replay", "gain"]
 # The programs that a tool calls.
-TOOLS = {"named": ["why"], "picture": ["why"], "verdict": PROGRAMS, "study": [*PROGRAMS, "snakemake"]}
+TOOLS = {"named": ["why"], "picture": ["why"], "view": ["why", "replay"], "verdict": PROGRAMS, "study": [*PROGRAMS, "snakemake"]}
 # Commands that no test runs, with the reason.
 NOT_RUN = {
     ".ci/run": "runs for an hour, and this test with the others",
