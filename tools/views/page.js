@@ -73,7 +73,7 @@ const fromLink = () => toTurn(Number(/turn=(\d+)/.exec(location.hash)?.[1] ?? st
 function begin() {
   const store = run.store === "caches" ? "caches" : "the plain store";
   element("about").textContent = run.about || "A run, turn by turn";
-  element("of").textContent = `${run.epochs} epochs on ${run.cores} cores over ${store}, ${run.all} turns, ${run.rollbacks.length} rollbacks`;
+  element("of").textContent = `${run.epochs} epochs on ${run.cores} cores over ${store}, ${run.all.toLocaleString("en")} turns, ${run.rollbacks.length.toLocaleString("en")} rollbacks`;
   element("cut").textContent = run.cut ?? "";
   for (let core = 0; core < run.cores; core++) addCoreButtons(core);
   if (!steps.length) return;

@@ -42,19 +42,23 @@ def rolled_back(run, entry, violations):
     return lead if why is None else f"{lead}: {sentence(run, why)}"
 
 
+def ended(text):
+    """A clause as a sentence."""
+    return text[0].upper() + text[1:] + "."
+
+
 def turn_told(run, step, epoch, pc, violations):
-    """What a turn did: its own act first, then what it did to others and why."""
+    """What a turn did: its own act and whom it cancelled, and then in a line each whom it rolled back and why."""
     said, answer = [], step.answer.split(" ")
     if answer[0] == "again":
         said.append(f"core {step.core} waits: {CAUSES.get(answer[1], answer[1])}")
     own = [entry for entry in step.entries if entry.what not in ("hurt", "cancel")]
     said += [act(run.image, entry, epoch, pc) for entry in own]
     said += [act(run.image, entry, epoch, pc) for entry in step.entries if entry.what == "cancel"]
-    said += [rolled_back(run, entry, violations) for entry in step.entries if entry.what == "hurt"]
     if answer[0] == "over":
         said.append(ENDS.get(answer[1], answer[1]))
-    text = "; ".join(said) or f"core {step.core}: {step.answer}"
-    return text[0].upper() + text[1:] + "."
+    hurts = [rolled_back(run, entry, violations) for entry in step.entries if entry.what == "hurt"]
+    return "\n".join(map(ended, ["; ".join(said) or f"core {step.core}: {step.answer}", *hurts]))
 
 
 def copy_moved(before, now):
