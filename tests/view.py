@@ -19,10 +19,12 @@ from pathlib import Path
 
 ROOT = Path(__file__).resolve().parent.parent
 DEBIANS = "/usr/bin/python3"
+# So long may a script take in the browser, and so many keys are pressed by one.
+SECONDS, AT_ONCE = 100, 20
 sys.path.insert(0, str(ROOT / "tools"))
 sys.dont_write_bytecode = True
 
-from loops import Programs, Unreadable, read_image, read_steps      # noqa: E402
+from loops import Programs, Unreadable, read_steps                  # noqa: E402
 from loops.instructions import spelled                              # noqa: E402
 
 # Each of two epochs loads from, or stores to, five lines in turn: on two cores the buffer of the second one is full, or that of the first one is when the second asks.
@@ -34,12 +36,18 @@ SHORT = "83220004232050046780000013000000"
 # What the page shows: the turn, the text of each core, and each place, without the word that says a change; and that word. A walk presses a key so many times, and
 # answers what is shown before each time and at the end.
 SCRIPT = """
+// The bytes of a kind, as a mask: bit i is byte i.
+function maskOf(copy, kind) {
+  const bytes = copy.querySelector('.bytes')?.cloneNode(true);
+  bytes?.querySelectorAll('.' + kind).forEach(one => { one.textContent = '__'; });
+  return (bytes?.textContent.replace(/ /g, '').match(/../g) ?? []).reduce((mask, byte, place) => byte === '__' ? mask + 2 ** place : mask, 0);
+}
 function shownPlace(part) {
   const copy = part.dataset.place.startsWith('kept ') ? part.closest('tr').cloneNode(true) : part.cloneNode(true), words = [...copy.querySelectorAll('.word')], told = {};
   words.forEach(one => one.remove());
   for (const kind of ['address', 'state', 'mark', 'mask', 'bytes', 'none']) told[kind] = copy.querySelector('.' + kind)?.textContent.replace(/ /g, '') ?? '';
   const word = words.map(one => one.textContent).join(' '), text = copy.textContent.replace(/\\s+/g, ' ').trim();
-  return { ...told, text, word, marked: part.classList.contains('changed') };
+  return { ...told, text, word, stored: maskOf(copy, 'stored'), framed: maskOf(copy, 'new'), marked: part.classList.contains('changed') };
 }
 function shown() {
   const places = [...document.querySelectorAll('[data-place]')].map(part => [part.dataset.place, shownPlace(part)]);
@@ -121,7 +129,9 @@ def driver():
     options.set_capability("goog:loggingPrefs", {"browser": "ALL"})
     for word in ("--headless", "--no-sandbox", "--disable-gpu", "--disable-dev-shm-usage", "--window-size=1280,1400"):
         options.add_argument(word)
-    return webdriver.Chrome(options=options, service=Service(shutil.which("chromedriver")))
+    browser = webdriver.Chrome(options=options, service=Service(shutil.which("chromedriver")))
+    browser.set_script_timeout(SECONDS)
+    return browser
 
 
 class Page:
@@ -144,7 +154,11 @@ class Page:
         return self.browser.execute_script(SCRIPT + "return shown()")
 
     def walked(self, key, times):
-        return self.browser.execute_script(SCRIPT + "return walked(...arguments)", key, times)
+        """What is shown before each press of a key, so many times, and at the end; some presses a call, so that none takes long on a busy machine."""
+        all_shown = [self.shown()]
+        for place in range(0, times, AT_ONCE):
+            all_shown += self.browser.execute_script(SCRIPT + "return walked(...arguments)", key, min(AT_ONCE, times - place))[1:]
+        return all_shown
 
     def press(self, *keys):
         self.browser.find_element(self.by.TAG_NAME, "body").send_keys(*keys)
@@ -176,8 +190,8 @@ def of_line(text, got):
     if text == "-":
         return got["none"] == "empty"
     address, state, loaded, mask, data = text.split(" ")
-    return (got["address"], got["state"], got["mark"], int(got["mask"] or "0", 16), got["bytes"]) == (
-        address, state, "loaded" if loaded == "loaded" else "", int(mask, 16), data)
+    return (got["address"], got["state"], got["mark"], int(got["mask"] or "0", 16), got["stored"], got["bytes"]) == (
+        address, state, "loaded" if loaded == "loaded" else "", int(mask, 16), int(mask, 16), data)
 
 
 def of_buffer(text, got):
@@ -188,7 +202,7 @@ def of_buffer(text, got):
 def of_kept(text, got):
     read, own, data = text.split(" ")
     stored = "".join(data[2 * at:2 * at + 2] if int(own, 16) >> at & 1 else "--" for at in range(16))
-    return [got["mark"], got["mask"], got["bytes"]] == [read, own, stored]
+    return [got["mark"], got["mask"], got["stored"], got["bytes"]] == [read, own, int(own, 16), stored]
 
 
 def of_hart(text, got):
@@ -206,8 +220,16 @@ def of_attempt(text, got):
 OF_PLACE = {"line": of_line, "orb": of_buffer, "kept": of_kept, "hart": of_hart, "attempt": of_attempt, "at": lambda text, got: got["bytes"] == text}
 
 
-def differences(shown, state, step):
-    """Where the page shows something else than the state after a turn, or doesn't say what changed."""
+def framed(place, old, new):
+    """The bytes that aren't as they were, as a mask: of committed memory, and of a line that the way had before."""
+    if place.startswith("line ") and old.split(" ")[0] != new.split(" ")[0] or new == "-":
+        return 0
+    before, now = bytes.fromhex(old.split(" ")[-1]), bytes.fromhex(new.split(" ")[-1])
+    return sum(1 << at for at in range(len(now)) if before[at] != now[at])
+
+
+def differences(shown, state, step, before):
+    """Where the page shows something else than the state after a turn, or doesn't say what changed from the state before."""
     places, waits = shown["places"], step.answer.split(" ")[1] if step.answer.startswith("again ") else ""
     for place, text in state.items():
         kind, got = place.split(" ")[0], places.get(place)
@@ -218,6 +240,8 @@ def differences(shown, state, step):
             yield f"{place}: {got}, and not {text!r}"
         elif (got["marked"], got["word"] != "") != (is_changed, is_changed):
             yield f"{place}: marked {got['marked']}, with the word {got['word']!r}"
+        elif kind in ("line", "at") and got["framed"] != (framed(place, before.get(place, "-" if kind == "line" else "00" * 16), text) if is_changed else 0):
+            yield f"{place}: framed {got['framed']:x}"
     yield from (f"{place}: marked" for place, got in places.items() if place not in state and got["marked"] and not place.startswith("wait "))
     if shown["turn"] != step.turn or waits not in shown["cores"][step.core]:
         yield f"turn {shown['turn']}, and not {step.turn} {step.answer}: {shown['cores'][step.core][:100]}"
@@ -227,13 +251,14 @@ def whole_run(page, steps):
     """(what it shows, what is wrong or None) of all turns, by the keys."""
     states, count = [dict(state) for state in steps.states()], len(steps.steps)
     for number in range(3):
-        wrong = list(differences(page.shown(), states[number], steps.steps[number]))
+        wrong = list(differences(page.shown(), states[number], steps.steps[number], states[number - 1] if number else {}))
         yield f"turn {number}", wrong[:3] or None
         page.press(page.keys.ARROW_RIGHT)
     page.press(page.keys.HOME)
     for key, numbers in (("ArrowRight", range(count)), ("ArrowLeft", range(count - 1, -1, -1))):
         all_shown = page.walked(key, count - 1)
-        wrong = [f"turn {number}: {one}" for number, shown in zip(numbers, all_shown) for one in differences(shown, states[number], steps.steps[number])]
+        wrong = [f"turn {number}: {one}" for number, shown in zip(numbers, all_shown)
+                 for one in differences(shown, states[number], steps.steps[number], states[number - 1] if number else {})]
         yield f"all turns by {key}", wrong[:3] or None
     page.press(page.keys.END, page.keys.ARROW_RIGHT)
     yield "no turn beyond the last", None if page.turn() == steps.steps[-1].turn else f"{page.turn()}"
@@ -346,7 +371,7 @@ def windows(views):
     page, _ = views.page(text, "--cores", "2", "--from", "20", "--to", "39", link="#turn=25")
     told = [page.turn(), page.text("cut")]
     yield "a window", None if told == [25, f"Turns 20 to 39 of {len(states)} are on this page: --from and --to of tools/view choose others."] else f"{told}"
-    yield "a window's state", [*differences(page.shown(), states[25], steps.steps[25])][:3] or None
+    yield "a window's state", [*differences(page.shown(), states[25], steps.steps[25], states[24])][:3] or None
     page.press(page.keys.HOME)
     yield "a window's first turn", None if page.turn() == 20 else f"{page.turn()}"
     page.press(page.keys.END)
