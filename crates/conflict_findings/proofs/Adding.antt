@@ -1,7 +1,7 @@
 -- The sum of a part is that of the list of its violations.
 use Rattle.std.proofs.Common.{◌≡◌, ℕ, ◌+◌, Bool, true, false, cond, List, [], ◌∷◌, Option, filter, sum_by, refl, ap, ◌∙◌, arith}
 use Rattle.std.proofs.lemmas.List.Sums.{sum_by-cons}
-use Rattle.conflict_findings.specs.declared.kinds.Counts.{Counts}
+use Rattle.conflict_findings.specs.declared.kinds.CountsByKind.{CountsByKind}
 use Rattle.conflict_findings.specs.declared.pair_sums.Bounds.{Bounds}
 use Rattle.conflict_findings.specs.declared.pair_sums.Fates.{Fates}
 use Rattle.conflict_findings.specs.declared.pair_sums.Measure.TheVariants.{Distance, Bytes}
@@ -37,11 +37,11 @@ same_sum a b m n first second = ap (λ x. sum x m) first ∙ ap (λ x. sum b x) 
 pub part_sum : (part : Part) (rs : List Rollback) → sum_in Whole (filter (belongs part) rs) ≡ sum_in part rs
 part_sum part rs = same_sum _ _ _ _ (sum_passing (λ (r : Rollback). 1) (belongs part) rs) (sum_passing (λ (r : Rollback). r.lost) (belongs part) rs)
 
-abbrev all_of : Pair → Sum → Counts → Fates → Option Bounds → Option Bounds → PairSum
+abbrev all_of : Pair → Sum → CountsByKind → Fates → Option Bounds → Option Bounds → PairSum
 all_of p s k f d b = record { pair = p; sum = s; counts = k; fates = f; distance = d; bytes = b }
 
 -- what was found of the list is that of the pair
-pub pair_found : (p : Pair) (rs those : List Rollback) (s : Sum) (k : Counts) (f : Fates) (d b : Option Bounds) → those ≡ filter (belongs (OfPair p)) rs
+pub pair_found : (p : Pair) (rs those : List Rollback) (s : Sum) (k : CountsByKind) (f : Fates) (d b : Option Bounds) → those ≡ filter (belongs (OfPair p)) rs
     → s ≡ sum_in Whole those → k ≡ kinds_in those → f ≡ fates_in those → d ≡ bounds_in Distance those → b ≡ bounds_in Bytes those → all_of p s k f d b ≡ pair_sum rs p
 pair_found p rs those s k f d b are one two three four five =
     let those_of = filter (belongs (OfPair p)) rs in

@@ -2,7 +2,7 @@
 use Rattle.std.proofs.Common.{◌≡◌, ℕ, zero, suc, List, refl, ap, ◌∙◌}
 use Rattle.spec_history.specs.declared.kind.Kind.TheVariants.{TrueSharing, SilentStore, FalseSharing, FullBuffer}
 use Rattle.conflict_findings.specs.declared.keys.Key.TheVariants.{Line}
-use Rattle.conflict_findings.specs.declared.kinds.Counts.{Counts}
+use Rattle.conflict_findings.specs.declared.kinds.CountsByKind.{CountsByKind}
 use Rattle.conflict_findings.specs.declared.kinds.LinesByKind.{LinesByKind}
 use Rattle.conflict_findings.specs.declared.part.Part.TheVariants.{OfLine}
 use Rattle.conflict_findings.specs.declared.rollback.Rollback.{Rollback}
@@ -20,7 +20,7 @@ some_count (suc n) lost = refl
 one_count : (sums : BTreeMap ℕ Sum) (rs : List Rollback) (at : ℕ) → get nat_cmp sums at ≡ sum_at Line rs at → count_at sums at ≡ count_in (OfLine at) rs
 one_count sums rs at is = ap (λ o. (sum_or o).count) is ∙ some_count (count_in (OfLine at) rs) (lost_in (OfLine at) rs)
 
-abbrev counts : ℕ → ℕ → ℕ → ℕ → Counts
+abbrev counts : ℕ → ℕ → ℕ → ℕ → CountsByKind
 counts a b c d = record { true_sharing = a; silent_store = b; false_sharing = c; full_buffer = d }
 
 same_counts : (a b c d a' b' c' d' : ℕ) → a ≡ a' → b ≡ b' → c ≡ c' → d ≡ d' → counts a b c d ≡ counts a' b' c' d'

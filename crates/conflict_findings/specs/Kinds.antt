@@ -4,7 +4,7 @@ use Rattle.std.specs.BTreeMap.{BTreeMap, get}
 use Rattle.std.specs.Ordering.{nat_cmp}
 use Rattle.spec_history.specs.declared.kind.Kind.{Kind}
 use Rattle.spec_history.specs.declared.kind.Kind.TheVariants.{TrueSharing, SilentStore, FalseSharing, FullBuffer}
-use Rattle.conflict_findings.specs.declared.kinds.Counts.{Counts}
+use Rattle.conflict_findings.specs.declared.kinds.CountsByKind.{CountsByKind}
 use Rattle.conflict_findings.specs.declared.kinds.LinesByKind.{LinesByKind}
 use Rattle.conflict_findings.specs.declared.keys.Key.TheVariants.{Line}
 use Rattle.conflict_findings.specs.declared.part.Part.{Part}
@@ -20,7 +20,7 @@ abbrev pub of_kind : Kind → List Rollback → List Rollback
 of_kind kind rollbacks = filter (belongs (OfKind kind)) rollbacks
 
 -- how many violations of a part are of each kind
-abbrev pub counts_in : Part → List Rollback → Counts
+abbrev pub counts_in : Part → List Rollback → CountsByKind
 counts_in part rollbacks = record {
   true_sharing = count_in part (of_kind TrueSharing rollbacks);
   silent_store = count_in part (of_kind SilentStore rollbacks);
@@ -39,7 +39,7 @@ pub record AreLines (rollbacks : List Rollback) (lines : LinesByKind) : Type 0 w
 abbrev pub count_at : BTreeMap ℕ Sum → ℕ → ℕ
 count_at sums at = (sum_or (get nat_cmp sums at)).count
 
-abbrev pub counts_at : LinesByKind → ℕ → Counts
+abbrev pub counts_at : LinesByKind → ℕ → CountsByKind
 counts_at lines at = record {
   true_sharing = count_at lines.true_sharing at;
   silent_store = count_at lines.silent_store at;

@@ -3,7 +3,8 @@ pub mod Runs
 -- Which attempts of a history ended, how, and which go on; how many they are, and what they executed.
 pub mod Ends
 pub mod Tallies
--- What of an explanation is summed, what parts there are, and their sums.
+-- What is found of a violation; what of it is summed, what parts there are, and their sums.
+pub mod Findings
 pub mod Keys
 pub mod Rollbacks
 pub mod Parts
@@ -15,6 +16,7 @@ pub mod Order
 pub mod Roles
 -- Words of contracts: what the entries say of attempts that have been violated.
 pub mod Violated
--- What is kept of the ends of attempts, and of pairs.
+-- What is kept of the numbers and the ends of attempts, and of pairs.
+pub mod Followed
 pub mod KnownEnds
 pub mod Grouped

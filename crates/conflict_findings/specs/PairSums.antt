@@ -3,7 +3,7 @@ use Rattle.std.specs.Prelude.{◌+◌, List, Option, Some, None, count_by, filte
 use Rattle.std.specs.List.{fold}
 use Rattle.conflicts.specs.declared.explanation.ByteRange.{ByteRange}
 use Rattle.spec_history.specs.declared.kind.Kind.TheVariants.{TrueSharing, SilentStore, FalseSharing, FullBuffer}
-use Rattle.conflict_findings.specs.declared.kinds.Counts.{Counts}
+use Rattle.conflict_findings.specs.declared.kinds.CountsByKind.{CountsByKind}
 use Rattle.conflict_findings.specs.declared.pair_sums.Bounds.{Bounds}
 use Rattle.conflict_findings.specs.declared.pair_sums.Fates.{Fates}
 use Rattle.conflict_findings.specs.declared.pair_sums.Measure.{Measure}
@@ -39,7 +39,7 @@ abbrev pub bounds_in : Measure → List Rollback → Option Bounds
 bounds_in measure rollbacks = fold (λ bounds (r : Rollback). joined bounds (measured measure r)) None rollbacks
 
 -- how many are of each kind
-abbrev pub kinds_in : List Rollback → Counts
+abbrev pub kinds_in : List Rollback → CountsByKind
 kinds_in rollbacks = record {
   true_sharing = count_in (OfKind TrueSharing) rollbacks;
   silent_store = count_in (OfKind SilentStore) rollbacks;

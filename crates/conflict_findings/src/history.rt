@@ -4,20 +4,40 @@ ghost use Rattle.std.specs.Prelude.{◌≡◌, IfOk, OnOk, Some, ◌++◌};
 ghost use Rattle.spec_history.specs.View.{state_in};
 ghost use Rattle.spec_history.specs.Conflict as conflict;
 ghost use Rattle.conflicts.specs.Behind.{IsBehind};
+ghost use Rattle.conflict_findings.specs.Findings.{further_in};
 ghost use Rattle.conflict_findings.specs.Runs as spec;
 
+use crate::finding::{FurtherRun, what_at, with_instructions};
 use crate::run::{Run, Told};
-use conflicts::{Behind, Explanation, Kind, Parties, Violated};
+use conflicts::{Behind, Explanation, Kind, Parties, Site, Violated};
 use rv32_exec::Image;
-use spec_history::{Entry, Flat, What};
+use spec_history::{Entry, Flat};
 use std::alloc::{AllocError, Global};
 
-/// The further runs of bytes at which the epochs of a violation met. It takes the machine before the violation, the whole history, what
-/// is known of attempts, and the explanation.
+/// The further runs of bytes at which the epochs of a violation met. It takes the machine before the violation, the whole history and
+/// its sites, what is known of attempts, and the explanation.
 ///
 /// First those of bytes that the cause writes and the victim had read, by their addresses; then one for each line of which both
 /// have a byte but share none, by their addresses. The blamed run is left out.
 pub fn further_runs(
+    alloc: Global,
+    image: &Image,
+    flat: &Flat,
+    entries: &[Entry],
+    sites: &[Option<Site>],
+    behind: &Behind,
+    e: Explanation,
+) -> Result<Vec<FurtherRun>, AllocError>
+    requires image { flat.now.image ≡ image.now }
+    requires known { IsBehind image.now.size entries.now behind.now }
+    ensures { IfOk result (λ further. further.items ≡ further_in image.now entries.now sites.now e (Some (state_in flat.now))) }
+{
+    let runs = runs_of(alloc, image, flat, entries, behind, e)?;
+    with_instructions(alloc, sites, runs.as_slice())
+}
+
+/// The same without their instructions.
+fn runs_of(
     alloc: Global,
     image: &Image,
     flat: &Flat,
@@ -42,14 +62,6 @@ fn in_order(alloc: Global, flat: &Flat, core: u32) -> Result<Vec<u32>, AllocErro
     read.extend_from_slice(flat.read_addresses(core))?;
     read.sort_unstable();
     Ok(read)
-}
-
-/// What the entry at a place says, if there is one.
-fn what_at(entries: &[Entry], place: Option<usize>) -> Option<What>
-    ensures { result ≡ conflict.what_at entries.now place }
-{
-    let entry = entries.get(place?)?;
-    Some(entry.what)
 }
 
 /// The same, at the end of a list.

@@ -18,7 +18,7 @@ use std::collections::BTreeMap;
 
 /// How many violations of a part are of each kind. Unexplained ones have no pair and no line.
 #[derive(Clone, Copy, Debug, PartialEq, Eq)]
-pub struct Counts {
+pub struct CountsByKind {
     /// True sharing.
     pub true_sharing: usize,
     /// Silent stores.
@@ -43,11 +43,7 @@ pub struct LinesByKind {
 }
 
 /// The violations of a part, in order.
-pub fn part_of(
-    alloc: Global,
-    rollbacks: &[Rollback],
-    part: Part,
-) -> Result<Vec<Rollback>, AllocError>
+fn part_of(alloc: Global, rollbacks: &[Rollback], part: Part) -> Result<Vec<Rollback>, AllocError>
     ensures { IfOk result (λ found. found.items ≡ filter (belongs part) rollbacks.now) }
 {
     let mut found = Vec::new(alloc);
@@ -95,10 +91,10 @@ fn count_at(sums: &BTreeMap<u32, Sum>, at: u32) -> usize
 
 impl LinesByKind {
     /// How many in a line there are of each kind.
-    pub fn counts(&self, line: u32) -> Counts
+    pub fn counts(&self, line: u32) -> CountsByKind
         ensures { result ≡ spec.counts_at self.now line }
     {
-        Counts {
+        CountsByKind {
             true_sharing: count_at(&self.true_sharing, line),
             silent_store: count_at(&self.silent_store, line),
             false_sharing: count_at(&self.false_sharing, line),

@@ -48,14 +48,14 @@ pub struct KnownEnds {
 
 impl KnownEnds {
     /// Nothing yet.
-    pub fn new() -> KnownEnds
+    pub(crate) fn new() -> KnownEnds
         ensures { (entries : List Entry) → spec.AreKnownEnds entries result }
     {
         KnownEnds { slots: [None; 16] }
     }
 
     /// Where the causer's attempt was over. It looks for that once an attempt, where it is asked in the order of the history.
-    pub fn over_at(&mut self, entries: &[Entry], e: Explanation) -> Option<usize>
+    fn over_at(&mut self, entries: &[Entry], e: Explanation) -> Option<usize>
         requires { spec.AreKnownEnds entries.now self.old }
         ensures over { result ≡ fates.over_at entries.now e }
         ensures known { spec.AreKnownEnds entries.now self.new }

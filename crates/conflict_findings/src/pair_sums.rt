@@ -4,7 +4,7 @@ ghost use Rattle.std.specs.Prelude.{◌≡◌, List};
 ghost use Rattle.conflict_findings.specs.declared.rollback.Rollback.{Rollback};
 ghost use Rattle.conflict_findings.specs.PairSums as spec;
 
-use crate::kinds::Counts;
+use crate::kinds::CountsByKind;
 use crate::part::Part;
 use crate::rollback::{Pair, Rollback};
 use crate::sum::{Sum, sum_of};
@@ -36,7 +36,7 @@ pub struct PairSum {
     /// How many violations they are, and what they lost.
     pub sum: Sum,
     /// How many are of each kind.
-    pub counts: Counts,
+    pub counts: CountsByKind,
     /// What became of them.
     pub fates: Fates,
     /// By how many epochs the victims stood after the causers.
@@ -118,10 +118,10 @@ fn fates_of(rollbacks: &[Rollback]) -> Fates
 }
 
 /// How many violations are of each kind.
-fn counts_of(rollbacks: &[Rollback]) -> Counts
+fn counts_of(rollbacks: &[Rollback]) -> CountsByKind
     ensures { result ≡ spec.kinds_in rollbacks.now }
 {
-    Counts {
+    CountsByKind {
         true_sharing: sum_of(rollbacks, Part::OfKind(Kind::TrueSharing)).count,
         silent_store: sum_of(rollbacks, Part::OfKind(Kind::SilentStore)).count,
         false_sharing: sum_of(rollbacks, Part::OfKind(Kind::FalseSharing)).count,

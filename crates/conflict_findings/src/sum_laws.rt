@@ -33,7 +33,7 @@ pub fn pairs_make_up_all()
 /// Where a violation is not refused, the victim's epoch comes after the causer's, by the distance.
 pub fn violated_epochs_come_after()
     ensures apart { (image : LoadedImage) (cores : ℕ) (s : FlatState) (entries : List Entry) (e : Explanation) → IsExplainedIn image s entries e
-        → refusal_of image cores s (record { by = e.causer.core; what = Hurt e.victim.epoch }) ≡ None → 1 ≤ distance_of e }
+        → refusal_of image cores s (record { by = e.causer.core; what = Hurt e.victim.epoch }) ≡ None → 1 ≤ distance_of e.victim e.causer }
     ensures sum { (image : LoadedImage) (cores : ℕ) (s : FlatState) (entries : List Entry) (e : Explanation) → IsExplainedIn image s entries e
-        → refusal_of image cores s (record { by = e.causer.core; what = Hurt e.victim.epoch }) ≡ None → e.causer.epoch + distance_of e ≡ e.victim.epoch }
+        → refusal_of image cores s (record { by = e.causer.core; what = Hurt e.victim.epoch }) ≡ None → e.causer.epoch + distance_of e.victim e.causer ≡ e.victim.epoch }
 {}

@@ -8,8 +8,8 @@ use crate::rows::{
 };
 use crate::words::{count_of, index, number, place_in, word};
 use conflict_findings::{
-    Bounds, Fates, Key, Pair, PairSum, Part, Rollback, Sum, heaviest_pairs, pairs_of, rollbacks,
-    sum_of, sums_by,
+    Access, Bounds, Fates, Finding, Followed, Key, Pair, PairSum, Part, Rollback, Sum, finding_of,
+    heaviest_pairs, pairs_of, sum_of, sums_by,
 };
 use conflicts::{Blame, ByteRange, Explanation, Kind, Runner, Site, explain, sites};
 use rv32_exec::{Image, image_of};
@@ -55,19 +55,36 @@ impl Worked {
         }
     }
 
-    fn summed(&self, alloc: Global) -> Result<Vec<Rollback>, Fail> {
-        let found = self.explained(alloc)?;
+    /// What is found of each violation, in order.
+    fn found(&self, alloc: Global) -> Result<Vec<Finding>, Fail> {
+        let explained = self.explained(alloc)?;
         let stood = self.sites(alloc)?;
-        match rollbacks(
-            alloc,
+        let mut found = Vec::new(alloc);
+        for e in explained {
+            found.push(self.found_alone(stood.as_slice(), &e))?;
+        }
+        Ok(found)
+    }
+
+    /// What is found of one violation, where nothing is kept of attempts before.
+    fn found_alone(&self, stood: &[Option<Site>], e: &Explanation) -> Finding {
+        let mut followed = Followed::new();
+        finding_of(
             &self.image,
             self.entries.as_slice(),
-            stood.as_slice(),
-            found.as_slice(),
-        ) {
-            Ok(summed) => Ok(summed),
-            Err(AllocError) => Err(Fail::from("memory")),
+            stood,
+            &mut followed,
+            e,
+        )
+    }
+
+    fn summed(&self, alloc: Global) -> Result<Vec<Rollback>, Fail> {
+        let found = self.found(alloc)?;
+        let mut summed = Vec::new(alloc);
+        for finding in found {
+            summed.push(finding.rollback())?;
         }
+        Ok(summed)
     }
 }
 
@@ -148,6 +165,27 @@ fn site_at(sites: &[Option<Site>], place: usize) -> Option<Site> {
     }
 }
 
+/// An access is of the entry and of the instruction that a row names.
+fn is_access(access: Option<Access>, row: &str, place: usize, pc: usize) -> bool {
+    access
+        == Some(Access {
+            place: index(row, place),
+            pc: Some(number(row, pc)),
+        })
+}
+
+/// Whether what is found names the load, the store and the bytes of a row, with their instructions, and how many the attempt executed from the load on.
+fn is_met(found: &Finding, row: &str) -> bool {
+    let bytes = ByteRange {
+        first: number(row, 25),
+        length: number(row, 26),
+    };
+    is_access(found.load, row, 14, 20)
+        && is_access(found.store, row, 16, 21)
+        && found.bytes == Some(bytes)
+        && found.since == Some(u64::from(number(row, 23)))
+}
+
 /// Whether the row names the addresses of the two instructions of its pair, and how many the attempt executed from the load on.
 fn is_pair_told(row: &str, sites: &[Option<Site>]) -> bool {
     let Some(load) = site_at(sites, index(row, 14)) else {
@@ -175,6 +213,16 @@ fn tells_the_instructions_of_a_pair(rt: HostRuntime) -> Result<(), Fail> {
     Ok(())
 }
 
+#[test]
+fn finds_the_instructions_of_a_pair(rt: HostRuntime) -> Result<(), Fail> {
+    let found = Worked::of(rt.alloc(), HISTOGRAM)?.found(rt.alloc())?;
+    assert!(rt; found.len() == count_of(HISTOGRAM_VIOLATIONS));
+    for (finding, row) in found.iter().zip(HISTOGRAM_VIOLATIONS.split('\n')) {
+        assert!(rt; is_met(finding, row), "{row}");
+    }
+    Ok(())
+}
+
 /// Whether a row tells the place and the attempt of a violation, and at which places the causer's attempt was undone and the victim's epoch was
 /// cancelled.
 fn has_ends(explanation: &Explanation, entries: &[Entry], row: &str) -> bool {
@@ -191,16 +239,35 @@ fn has_fate(explanation: &Explanation, image: &Image, entries: &[Entry], row: &s
         && explanation.held_at(image, entries) == place_in(row, 10)
 }
 
+/// Whether what is found says so too. A row names the store that held the line of a full buffer alone.
+fn is_fate_found(found: &Finding, row: &str) -> bool {
+    let is_held = match (place_in(row, 10), found.load) {
+        (Some(held), Some(load)) => load.place == held,
+        (Some(_), None) => false,
+        (None, _) => true,
+    };
+    found.place == index(row, 0)
+        && found.attempt == index(row, 2)
+        && found.undoing.is_some() == place_in(row, 4).is_some()
+        && found.moot == place_in(row, 6).is_some()
+        && found.stale == (word(row, 8) == "yes")
+        && is_held
+}
+
 /// The rows tell what became of the violations of a worked history.
 fn has_fates(rt: &impl Abort, alloc: Global, text: &str, rows: &str) -> Result<(), Fail> {
     let worked = Worked::of(alloc, text)?;
-    let found = worked.explained(alloc)?;
-    assert!(rt; found.len() == count_of(rows));
-    for (explanation, row) in found.iter().zip(rows.split('\n')) {
+    let explained = worked.explained(alloc)?;
+    let found = worked.found(alloc)?;
+    assert!(rt; explained.len() == count_of(rows) && found.len() == count_of(rows));
+    for (explanation, row) in explained.iter().zip(rows.split('\n')) {
         assert!(rt;
             has_fate(explanation, &worked.image, worked.entries.as_slice(), row),
             "{row}"
         );
+    }
+    for (finding, row) in found.iter().zip(rows.split('\n')) {
+        assert!(rt; is_fate_found(finding, row), "{row}");
     }
     Ok(())
 }

@@ -1,5 +1,5 @@
 -- What `why` comes to, from what its parts answer.
-use Rattle.std.proofs.Common.{◌≡◌, ◌≢◌, ◌+◌, ◌++◌, ℕ, List, Option, Some, length, map, take, drop, inl, inr, subst, sym, ap, ◌∙◌}
+use Rattle.std.proofs.Common.{◌≡◌, ◌≢◌, ◌+◌, ◌++◌, ℕ, List, [], ◌∷◌, refl, Option, Some, length, map, take, drop, inl, inr, subst, sym, ap, ◌∙◌}
 use Rattle.std.proofs.Math.Seq.{take-append-add, take-append_seam}
 use Rattle.std.specs.Io.KnownBytes.{Appends}
 use Rattle.std.proofs.KnownBytes.{Appends-trans}
@@ -21,11 +21,14 @@ use Rattle.spec_history.specs.FlatState.{FlatState}
 use Rattle.spec_history.specs.Replay.{replay}
 use Rattle.conflicts.specs.declared.explanation.Explanation.{Explanation}
 use Rattle.conflicts.specs.Sites.{sites_before}
-use Rattle.conflict_findings.specs.Runs.{further_runs}
+use Rattle.conflict_findings.specs.declared.finding.Finding.{Finding}
+use Rattle.conflict_findings.specs.declared.finding.FurtherRun.{FurtherRun}
+use Rattle.conflict_findings.specs.Rollbacks.{rollback_at, rollback_of}
 use Rattle.conflict_findings.specs.Ends.{ended_before, running_after}
 use Rattle.conflict_text.specs.Ends.{attempt_lines}
-use Rattle.conflict_text.specs.Further.{told_lines}
-use Rattle.conflict_text.specs.Explaining.{IsReport}
+use Rattle.conflict_text.specs.Lines.{told_lines}
+use Rattle.conflict_text.specs.Report.{IsSummary}
+use Rattle.conflict_text.specs.Explaining.{IsReport, found_of}
 use Rattle.conflict_text.specs.Why.{AreTold, IsAnswer, IsRest, IsToldBy, IsTracedOutcome, IsWhyOutcome}
 use Rattle.conflict_text.proofs.Same.{same_found}
 
@@ -66,21 +69,30 @@ pub of_rest : (old between new : Option (List ℕ)) (first rest : List ℕ) → 
 of_rest old between new first rest whole is =
     (length first + is.0, subst (Appends old new) (sym (take-append-add first rest is.0)) (Appends-trans old between new first (take is.0 rest) whole is.1))
 
+map-map : {X Y Z : Type 0} (f : Y → Z) (g : X → Y) (xs : List X) → map (λ x. f (g x)) xs ≡ map f (map g xs)
+map-map f g [] = refl
+map-map f g (x ∷ xs) = ap (λ l. f (g x) ∷ l) (map-map f g xs)
+
 -- the lines of the violations, with the rest below them, are the report
 pub is_report : (image : LoadedImage) (cores : ℕ) (history : List Entry) (homefree : ℕ) (violations rest text : List ℕ) (last : FlatState) → IsImage image → replay image cores history ≡ Some last
     → AreTold image cores history (sites_before image cores history (length history)) (length history) violations → IsRest image cores history homefree rest → text ≡ violations ++ rest
     → IsReport image cores history homefree text
 is_report image cores history homefree violations rest text last is replays told below whole =
-    let lines = λ (found : List Explanation). told_lines image history (sites_before image cores history (length history)) found (map (further_runs image cores history) found) in
-    let attempts = attempt_lines history (ended_before image cores history (length history)) (running_after image cores history) in
+    let sites = sites_before image cores history (length history) in
+    let lines = λ (found : List Explanation). told_lines (map (found_of image cores history sites) found) in
+    let ended = ended_before image cores history (length history) in
+    let running = running_after image cores history in
+    let attempts = attempt_lines history ended running in
     let same = same_found image cores history last told.found below.found is replays told.are.explained below.are.explained (told.are.each_once ∙ sym below.are.each_once) in
+    let of_findings : map (rollback_at image history sites) below.found ≡ map (λ (v : Finding × List FurtherRun). rollback_of v.0) (map (found_of image cores history sites) below.found) =
+    map-map (λ (v : Finding × List FurtherRun). rollback_of v.0) (found_of image cores history sites) below.found in
     record {
       found = below.found;
       each_once = below.are.each_once;
       explained = below.are.explained;
       printed = record {
         sums = below.sums;
-        summed = below.summed;
+        summed = subst (λ rollbacks. IsSummary image homefree rollbacks ended running below.sums) of_findings below.summed;
         printed = whole
             ∙ (ap (λ t. t ++ rest) (told.told ∙ ap lines same)
             ∙ (ap (λ t. lines below.found ++ t) below.printed ∙ sym (append_assoc (lines below.found) attempts below.sums)));

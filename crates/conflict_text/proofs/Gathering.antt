@@ -10,11 +10,13 @@ use Rattle.conflicts.specs.declared.explanation.Explanation.{Explanation}
 use Rattle.conflicts.specs.declared.standing.Site.{Site}
 use Rattle.conflicts.specs.Explained.{IsExplainedIn}
 use Rattle.conflicts.proofs.Explaining.{no_places, each_more, explained_more}
-use Rattle.conflict_findings.specs.Runs.{further_runs, runs_in}
+use Rattle.conflict_findings.specs.declared.finding.Finding.{Finding}
+use Rattle.conflict_findings.specs.declared.finding.FurtherRun.{FurtherRun}
+use Rattle.conflict_findings.specs.Findings.{finding_of, further_in, further_of}
 use Rattle.conflict_findings.specs.declared.rollback.Rollback.{Rollback}
-use Rattle.conflict_findings.specs.Rollbacks.{rollback_of}
-use Rattle.conflict_text.specs.Further.{told_lines}
-use Rattle.conflict_text.specs.Lines.{violation_lines}
+use Rattle.conflict_findings.specs.Rollbacks.{rollback_at}
+use Rattle.conflict_text.specs.Explaining.{found_of}
+use Rattle.conflict_text.specs.Lines.{told_lines, violation_lines}
 use Rattle.conflict_text.specs.Why.{AreExplained, AreSummed, AreTold, lines_of}
 
 -- ---- explanations
@@ -47,47 +49,42 @@ mapped f xs (Some x) old new was grown = grown ∙ (ap (λ ys. ys ++ f x ∷ [])
 pub more_summed : (image : LoadedImage) (count : ℕ) (s : FlatState) (entries : List Entry) (sites : List (Option Site)) (place : ℕ) (found : Option Explanation) (old new : List Rollback)
     → replay image count (take place entries) ≡ Some s → is_some found ≡ entry_is entries place (λ e. is_hurt e.what)
     → IfSome found (λ e. (e.place ≡ place) × IsExplainedIn image s entries e) → AreSummed image count entries sites place old
-    → new ≡ old ++ option_to_list (option_map (rollback_of image entries sites) found) → AreSummed image count entries sites (place + 1) new
+    → new ≡ old ++ option_to_list (option_map (rollback_at image entries sites) found) → AreSummed image count entries sites (place + 1) new
 more_summed image count s entries sites place found old new replays shown explained was grown = record {
   found = was.found ++ option_to_list found;
   are = more_explained image count s entries place was.found found replays shown explained was.are;
-  summed = mapped (rollback_of image entries sites) was.found found old new was.summed grown;
+  summed = mapped (rollback_at image entries sites) was.found found old new was.summed grown;
 }
 
 -- ---- their lines
 
 pub none_told : (image : LoadedImage) (count : ℕ) (entries : List Entry) (sites : List (Option Site)) (text : List ℕ) → text ≡ [] → AreTold image count entries sites 0 text
-unfolding told_lines
 none_told image count entries sites text none = record { found = []; are = none_explained image count entries; told = none }
 
-told_push : (image : LoadedImage) (count : ℕ) (entries : List Entry) (sites : List (Option Site)) (xs : List Explanation) (e : Explanation)
-    → told_lines image entries sites (xs ++ e ∷ []) (map (further_runs image count entries) (xs ++ e ∷ []))
-    ≡ told_lines image entries sites xs (map (further_runs image count entries) xs) ++ violation_lines image entries sites (further_runs image count entries e) e
-unfolding told_lines
-told_push image count entries sites [] e = append-nil (violation_lines image entries sites (further_runs image count entries e) e)
-told_push image count entries sites (x ∷ xs) e =
-    let f = further_runs image count entries in
-    ap (λ t. violation_lines image entries sites (f x) x ++ t) (told_push image count entries sites xs e)
-    ∙ sym (append_assoc (violation_lines image entries sites (f x) x) (told_lines image entries sites xs (map f xs)) (violation_lines image entries sites (f e) e))
+-- one more at the end of a list
+told_push : {X : Type 0} (f : X → Finding × List FurtherRun) (xs : List X) (x : X) → told_lines (map f (xs ++ x ∷ [])) ≡ told_lines (map f xs) ++ violation_lines (f x).0 (f x).1
+told_push f [] x = append-nil (violation_lines (f x).0 (f x).1)
+told_push f (y ∷ ys) x =
+    ap (λ t. violation_lines (f y).0 (f y).1 ++ t) (told_push f ys x)
+    ∙ sym (append_assoc (violation_lines (f y).0 (f y).1) (told_lines (map f ys)) (violation_lines (f x).0 (f x).1))
 
-at_place : (image : LoadedImage) (count : ℕ) (s : FlatState) (entries : List Entry) (place : ℕ) (e : Explanation) → replay image count (take place entries) ≡ Some s → e.place ≡ place
-    → further_runs image count entries e ≡ runs_in image entries e (Some s)
-at_place image count s entries place e replays is =
-    ap (λ n. runs_in image entries e (replay image count (take n entries))) is ∙ ap (runs_in image entries e) replays
+at_place : (image : LoadedImage) (count : ℕ) (s : FlatState) (entries : List Entry) (sites : List (Option Site)) (place : ℕ) (e : Explanation) → replay image count (take place entries) ≡ Some s
+    → e.place ≡ place → further_of image count entries sites e ≡ further_in image entries sites e (Some s)
+at_place image count s entries sites place e replays is =
+    ap (λ n. further_in image entries sites e (replay image count (take n entries))) is ∙ ap (further_in image entries sites e) replays
 
 told_by : (image : LoadedImage) (count : ℕ) (s : FlatState) (entries : List Entry) (sites : List (Option Site)) (place : ℕ) (xs : List Explanation) (found : Option Explanation) (old new : List ℕ)
     → replay image count (take place entries) ≡ Some s → IfSome found (λ e. (e.place ≡ place) × IsExplainedIn image s entries e)
-    → old ≡ told_lines image entries sites xs (map (further_runs image count entries) xs) → new ≡ old ++ lines_of image s entries sites found
-    → new ≡ told_lines image entries sites (xs ++ option_to_list found) (map (further_runs image count entries) (xs ++ option_to_list found))
+    → old ≡ told_lines (map (found_of image count entries sites) xs) → new ≡ old ++ lines_of image s entries sites found
+    → new ≡ told_lines (map (found_of image count entries sites) (xs ++ option_to_list found))
 told_by image count s entries sites place xs None old new replays is was grown =
-    let told = λ (ys : List Explanation). told_lines image entries sites ys (map (further_runs image count entries) ys) in
-    grown ∙ (append-nil old ∙ (was ∙ sym (ap told (append-nil xs))))
+    grown ∙ (append-nil old ∙ (was ∙ sym (ap (λ ys. told_lines (map (found_of image count entries sites) ys)) (append-nil xs))))
 told_by image count s entries sites place xs (Some e) old new replays is was grown =
-    let told = λ (ys : List Explanation). told_lines image entries sites ys (map (further_runs image count entries) ys) in
+    let told = told_lines (map (found_of image count entries sites) xs) in
     grown
-    ∙ (ap (λ t. t ++ violation_lines image entries sites (runs_in image entries e (Some s)) e) was
-    ∙ (ap (λ runs. told xs ++ violation_lines image entries sites runs e) (sym (at_place image count s entries place e replays is.0))
-    ∙ sym (told_push image count entries sites xs e)))
+    ∙ (ap (λ t. t ++ violation_lines (finding_of image entries sites e) (further_in image entries sites e (Some s))) was
+    ∙ (ap (λ runs. told ++ violation_lines (finding_of image entries sites e) runs) (sym (at_place image count s entries sites place e replays is.0))
+    ∙ sym (told_push (found_of image count entries sites) xs e)))
 
 pub more_told : (image : LoadedImage) (count : ℕ) (s : FlatState) (entries : List Entry) (sites : List (Option Site)) (place : ℕ) (found : Option Explanation) (old new : List ℕ)
     → replay image count (take place entries) ≡ Some s → is_some found ≡ entry_is entries place (λ e. is_hurt e.what)

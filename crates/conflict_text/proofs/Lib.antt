@@ -1,4 +1,3 @@
-pub mod Following
 pub mod Summing
 pub mod Answering
 pub mod Gathering

@@ -1,6 +1,5 @@
 -- Definitions to believe: the lines that tell of one violation, those of attempts, and the report.
 pub mod Lines
-pub mod Further
 pub mod Ends
 pub mod Report
 -- Definitions to believe: what the report of a history is.
@@ -9,5 +8,3 @@ pub mod Explaining
 pub mod Why
 pub mod Work
 pub mod Totals
--- What is kept of attempts that were told of.
-pub mod Followed

@@ -1,23 +1,17 @@
 -- The lines that tell of one violation: words and numbers parted by one space, a dash where there is no number.
 -- Source: this project.
-use Rattle.std.specs.Prelude.{ℕ, ◌*◌, List, [], ◌++◌, codes, Option, Some, None, option_and_then, option_map, slice_get}
+use Rattle.std.specs.Prelude.{ℕ, List, [], ◌++◌, codes, Bool, true, false, Option, Some, None, option_map}
 use Rattle.std.specs.Fmt.{decimal}
 use Rattle.std.specs.List.{flat_map}
-use Rattle.rv32_image.specs.Image.{LoadedImage}
-use Rattle.rv32_image.specs.Version.{limits_of}
-use Rattle.spec_history.specs.declared.entry.Entry.{Entry}
 use Rattle.spec_history.specs.declared.entry.What.{What}
 use Rattle.spec_history.specs.declared.entry.What.TheVariants.{Load, Store, Hurt, Cancel, Publish, Commit, Fault}
-use Rattle.conflicts.specs.declared.explanation.Blame.{Blame}
 use Rattle.conflicts.specs.declared.explanation.ByteRange.{ByteRange}
-use Rattle.conflicts.specs.declared.explanation.Explanation.{Explanation}
 use Rattle.spec_history.specs.declared.kind.Kind.{Kind}
 use Rattle.spec_history.specs.declared.kind.Kind.TheVariants.{TrueSharing, SilentStore, FalseSharing, FullBuffer, Unexplained}
-use Rattle.conflicts.specs.declared.standing.Site.{Site}
-use Rattle.conflicts.specs.Attempts.{attempt_number}
-use Rattle.spec_history.specs.Conflict.{line_of, what_at}
-use Rattle.conflicts.specs.Fates.{held_at, moot_at, since, undone_at}
-use Rattle.conflict_findings.specs.declared.run.Run.{Run}
+use Rattle.conflict_findings.specs.declared.finding.Access.{Access}
+use Rattle.conflict_findings.specs.declared.finding.Finding.{Finding}
+use Rattle.conflict_findings.specs.declared.finding.FurtherRun.{FurtherRun}
+use Rattle.conflict_findings.specs.Rollbacks.{pc_of}
 use Rattle.trace_text.specs.Printing.{hex_word}
 
 -- ---- words
@@ -55,119 +49,81 @@ undoing_name what = codes "-"
 
 -- ---- accesses
 
--- the address of the instruction of the entry at a place
-abbrev pub pc_at : List (Option Site) → Option ℕ → Option ℕ
-pc_at sites place =
-    option_and_then (λ there. option_map (λ (site : Site). site.pc) there) (option_and_then (λ p. slice_get sites p) place)
+abbrev pub place_of : Option Access → Option ℕ
+place_of access = option_map (λ (a : Access). a.place) access
 
 -- what the report calls an access, its entry, and its instruction
-abbrev pub access_text : List ℕ → List (Option Site) → Option ℕ → List ℕ
-access_text name sites place = name ++ number_or_dash place ++ codes " " ++ address_or_dash (pc_at sites place)
-
--- the first address of the line in which an address lies
-abbrev pub line_start : LoadedImage → ℕ → ℕ
-line_start image a = line_of image a * (limits_of image.version).line_length
-
-abbrev pub line_at : LoadedImage → ℕ → ByteRange
-line_at image a = record { first = line_start image a; length = (limits_of image.version).line_length }
-
-abbrev pub accessed : LoadedImage → What → Option ByteRange
-accessed image (Load address width value) = Some (line_at image address)
-accessed image (Store address width value) = Some (line_at image address)
-accessed image what = None
-
--- the bytes of the line of an access
-abbrev pub line_bytes : LoadedImage → Option What → Option ByteRange
-line_bytes image what = option_and_then (accessed image) what
+abbrev pub access_text : List ℕ → Option Access → List ℕ
+access_text name access = name ++ number_or_dash (place_of access) ++ codes " " ++ address_or_dash (pc_of access)
 
 -- where two accesses met: the address of the first byte, and how many they are
 abbrev pub bytes_text : Option ByteRange → List ℕ
 bytes_text None = codes " at - -"
 bytes_text (Some bytes) = codes " at " ++ hex_word bytes.first ++ codes " " ++ decimal bytes.length
 
-abbrev pub load_of : Option Blame → Option ℕ
-load_of blame = option_map (λ (pair : Blame). pair.load) blame
-
-abbrev pub store_of : Option Blame → Option ℕ
-store_of blame = option_map (λ (pair : Blame). pair.store) blame
-
-abbrev pub bytes_of : Option Blame → Option ByteRange
-bytes_of blame = option_map (λ (pair : Blame). pair.bytes) blame
-
--- of a full buffer: the victim's store that held the line, and the cause, which asked for it
-abbrev pub full_text : LoadedImage → List Entry → List (Option Site) → Explanation → List ℕ
-full_text image entries sites e =
-    access_text (codes " held ") sites (held_at image entries e) ++ access_text (codes " asked ") sites e.cause
-    ++ bytes_text (line_bytes image (what_at entries e.cause))
-
--- else: the blamed load and store, and the bytes at which they met
-abbrev pub blame_text : List (Option Site) → Option Blame → List ℕ
-blame_text sites blame =
-    access_text (codes " load ") sites (load_of blame) ++ access_text (codes " store ") sites (store_of blame)
-    ++ bytes_text (bytes_of blame)
-
-abbrev pub pair_text : LoadedImage → List Entry → List (Option Site) → Explanation → Kind → List ℕ
-pair_text image entries sites e FullBuffer = full_text image entries sites e
-pair_text image entries sites e kind = blame_text sites e.blame
+-- the blamed load and store; of a full buffer the store that held the line, and the access that asked for it
+abbrev pub met_by : Kind → Option Access → Option Access → List ℕ
+met_by FullBuffer load store = access_text (codes " held ") load ++ access_text (codes " asked ") store
+met_by kind load store = access_text (codes " load ") load ++ access_text (codes " store ") store
 
 -- ---- lines
 
 -- who was violated, and in which run of its epoch
-abbrev pub victim_text : List Entry → Explanation → List ℕ
-victim_text entries e =
-    codes " epoch " ++ decimal e.victim.epoch ++ codes " try " ++ decimal (attempt_number entries e.victim.core e.place)
-    ++ codes " core " ++ decimal e.victim.core
+abbrev pub victim_text : Finding → List ℕ
+victim_text f =
+    codes " epoch " ++ decimal f.victim.epoch ++ codes " try " ++ decimal f.attempt ++ codes " core " ++ decimal f.victim.core
 
-abbrev pub cost_text : List (Option Site) → Explanation → List ℕ
-cost_text sites e =
-    codes " lost " ++ decimal e.lost ++ codes " entered " ++ decimal e.entered ++ codes " since " ++ number_or_dash (since sites e)
+abbrev pub cost_text : Finding → List ℕ
+cost_text f = codes " lost " ++ decimal f.lost ++ codes " entered " ++ decimal f.entered ++ codes " since " ++ number_or_dash f.since
 
 -- who made it, and for what
-abbrev pub causer_text : List Entry → Explanation → List ℕ
-causer_text entries e =
-    codes " by " ++ decimal e.causer.epoch ++ codes " core " ++ decimal e.causer.core
-    ++ codes " cause " ++ number_or_dash e.cause ++ codes " " ++ cause_name (what_at entries e.cause)
+abbrev pub causer_text : Finding → List ℕ
+causer_text f =
+    codes " by " ++ decimal f.causer.epoch ++ codes " core " ++ decimal f.causer.core
+    ++ codes " cause " ++ number_or_dash f.cause ++ codes " " ++ cause_name f.act
 
-unfoldable pub hurt_line : LoadedImage → List Entry → List (Option Site) → Explanation → List ℕ
-hurt_line image entries sites e =
-    codes "hurt " ++ decimal e.place ++ codes " " ++ kind_name e.kind
-    ++ victim_text entries e ++ cost_text sites e ++ causer_text entries e ++ pair_text image entries sites e e.kind ++ codes "\n"
+unfoldable pub hurt_line : Finding → List ℕ
+hurt_line f =
+    codes "hurt " ++ decimal f.place ++ codes " " ++ kind_name f.kind
+    ++ victim_text f ++ cost_text f ++ causer_text f ++ met_by f.kind f.load f.store ++ bytes_text f.bytes ++ codes "\n"
 
 -- a further run of bytes at which the epochs of the violation at a place met
-unfoldable pub also_line : List (Option Site) → ℕ → Run → List ℕ
-also_line sites place run =
-    codes "also " ++ decimal place ++ codes " " ++ kind_name run.kind ++ access_text (codes " load ") sites (Some run.load)
-    ++ access_text (codes " store ") sites (Some run.store) ++ bytes_text (Some run.bytes) ++ codes "\n"
+unfoldable pub also_line : ℕ → FurtherRun → List ℕ
+also_line place run =
+    codes "also " ++ decimal place ++ codes " " ++ kind_name run.kind ++ access_text (codes " load ") (Some run.load)
+    ++ access_text (codes " store ") (Some run.store) ++ bytes_text (Some run.bytes) ++ codes "\n"
 
-abbrev pub also_lines : List (Option Site) → ℕ → List Run → List ℕ
-also_lines sites place runs = flat_map (also_line sites place) runs
+abbrev pub also_lines : ℕ → List FurtherRun → List ℕ
+also_lines place runs = flat_map (also_line place) runs
 
-abbrev pub later_by : List (Option Site) → ℕ → Option ℕ → List ℕ
-later_by sites place None = []
-later_by sites place (Some store) =
-    codes "later " ++ decimal place ++ access_text (codes " store ") sites (Some store) ++ codes "\n"
+abbrev pub later_by : ℕ → Option Access → List ℕ
+later_by place None = []
+later_by place (Some store) = codes "later " ++ decimal place ++ access_text (codes " store ") (Some store) ++ codes "\n"
 
 -- false sharing came true: the causer stored later to a byte that the victim had read
-unfoldable pub later_line : List (Option Site) → Explanation → List ℕ
-later_line sites e = later_by sites e.place e.later
+unfoldable pub later_line : Finding → List ℕ
+later_line f = later_by f.place f.later
 
 abbrev pub vain_by : ℕ → Option What → List ℕ
 vain_by place None = []
 vain_by place (Some what) = codes "vain " ++ decimal place ++ codes " " ++ undoing_name what ++ codes "\n"
 
 -- the causer's attempt was itself violated or cancelled
-unfoldable pub vain_line : List Entry → Explanation → List ℕ
-vain_line entries e = vain_by e.place (what_at entries (undone_at entries e))
+unfoldable pub vain_line : Finding → List ℕ
+vain_line f = vain_by f.place f.undoing
 
-abbrev pub moot_by : ℕ → Option ℕ → List ℕ
-moot_by place None = []
-moot_by place (Some cancelled) = codes "moot " ++ decimal place ++ codes "\n"
+abbrev pub moot_by : ℕ → Bool → List ℕ
+moot_by place false = []
+moot_by place true = codes "moot " ++ decimal place ++ codes "\n"
 
 -- the victim's epoch was cancelled before its core began it again
-unfoldable pub moot_line : List Entry → Explanation → List ℕ
-moot_line entries e = moot_by e.place (moot_at entries e)
+unfoldable pub moot_line : Finding → List ℕ
+moot_line f = moot_by f.place f.moot
 
 -- all that is told of one violation, with its further runs
-unfoldable pub violation_lines : LoadedImage → List Entry → List (Option Site) → List Run → Explanation → List ℕ
-violation_lines image entries sites runs e =
-    hurt_line image entries sites e ++ also_lines sites e.place runs ++ later_line sites e ++ vain_line entries e ++ moot_line entries e
+unfoldable pub violation_lines : Finding → List FurtherRun → List ℕ
+violation_lines f further = hurt_line f ++ also_lines f.place further ++ later_line f ++ vain_line f ++ moot_line f
+
+-- of each violation, in order
+abbrev pub told_lines : List (Finding × List FurtherRun) → List ℕ
+told_lines found = flat_map (λ (v : Finding × List FurtherRun). violation_lines v.0 v.1) found

@@ -9,13 +9,12 @@ use Rattle.rv32_image.specs.Version.{limits_of}
 use Rattle.spec_history.specs.declared.entry.Entry.{Entry}
 use Rattle.conflict_findings.specs.declared.ended.Ended.{Ended}
 use Rattle.conflict_findings.specs.declared.ended.Running.{Running}
-use Rattle.conflicts.specs.declared.explanation.Explanation.{Explanation}
+use Rattle.conflict_findings.specs.declared.finding.Finding.{Finding}
+use Rattle.conflict_findings.specs.declared.finding.FurtherRun.{FurtherRun}
 use Rattle.spec_history.specs.declared.kind.Kind.{Kind}
 use Rattle.spec_history.specs.declared.kind.Kind.TheVariants.{TrueSharing, SilentStore, FalseSharing, FullBuffer, Unexplained}
-use Rattle.conflicts.specs.declared.standing.Site.{Site}
-use Rattle.conflict_findings.specs.declared.run.Run.{Run}
 use Rattle.conflict_findings.specs.declared.keys.Key.TheVariants.{Epoch, Line, Load, Store}
-use Rattle.conflict_findings.specs.declared.kinds.Counts.{Counts}
+use Rattle.conflict_findings.specs.declared.kinds.CountsByKind.{CountsByKind}
 use Rattle.conflict_findings.specs.declared.pair_sums.Bounds.{Bounds}
 use Rattle.conflict_findings.specs.declared.pair_sums.Fates.{Fates}
 use Rattle.conflict_findings.specs.declared.pair_sums.PairSum.{PairSum}
@@ -30,8 +29,7 @@ use Rattle.conflict_findings.specs.Roles.{in_both_roles}
 use Rattle.conflict_findings.specs.Rollbacks.{rollback_of}
 use Rattle.conflict_findings.specs.Sums.{count_in, lost_in, sum_in}
 use Rattle.conflict_text.specs.Ends.{attempt_lines, rest_text, useful_text}
-use Rattle.conflict_text.specs.Further.{told_lines}
-use Rattle.conflict_text.specs.Lines.{address_or_dash, kind_name}
+use Rattle.conflict_text.specs.Lines.{address_or_dash, kind_name, told_lines}
 use Rattle.trace_text.specs.Printing.{hex_word}
 
 -- ---- parts of lines
@@ -40,7 +38,7 @@ abbrev pub sum_text : ℕ → ℕ → List ℕ
 sum_text rollbacks lost = codes " rollbacks " ++ decimal rollbacks ++ codes " lost " ++ decimal lost
 
 -- how many are of each kind
-abbrev pub counts_text : Counts → List ℕ
+abbrev pub counts_text : CountsByKind → List ℕ
 counts_text c =
     codes " true " ++ decimal c.true_sharing ++ codes " silent " ++ decimal c.silent_store
     ++ codes " false " ++ decimal c.false_sharing ++ codes " buffer " ++ decimal c.full_buffer
@@ -83,7 +81,7 @@ line_address image line =
     let first = line * (limits_of image.version).line_length in
     if nat_lt first (2 ^ 32) then Some first else None
 
-abbrev pub line_text : LoadedImage → ℕ × Sum → Counts → List ℕ
+abbrev pub line_text : LoadedImage → ℕ × Sum → CountsByKind → List ℕ
 line_text image e counts =
     codes "line " ++ address_or_dash (line_address image e.0) ++ sum_text e.1.count e.1.lost ++ counts_text counts ++ codes "\n"
 
@@ -141,7 +139,7 @@ pub record IsSummary (image : LoadedImage) (homefree : ℕ) (rollbacks : List Ro
       ++ flat_map (pc_line rollbacks) instructions.entries ++ kind_lines rollbacks ++ total_line image homefree rollbacks ended running
 
 -- the violations in order, each with its further runs, the attempts that were cancelled and those that go on, and the sums
-pub record IsPrinted (image : LoadedImage) (homefree : ℕ) (entries : List Entry) (sites : List (Option Site)) (found : List Explanation) (further : List (List Run)) (ended : List Ended) (running : List Running) (text : List ℕ) : Type 0 where
+pub record IsPrinted (image : LoadedImage) (homefree : ℕ) (entries : List Entry) (found : List (Finding × List FurtherRun)) (ended : List Ended) (running : List Running) (text : List ℕ) : Type 0 where
   pub sums : List ℕ
-  pub summed : IsSummary image homefree (map (rollback_of image entries sites) found) ended running sums
-  pub printed : text ≡ told_lines image entries sites found further ++ attempt_lines entries ended running ++ sums
+  pub summed : IsSummary image homefree (map (λ (v : Finding × List FurtherRun). rollback_of v.0) found) ended running sums
+  pub printed : text ≡ told_lines found ++ attempt_lines entries ended running ++ sums

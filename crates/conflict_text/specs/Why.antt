@@ -16,16 +16,15 @@ use Rattle.conflicts.specs.declared.standing.Site.{Site}
 use Rattle.conflicts.specs.Explained.{IsExplained, places_of, violations_before}
 use Rattle.conflicts.specs.Sites.{sites_before}
 use Rattle.conflict_findings.specs.Ends.{ended_before, running_after}
-use Rattle.conflict_findings.specs.Runs.{further_runs, runs_in}
+use Rattle.conflict_findings.specs.Findings.{finding_of, further_in}
 use Rattle.conflict_findings.specs.declared.rollback.Rollback.{Rollback}
-use Rattle.conflict_findings.specs.Rollbacks.{rollback_of}
+use Rattle.conflict_findings.specs.Rollbacks.{rollback_at}
 use Rattle.conflict_text.specs.Ends.{attempt_lines}
-use Rattle.conflict_text.specs.Further.{told_lines}
-use Rattle.conflict_text.specs.Lines.{violation_lines}
+use Rattle.conflict_text.specs.Lines.{told_lines, violation_lines}
 use Rattle.conflict_text.specs.Report.{IsSummary}
 use Rattle.conflict_text.specs.declared.report.Totals.{Totals}
 use Rattle.conflict_text.specs.Totals.{AreTotals}
-use Rattle.conflict_text.specs.Explaining.{IsReport}
+use Rattle.conflict_text.specs.Explaining.{IsReport, found_of}
 
 -- these explain the violations before a place of the history, one each, in order, and each is right
 pub record AreExplained (image : LoadedImage) (cores : ℕ) (history : List Entry) (place : ℕ) (found : List Explanation) : Type 0 where
@@ -36,24 +35,24 @@ pub record AreExplained (image : LoadedImage) (cores : ℕ) (history : List Entr
 pub record AreSummed (image : LoadedImage) (cores : ℕ) (history : List Entry) (sites : List (Option Site)) (place : ℕ) (rollbacks : List Rollback) : Type 0 where
   pub found : List Explanation
   pub are : AreExplained image cores history place found
-  pub summed : rollbacks ≡ map (rollback_of image history sites) found
+  pub summed : rollbacks ≡ map (rollback_at image history sites) found
 
 -- these are their lines
 pub record AreTold (image : LoadedImage) (cores : ℕ) (history : List Entry) (sites : List (Option Site)) (place : ℕ) (text : List ℕ) : Type 0 where
   pub found : List Explanation
   pub are : AreExplained image cores history place found
-  pub told : text ≡ told_lines image history sites found (map (further_runs image cores history) found)
+  pub told : text ≡ told_lines (map (found_of image cores history sites) found)
 
 -- the lines of an explanation, in the state before the violation, if there is one
 abbrev pub lines_of : LoadedImage → FlatState → List Entry → List (Option Site) → Option Explanation → List ℕ
 lines_of image s history sites None = []
-lines_of image s history sites (Some e) = violation_lines image history sites (runs_in image history e (Some s)) e
+lines_of image s history sites (Some e) = violation_lines (finding_of image history sites e) (further_in image history sites e (Some s))
 
 -- the lines of attempts, and the sums over the violations of the history
 pub record AreCounted (image : LoadedImage) (cores : ℕ) (history : List Entry) (homefree : ℕ) (text : List ℕ) (sums : Totals) : Type 0 where
   pub found : List Explanation
   pub are : AreExplained image cores history (length history) found
-  pub counted : AreTotals image homefree (map (rollback_of image history (sites_before image cores history (length history))) found)
+  pub counted : AreTotals image homefree (map (rollback_at image history (sites_before image cores history (length history))) found)
       (ended_before image cores history (length history)) (running_after image cores history) sums
   pub printed : text ≡ attempt_lines history (ended_before image cores history (length history)) (running_after image cores history)
 
@@ -62,7 +61,7 @@ pub record IsRest (image : LoadedImage) (cores : ℕ) (history : List Entry) (ho
   pub found : List Explanation
   pub are : AreExplained image cores history (length history) found
   pub sums : List ℕ
-  pub summed : IsSummary image homefree (map (rollback_of image history (sites_before image cores history (length history))) found)
+  pub summed : IsSummary image homefree (map (rollback_at image history (sites_before image cores history (length history))) found)
       (ended_before image cores history (length history)) (running_after image cores history) sums
   pub printed : text ≡ attempt_lines history (ended_before image cores history (length history)) (running_after image cores history) ++ sums
 

@@ -9,18 +9,16 @@ ghost use Rattle.trace_commands.specs.Audit.{IsVerdict};
 ghost use Rattle.conflicts.specs.Behind.{IsBehind};
 ghost use Rattle.conflicts.specs.Sites.{sites_before};
 ghost use Rattle.conflict_findings.specs.Ends.{ended_before, running_after};
-ghost use Rattle.conflict_findings.specs.KnownEnds.{AreKnownEnds};
-ghost use Rattle.conflict_findings.specs.Rollbacks.{rollback_of};
-ghost use Rattle.conflict_text.specs.Followed.{IsFollowed};
+ghost use Rattle.conflict_findings.specs.Followed.{IsFollowed};
+ghost use Rattle.conflict_findings.specs.Rollbacks.{rollback_at};
 ghost use Rattle.conflict_text.specs.Explaining.{IsReport};
 ghost use Rattle.conflict_text.specs.Why as spec;
 
 use crate::ends::attempt_lines;
-use crate::followed::Followed;
 use crate::lines::push_violation;
 use crate::report::{Totals, push_totals, totals_of};
 use conflict_findings::{
-    Ended, Ends, KnownEnds, Rollback, ended_by, further_runs, rollback_with, running_in,
+    Ended, Ends, Followed, Rollback, ended_by, finding_of, further_runs, running_in,
 };
 use conflicts::{Behind, Explanation, Known, Site, explanation_at, sites};
 use rv32_exec::Image;
@@ -148,7 +146,7 @@ fn gather(
         return Err(AllocError);
     };
     let mut known = Known::new(alloc);
-    let mut known_ends = KnownEnds::new();
+    let mut followed = Followed::new();
     let mut rollbacks = Vec::new(alloc);
     let mut ended = Vec::new(alloc);
     for (place, entry) in entries.iter().enumerate() {
@@ -158,7 +156,7 @@ fn gather(
             image,
             entries,
             sites,
-            &mut known_ends,
+            &mut followed,
             explained,
         )?;
         keep_ended(&mut ended, ended_by(&flat, cores, entries, place, *entry))?;
@@ -180,16 +178,17 @@ fn keep_summed(
     image: &Image,
     entries: &[Entry],
     sites: &[Option<Site>],
-    known_ends: &mut KnownEnds,
+    followed: &mut Followed,
     explained: Option<Explanation>,
 ) -> Result<(), AllocError>
-    requires { AreKnownEnds entries.now known_ends.old }
+    requires { IsFollowed entries.now followed.old }
     ensures rollbacks { OnOk result (rollbacks.new.items
-        ≡ rollbacks.old.items ++ option_to_list (option_map (rollback_of image.now entries.now sites.now) explained)) }
-    ensures known_ends { AreKnownEnds entries.now known_ends.new }
+        ≡ rollbacks.old.items ++ option_to_list (option_map (rollback_at image.now entries.now sites.now) explained)) }
+    ensures followed { IsFollowed entries.now followed.new }
 {
     if let Some(e) = explained {
-        rollbacks.push(rollback_with(image, entries, sites, known_ends, &e))?;
+        let found = finding_of(image, entries, sites, followed, &e);
+        rollbacks.push(found.rollback())?;
     }
     Ok(())
 }
@@ -262,6 +261,7 @@ fn tell(
     let Some(e) = explained else {
         return Ok(());
     };
-    let runs = further_runs(alloc, image, flat, entries, behind, e)?;
-    push_violation(text, image, entries, sites, followed, runs.as_slice(), e)
+    let further = further_runs(alloc, image, flat, entries, sites, behind, e)?;
+    let found = finding_of(image, entries, sites, followed, &e);
+    push_violation(text, &found, further.as_slice())
 }

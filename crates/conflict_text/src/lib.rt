@@ -5,7 +5,6 @@ mod accesses;
 mod command;
 mod ends;
 mod finding;
-mod followed;
 mod further;
 mod lines;
 mod parts;

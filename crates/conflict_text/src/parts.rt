@@ -9,7 +9,7 @@ ghost use Rattle.conflict_text.specs.Report as spec;
 
 use crate::sums::{push_counts, push_sum};
 use crate::words::{push_address, push_named};
-use conflict_findings::{Bounds, Counts, Fates, LinesByKind, Pair, PairSum, Sum};
+use conflict_findings::{Bounds, CountsByKind, Fates, LinesByKind, Pair, PairSum, Sum};
 use rv32_exec::Image;
 use std::alloc::AllocError;
 use std::collections::BTreeMap;
@@ -102,7 +102,7 @@ fn push_line(
     image: &Image,
     line: u32,
     sum: Sum,
-    counts: Counts,
+    counts: CountsByKind,
 ) -> Result<(), AllocError>
     ensures { OnOk result (text.new.items ≡ text.old.items ++ spec.line_text image.now (line, sum) counts) }
 {

@@ -7,7 +7,7 @@ ghost use Rattle.conflict_text.specs.Report as spec;
 
 use crate::ends::{push_rest, push_useful};
 use crate::words::{kind_name, push_named};
-use conflict_findings::{Counts, Ends, Part, Rollback, Sum, sum_of};
+use conflict_findings::{CountsByKind, Ends, Part, Rollback, Sum, sum_of};
 use conflicts::Kind;
 use std::alloc::AllocError;
 use std::collections::BTreeMap;
@@ -21,7 +21,7 @@ pub(crate) fn push_sum(text: &mut Vec<u8>, sum: Sum) -> Result<(), AllocError>
 }
 
 /// How many are of each kind.
-pub(crate) fn push_counts(text: &mut Vec<u8>, counts: Counts) -> Result<(), AllocError>
+pub(crate) fn push_counts(text: &mut Vec<u8>, counts: CountsByKind) -> Result<(), AllocError>
     ensures { OnOk result (text.new.items ≡ text.old.items ++ spec.counts_text counts) }
 {
     push_named(text, b" true ", counts.true_sharing as u128)?;

@@ -26,7 +26,7 @@ loop-place-init c =
       summed = none_summed image cores entries c.args.sites.now c.new-rollbacks.result.items c.new-rollbacks.ensures.items;
       ended = c.new-ended.ensures.items ∙ none_ended image cores entries;
       known = c.new-known.ensures image.size entries;
-      known_ends = c.new-known_ends.ensures entries;
+      followed = c.new-followed.ensures entries;
     }
 
 pub loop-place-preserved : goal.loop-place-preserved
@@ -52,7 +52,7 @@ loop-place-preserved c =
           c.in_ok-keep_summed.ensures.rollbacks;
       ended = ended_more image flat.image cores entries place (state_in flat) _ _ c.loop-place.ended.items _ was.image was.replays there c.ended_by.ensures was.ended c.in_ok-keep_ended.ensures;
       known = found.known;
-      known_ends = c.in_ok-keep_summed.ensures.known_ends;
+      followed = c.in_ok-keep_summed.ensures.followed;
     }
 
 pub returns : goal.returns

@@ -3,8 +3,8 @@ use Rattle.spec_history.specs.Replay.{replay}
 use Rattle.spec_history.specs.View.{state_in, cores_in}
 use Rattle.conflicts.specs.Behind.{IsKnown}
 use Rattle.conflict_findings.specs.Ends.{ended_before}
+use Rattle.conflict_findings.specs.Followed.{IsFollowed}
 use Rattle.conflict_findings.specs.Violated.{AreMarked}
-use Rattle.conflict_findings.specs.KnownEnds.{AreKnownEnds}
 use Rattle.conflict_text.specs.Why.{AreSummed}
 use Rattle.conflict_text.proofs.finding.gather.Given as goal
 
@@ -18,5 +18,5 @@ invariant-loop-place l = record {
   summed : AreSummed l.image l.cores l.entries l.sites l.place l.rollbacks.items;
   ended : l.ended.items ≡ ended_before l.image l.cores l.entries l.place;
   known : IsKnown l.image.size l.entries l.known;
-  known_ends : AreKnownEnds l.entries l.known_ends;
+  followed : IsFollowed l.entries l.followed;
 }

@@ -2,7 +2,7 @@ use Rattle.std.proofs.Common.{◌≡◌, take, Some}
 use Rattle.spec_history.specs.Replay.{replay}
 use Rattle.spec_history.specs.View.{state_in, cores_in}
 use Rattle.conflicts.specs.Behind.{IsKnown}
-use Rattle.conflict_text.specs.Followed.{IsFollowed}
+use Rattle.conflict_findings.specs.Followed.{IsFollowed}
 use Rattle.conflict_text.specs.Why.{AreTold}
 use Rattle.conflict_text.proofs.finding.violations.Given as goal
 

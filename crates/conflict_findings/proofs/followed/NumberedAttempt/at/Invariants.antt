@@ -1,11 +1,11 @@
 use Rattle.std.proofs.Common.{◌≡◌, ◌-◌, ◌≤◌}
-use Rattle.conflict_text.specs.Followed.{IsAttempt}
-use Rattle.conflict_text.proofs.followed.Attempt.at.Given as goal
+use Rattle.conflict_findings.specs.Followed.{IsNumbered}
+use Rattle.conflict_findings.proofs.followed.NumberedAttempt.at.Given as goal
 
 -- it is right where it stands
 abbrev pub invariant-loop-attempt : goal.invariant-loop-attempt
 invariant-loop-attempt l = record {
-  known : IsAttempt l.entries l.attempt;
+  known : IsNumbered l.entries l.attempt;
   core : l.attempt.core ≡ l.fn.self.core;
   within : l.attempt.place ≤ l.place;
 }

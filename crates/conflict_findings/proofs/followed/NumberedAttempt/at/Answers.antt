@@ -1,7 +1,7 @@
 use Rattle.std.proofs.Common.{refl, sym, subst, ◌∙◌, arith}
-use Rattle.conflict_text.specs.Followed.{IsAttempt, own_at}
-use Rattle.conflict_text.proofs.Following.{core_after, one_further, place_after}
-use Rattle.conflict_text.proofs.followed.Attempt.at.Goals as goal
+use Rattle.conflict_findings.specs.Followed.{IsNumbered, own_at}
+use Rattle.conflict_findings.proofs.Following.{core_after, one_further, place_after}
+use Rattle.conflict_findings.proofs.followed.NumberedAttempt.at.Goals as goal
 
 pub loop-attempt-init : goal.loop-attempt-init
 loop-attempt-init c = record { known = c.requires.known; core = refl; within = c.requires.later }
@@ -13,7 +13,7 @@ loop-attempt-preserved c =
     let own = own_at entries was.core was.place in
     let is = c.step-attempt.ensures in
     let there = place_after own was c.step-attempt.result is in record {
-      known = subst (IsAttempt entries) (sym is) (one_further entries was c.loop-attempt.invariant.known);
+      known = subst (IsNumbered entries) (sym is) (one_further entries was c.loop-attempt.invariant.known);
       core = core_after own was c.step-attempt.result is ∙ c.loop-attempt.invariant.core;
       within = omega (arith, there, c.loop-attempt-test.true);
     }

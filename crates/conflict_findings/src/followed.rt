@@ -1,17 +1,18 @@
 //! The numbers and the ends of the attempts that are told of, for each core, so that no entry is walked over twice for one.
+
 ghost use Rattle.std.specs.Prelude.{◌≡◌, ◌+◌, ◌<◌, ◌≤◌, List, length};
 ghost use Rattle.spec_history.specs.declared.entry.Entry.{Entry};
 ghost use Rattle.conflicts.specs.Attempts as attempts;
 ghost use Rattle.conflicts.specs.Fates as fates;
-ghost use Rattle.conflict_text.specs.Followed as spec;
+ghost use Rattle.conflict_findings.specs.Followed as spec;
 
-use conflict_findings::KnownEnds;
+use crate::known_ends::KnownEnds;
 use conflicts::Explanation;
 use spec_history::{Entry, What};
 
 /// Which run of its epoch a core is in before a place of the history.
 #[derive(Clone, Copy)]
-pub struct Attempt {
+pub struct NumberedAttempt {
     /// The core.
     pub core: u32,
     /// The place.
@@ -32,14 +33,14 @@ fn own_at(entries: &[Entry], core: u32, place: usize) -> Option<What>
     }
 }
 
-impl Attempt {
+impl NumberedAttempt {
     /// Before the history.
-    fn first(core: u32) -> Attempt
-        ensures known { (entries : List Entry) → spec.IsAttempt entries result }
+    fn first(core: u32) -> NumberedAttempt
+        ensures known { (entries : List Entry) → spec.IsNumbered entries result }
         ensures core { result.core ≡ core }
         ensures place { result.place ≡ 0 }
     {
-        Attempt {
+        NumberedAttempt {
             core,
             place: 0,
             number: 1,
@@ -48,12 +49,12 @@ impl Attempt {
     }
 
     /// One place further.
-    fn step(self, entries: &[Entry]) -> Attempt
+    fn step(self, entries: &[Entry]) -> NumberedAttempt
         requires few { self.number ≤ self.place + 1 }
         requires within { self.place < length entries.now }
         ensures { result ≡ spec.stepped (spec.own_at entries.now self.core self.place) self }
     {
-        let Attempt {
+        let NumberedAttempt {
             core,
             place,
             number,
@@ -61,19 +62,19 @@ impl Attempt {
         } = self;
         let place_after = place + 1;
         match own_at(entries, core, place) {
-            Some(What::Start(_)) => Attempt {
+            Some(What::Start(_)) => NumberedAttempt {
                 core,
                 place: place_after,
                 number: 1,
                 started: true,
             },
-            Some(What::Restart) => Attempt {
+            Some(What::Restart) => NumberedAttempt {
                 core,
                 place: place_after,
                 number: if started { number + 1 } else { number },
                 started,
             },
-            _ => Attempt {
+            _ => NumberedAttempt {
                 core,
                 place: place_after,
                 number,
@@ -83,11 +84,11 @@ impl Attempt {
     }
 
     /// At a later place.
-    fn at(self, entries: &[Entry], place: usize) -> Attempt
-        requires known { spec.IsAttempt entries.now self }
+    fn at(self, entries: &[Entry], place: usize) -> NumberedAttempt
+        requires known { spec.IsNumbered entries.now self }
         requires later { self.place ≤ place }
         requires within { place ≤ length entries.now }
-        ensures known { spec.IsAttempt entries.now result }
+        ensures known { spec.IsNumbered entries.now result }
         ensures core { result.core ≡ self.core }
         ensures place { result.place ≡ place }
     {
@@ -103,7 +104,7 @@ impl Attempt {
 #[derive(Drop)]
 pub struct Followed {
     /// By the number of the core, modulo 16.
-    pub attempts: [Option<Attempt>; 16],
+    pub attempts: [Option<NumberedAttempt>; 16],
     /// Where attempts that violated others were over.
     pub known_ends: KnownEnds,
 }
@@ -129,7 +130,7 @@ impl Followed {
             return e.attempt(entries);
         }
         let slot = (e.victim.core % 16) as usize;
-        let mut known = Attempt::first(e.victim.core);
+        let mut known = NumberedAttempt::first(e.victim.core);
         if let Some(last) = self.attempts[slot] {
             if last.core == e.victim.core && last.place <= e.place {
                 known = last;
@@ -140,12 +141,13 @@ impl Followed {
         attempt.number
     }
 
-    /// Where the causer's attempt was over. It looks for that once an attempt.
-    pub(crate) fn over_at(&mut self, entries: &[Entry], e: Explanation) -> Option<usize>
+    /// In vain: the place of the entry that violates or cancels the causer's attempt, if it does not commit. It looks for the end of an
+    /// attempt once.
+    pub(crate) fn undone_at(&mut self, entries: &[Entry], e: Explanation) -> Option<usize>
         requires { spec.IsFollowed entries.now self.old }
-        ensures over { result ≡ fates.over_at entries.now e }
+        ensures undone { result ≡ fates.undone_at entries.now e }
         ensures known { spec.IsFollowed entries.now self.new }
     {
-        self.known_ends.over_at(entries, e)
+        self.known_ends.undone_at(entries, e)
     }
 }

@@ -9,8 +9,8 @@ use Rattle.spec_history.specs.Searches.{count_below, last_below}
 use Rattle.conflicts.proofs.Backwards.{last_at}
 use Rattle.conflicts.proofs.Numbering.{no_one, one_in, other_in}
 use Rattle.spec_history.proofs.Searches.{and_no}
-use Rattle.conflict_text.specs.declared.followed.Attempt.{Attempt}
-use Rattle.conflict_text.specs.Followed.{IsAttempt, own_at, stepped}
+use Rattle.conflict_findings.specs.declared.followed.NumberedAttempt.{NumberedAttempt}
+use Rattle.conflict_findings.specs.Followed.{IsNumbered, own_at, stepped}
 
 -- ---- what a core does at a place
 
@@ -96,21 +96,21 @@ few_more : (b : Bool) (n p : ℕ) → n ≤ p + 1 → cond b (n + 1) n ≤ p + 1
 few_more true n p few = omega (arith, few)
 few_more false n p few = omega (arith, few)
 
-abbrev starts_in : List Entry → Attempt → ℕ → Bool
+abbrev starts_in : List Entry → NumberedAttempt → ℕ → Bool
 starts_in entries a j = core_does entries a.core j is_start
 
-abbrev begins_in : List Entry → Attempt → ℕ → Bool
+abbrev begins_in : List Entry → NumberedAttempt → ℕ → Bool
 begins_in entries a j = core_does entries a.core j is_begin
 
-kept : (entries : List Entry) (a : Attempt) → starts_in entries a a.place ≡ false → begins_in entries a a.place ≡ false → IsAttempt entries a
-    → IsAttempt entries (record { core = a.core; place = a.place + 1; number = a.number; started = a.started })
+kept : (entries : List Entry) (a : NumberedAttempt) → starts_in entries a a.place ≡ false → begins_in entries a a.place ≡ false → IsNumbered entries a
+    → IsNumbered entries (record { core = a.core; place = a.place + 1; number = a.number; started = a.started })
 kept entries a no_start no_begin was = record {
   number_is = was.number_is ∙ sym (not_begun (starts_in entries a) (begins_in entries a) a.place no_start no_begin);
   started_is = was.started_is ∙ ap is_some (sym (last_same a.place (starts_in entries a) no_start));
   few = omega (arith, was.few);
 }
 
-by_own : (entries : List Entry) (a : Attempt) (own : Option What) → own_at entries a.core a.place ≡ own → IsAttempt entries a → IsAttempt entries (stepped own a)
+by_own : (entries : List Entry) (a : NumberedAttempt) (own : Option What) → own_at entries a.core a.place ≡ own → IsNumbered entries a → IsNumbered entries (stepped own a)
 by_own entries a (Some (Start epoch)) is was =
     let here : starts_in entries a a.place ≡ true = does_own entries a.core a.place is_start ∙ ap (λ o. own_does o is_start) is in record {
       number_is = sym (started_here (starts_in entries a) (begins_in entries a) a.place here);
@@ -127,27 +127,27 @@ by_own entries a (Some Restart) is was =
 by_own entries a own is was =
     kept entries a (does_own entries a.core a.place is_start ∙ ap (λ o. own_does o is_start) is) (does_own entries a.core a.place is_begin ∙ ap (λ o. own_does o is_begin) is) was
 
-pub one_further : (entries : List Entry) (a : Attempt) → IsAttempt entries a → IsAttempt entries (stepped (own_at entries a.core a.place) a)
+pub one_further : (entries : List Entry) (a : NumberedAttempt) → IsNumbered entries a → IsNumbered entries (stepped (own_at entries a.core a.place) a)
 one_further entries a was = by_own entries a (own_at entries a.core a.place) refl was
 
-step_keeps : (own : Option What) (a : Attempt) → (stepped own a).core ≡ a.core
+step_keeps : (own : Option What) (a : NumberedAttempt) → (stepped own a).core ≡ a.core
 step_keeps (Some (Start epoch)) a = refl
 step_keeps (Some Restart) a = refl
 step_keeps own a = refl
 
-step_place : (own : Option What) (a : Attempt) → (stepped own a).place ≡ a.place + 1
+step_place : (own : Option What) (a : NumberedAttempt) → (stepped own a).place ≡ a.place + 1
 step_place (Some (Start epoch)) a = refl
 step_place (Some Restart) a = refl
 step_place own a = refl
 
 -- after a step
-pub core_after : (own : Option What) (a b : Attempt) → b ≡ stepped own a → b.core ≡ a.core
-core_after own a b is = ap (λ (c : Attempt). c.core) is ∙ step_keeps own a
+pub core_after : (own : Option What) (a b : NumberedAttempt) → b ≡ stepped own a → b.core ≡ a.core
+core_after own a b is = ap (λ (c : NumberedAttempt). c.core) is ∙ step_keeps own a
 
-pub place_after : (own : Option What) (a b : Attempt) → b ≡ stepped own a → b.place ≡ a.place + 1
-place_after own a b is = ap (λ (c : Attempt). c.place) is ∙ step_place own a
+pub place_after : (own : Option What) (a b : NumberedAttempt) → b ≡ stepped own a → b.place ≡ a.place + 1
+place_after own a b is = ap (λ (c : NumberedAttempt). c.place) is ∙ step_place own a
 
 -- before the history
-pub begun_first : (entries : List Entry) (core : ℕ) → IsAttempt entries (record { core = core; place = 0; number = 1; started = false })
+pub begun_first : (entries : List Entry) (core : ℕ) → IsNumbered entries (record { core = core; place = 0; number = 1; started = false })
 unfolding last_below count_below
 begun_first entries core = record { number_is = refl; started_is = refl; few = omega arith }
