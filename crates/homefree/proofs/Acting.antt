@@ -1,8 +1,8 @@
 -- From what the register noted and what the store did to a case of the turn.
 use Rattle.std.proofs.Common.{◌≡◌, ◌≢◌, ◌≤◌, ◌<◌, ℕ, true, false, List, [], length, Option, Some, None, option_copied, Bor, eq-eqb, true≢false, ◌&&◌, ◌∷◌, refl, sym, ap, subst, ◌∙◌, inl, inr, arith}
-use lib.Pointwise.{pointwise}
+use lib.Pointwise.{pointwise, bytes_decides}
 use Rattle.std.proofs.Math.Dec.{eqb}
-use Rattle.std.proofs.lemmas.Bool.{cases_Bool}
+use Rattle.std.proofs.lemmas.Bool.{cases_Bool, eqb-true}
 use Rattle.rv32_exec.specs.Arrival.{Arrival}
 use Rattle.rv32_exec.specs.Hart.{HartState, start_of}
 use Rattle.rv32_exec.specs.declared.arrived.Arrived.{Arrived}
@@ -14,6 +14,8 @@ use Rattle.spec_history.specs.FlatState.{CoreState, FlatState}
 use Rattle.spec_history.specs.Effect.{effect_idle, effect_on}
 use Rattle.spec_history.specs.Replay.{replay}
 use Rattle.spec_history.specs.Laws.{IsKept}
+use Rattle.rv32_image.specs.Image.{LoadedImage}
+use Rattle.spec_history.proofs.Legal.{and_true}
 use Rattle.spec_history.proofs.Joining.{history_goes_on, no_entry}
 use Rattle.spec_history.proofs.Replays.{replayed}
 use Rattle.violations.specs.declared.attempt.Attempt.{Attempt}
@@ -24,8 +26,9 @@ use Rattle.homefree.specs.declared.answer.Answer.TheVariants.{Go, Again}
 use Rattle.homefree.specs.declared.answer.Cause.TheVariants.{NoEpoch}
 use Rattle.homefree.specs.declared.register.Register.{Register}
 use Rattle.homefree.specs.declared.register.Running.{Running}
-use Rattle.homefree.specs.Acted.{Acted, AreFew, turn_of}
+use Rattle.homefree.specs.Acted.{Acted, AreFew, IfArrived, MayNote, turn_of}
 use Rattle.homefree.specs.Agrees.{AgreesAt}
+use Rattle.homefree.specs.Arms.{Arrives, running_by}
 use Rattle.homefree.specs.Counted.{counted_in}
 use Rattle.homefree.specs.Hurts.{entry}
 use Rattle.homefree.specs.Kept.{Fits, running_at}
@@ -229,3 +232,28 @@ hart_same x = rw (pointwise_same x.x, eq-eqb x.pc x.pc refl, eq-eqb x.done x.don
 
 pub differs : (x y : HartState) → (pointwise eqb x.x y.x && (eqb x.pc y.pc && eqb x.done y.done)) ≡ false → x ≢ y
 differs x y is same = true≢false (sym (hart_same x) ∙ (ap (λ (z : HartState). pointwise eqb x.x z.x && (eqb x.pc z.pc && eqb x.done z.done)) same ∙ is))
+
+pub same_hart : (x y : HartState) → (pointwise eqb x.x y.x && (eqb x.pc y.pc && eqb x.done y.done)) ≡ true → x ≡ y
+same_hart x y is =
+    let both = and_true _ _ is in
+    let rest = and_true _ _ both.1 in
+    let registers = (bytes_decides x.x y.x).0 both.0 in
+    let pc = eqb-true x.pc y.pc rest.0 in
+    let done = eqb-true x.done y.done rest.1 in
+    λ i. record { x = registers i; pc = pc i; done = done i }
+
+-- ---- a core that hands in its next event
+
+pub handed_in : (next : Option (Bor Arrived)) (arrived : Bor Arrived) (image : LoadedImage) → next ≡ Some arrived → IfArrived image (option_copied next) → IfArrived image (Some arrived.now)
+handed_in next arrived image is comes = subst (λ n. IfArrived image (option_copied n)) is comes
+
+pub arrives : (r : Register) (v : StoreView) (shares : Counts) (core : ℕ) (runs : Running) (attempt : Attempt) (a : Arrival) → core < length r.running.items → Fits r v → r.end ≡ None → MayNote r shares
+    → running_at r.running.items core ≡ Some runs → runs.hurt ≡ false → attempt ≡ attempt_of runs.epoch runs.straight → a.base ≡ runs.hart → IfArrived r.image (Some a)
+    → Arrives r v shares core (running_by attempt a.base) a a.at
+arrives r v shares core runs attempt a there fits going notes at unhurt is base comes =
+    let same : runs ≡ running_by attempt a.base = λ i. record { epoch = (sym is i).epoch; hart = sym base i; straight = (sym is i).straight; hurt = unhurt i } in
+    let at_core = at ∙ ap Some same in record {
+      running = record { there = there; fits = fits; going = going; runs = at_core; unhurt = refl };
+      notes = notes;
+      is_at = record { runs = at_core; unhurt = refl; base = refl; hart = comes.0; event = comes.1; is = refl };
+    }

@@ -2,9 +2,11 @@
 use Rattle.std.specs.Prelude.{◌≡◌, ◌≢◌, ℕ, ◌+◌, ◌<◌, ◌≤◌, Bool, true, false, List, [], ◌++◌, length, Option, Some, None, IsSome, vec_len, vec_capacity, if◌then◌else◌}
 use Rattle.rv32_exec.specs.declared.stop.Stop.{Stop}
 use Rattle.rv32_exec.specs.Arrival.{Arrival}
+use Rattle.rv32_exec.specs.Hart.{HartState}
 use Rattle.run_ledger.specs.declared.counts.Counts.{Counts}
 use Rattle.spec_history.specs.declared.entry.Entry.{Entry}
 use Rattle.spec_history.specs.declared.entry.What.TheVariants.{Publish}
+use Rattle.violations.specs.declared.attempt.Attempt.{Attempt}
 use Rattle.violations.specs.View.{StoreView, Runs}
 use Rattle.violations.specs.Rule.{IsSameCore}
 use Rattle.homefree.specs.declared.register.Register.{Register}
@@ -16,6 +18,10 @@ use Rattle.homefree.specs.Kept.{Fits, running_at}
 use Rattle.homefree.specs.Noted.{epoch_in, hurts_noted}
 use Rattle.homefree.specs.Steps.{Steps}
 use Rattle.homefree.specs.Turned.{publishes_unless}
+
+-- what a core runs with this attempt and this hart
+abbrev pub running_by : Attempt → HartState → Running
+running_by attempt hart = record { epoch = attempt.epoch; hart = hart; straight = attempt.straight; hurt = false }
 
 -- the loop isn't over, and the core runs an epoch and isn't hurt
 pub record RunsEpoch (r : Register) (v : StoreView) (core : ℕ) (now : Running) : Type 0 where

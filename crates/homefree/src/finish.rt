@@ -3,17 +3,16 @@ ghost use Rattle.std.specs.Prelude.{List, Option, ◌≡◌, ◌≢◌, ◌+◌,
 ghost use Rattle.rv32_exec.specs.Sequential as spec;
 ghost use Rattle.homefree.specs.Came.{answer_of};
 ghost use Rattle.homefree.specs.Acted.{Acted};
-ghost use Rattle.homefree.specs.Arms.{Arrives, RunsEpoch, Settled};
+ghost use Rattle.homefree.specs.Arms.{Arrives, RunsEpoch, Settled, running_by};
 ghost use Rattle.homefree.specs.Turned as turn;
 ghost use Rattle.homefree.specs.declared.register.Running.{Running};
 
 use crate::answer::{Came, Cause};
 use crate::attempts::cancel_attempts;
 use crate::parts::Parts;
-use crate::register::Running;
 use run_ledger::Shares;
 use rv32_exec::{Arrived, End, Stop};
-use violations::EpochStore;
+use violations::{Attempt, EpochStore};
 
 impl<S: EpochStore> Parts<S> {
     /// The end of an epoch: the homefree one commits, and any other core has to come again.
@@ -21,11 +20,11 @@ impl<S: EpochStore> Parts<S> {
         &mut self,
         shares: &mut Shares,
         core: u32,
-        now: &Running,
+        now: Attempt,
         arrived: &Arrived,
     ) -> Came
         requires budget { 2 ≤ S.budget self.old.store }
-        requires arrives { Arrives self.old.register (S.view self.old.store) shares.old core now.now arrived.now arrived.now.at }
+        requires arrives { Arrives self.old.register (S.view self.old.store) shares.old core (running_by now arrived.now.base) arrived.now arrived.now.at }
         requires ended { arrived.now.at ≡ Stop.Ended }
         ensures { Acted self.old.register self.new.register (S.waits self.old.store) (S.view self.old.store) (S.view self.new.store) shares.old shares.new core (Some arrived.entry.now) (answer_of self.new.register.running.items core result) }
     {
@@ -40,14 +39,15 @@ impl<S: EpochStore> Parts<S> {
     }
 
     /// The homefree core publishes, unless it is straight, and notes whom that hurts.
-    fn settle(&mut self, core: u32, now: &Running)
+    fn settle(&mut self, core: u32, now: Attempt, arrived: &Arrived)
         requires budget { 1 ≤ S.budget self.old.store }
-        requires runs { RunsEpoch self.old.register (S.view self.old.store) core now.now }
+        requires runs { RunsEpoch self.old.register (S.view self.old.store) core (running_by now arrived.now.base) }
         requires room { vec_len self.old.register.history + length self.old.register.running.items ≤ vec_capacity self.old.register.history }
-        requires homefree { now.now.epoch ≡ self.old.register.homefree }
-        ensures settled { Settled self.old.register self.new.register (S.view self.old.store) (S.view self.new.store) core now.now }
+        requires homefree { now.epoch ≡ self.old.register.homefree }
+        ensures settled { Settled self.old.register self.new.register (S.view self.old.store) (S.view self.new.store) core (running_by now arrived.entry.now.base) }
         ensures budget { S.budget self.old.store ≤ S.budget self.new.store + 1 }
     {
+        let _ = arrived;
         if now.straight {
             return;
         }
@@ -56,30 +56,30 @@ impl<S: EpochStore> Parts<S> {
     }
 
     /// The homefree epoch commits, and is left.
-    fn commit(&mut self, shares: &mut Shares, core: u32, now: &Running, arrived: &Arrived) -> Came
+    fn commit(&mut self, shares: &mut Shares, core: u32, now: Attempt, arrived: &Arrived) -> Came
         requires budget { 2 ≤ S.budget self.old.store }
-        requires arrives { Arrives self.old.register (S.view self.old.store) shares.old core now.now arrived.now arrived.now.at }
+        requires arrives { Arrives self.old.register (S.view self.old.store) shares.old core (running_by now arrived.now.base) arrived.now arrived.now.at }
         requires ended { arrived.now.at ≡ Stop.Ended }
-        requires homefree { now.now.epoch ≡ self.old.register.homefree }
+        requires homefree { now.epoch ≡ self.old.register.homefree }
         requires stays { spec.exits self.old.register.image arrived.now.now ≡ false }
         ensures { Acted self.old.register self.new.register (S.waits self.old.store) (S.view self.old.store) (S.view self.new.store) shares.old shares.new core (Some arrived.entry.now) (answer_of self.new.register.running.items core result) }
     {
-        self.settle(core, now);
+        self.settle(core, now, arrived);
         self.register.commit(shares, core, now, arrived);
         self.store.leave(core);
         left_or_over(self.register.end)
     }
 
     /// The homefree epoch exits the loop: all other cores are cancelled, and it commits.
-    fn exit(&mut self, shares: &mut Shares, core: u32, now: &Running, arrived: &Arrived) -> Came
+    fn exit(&mut self, shares: &mut Shares, core: u32, now: Attempt, arrived: &Arrived) -> Came
         requires budget { 2 ≤ S.budget self.old.store }
-        requires arrives { Arrives self.old.register (S.view self.old.store) shares.old core now.now arrived.now arrived.now.at }
+        requires arrives { Arrives self.old.register (S.view self.old.store) shares.old core (running_by now arrived.now.base) arrived.now arrived.now.at }
         requires ended { arrived.now.at ≡ Stop.Ended }
-        requires homefree { now.now.epoch ≡ self.old.register.homefree }
+        requires homefree { now.epoch ≡ self.old.register.homefree }
         requires exits { spec.exits self.old.register.image arrived.now.now ≡ true }
         ensures { Acted self.old.register self.new.register (S.waits self.old.store) (S.view self.old.store) (S.view self.new.store) shares.old shares.new core (Some arrived.entry.now) (answer_of self.new.register.running.items core result) }
     {
-        self.settle(core, now);
+        self.settle(core, now, arrived);
         cancel_attempts(&mut self.store, &self.register.running, core);
         self.register.cancel_all(core);
         self.register.commit(shares, core, now, arrived);
@@ -92,24 +92,23 @@ impl<S: EpochStore> Parts<S> {
         &mut self,
         shares: &mut Shares,
         core: u32,
-        now: &Running,
+        now: Attempt,
         arrived: &Arrived,
         cause: u32,
         pc: u32,
     ) -> Came
         requires budget { 2 ≤ S.budget self.old.store }
-        requires arrives { Arrives self.old.register (S.view self.old.store) shares.old core now.now arrived.now arrived.now.at }
+        requires arrives { Arrives self.old.register (S.view self.old.store) shares.old core (running_by now arrived.now.base) arrived.now arrived.now.at }
         requires faulted { arrived.now.at ≡ Stop.Fault cause pc }
         ensures { Acted self.old.register self.new.register (S.waits self.old.store) (S.view self.old.store) (S.view self.new.store) shares.old shares.new core (Some arrived.entry.now) (answer_of self.new.register.running.items core result) }
     {
         let _ = shares;
-        let _ = arrived;
         let epoch = now.epoch;
         if epoch != self.register.homefree {
             return Came::Again(Cause::NotHomefree);
         }
-        self.settle(core, now);
-        self.register.fault(core, now, cause, pc);
+        self.settle(core, now, arrived);
+        self.register.fault(core, now, arrived, cause, pc);
         Came::Over(End::Fault { epoch, cause, pc })
     }
 }

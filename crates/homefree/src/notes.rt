@@ -2,11 +2,11 @@
 ghost use Rattle.std.specs.Prelude.{◌≡◌, ◌+◌, ◌<◌, ◌≤◌, ◌^◌, ◌++◌, ◌∷◌, [], ◌==◌, ℕ, Bool, true, false, length, vec_len, vec_capacity, Some, None, IsSome, if◌then◌else◌};
 ghost use Rattle.rv32_image.specs.Image.{IsImage};
 ghost use Rattle.rv32_exec.specs.Hart.{start_of, stepped};
-ghost use Rattle.rv32_exec.specs.Arrival.{after_loading, IsAtLoad};
+ghost use Rattle.rv32_exec.specs.Arrival.{after_loading, IsAtLoad, IsAtStore};
 ghost use Rattle.run_ledger.specs.declared.counts.Counts.{Counts};
 ghost use Rattle.homefree.specs.Kept.{running_at};
 ghost use Rattle.homefree.specs.Came.{answer_of};
-ghost use Rattle.homefree.specs.Arms.{MayHurt};
+ghost use Rattle.homefree.specs.Arms.{MayHurt, running_by};
 ghost use Rattle.homefree.specs.AtStop.{IsAtStop};
 ghost use Rattle.homefree.specs.Noted.{hurts_noted};
 ghost use Rattle.violations.specs.CoreSet.{is_in};
@@ -17,9 +17,9 @@ ghost use Rattle.homefree.specs.Hurts as spec;
 use crate::answer::{Answer, Came};
 use crate::register::{Register, Running};
 use run_ledger::{Shares, count_commit, count_load, count_restart, count_store};
-use rv32_exec::{Arrived, End, Hart, Image, Stop, loaded, start, stored};
+use rv32_exec::{Arrived, End, Hart, Image, Stop, start};
 use spec_history::{Entry, What};
-use violations::CoreSet;
+use violations::{Attempt, CoreSet};
 
 /// Adds an entry, where there is room for it.
 pub(crate) fn note(history: &mut Vec<Entry>, by: u32, what: What)
@@ -43,15 +43,48 @@ pub(crate) fn set_running(running: &mut Vec<Option<Running>>, core: u32, now: Op
     running[core as usize] = now;
 }
 
-/// Sets the hart of a core that runs an epoch, and copies nothing else of what it runs.
-pub(crate) fn set_hart(running: &mut Vec<Option<Running>>, core: u32, hart: &Hart)
+/// Sets the hart of a core that runs an epoch to that after the load of this value at which it stopped.
+pub(crate) fn set_loaded(
+    running: &mut Vec<Option<Running>>,
+    core: u32,
+    arrived: &Arrived,
+    value: u32,
+)
+    requires core { core < length running.old.items }
+    requires runs { IsSome (running_at running.old.items core) }
+    requires value { IsAtLoad arrived.now.at value }
+    ensures len { length running.new.items ≡ length running.old.items }
+    ensures each { (now : Running) → running_at running.old.items core ≡ Some now → (k : ℕ) → running_at running.new.items k ≡ (if k == core then Some (record now { hart = after_loading arrived.entry.now value }) else running_at running.old.items k) }
+{
+    match &mut running[core as usize] {
+        Some(now) => arrived.set_loaded(value, &mut now.hart),
+        None => unreachable!(),
+    }
+}
+
+/// Sets the hart of a core that runs an epoch to that after the store at which it stopped.
+pub(crate) fn set_stored(running: &mut Vec<Option<Running>>, core: u32, arrived: &Arrived)
+    requires core { core < length running.old.items }
+    requires runs { IsSome (running_at running.old.items core) }
+    requires at { IsAtStore arrived.now.at }
+    ensures len { length running.new.items ≡ length running.old.items }
+    ensures each { (now : Running) → running_at running.old.items core ≡ Some now → (k : ℕ) → running_at running.new.items k ≡ (if k == core then Some (record now { hart = stepped arrived.entry.now.now }) else running_at running.old.items k) }
+{
+    match &mut running[core as usize] {
+        Some(now) => arrived.set_stored(&mut now.hart),
+        None => unreachable!(),
+    }
+}
+
+/// Sets a core that runs an epoch straight.
+fn set_straight(running: &mut Vec<Option<Running>>, core: u32)
     requires core { core < length running.old.items }
     requires runs { IsSome (running_at running.old.items core) }
     ensures len { length running.new.items ≡ length running.old.items }
-    ensures each { (now : Running) → running_at running.old.items core ≡ Some now → (k : ℕ) → running_at running.new.items k ≡ (if k == core then Some (record now { hart = hart.now }) else running_at running.old.items k) }
+    ensures each { (now : Running) → running_at running.old.items core ≡ Some now → (k : ℕ) → running_at running.new.items k ≡ (if k == core then Some (record now { straight = true }) else running_at running.old.items k) }
 {
     match &mut running[core as usize] {
-        Some(now) => now.hart = *hart,
+        Some(now) => now.straight = true,
         None => unreachable!(),
     }
 }
@@ -107,17 +140,17 @@ impl Register {
         &mut self,
         shares: &mut Shares,
         core: u32,
-        now: &Running,
+        now: Attempt,
         arrived: &Arrived,
         addr: u32,
         width: u32,
         value: u32,
         hurt: CoreSet,
     )
-        requires may { MayHurt self.old core now.now (is_in hurt) }
+        requires may { MayHurt self.old core (running_by now arrived.now.base) (is_in hurt) }
         requires totals { self.old.totals.loads < 2 ^ 63 }
         requires shares { shares.old.loads < 2 ^ 63 }
-        requires at { IsAtStop self.old core now.now arrived.now arrived.now.at }
+        requires at { IsAtStop self.old core (running_by now arrived.now.base) arrived.now arrived.now.at }
         requires value { IsAtLoad arrived.now.at value }
         ensures hart { answer_of self.new.running.items core Came.Goes ≡ Answer.Go (after_loading arrived.entry.now value) }
         ensures steps { Steps self.old self.new shares.old shares.new (hurts_noted core (is_in hurt) self.old.running.items (length self.old.running.items) ++ spec.entry core (What.Load addr width value)) }
@@ -125,8 +158,7 @@ impl Register {
         self.hurt_all(core, hurt);
         note(&mut self.history, core, What::Load { addr, width, value });
         count_load(&mut self.totals, shares);
-        let hart = loaded(arrived, value);
-        set_hart(&mut self.running, core, &hart);
+        set_loaded(&mut self.running, core, arrived, value);
     }
 
     /// The core's store hurts these others.
@@ -134,53 +166,46 @@ impl Register {
         &mut self,
         shares: &mut Shares,
         core: u32,
-        now: &Running,
+        now: Attempt,
         arrived: &Arrived,
         addr: u32,
         width: u32,
         value: u32,
         hurt: CoreSet,
     )
-        requires may { MayHurt self.old core now.now (is_in hurt) }
+        requires may { MayHurt self.old core (running_by now arrived.now.base) (is_in hurt) }
         requires totals { self.old.totals.stores < 2 ^ 63 }
         requires shares { shares.old.stores < 2 ^ 63 }
-        requires at { IsAtStop self.old core now.now arrived.now (Stop.Store addr width value) }
+        requires at { IsAtStop self.old core (running_by now arrived.now.base) arrived.now (Stop.Store addr width value) }
         ensures hart { answer_of self.new.running.items core Came.Goes ≡ Answer.Go (stepped arrived.entry.now.now) }
         ensures steps { Steps self.old self.new shares.old shares.new (hurts_noted core (is_in hurt) self.old.running.items (length self.old.running.items) ++ spec.entry core (What.Store addr width value)) }
     {
         self.hurt_all(core, hurt);
         note(&mut self.history, core, What::Store { addr, width, value });
         count_store(&mut self.totals, shares);
-        let hart = stored(arrived);
-        set_hart(&mut self.running, core, &hart);
+        set_stored(&mut self.running, core, arrived);
     }
 
     /// The homefree core publishes, which hurts these others.
-    pub(crate) fn publish(&mut self, core: u32, now: &Running, hurt: CoreSet)
-        requires may { MayHurt self.old core now.now (is_in hurt) }
+    pub(crate) fn publish(&mut self, core: u32, hurt: CoreSet)
+        requires may { (now : Running) × MayHurt self.old core now (is_in hurt) }
         ensures steps { (shares : Counts) → Steps self.old self.new shares shares (hurts_noted core (is_in hurt) self.old.running.items (length self.old.running.items) ++ spec.entry core What.Publish) }
-        ensures runs { running_at self.new.running.items core ≡ Some (record now.now { straight = true }) }
+        ensures runs { (now : Running) → running_at self.old.running.items core ≡ Some now → running_at self.new.running.items core ≡ Some (record now { straight = true }) }
     {
         self.hurt_all(core, hurt);
         note(&mut self.history, core, What::Publish);
-        set_running(&mut self.running, core, Some(now.straightened()));
+        set_straight(&mut self.running, core);
     }
 
     /// The homefree core's epoch has ended, and commits: the core is idle, and the next epoch is homefree. Where the epoch
     /// exits, or was the last, the loop is over.
-    pub(crate) fn commit(
-        &mut self,
-        shares: &mut Shares,
-        core: u32,
-        now: &Running,
-        arrived: &Arrived,
-    )
+    pub(crate) fn commit(&mut self, shares: &mut Shares, core: u32, now: Attempt, arrived: &Arrived)
         requires core { core < length self.old.running.items }
         requires room { vec_len self.old.history < vec_capacity self.old.history }
         requires totals { self.old.totals.commits < 2 ^ 63 }
         requires shares { shares.old.commits < 2 ^ 63 }
         requires homefree { self.old.homefree < 2 ^ 16 }
-        requires at { IsAtStop self.old core now.now arrived.now Stop.Ended }
+        requires at { IsAtStop self.old core (running_by now arrived.now.base) arrived.now Stop.Ended }
         ensures steps { Steps self.old self.new shares.old shares.new (spec.entry core What.Commit) }
         ensures end { self.new.end ≡ flat.end_after self.old.image arrived.entry.now.now self.old.homefree }
     {
@@ -192,12 +217,13 @@ impl Register {
     }
 
     /// The homefree core's epoch has faulted: the loop is over.
-    pub(crate) fn fault(&mut self, core: u32, now: &Running, cause: u32, pc: u32)
+    pub(crate) fn fault(&mut self, core: u32, now: Attempt, arrived: &Arrived, cause: u32, pc: u32)
         requires room { vec_len self.old.history < vec_capacity self.old.history }
-        requires runs { running_at self.old.running.items core ≡ Some now.now }
+        requires runs { running_at self.old.running.items core ≡ Some (running_by now arrived.now.base) }
         ensures steps { (shares : Counts) → Steps self.old self.new shares shares (spec.entry core (What.Fault cause pc)) }
-        ensures end { self.new.end ≡ Some (End.Fault now.now.epoch cause pc) }
+        ensures end { self.new.end ≡ Some (End.Fault now.epoch cause pc) }
     {
+        let _ = arrived;
         note(&mut self.history, core, What::Fault { cause, pc });
         self.end = Some(End::Fault {
             epoch: now.epoch,

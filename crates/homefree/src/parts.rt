@@ -2,14 +2,14 @@
 ghost use Rattle.std.specs.Prelude.{◌≡◌, ◌<◌, ◌≤◌, ℕ, length, None, Some, true, option_copied};
 ghost use Rattle.homefree.specs.Came.{answer_of};
 ghost use Rattle.homefree.specs.Acted.{Acted, MayNote, IfArrived};
-ghost use Rattle.homefree.specs.Arms.{Arrives};
+ghost use Rattle.homefree.specs.Arms.{Arrives, running_by};
 ghost use Rattle.homefree.specs.Kept.{Fits, running_at};
 
 use crate::answer::{Came, Cause};
 use crate::register::{Register, Running};
 use run_ledger::Shares;
 use rv32_exec::{Arrived, Stop};
-use violations::EpochStore;
+use violations::{Attempt, EpochStore};
 
 /// The register and the store.
 #[derive(Drop)]
@@ -31,17 +31,19 @@ impl<S: EpochStore> Parts<S> {
         requires next { IfArrived self.old.register.image (option_copied next) }
         ensures { Acted self.old.register self.new.register (S.waits self.old.store) (S.view self.old.store) (S.view self.new.store) shares.old shares.new core (option_copied next.entry) (answer_of self.new.register.running.items core result) }
     {
-        match self.register.running[core as usize] {
+        match &self.register.running[core as usize] {
             None => self.start(shares, core, next),
             Some(now) => {
                 if now.hurt {
+                    let now = *now;
                     self.restart(shares, core, &now, next)
                 } else {
                     match next {
                         None => Came::Goes,
                         Some(arrived) => {
-                            if arrived.base() == now.hart {
-                                self.run(shares, core, &now, arrived)
+                            if *arrived.base() == now.hart {
+                                let now = now.attempt();
+                                self.run(shares, core, now, arrived)
                             } else {
                                 Came::Goes
                             }
@@ -53,9 +55,9 @@ impl<S: EpochStore> Parts<S> {
     }
 
     /// A core that runs its epoch hands in its next event.
-    fn run(&mut self, shares: &mut Shares, core: u32, now: &Running, arrived: &Arrived) -> Came
+    fn run(&mut self, shares: &mut Shares, core: u32, now: Attempt, arrived: &Arrived) -> Came
         requires budget { 2 ≤ S.budget self.old.store }
-        requires arrives { Arrives self.old.register (S.view self.old.store) shares.old core now.now arrived.now arrived.now.at }
+        requires arrives { Arrives self.old.register (S.view self.old.store) shares.old core (running_by now arrived.now.base) arrived.now arrived.now.at }
         ensures { Acted self.old.register self.new.register (S.waits self.old.store) (S.view self.old.store) (S.view self.new.store) shares.old shares.new core (Some arrived.entry.now) (answer_of self.new.register.running.items core result) }
     {
         let at = arrived.at();

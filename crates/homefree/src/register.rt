@@ -1,8 +1,10 @@
-ghost use Rattle.std.specs.Prelude.{◌≡◌, true};
+ghost use Rattle.std.specs.Prelude.{◌≡◌};
+ghost use Rattle.violations.specs.View.{attempt_of};
 
 use run_ledger::Totals;
 use rv32_exec::{End, Hart, Image};
 use spec_history::Entry;
+use violations::Attempt;
 
 /// What a core runs.
 #[derive(Clone, Copy, Debug)]
@@ -18,13 +20,13 @@ pub(crate) struct Running {
 }
 
 impl Running {
-    /// The same, straight.
-    pub(crate) fn straightened(&self) -> Running
-        ensures { result ≡ record self.now { straight = true } }
+    /// The attempt, where it isn't hurt. It has no hart, which is large.
+    pub(crate) fn attempt(&self) -> Attempt
+        ensures { result ≡ attempt_of self.entry.now.epoch self.entry.now.straight }
     {
-        Running {
-            straight: true,
-            ..*self
+        Attempt {
+            epoch: self.epoch,
+            straight: self.straight,
         }
     }
 }

@@ -2,15 +2,14 @@
 ghost use Rattle.std.specs.Prelude.{◌≡◌, ◌≤◌, ℕ, Bool, false, Some};
 ghost use Rattle.homefree.specs.Came.{answer_of};
 ghost use Rattle.homefree.specs.Acted.{Acted};
-ghost use Rattle.homefree.specs.Arms.{Arrives};
+ghost use Rattle.homefree.specs.Arms.{Arrives, running_by};
 ghost use Rattle.homefree.specs.Turned as turn;
 
 use crate::answer::{Came, Cause};
 use crate::parts::Parts;
-use crate::register::Running;
 use run_ledger::Shares;
 use rv32_exec::{Arrived, Stop};
-use violations::{EpochStore, Step, WaitCause};
+use violations::{Attempt, EpochStore, Step, WaitCause};
 
 impl<S: EpochStore> Parts<S> {
     /// A load. Where the store waits, the homefree core goes straight, and any other has to come again.
@@ -18,14 +17,14 @@ impl<S: EpochStore> Parts<S> {
         &mut self,
         shares: &mut Shares,
         core: u32,
-        now: &Running,
+        now: Attempt,
         arrived: &Arrived,
         addr: u32,
         width: u32,
     ) -> Came
         requires budget { 2 ≤ S.budget self.old.store }
-        requires arrives { Arrives self.old.register (S.view self.old.store) shares.old core now.now arrived.now arrived.now.at }
-        requires speculates { now.now.straight ≡ false }
+        requires arrives { Arrives self.old.register (S.view self.old.store) shares.old core (running_by now arrived.now.base) arrived.now arrived.now.at }
+        requires speculates { now.straight ≡ false }
         requires load { (signed : Bool) × (rd : ℕ) × (arrived.now.at ≡ Stop.Load addr width signed rd) }
         ensures { Acted self.old.register self.new.register (S.waits self.old.store) (S.view self.old.store) (S.view self.new.store) shares.old shares.new core (Some arrived.entry.now) (answer_of self.new.register.running.items core result) }
     {
@@ -50,15 +49,15 @@ impl<S: EpochStore> Parts<S> {
         &mut self,
         shares: &mut Shares,
         core: u32,
-        now: &Running,
+        now: Attempt,
         arrived: &Arrived,
         addr: u32,
         width: u32,
         value: u32,
     ) -> Came
         requires budget { 2 ≤ S.budget self.old.store }
-        requires arrives { Arrives self.old.register (S.view self.old.store) shares.old core now.now arrived.now arrived.now.at }
-        requires speculates { now.now.straight ≡ false }
+        requires arrives { Arrives self.old.register (S.view self.old.store) shares.old core (running_by now arrived.now.base) arrived.now arrived.now.at }
+        requires speculates { now.straight ≡ false }
         requires store { arrived.now.at ≡ Stop.Store addr width value }
         ensures { Acted self.old.register self.new.register (S.waits self.old.store) (S.view self.old.store) (S.view self.new.store) shares.old shares.new core (Some arrived.entry.now) (answer_of self.new.register.running.items core result) }
     {

@@ -2,33 +2,35 @@
 ghost use Rattle.std.specs.Prelude.{◌≡◌, ◌+◌, ◌*◌, ◌≤◌, ℕ, Bool, false, length, vec_len, vec_capacity, Some, IsSome};
 ghost use Rattle.homefree.specs.Came.{answer_of};
 ghost use Rattle.homefree.specs.Acted.{Acted};
-ghost use Rattle.homefree.specs.Arms.{Arrives, RunsEpoch, WentStraight};
+ghost use Rattle.homefree.specs.Arms.{Arrives, RunsEpoch, WentStraight, running_by};
 
 use crate::answer::Came;
 use crate::parts::Parts;
-use crate::register::Running;
 use run_ledger::Shares;
 use rv32_exec::{Arrived, Stop};
-use violations::EpochStore;
+use violations::{Attempt, EpochStore};
 
 impl<S: EpochStore> Parts<S> {
     /// The homefree core publishes, unless it is straight. Answers what it runs then.
-    fn go_straight(&mut self, core: u32, now: &Running) -> Running
+    fn go_straight(&mut self, core: u32, now: Attempt, arrived: &Arrived) -> Attempt
         requires budget { 1 ≤ S.budget self.old.store }
-        requires runs { RunsEpoch self.old.register (S.view self.old.store) core now.now }
+        requires runs { RunsEpoch self.old.register (S.view self.old.store) core (running_by now arrived.now.base) }
         requires room { vec_len self.old.register.history + length self.old.register.running.items ≤ vec_capacity self.old.register.history }
-        requires homefree { now.now.epoch ≡ self.old.register.homefree }
-        ensures straight { WentStraight self.old.register self.new.register (S.view self.old.store) (S.view self.new.store) core now.now result }
+        requires homefree { now.epoch ≡ self.old.register.homefree }
+        ensures straight { WentStraight self.old.register self.new.register (S.view self.old.store) (S.view self.new.store) core (running_by now arrived.entry.now.base) (running_by result arrived.entry.now.base) }
         ensures budget { S.budget self.old.store ≤ S.budget self.new.store + 1 }
     {
+        let _ = arrived;
         if now.straight {
-            return *now;
+            return now;
         }
-        let straight = now.straightened();
         let hurt = self.store.publish(core);
         self.store.look();
-        self.register.publish(core, now, hurt);
-        straight
+        self.register.publish(core, hurt);
+        Attempt {
+            straight: true,
+            ..now
+        }
     }
 
     /// A load of the homefree core, which publishes first unless it is straight: it isn't only where the store waits.
@@ -36,23 +38,23 @@ impl<S: EpochStore> Parts<S> {
         &mut self,
         shares: &mut Shares,
         core: u32,
-        now: &Running,
+        now: Attempt,
         arrived: &Arrived,
         addr: u32,
         width: u32,
     ) -> Came
         requires budget { 2 ≤ S.budget self.old.store }
-        requires arrives { Arrives self.old.register (S.view self.old.store) shares.old core now.now arrived.now arrived.now.at }
-        requires homefree { now.now.epoch ≡ self.old.register.homefree }
-        requires waits { now.now.straight ≡ false → IsSome ((S.waits self.old.store).load core addr width) }
+        requires arrives { Arrives self.old.register (S.view self.old.store) shares.old core (running_by now arrived.now.base) arrived.now arrived.now.at }
+        requires homefree { now.epoch ≡ self.old.register.homefree }
+        requires waits { now.straight ≡ false → IsSome ((S.waits self.old.store).load core addr width) }
         requires load { (signed : Bool) × (rd : ℕ) × (arrived.now.at ≡ Stop.Load addr width signed rd) }
         ensures { Acted self.old.register self.new.register (S.waits self.old.store) (S.view self.old.store) (S.view self.new.store) shares.old shares.new core (Some arrived.entry.now) (answer_of self.new.register.running.items core result) }
     {
-        let straight = self.go_straight(core, now);
+        let straight = self.go_straight(core, now, arrived);
         let (value, hurt) = self.store.straight_load(core, addr, width);
         self.store.look();
         self.register
-            .load(shares, core, &straight, arrived, addr, width, value, hurt);
+            .load(shares, core, straight, arrived, addr, width, value, hurt);
         Came::Goes
     }
 
@@ -61,24 +63,24 @@ impl<S: EpochStore> Parts<S> {
         &mut self,
         shares: &mut Shares,
         core: u32,
-        now: &Running,
+        now: Attempt,
         arrived: &Arrived,
         addr: u32,
         width: u32,
         value: u32,
     ) -> Came
         requires budget { 2 ≤ S.budget self.old.store }
-        requires arrives { Arrives self.old.register (S.view self.old.store) shares.old core now.now arrived.now arrived.now.at }
-        requires homefree { now.now.epoch ≡ self.old.register.homefree }
-        requires waits { now.now.straight ≡ false → IsSome ((S.waits self.old.store).store core addr width) }
+        requires arrives { Arrives self.old.register (S.view self.old.store) shares.old core (running_by now arrived.now.base) arrived.now arrived.now.at }
+        requires homefree { now.epoch ≡ self.old.register.homefree }
+        requires waits { now.straight ≡ false → IsSome ((S.waits self.old.store).store core addr width) }
         requires store { arrived.now.at ≡ Stop.Store addr width value }
         ensures { Acted self.old.register self.new.register (S.waits self.old.store) (S.view self.old.store) (S.view self.new.store) shares.old shares.new core (Some arrived.entry.now) (answer_of self.new.register.running.items core result) }
     {
-        let straight = self.go_straight(core, now);
+        let straight = self.go_straight(core, now, arrived);
         let hurt = self.store.straight_store(core, addr, width, value);
         self.store.look();
         self.register
-            .store(shares, core, &straight, arrived, addr, width, value, hurt);
+            .store(shares, core, straight, arrived, addr, width, value, hurt);
         Came::Goes
     }
 }

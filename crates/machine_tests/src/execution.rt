@@ -62,7 +62,7 @@ fn goes_from_access_to_access(rt: HostRuntime) -> Result<(), Fail> {
     let image = image_of(rt.alloc(), COUNTER.as_bytes())?;
     let begun = start(&image, 3);
     let arrived = advance(&image, begun);
-    assert!(rt; arrived.base() == begun && arrived.now() == begun);
+    assert!(rt; *arrived.base() == begun && arrived.now() == begun);
     let hart = past_load(&arrived, 39).ok_or("a load")?;
     let hart = past_store(&advance(&image, hart), 42).ok_or("a store")?;
     let ended = advance(&image, hart);

@@ -36,10 +36,10 @@ impl Model for Arrived {
 
 impl Arrived {
     /// The hart that was handed in.
-    pub fn base(&self) -> Hart
-        ensures { result ≡ self.entry.now.base }
+    pub fn base(&self) -> &Hart
+        ensures { result.now ≡ self.entry.now.base }
     {
-        self.base
+        &self.base
     }
 
     /// The hart before the instruction at which it stopped.
@@ -57,6 +57,39 @@ impl Arrived {
         self.at
     }
 
+    /// Sets a hart to that after the load at which it stopped. `number` is that of the bytes that were loaded, little
+    /// endian; its upper bytes are 0.
+    pub fn set_loaded(&self, number: u32, hart: &mut Hart)
+        requires { spec.IsAtLoad self.now.at number }
+        ensures { hart.new ≡ spec.after_loading self.entry.now number }
+    {
+        hart.copy_from(&self.now);
+        complete_load(hart, self.at, number);
+    }
+
+    /// Sets a hart to that after the store at which it stopped.
+    pub fn set_stored(&self, hart: &mut Hart)
+        requires { spec.IsAtStore self.now.at }
+        ensures { hart.new ≡ stepped self.entry.now.now }
+    {
+        hart.copy_from(&self.now);
+        hart.go_on();
+    }
+
+    /// Advances from this hart, in place of what was there.
+    pub fn advance_from(&mut self, image: &Image, hart: &Hart)
+        ensures base { self.new.base ≡ hart.now }
+        ensures now { self.new.now ≡ (next_event image.now hart.now).now }
+        ensures at { self.new.at ≡ (next_event image.now hart.now).at }
+        ensures stop { IsStopOf image.now self.new.now self.new.at }
+        ensures later { hart.now.done ≤ self.new.now.done }
+    {
+        let Arrived { base, now, at } = self;
+        base.copy_from(hart);
+        now.copy_from(hart);
+        *at = run_on(image, now);
+    }
+
     /// Makes the load at which it stopped, and advances from there. `number` is that of the bytes that are loaded, little
     /// endian; its upper bytes are 0.
     pub fn advance_past_load(&mut self, image: &Image, number: u32)
@@ -69,7 +102,7 @@ impl Arrived {
     {
         let Arrived { base, now, at } = self;
         complete_load(now, *at, number);
-        *base = *now;
+        base.copy_from(now);
         *at = run_on(image, now);
     }
 
@@ -84,7 +117,7 @@ impl Arrived {
     {
         let Arrived { base, now, at } = self;
         now.go_on();
-        *base = *now;
+        base.copy_from(now);
         *at = run_on(image, now);
     }
 }
@@ -122,7 +155,7 @@ pub fn loaded(arrived: &Arrived, number: u32) -> Hart
     ensures { result ≡ spec.after_loading arrived.entry.now number }
 {
     let mut hart = arrived.now;
-    complete_load(&mut hart, arrived.at, number);
+    arrived.set_loaded(number, &mut hart);
     hart
 }
 
@@ -150,6 +183,6 @@ pub fn stored(arrived: &Arrived) -> Hart
     ensures { result ≡ stepped arrived.entry.now.now }
 {
     let mut hart = arrived.now;
-    hart.go_on();
+    arrived.set_stored(&mut hart);
     hart
 }

@@ -73,6 +73,16 @@ impl Hart {
         image.exit() && self.x.get(Register::new(10)) != 0
     }
 
+    /// Becomes this other one, field by field: a copy of the whole would be a call of the C library.
+    #[inline]
+    pub(crate) fn copy_from(&mut self, other: &Hart)
+        ensures { self.new ≡ other.now }
+    {
+        self.x = other.x;
+        self.pc = other.pc;
+        self.done = other.done;
+    }
+
     /// Writes a register, and goes on to the next instruction.
     #[inline]
     pub(crate) fn write(&mut self, rd: Register, value: u32)

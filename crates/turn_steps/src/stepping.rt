@@ -179,7 +179,7 @@ fn hart_of(held: &[Option<Arrived>; MAX_CORES], core: u32) -> Option<Hart>
     ensures { result ≡ harts_of held.now core }
 {
     match held[core as usize] {
-        Some(arrived) => Some(arrived.base()),
+        Some(arrived) => Some(*arrived.base()),
         None => None,
     }
 }

@@ -2,6 +2,7 @@ use Rattle.std.proofs.Common.{◌<◌, ◌^◌, arith, sym, subst}
 use Rattle.rv32_exec.specs.declared.stop.Stop.TheVariants.{Ended}
 use Rattle.run_ledger.specs.declared.counts.Counts.{Counts}
 use Rattle.run_ledger.specs.Counts.{no_counts}
+use Rattle.homefree.specs.Arms.{running_by}
 use Rattle.homefree.proofs.Standing.{few_cores}
 use Rattle.homefree.proofs.Accessing.{at_this}
 use Rattle.homefree.proofs.Ending.{room_mid}
@@ -20,7 +21,7 @@ cancel_attempts-requires-clause-runs g c κs within =
     let view = g.S.EpochStore.view in
     let old = c.args.self.now in
     let mid = c.settle.new.self in
-    others_attempts old.register mid.register (view old.store) (view mid.store) c.args.core c.args.now.now c.requires.arrives.running c.requires.homefree c.settle.ensures.settled
+    others_attempts old.register mid.register (view old.store) (view mid.store) c.args.core (running_by c.args.now c.args.arrived.now.base) c.requires.arrives.running c.requires.homefree c.settle.ensures.settled
 
 pub cancel_all-requires-clause-few : goal.cancel_all-requires-clause-few
 cancel_all-requires-clause-few g c =
@@ -34,7 +35,7 @@ cancel_all-requires-clause-room g c =
     let view = g.S.EpochStore.view in
     let old = c.args.self.now in
     let mid = c.settle.new.self in
-    let room = room_mid old.register mid.register (view old.store) (view mid.store) c.args.core c.args.now.now c.requires.arrives.running c.requires.homefree c.settle.ensures.settled c.requires.arrives.notes.room in
+    let room = room_mid old.register mid.register (view old.store) (view mid.store) c.args.core (running_by c.args.now c.args.arrived.now.base) c.requires.arrives.running c.requires.homefree c.settle.ensures.settled c.requires.arrives.notes.room in
     omega (arith, room)
 
 pub commit-requires-clause-room : goal.commit-requires-clause-room
@@ -42,8 +43,8 @@ commit-requires-clause-room g c =
     let view = g.S.EpochStore.view in
     let old = c.args.self.now in
     let mid = c.settle.new.self in
-    room_last old.register mid.register (view old.store) (view mid.store) c.args.core c.args.now.now c.requires.arrives.running c.requires.homefree c.settle.ensures.settled c.args.arrived.now
-    (at_this old.register c.args.core c.args.now.now c.args.arrived.now Ended c.requires.arrives.is_at c.requires.ended) c.requires.exits c.cancel_all.new.self c.cancel_all.ensures.steps
+    room_last old.register mid.register (view old.store) (view mid.store) c.args.core (running_by c.args.now c.args.arrived.now.base) c.requires.arrives.running c.requires.homefree c.settle.ensures.settled c.args.arrived.now
+    (at_this old.register c.args.core (running_by c.args.now c.args.arrived.now.base) c.args.arrived.now Ended c.requires.arrives.is_at c.requires.ended) c.requires.exits c.cancel_all.new.self c.cancel_all.ensures.steps
     c.requires.arrives.notes.room
 
 pub commit-requires-clause-totals : goal.commit-requires-clause-totals
@@ -52,8 +53,8 @@ commit-requires-clause-totals g c =
     let old = c.args.self.now in
     let mid = c.settle.new.self in
     subst (λ (n : Counts). n.commits < 2 ^ 63)
-    (sym (totals_last old.register mid.register (view old.store) (view mid.store) c.args.core c.args.now.now c.requires.arrives.running c.requires.homefree c.settle.ensures.settled c.args.arrived.now
-    (at_this old.register c.args.core c.args.now.now c.args.arrived.now Ended c.requires.arrives.is_at c.requires.ended) c.requires.exits c.cancel_all.new.self c.cancel_all.ensures.steps))
+    (sym (totals_last old.register mid.register (view old.store) (view mid.store) c.args.core (running_by c.args.now c.args.arrived.now.base) c.requires.arrives.running c.requires.homefree c.settle.ensures.settled c.args.arrived.now
+    (at_this old.register c.args.core (running_by c.args.now c.args.arrived.now.base) c.args.arrived.now Ended c.requires.arrives.is_at c.requires.ended) c.requires.exits c.cancel_all.new.self c.cancel_all.ensures.steps))
     c.requires.arrives.notes.few_commits
 
 pub commit-requires-clause-homefree : goal.commit-requires-clause-homefree
@@ -61,16 +62,16 @@ commit-requires-clause-homefree g c =
     let view = g.S.EpochStore.view in
     let old = c.args.self.now in
     let mid = c.settle.new.self in
-    homefree_last old.register mid.register (view old.store) (view mid.store) c.args.core c.args.now.now c.requires.arrives.running c.requires.homefree c.settle.ensures.settled c.args.arrived.now
-    (at_this old.register c.args.core c.args.now.now c.args.arrived.now Ended c.requires.arrives.is_at c.requires.ended) c.requires.exits c.cancel_all.new.self c.cancel_all.ensures.steps
+    homefree_last old.register mid.register (view old.store) (view mid.store) c.args.core (running_by c.args.now c.args.arrived.now.base) c.requires.arrives.running c.requires.homefree c.settle.ensures.settled c.args.arrived.now
+    (at_this old.register c.args.core (running_by c.args.now c.args.arrived.now.base) c.args.arrived.now Ended c.requires.arrives.is_at c.requires.ended) c.requires.exits c.cancel_all.new.self c.cancel_all.ensures.steps
 
 pub commit-requires-clause-at : goal.commit-requires-clause-at
 commit-requires-clause-at g c =
     let view = g.S.EpochStore.view in
     let old = c.args.self.now in
     let mid = c.settle.new.self in
-    at_last old.register mid.register (view old.store) (view mid.store) c.args.core c.args.now.now c.requires.arrives.running c.requires.homefree c.settle.ensures.settled c.args.arrived.now
-    (at_this old.register c.args.core c.args.now.now c.args.arrived.now Ended c.requires.arrives.is_at c.requires.ended) c.requires.exits c.cancel_all.new.self c.cancel_all.ensures.steps
+    at_last old.register mid.register (view old.store) (view mid.store) c.args.core (running_by c.args.now c.args.arrived.now.base) c.requires.arrives.running c.requires.homefree c.settle.ensures.settled c.args.arrived.now
+    (at_this old.register c.args.core (running_by c.args.now c.args.arrived.now.base) c.args.arrived.now Ended c.requires.arrives.is_at c.requires.ended) c.requires.exits c.cancel_all.new.self c.cancel_all.ensures.steps
     c.cancel_all.ensures.own
 
 pub returns : goal.returns
@@ -78,7 +79,7 @@ returns g c =
     let view = g.S.EpochStore.view in
     let old = c.args.self.now in
     let mid = c.settle.new.self in
-    exited old.register mid.register (view old.store) (view mid.store) c.args.core c.args.now.now c.requires.arrives.running c.requires.homefree c.settle.ensures.settled c.args.arrived.now
-    (at_this old.register c.args.core c.args.now.now c.args.arrived.now Ended c.requires.arrives.is_at c.requires.ended) c.requires.exits c.cancel_all.new.self c.cancel_all.ensures.steps
+    exited old.register mid.register (view old.store) (view mid.store) c.args.core (running_by c.args.now c.args.arrived.now.base) c.requires.arrives.running c.requires.homefree c.settle.ensures.settled c.args.arrived.now
+    (at_this old.register c.args.core (running_by c.args.now c.args.arrived.now.base) c.args.arrived.now Ended c.requires.arrives.is_at c.requires.ended) c.requires.exits c.cancel_all.new.self c.cancel_all.ensures.steps
     c.commit.new.self (view c.cancel_attempts.new.store) (view c.leave.new.self) c.args.shares.now c.commit.new.shares _
     c.cancel_attempts.ensures.cancels c.leave.ensures.leaves (c.left_or_over.ensures c.commit.new.self.running.items c.args.core) c.commit.ensures.end c.commit.ensures.steps

@@ -1,4 +1,5 @@
 use Rattle.std.proofs.Common.{arith}
+use Rattle.homefree.specs.Arms.{running_by}
 use Rattle.homefree.proofs.Accessing.{at_this}
 use Rattle.homefree.proofs.Ending.{too_early, room_mid, faulted}
 use Rattle.homefree.proofs.parts.Parts.fault.Goals as goal
@@ -6,14 +7,14 @@ use Rattle.homefree.proofs.parts.Parts.fault.Goals as goal
 pub returns-then-epoch-self : goal.returns-then-epoch-self
 returns-then-epoch-self g c =
     let old = c.args.self.now in
-    too_early old.register (g.S.EpochStore.view old.store) c.args.shares.now c.args.core c.args.now.now c.args.arrived.now _ c.requires.arrives c.requires.faulted tt c.if-epoch-self.true
+    too_early old.register (g.S.EpochStore.view old.store) c.args.shares.now c.args.core (running_by c.args.now c.args.arrived.now.base) c.args.arrived.now _ c.requires.arrives c.requires.faulted tt c.if-epoch-self.true
 
 pub fault-requires-clause-room : goal.fault-requires-clause-room
 fault-requires-clause-room g c =
     let view = g.S.EpochStore.view in
     let old = c.args.self.now in
     let mid = c.settle.new.self in
-    let room = room_mid old.register mid.register (view old.store) (view mid.store) c.args.core c.args.now.now c.requires.arrives.running c.if-epoch-self.false c.settle.ensures.settled c.requires.arrives.notes.room in
+    let room = room_mid old.register mid.register (view old.store) (view mid.store) c.args.core (running_by c.args.now c.args.arrived.now.base) c.requires.arrives.running c.if-epoch-self.false c.settle.ensures.settled c.requires.arrives.notes.room in
     omega (arith, room)
 
 pub returns : goal.returns
@@ -21,6 +22,6 @@ returns g c =
     let view = g.S.EpochStore.view in
     let old = c.args.self.now in
     let mid = c.settle.new.self in
-    faulted old.register mid.register (view old.store) (view mid.store) c.args.core c.args.now.now c.requires.arrives.running c.if-epoch-self.false c.settle.ensures.settled
+    faulted old.register mid.register (view old.store) (view mid.store) c.args.core (running_by c.args.now c.args.arrived.now.base) c.requires.arrives.running c.if-epoch-self.false c.settle.ensures.settled
     c.fault.new.self c.args.shares.now c.args.arrived.now c.args.cause c.args.pc
-    (at_this old.register c.args.core c.args.now.now c.args.arrived.now _ c.requires.arrives.is_at c.requires.faulted) (c.fault.ensures.steps c.args.shares.now)
+    (at_this old.register c.args.core (running_by c.args.now c.args.arrived.now.base) c.args.arrived.now _ c.requires.arrives.is_at c.requires.faulted) (c.fault.ensures.steps c.args.shares.now)

@@ -1,8 +1,9 @@
 use Rattle.rv32_exec.specs.declared.stop.Stop.TheVariants.{Ended}
+use Rattle.homefree.specs.Arms.{running_by}
 use Rattle.homefree.proofs.Ending.{too_early}
 use Rattle.homefree.proofs.parts.Parts.finish.Goals as goal
 
 pub returns-then-now-self : goal.returns-then-now-self
 returns-then-now-self g c =
     let old = c.args.self.now in
-    too_early old.register (g.S.EpochStore.view old.store) c.args.shares.now c.args.core c.args.now.now c.args.arrived.now Ended c.requires.arrives c.requires.ended tt c.if-now-self.true
+    too_early old.register (g.S.EpochStore.view old.store) c.args.shares.now c.args.core (running_by c.args.now c.args.arrived.now.base) c.args.arrived.now Ended c.requires.arrives c.requires.ended tt c.if-now-self.true

@@ -1,5 +1,6 @@
 use Rattle.std.proofs.Common.{refl, sym}
 use Rattle.violations.specs.CoreSet.{is_in}
+use Rattle.homefree.specs.Arms.{running_by}
 use Rattle.homefree.proofs.Standing.{may_load}
 use Rattle.homefree.proofs.Accessing.{at_this, loaded, waited}
 use Rattle.homefree.proofs.parts.Parts.load.Goals as goal
@@ -8,14 +9,14 @@ pub load-requires-clause-access : goal.load-requires-clause-access
 load-requires-clause-access g c =
     let old = c.args.self.now in
     let at = c.requires.load in
-    may_load old.register (g.S.EpochStore.view old.store) c.args.core c.args.now.now c.args.arrived.now c.args.addr c.args.width at.0 at.1 c.requires.arrives.running.fits
-    (at_this old.register c.args.core c.args.now.now c.args.arrived.now _ c.requires.arrives.is_at at.2)
+    may_load old.register (g.S.EpochStore.view old.store) c.args.core (running_by c.args.now c.args.arrived.now.base) c.args.arrived.now c.args.addr c.args.width at.0 at.1 c.requires.arrives.running.fits
+    (at_this old.register c.args.core (running_by c.args.now c.args.arrived.now.base) c.args.arrived.now _ c.requires.arrives.is_at at.2)
 
 pub returns-in-Done : goal.returns-in-Done
 returns-in-Done g c =
     let old = c.args.self.now in
     let at = c.requires.load in
-    rw c.load-in-Done.ensures.hart (loaded old.register c.load-in-Done.new.self (g.S.EpochStore.view old.store) (g.S.EpochStore.view c.load.new.self) c.args.shares.now c.load-in-Done.new.shares c.args.core c.args.now.now c.args.arrived.now
+    rw c.load-in-Done.ensures.hart (loaded old.register c.load-in-Done.new.self (g.S.EpochStore.view old.store) (g.S.EpochStore.view c.load.new.self) c.args.shares.now c.load-in-Done.new.shares c.args.core (running_by c.args.now c.args.arrived.now.base) c.args.arrived.now
     c.args.addr c.args.width c.in-Done.value at.0 at.1 (is_in c.in-Done.hurt) _ c.requires.arrives at.2 c.requires.speculates (sym c.in-Done.ensures.waits) c.in-Done.ensures.loads
     refl c.load-in-Done.ensures.steps)
 
@@ -24,4 +25,4 @@ returns-else-now-self g c =
     let old = c.args.self.now in
     let at = c.requires.load in
     rw (c.in-Wait.ensures.loads, c.cause_of.ensures)
-    (waited old.register (g.S.EpochStore.view old.store) c.args.shares.now c.args.core c.args.now.now c.args.arrived.now _ c.in-Wait.cause c.requires.arrives at.2 (sym c.in-Wait.ensures.waits) c.requires.speculates c.if-now-self.false)
+    (waited old.register (g.S.EpochStore.view old.store) c.args.shares.now c.args.core (running_by c.args.now c.args.arrived.now.base) c.args.arrived.now _ c.in-Wait.cause c.requires.arrives at.2 (sym c.in-Wait.ensures.waits) c.requires.speculates c.if-now-self.false)

@@ -2,6 +2,7 @@ use Rattle.std.proofs.Common.{◌<◌, ◌^◌, refl, sym, subst}
 use Rattle.run_ledger.specs.declared.counts.Counts.{Counts}
 use Rattle.run_ledger.specs.Counts.{no_counts}
 use Rattle.violations.specs.CoreSet.{is_in}
+use Rattle.homefree.specs.Arms.{running_by}
 use Rattle.homefree.proofs.Hurting.{totals_same}
 use Rattle.homefree.proofs.Standing.{may_load, may_hurt}
 use Rattle.homefree.proofs.Accessing.{at_this}
@@ -14,18 +15,18 @@ straight_load-value-requires-clause-access g c =
     let old = c.args.self.now in
     let mid = c.go_straight-straight.new.self in
     let at = c.requires.load in
-    may_load mid.register (view mid.store) c.args.core c.go_straight-straight.result c.args.arrived.now c.args.addr c.args.width at.0 at.1 c.go_straight-straight.ensures.straight.running.fits
-    (at_after old.register mid.register (view old.store) (view mid.store) c.args.core c.args.now.now c.go_straight-straight.result c.args.arrived.now _ c.go_straight-straight.ensures.straight
-    (at_this old.register c.args.core c.args.now.now c.args.arrived.now _ c.requires.arrives.is_at at.2))
+    may_load mid.register (view mid.store) c.args.core (running_by c.go_straight-straight.result c.args.arrived.now.base) c.args.arrived.now c.args.addr c.args.width at.0 at.1 c.go_straight-straight.ensures.straight.running.fits
+    (at_after old.register mid.register (view old.store) (view mid.store) c.args.core (running_by c.args.now c.args.arrived.now.base) (running_by c.go_straight-straight.result c.args.arrived.now.base) c.args.arrived.now _ c.go_straight-straight.ensures.straight
+    (at_this old.register c.args.core (running_by c.args.now c.args.arrived.now.base) c.args.arrived.now _ c.requires.arrives.is_at at.2))
 
 pub load-requires-clause-may : goal.load-requires-clause-may
 load-requires-clause-may g c =
     let view = g.S.EpochStore.view in
     let old = c.args.self.now in
     let mid = c.go_straight-straight.new.self in
-    may_hurt mid.register (view mid.store) (view c.straight_load-value.new.self) c.args.core c.go_straight-straight.result (is_in c.straight_load-value.result.1) c.go_straight-straight.ensures.straight.running
+    may_hurt mid.register (view mid.store) (view c.straight_load-value.new.self) c.args.core (running_by c.go_straight-straight.result c.args.arrived.now.base) (is_in c.straight_load-value.result.1) c.go_straight-straight.ensures.straight.running
     c.straight_load-value.ensures.loads.others
-    (room_of_other old.register mid.register (view old.store) (view mid.store) c.args.core c.args.now.now c.go_straight-straight.result c.go_straight-straight.ensures.straight c.requires.arrives.notes.room)
+    (room_of_other old.register mid.register (view old.store) (view mid.store) c.args.core (running_by c.args.now c.args.arrived.now.base) (running_by c.go_straight-straight.result c.args.arrived.now.base) c.go_straight-straight.ensures.straight c.requires.arrives.notes.room)
 
 pub load-requires-clause-totals : goal.load-requires-clause-totals
 load-requires-clause-totals g c =
@@ -37,7 +38,7 @@ load-requires-clause-at g c =
     let view = g.S.EpochStore.view in
     let old = c.args.self.now in
     let mid = c.go_straight-straight.new.self in
-    at_after old.register mid.register (view old.store) (view mid.store) c.args.core c.args.now.now c.go_straight-straight.result c.args.arrived.now _ c.go_straight-straight.ensures.straight c.requires.arrives.is_at
+    at_after old.register mid.register (view old.store) (view mid.store) c.args.core (running_by c.args.now c.args.arrived.now.base) (running_by c.go_straight-straight.result c.args.arrived.now.base) c.args.arrived.now _ c.go_straight-straight.ensures.straight c.requires.arrives.is_at
 
 pub returns : goal.returns
 returns g c =
@@ -45,6 +46,6 @@ returns g c =
     let old = c.args.self.now in
     let mid = c.go_straight-straight.new.self in
     let at = c.requires.load in
-    rw c.load.ensures.hart (loaded_straight _ old.register mid.register (view old.store) (view mid.store) c.args.core c.args.now.now c.go_straight-straight.result c.requires.arrives.running c.requires.homefree c.go_straight-straight.ensures.straight
+    rw c.load.ensures.hart (loaded_straight _ old.register mid.register (view old.store) (view mid.store) c.args.core (running_by c.args.now c.args.arrived.now.base) (running_by c.go_straight-straight.result c.args.arrived.now.base) c.requires.arrives.running c.requires.homefree c.go_straight-straight.ensures.straight
     c.load.new.self (view c.straight_load-value.new.self) c.args.shares.now c.load.new.shares c.args.arrived.now c.args.addr c.args.width c.straight_load-value.result.0 at.0 at.1 (is_in c.straight_load-value.result.1) _
-    (at_this old.register c.args.core c.args.now.now c.args.arrived.now _ c.requires.arrives.is_at at.2) c.requires.waits c.look.ensures c.straight_load-value.ensures.loads refl c.load.ensures.steps)
+    (at_this old.register c.args.core (running_by c.args.now c.args.arrived.now.base) c.args.arrived.now _ c.requires.arrives.is_at at.2) c.requires.waits c.look.ensures c.straight_load-value.ensures.loads refl c.load.ensures.steps)

@@ -2,6 +2,7 @@ use Rattle.std.proofs.Common.{◌<◌, ◌^◌, refl, sym, subst}
 use Rattle.run_ledger.specs.declared.counts.Counts.{Counts}
 use Rattle.run_ledger.specs.Counts.{no_counts}
 use Rattle.violations.specs.CoreSet.{is_in}
+use Rattle.homefree.specs.Arms.{running_by}
 use Rattle.homefree.proofs.Hurting.{totals_same}
 use Rattle.homefree.proofs.Standing.{may_store, may_hurt}
 use Rattle.homefree.proofs.Accessing.{at_this}
@@ -13,18 +14,18 @@ straight_store-hurt-requires-clause-access g c =
     let view = g.S.EpochStore.view in
     let old = c.args.self.now in
     let mid = c.go_straight-straight.new.self in
-    may_store mid.register (view mid.store) c.args.core c.go_straight-straight.result c.args.arrived.now c.args.addr c.args.width c.args.value c.go_straight-straight.ensures.straight.running.fits
-    (at_after old.register mid.register (view old.store) (view mid.store) c.args.core c.args.now.now c.go_straight-straight.result c.args.arrived.now _ c.go_straight-straight.ensures.straight
-    (at_this old.register c.args.core c.args.now.now c.args.arrived.now _ c.requires.arrives.is_at c.requires.store))
+    may_store mid.register (view mid.store) c.args.core (running_by c.go_straight-straight.result c.args.arrived.now.base) c.args.arrived.now c.args.addr c.args.width c.args.value c.go_straight-straight.ensures.straight.running.fits
+    (at_after old.register mid.register (view old.store) (view mid.store) c.args.core (running_by c.args.now c.args.arrived.now.base) (running_by c.go_straight-straight.result c.args.arrived.now.base) c.args.arrived.now _ c.go_straight-straight.ensures.straight
+    (at_this old.register c.args.core (running_by c.args.now c.args.arrived.now.base) c.args.arrived.now _ c.requires.arrives.is_at c.requires.store))
 
 pub store-requires-clause-may : goal.store-requires-clause-may
 store-requires-clause-may g c =
     let view = g.S.EpochStore.view in
     let old = c.args.self.now in
     let mid = c.go_straight-straight.new.self in
-    may_hurt mid.register (view mid.store) (view c.straight_store-hurt.new.self) c.args.core c.go_straight-straight.result (is_in c.straight_store-hurt.result) c.go_straight-straight.ensures.straight.running
+    may_hurt mid.register (view mid.store) (view c.straight_store-hurt.new.self) c.args.core (running_by c.go_straight-straight.result c.args.arrived.now.base) (is_in c.straight_store-hurt.result) c.go_straight-straight.ensures.straight.running
     c.straight_store-hurt.ensures.stores.others
-    (room_of_other old.register mid.register (view old.store) (view mid.store) c.args.core c.args.now.now c.go_straight-straight.result c.go_straight-straight.ensures.straight c.requires.arrives.notes.room)
+    (room_of_other old.register mid.register (view old.store) (view mid.store) c.args.core (running_by c.args.now c.args.arrived.now.base) (running_by c.go_straight-straight.result c.args.arrived.now.base) c.go_straight-straight.ensures.straight c.requires.arrives.notes.room)
 
 pub store-requires-clause-totals : goal.store-requires-clause-totals
 store-requires-clause-totals g c =
@@ -36,14 +37,14 @@ store-requires-clause-at g c =
     let view = g.S.EpochStore.view in
     let old = c.args.self.now in
     let mid = c.go_straight-straight.new.self in
-    at_after old.register mid.register (view old.store) (view mid.store) c.args.core c.args.now.now c.go_straight-straight.result c.args.arrived.now _ c.go_straight-straight.ensures.straight
-    (at_this old.register c.args.core c.args.now.now c.args.arrived.now _ c.requires.arrives.is_at c.requires.store)
+    at_after old.register mid.register (view old.store) (view mid.store) c.args.core (running_by c.args.now c.args.arrived.now.base) (running_by c.go_straight-straight.result c.args.arrived.now.base) c.args.arrived.now _ c.go_straight-straight.ensures.straight
+    (at_this old.register c.args.core (running_by c.args.now c.args.arrived.now.base) c.args.arrived.now _ c.requires.arrives.is_at c.requires.store)
 
 pub returns : goal.returns
 returns g c =
     let view = g.S.EpochStore.view in
     let old = c.args.self.now in
     let mid = c.go_straight-straight.new.self in
-    rw c.store.ensures.hart (stored_straight _ old.register mid.register (view old.store) (view mid.store) c.args.core c.args.now.now c.go_straight-straight.result c.requires.arrives.running c.requires.homefree c.go_straight-straight.ensures.straight
+    rw c.store.ensures.hart (stored_straight _ old.register mid.register (view old.store) (view mid.store) c.args.core (running_by c.args.now c.args.arrived.now.base) (running_by c.go_straight-straight.result c.args.arrived.now.base) c.requires.arrives.running c.requires.homefree c.go_straight-straight.ensures.straight
     c.store.new.self (view c.straight_store-hurt.new.self) c.args.shares.now c.store.new.shares c.args.arrived.now c.args.addr c.args.width c.args.value (is_in c.straight_store-hurt.result) _
-    (at_this old.register c.args.core c.args.now.now c.args.arrived.now _ c.requires.arrives.is_at c.requires.store) c.requires.waits c.look.ensures c.straight_store-hurt.ensures.stores refl c.store.ensures.steps)
+    (at_this old.register c.args.core (running_by c.args.now c.args.arrived.now.base) c.args.arrived.now _ c.requires.arrives.is_at c.requires.store) c.requires.waits c.look.ensures c.straight_store-hurt.ensures.stores refl c.store.ensures.steps)

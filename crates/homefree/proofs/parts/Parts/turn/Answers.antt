@@ -1,6 +1,6 @@
 use Rattle.std.proofs.Common.{◌≢◌, option_copied, sym, ◌∙◌}
 use Rattle.homefree.proofs.Batches.{running_read}
-use Rattle.homefree.proofs.Acting.{told, none_stale, other_stale, differs}
+use Rattle.homefree.proofs.Acting.{told, none_stale, other_stale, differs, same_hart, handed_in, arrives}
 use Rattle.homefree.proofs.parts.Parts.turn.Goals as goal
 
 pub returns-in-None-next : goal.returns-in-None-next
@@ -15,6 +15,15 @@ returns-else-eq g c =
     let old = c.args.self.now in
     let now = c.in-Some.now in
     let runs = running_read old.register.running.items c.args.core c.index.result.now c.requires.core c.index.ensures ∙ c.in-Some.is in
-    let other : c.in-Some-next.arrived.now.base ≢ now.hart = λ same. differs c.base.result now.hart (sym c.eq.ensures ∙ c.if-eq.false) (c.base.ensures ∙ same) in
+    let other : c.in-Some-next.arrived.now.base ≢ now.hart = λ same. differs c.base.result.now now.hart (sym c.eq.ensures ∙ c.if-eq.false) (c.base.ensures ∙ same) in
     rw runs (told old.register (g.S.EpochStore.view old.store) c.args.shares.now c.args.core (option_copied c.args.next) now c.requires.fits runs c.if-now.false
     (other_stale c.args.next c.in-Some-next.arrived now.hart c.in-Some-next.is other))
+
+pub run-requires-clause-arrives : goal.run-requires-clause-arrives
+run-requires-clause-arrives g c κs within =
+    let old = c.args.self.now in
+    let now = c.in-Some.now in
+    let runs = running_read old.register.running.items c.args.core c.index.result.now c.requires.core c.index.ensures ∙ c.in-Some.is in
+    arrives old.register (g.S.EpochStore.view old.store) c.args.shares.now c.args.core now c.attempt-now.result c.in-Some-next.arrived.now c.requires.core c.requires.fits c.requires.going c.requires.notes
+    runs c.if-now.false c.attempt-now.ensures (sym c.base.ensures ∙ same_hart c.base.result.now now.hart (sym c.eq.ensures ∙ c.if-eq.true))
+    (handed_in c.args.next c.in-Some-next.arrived old.register.image c.in-Some-next.is c.requires.next)

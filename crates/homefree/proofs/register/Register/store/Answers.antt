@@ -1,8 +1,8 @@
-use Rattle.std.proofs.Common.{◌<◌, ◌^◌, refl, sym, ap, subst, ◌∙◌}
+use Rattle.std.proofs.Common.{◌<◌, ◌^◌, refl, sym, subst}
 use Rattle.run_ledger.specs.declared.counts.Counts.{Counts}
 use Rattle.run_ledger.specs.Counts.{no_counts}
 use Rattle.violations.specs.CoreSet.{is_in}
-use Rattle.homefree.specs.declared.answer.Answer.TheVariants.{Go}
+use Rattle.homefree.specs.Arms.{running_by}
 use Rattle.homefree.proofs.Coming.{went_on}
 use Rattle.homefree.proofs.Noting.{stored_on}
 use Rattle.homefree.proofs.Steps.{steps_then}
@@ -10,7 +10,7 @@ use Rattle.homefree.proofs.Hurting.{room_after, totals_same, at_stop_after}
 use Rattle.homefree.proofs.register.Register.store.Goals as goal
 
 pub note-requires : goal.note-requires
-note-requires c = room_after c.args.self.now c.hurt_all.new.self c.args.core c.args.now.now (is_in c.args.hurt) c.requires.may (c.hurt_all.ensures.steps no_counts)
+note-requires c = room_after c.args.self.now c.hurt_all.new.self c.args.core (running_by c.args.now c.args.arrived.now.base) (is_in c.args.hurt) c.requires.may (c.hurt_all.ensures.steps no_counts)
 
 pub count_store-requires-clause-totals : goal.count_store-requires-clause-totals
 count_store-requires-clause-totals c =
@@ -19,13 +19,13 @@ count_store-requires-clause-totals c =
 pub returns-clause-steps : goal.returns-clause-steps
 returns-clause-steps c =
     let mid = c.hurt_all.new.self in
-    let at = at_stop_after c.args.self.now mid c.args.core c.args.now.now c.args.arrived.now _ c.requires.at (c.hurt_all.ensures.steps no_counts).image (c.hurt_all.ensures.spared c.args.core c.requires.may.spared) in
+    let at = at_stop_after c.args.self.now mid c.args.core (running_by c.args.now c.args.arrived.now.base) c.args.arrived.now _ c.requires.at (c.hurt_all.ensures.steps no_counts).image (c.hurt_all.ensures.spared c.args.core c.requires.may.spared) in
     steps_then c.args.self.now mid _ c.args.shares.now c.args.shares.now _ _ _ (c.hurt_all.ensures.steps c.args.shares.now)
-    (stored_on mid _ c.args.shares.now _ c.args.core c.args.now.now c.args.arrived.now c.args.addr c.args.width c.args.value c.stored-hart.result at
-    c.stored-hart.ensures refl c.set_hart.ensures.len c.note.ensures.items c.note.ensures.room c.note.ensures.used c.count_store.ensures.totals c.count_store.ensures.shares refl refl refl (c.set_hart.ensures.each c.args.now.now at.runs))
+    (stored_on mid _ c.args.shares.now _ c.args.core (running_by c.args.now c.args.arrived.now.base) c.args.arrived.now c.args.addr c.args.width c.args.value _ at
+    refl refl c.set_stored.ensures.len c.note.ensures.items c.note.ensures.room c.note.ensures.used c.count_store.ensures.totals c.count_store.ensures.shares refl refl refl (c.set_stored.ensures.each (running_by c.args.now c.args.arrived.now.base) at.runs))
 
 pub returns-clause-hart : goal.returns-clause-hart
 returns-clause-hart c =
     let mid = c.hurt_all.new.self in
-    let at = at_stop_after c.args.self.now mid c.args.core c.args.now.now c.args.arrived.now _ c.requires.at (c.hurt_all.ensures.steps no_counts).image (c.hurt_all.ensures.spared c.args.core c.requires.may.spared) in
-    went_on _ c.args.core _ _ (c.set_hart.ensures.each c.args.now.now at.runs c.args.core) ∙ ap Go c.stored-hart.ensures
+    let at = at_stop_after c.args.self.now mid c.args.core (running_by c.args.now c.args.arrived.now.base) c.args.arrived.now _ c.requires.at (c.hurt_all.ensures.steps no_counts).image (c.hurt_all.ensures.spared c.args.core c.requires.may.spared) in
+    went_on _ c.args.core _ _ (c.set_stored.ensures.each (running_by c.args.now c.args.arrived.now.base) at.runs c.args.core)
