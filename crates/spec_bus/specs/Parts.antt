@@ -1,10 +1,14 @@
 -- What the parts of the machine hold, as a bus.
-use Rattle.std.specs.Prelude.{◌≡◌, ◌==◌, if◌then◌else◌, ℕ, List, length, Option, Some, None, option_map, slice_get, slice_index}
+use Rattle.memory_bytes.specs.Bytes.{IsWidth}
+use Rattle.spec_states.specs.declared.line.TheConstants.{LONGEST_LINE}
+use Rattle.bus_states.specs.declared.notice.Notice.{Notice}
+use Rattle.bus_states.specs.Coherent.{IsCoherent}
+use Rattle.std.specs.Prelude.{◌+◌, ◌%◌, ◌<◌, ◌≤◌, ◌≡◌, ◌==◌, if◌then◌else◌, ℕ, Bool, false, List, length, Option, Some, None, option_map, slice_get, slice_index}
 use Rattle.rv32_image.specs.declared.version.Limits.{Limits}
 use Rattle.cache_lines.specs.Changes.{victim_of}
 use Rattle.cache_lines.specs.Lines.{Contents, line_in}
 use Rattle.bus_states.specs.Bus.{CoreState, Bus, no_core}
-use Rattle.bus_states.specs.Messages.{Room, Message, heard_core}
+use Rattle.bus_states.specs.Messages.{Room, Message, heard_core, is_busy, message_of, violates}
 use Rattle.spec_bus.specs.declared.bus_core.Core.{Core}
 use Rattle.spec_bus.specs.declared.parts.Parts.{Parts}
 use Rattle.spec_bus.specs.CoreStates.{state_of}
@@ -52,3 +56,25 @@ room_at cores k addr = line_at cores k addr (victim_or_none (slice_get cores k) 
 pub record IsTold (old new : Bus) (message : Message) : Type 0 where
   pub count : new.shape.cores ≡ old.shape.cores
   pub core : (k : ℕ) → new.core k ≡ (if k == message.sender then old.core k else heard_core old message k)
+
+-- a core, and the address of a line, on a coherent bus of at most sixteen cores
+pub record IsAtLine (p : Parts) (core addr : ℕ) : Type 0 where
+  pub there : core < length p.cores.items
+  pub few : length p.cores.items ≤ 16
+  pub line : addr % p.limits.line_length ≡ 0
+  pub coherent : IsCoherent (bus_in p)
+
+-- a message of a core about a line violates these, and nobody holds it up
+pub record MaySend (p : Parts) (notice : Notice) (core addr : ℕ) (hurt : ℕ → Bool) : Type 0 where
+  pub hurts : (k : ℕ) → hurt k ≡ violates (bus_in p) (message_of (bus_in p) notice core addr) k
+  pub free : is_busy (bus_in p) (message_of (bus_in p) notice core addr) ≡ false
+
+-- an access of a core within the line at this address, on a coherent bus
+pub record IsAccessIn (p : Parts) (core addr offset width : ℕ) : Type 0 where
+  pub there : core < length p.cores.items
+  pub short : p.limits.line_length ≤ LONGEST_LINE
+  pub line : addr % p.limits.line_length ≡ 0
+  pub coherent : IsCoherent (bus_in p)
+  pub in_line : offset + width ≤ p.limits.line_length
+  pub wide : IsWidth width
+  pub aligned : offset % width ≡ 0

@@ -60,13 +60,11 @@ pub(crate) fn hear(
     requires past { (x : ℕ) → (core_at cores.old.items k).line_length ≤ x → slice_index sent.now x ≡ 0 }
     ensures count { length cores.new.items ≡ length cores.old.items }
     ensures others { (j : ℕ) → j ≢ k → slice_get cores.new.items j ≡ slice_get cores.old.items j }
-    ensures core { (j : ℕ) → core_at cores.new.items j ≡ (if j == k then
-        heard addr violated
+    ensures core { (j : ℕ) → core_at cores.new.items j ≡ (if j == k then heard addr violated
         (reply_to notice ((core_at cores.old.items k).copy addr).state ((core_at cores.old.items k).copy addr).marks (order later))
         (bytes_after notice
         (reply_to notice ((core_at cores.old.items k).copy addr).state ((core_at cores.old.items k).copy addr).marks (order later)).marks.bytes
-        ((core_at cores.old.items k).copy addr).cell (slice_index sent.now)) (core_at cores.old.items k)
-        else core_at cores.old.items j) }
+        ((core_at cores.old.items k).copy addr).cell (slice_index sent.now)) (core_at cores.old.items k) else core_at cores.old.items j) }
 {
     cores[k].hear(addr, notice, later, violated, sent);
 }
@@ -111,9 +109,8 @@ pub(crate) fn fill(
     requires entry { next.enters ≡ true → holds (core_at cores.old.items k).buffer.lines addr ≡ false }
     requires room { (next.enters && is_full (core_at cores.old.items k).buffer) ≡ false }
     ensures count { length cores.new.items ≡ length cores.old.items }
-    ensures core { (j : ℕ) → core_at cores.new.items j ≡ (if j == k then
-        changed_core addr next (slice_index cells) (without_line addr (line_at cores.old.items k addr (Some way)) (core_at cores.old.items k))
-        else core_at cores.old.items j) }
+    ensures core { (j : ℕ) → core_at cores.new.items j ≡ (if j == k then changed_core addr next (slice_index cells)
+        (without_line addr (line_at cores.old.items k addr (Some way)) (core_at cores.old.items k)) else core_at cores.old.items j) }
 {
     cores[k].fill(addr, way, next, cells);
 }

@@ -1,5 +1,5 @@
 //! Messages on the bus, and changes that nobody is told of.
-ghost use Rattle.std.specs.Prelude.{if◌then◌else◌, ◌≡◌, ℕ, ◌+◌, ◌<◌, ◌≤◌, ◌%◌, ◌&&◌, true, false, length, slice_get, slice_index, Some, None};
+ghost use Rattle.std.specs.Prelude.{if◌then◌else◌, ◌≡◌, ℕ, ◌+◌, ◌<◌, ◌≤◌, ◌&&◌, true, false, length, slice_get, slice_index, Some, None};
 ghost use Rattle.spec_states.specs.declared.line.TheConstants.{LONGEST_LINE};
 ghost use Rattle.spec_states.specs.States.{is_valid, is_modified};
 ghost use Rattle.cache_lines.specs.Lines.{way_count};
@@ -9,7 +9,7 @@ ghost use Rattle.bus_states.specs.Coherent.{IsCoherent};
 ghost use Rattle.bus_states.specs.Messages as message_spec;
 ghost use Rattle.spec_states.specs.Mask.{IsWithinLine};
 ghost use Rattle.bus_states.specs.Speculative as speculative;
-ghost use Rattle.spec_bus.specs.Parts.{bus_in, line_at, IsTold};
+ghost use Rattle.spec_bus.specs.Parts.{bus_in, line_at, IsAtLine, MaySend, IsTold};
 
 use crate::cores::{change, fill, hear};
 use crate::memory::{write_line, write_line_if};
@@ -48,15 +48,9 @@ impl Parts {
         line: &[u8; LONGEST_LINE],
         hurt: CoreSet,
     )
-        requires core { core < length self.old.cores.items }
-        requires few { length self.old.cores.items ≤ 16 }
-        requires line { addr % self.old.limits.line_length ≡ 0 }
+        requires place { IsAtLine self.old core addr }
         requires past { (x : ℕ) → self.old.limits.line_length ≤ x → slice_index line.now x ≡ 0 }
-        requires coherent { IsCoherent (bus_in self.old) }
-        requires hurt { (k : ℕ) → is_in hurt k ≡ message_spec.violates (bus_in self.old)
-            (message_spec.message_of (bus_in self.old) notice core addr) k }
-        requires free { message_spec.is_busy (bus_in self.old)
-            (message_spec.message_of (bus_in self.old) notice core addr) ≡ false }
+        requires may { MaySend self.old notice core addr (is_in hurt) }
         ensures own { slice_get self.new.cores.items core ≡ slice_get self.old.cores.items core }
         ensures told { IsTold (bus_in self.old) (bus_in self.new)
             (record { notice = notice; sender = core; addr = addr; line = slice_index line.now }) }
@@ -92,25 +86,18 @@ impl Parts {
         hurt: CoreSet,
         next: Next,
     )
-        requires core { core < length self.old.cores.items }
-        requires few { length self.old.cores.items ≤ 16 }
+        requires place { IsAtLine self.old core addr }
         requires short { self.old.limits.line_length ≤ LONGEST_LINE }
         requires way { way < way_count }
-        requires line { addr % self.old.limits.line_length ≡ 0 }
         requires inside { addr + self.old.limits.line_length ≤ length self.old.memory.items }
         requires past { (x : ℕ) → self.old.limits.line_length ≤ x → slice_index line.now x ≡ 0 }
-        requires coherent { IsCoherent (bus_in self.old) }
-        requires hurt { (k : ℕ) → is_in hurt k ≡ message_spec.violates (bus_in self.old)
-            (message_spec.message_of (bus_in self.old) notice core addr) k }
-        requires free { message_spec.is_busy (bus_in self.old)
-            (message_spec.message_of (bus_in self.old) notice core addr) ≡ false }
+        requires may { MaySend self.old notice core addr (is_in hurt) }
         requires absent { is_valid (((bus_in self.old).core core).copy addr).state ≡ false }
         requires valid { is_valid next.state ≡ true }
         requires mask { IsWithinLine self.old.limits.line_length next.marks.bytes }
         requires room { (next.enters && is_full ((bus_in self.old).core core).buffer) ≡ false }
         ensures { bus_in self.new ≡ message_spec.after_message (bus_in self.old)
-            (record { notice = notice; sender = core; addr = addr; line = slice_index line.now })
-            (line_at self.old.cores.items core addr (Some way)) next }
+            (record { notice = notice; sender = core; addr = addr; line = slice_index line.now }) (line_at self.old.cores.items core addr (Some way)) next }
     {
         let victim = *self.core(core).cache.line(addr, way);
         self.tell(notice, core, addr, line, hurt);
@@ -152,17 +139,11 @@ impl Parts {
         hurt: CoreSet,
         next: Next,
     )
-        requires core { core < length self.old.cores.items }
-        requires few { length self.old.cores.items ≤ 16 }
+        requires place { IsAtLine self.old core addr }
         requires short { self.old.limits.line_length ≤ LONGEST_LINE }
-        requires line { addr % self.old.limits.line_length ≡ 0 }
         requires inside { addr + self.old.limits.line_length ≤ length self.old.memory.items }
         requires past { (x : ℕ) → self.old.limits.line_length ≤ x → slice_index line.now x ≡ 0 }
-        requires coherent { IsCoherent (bus_in self.old) }
-        requires hurt { (k : ℕ) → is_in hurt k ≡ message_spec.violates (bus_in self.old)
-            (message_spec.message_of (bus_in self.old) notice core addr) k }
-        requires free { message_spec.is_busy (bus_in self.old)
-            (message_spec.message_of (bus_in self.old) notice core addr) ≡ false }
+        requires may { MaySend self.old notice core addr (is_in hurt) }
         requires held { is_valid (((bus_in self.old).core core).copy addr).state ≡ true }
         requires mask { IsWithinLine self.old.limits.line_length next.marks.bytes }
         requires entry { next.enters ≡ true → holds ((bus_in self.old).core core).buffer.lines addr ≡ false }

@@ -1,15 +1,13 @@
 //! Speculative loads and stores.
-ghost use Rattle.std.specs.Prelude.{◌≡◌, ℕ, ◌+◌, ◌<◌, ◌≤◌, ◌^◌, ◌%◌, ◌&&◌, true, false, length, Some, IfOk, IfErr};
-ghost use Rattle.spec_states.specs.declared.line.TheConstants.{LONGEST_LINE};
+ghost use Rattle.std.specs.Prelude.{◌≡◌, ◌+◌, ◌<◌, ◌≤◌, ◌^◌, ◌&&◌, true, false, length, Some, IfOk, IfErr};
 ghost use Rattle.spec_states.specs.States.{is_valid};
 ghost use Rattle.cache_lines.specs.Lines.{way_count};
 ghost use Rattle.violations.specs.CoreSet.{is_in};
 ghost use Rattle.bus_states.specs.Bus as bus_spec;
-ghost use Rattle.bus_states.specs.Coherent.{IsCoherent};
 ghost use Rattle.bus_states.specs.Messages as message_spec;
-ghost use Rattle.memory_bytes.specs.Bytes.{IsWidth, number_at};
+ghost use Rattle.memory_bytes.specs.Bytes.{number_at};
 ghost use Rattle.bus_states.specs.Speculative as speculative;
-ghost use Rattle.spec_bus.specs.Parts.{bus_in, line_at, room_at};
+ghost use Rattle.spec_bus.specs.Parts.{IsAccessIn, MaySend, bus_in, line_at, room_at};
 ghost use Rattle.spec_bus.specs.Answers.{MatchAnswer, IsLoaded, MayTake, full_or_busy, IsTaken, IsStored};
 ghost use Rattle.spec_states.specs.Rows.{owns_line};
 ghost use Rattle.bus_states.specs.declared.notice.Notice.TheVariants.{Load};
@@ -35,13 +33,7 @@ fn owns_line(state: LineState, marks: Marks) -> bool
 impl Parts {
     /// A load of a line that the core holds.
     fn load_hit(&mut self, core: usize, addr: u32, offset: u32, width: u32) -> u32
-        requires core { core < length self.old.cores.items }
-        requires short { self.old.limits.line_length ≤ LONGEST_LINE }
-        requires line { addr % self.old.limits.line_length ≡ 0 }
-        requires coherent { IsCoherent (bus_in self.old) }
-        requires in_line { offset + width ≤ self.old.limits.line_length }
-        requires width { IsWidth width }
-        requires aligned { offset % width ≡ 0 }
+        requires access { IsAccessIn self.old core addr offset width }
         requires held { is_valid (((bus_in self.old).core core).copy addr).state ≡ true }
         ensures bus { bus_in self.new ≡ speculative.kept_line (bus_in self.old) core addr
             (speculative.load_next (bus_in self.old) core addr offset width) }
@@ -64,27 +56,16 @@ impl Parts {
         way: usize,
         survey: Survey,
     ) -> u32
-        requires core { core < length self.old.cores.items }
+        requires access { IsAccessIn self.old core addr offset width }
         requires few { length self.old.cores.items ≤ 16 }
-        requires short { self.old.limits.line_length ≤ LONGEST_LINE }
         requires way { way < way_count }
-        requires line { addr % self.old.limits.line_length ≡ 0 }
         requires inside { addr + self.old.limits.line_length ≤ length self.old.memory.items }
-        requires coherent { IsCoherent (bus_in self.old) }
-        requires in_line { offset + width ≤ self.old.limits.line_length }
-        requires width { IsWidth width }
-        requires aligned { offset % width ≡ 0 }
         requires absent { is_valid (((bus_in self.old).core core).copy addr).state ≡ false }
-        requires hurt { (k : ℕ) → is_in survey.hurt k ≡ message_spec.violates (bus_in self.old)
-            (message_spec.message_of (bus_in self.old) Load core addr) k }
-        requires alone { survey.alone ≡ message_spec.is_alone (bus_in self.old)
-            (message_spec.message_of (bus_in self.old) Load core addr) }
-        requires free { message_spec.is_busy (bus_in self.old)
-            (message_spec.message_of (bus_in self.old) Load core addr) ≡ false }
-        ensures bus { bus_in self.new ≡ message_spec.after_message (bus_in self.old)
-            (message_spec.message_of (bus_in self.old) Load core addr)
-            (line_at self.old.cores.items core addr (Some way))
-            (speculative.load_next (bus_in self.old) core addr offset width) }
+        requires may { MaySend self.old Load core addr (is_in survey.hurt) }
+        requires alone { survey.alone ≡ message_spec.is_alone (bus_in self.old) (message_spec.message_of (bus_in self.old) Load core addr) }
+        ensures bus { bus_in self.new
+            ≡ message_spec.after_message (bus_in self.old) (message_spec.message_of (bus_in self.old) Load core addr)
+            (line_at self.old.cores.items core addr (Some way)) (speculative.load_next (bus_in self.old) core addr offset width) }
         ensures value { result ≡ number_at (bus_spec.sees (bus_in self.old) core addr) offset width }
         ensures small { result < 256 ^ width }
     {
@@ -103,15 +84,9 @@ impl Parts {
 
     /// A speculative load of `width` bytes at `offset` of the line at `addr`.
     pub(crate) fn load(&mut self, core: usize, addr: u32, offset: u32, width: u32) -> Step
-        requires core { core < length self.old.cores.items }
+        requires access { IsAccessIn self.old core addr offset width }
         requires few { length self.old.cores.items ≤ 16 }
-        requires short { self.old.limits.line_length ≤ LONGEST_LINE }
-        requires line { addr % self.old.limits.line_length ≡ 0 }
         requires inside { addr + self.old.limits.line_length ≤ length self.old.memory.items }
-        requires coherent { IsCoherent (bus_in self.old) }
-        requires in_line { offset + width ≤ self.old.limits.line_length }
-        requires width { IsWidth width }
-        requires aligned { offset % width ≡ 0 }
         ensures { MatchAnswer result
             (λ value hurt. IsLoaded (bus_in self.old) (bus_in self.new) core addr offset width
             (room_at self.old.cores.items core addr) value hurt)
@@ -145,14 +120,8 @@ impl Parts {
         offset: u32,
         width: u32,
     ) -> Result<(Next, CoreSet), WaitCause>
-        requires core { core < length self.now.cores.items }
+        requires access { IsAccessIn self.now core addr offset width }
         requires few { length self.now.cores.items ≤ 16 }
-        requires short { self.now.limits.line_length ≤ LONGEST_LINE }
-        requires line { addr % self.now.limits.line_length ≡ 0 }
-        requires coherent { IsCoherent (bus_in self.now) }
-        requires in_line { offset + width ≤ self.now.limits.line_length }
-        requires width { IsWidth width }
-        requires aligned { offset % width ≡ 0 }
         ensures may { IfOk result (λ taken. MayTake (bus_in self.now) core addr offset width taken.0 (is_in taken.1)) }
         ensures waits { IfErr result (λ cause. full_or_busy (bus_in self.now) core addr offset width ≡ Some cause) }
     {
@@ -177,15 +146,9 @@ impl Parts {
         offset: u32,
         width: u32,
     ) -> Result<CoreSet, WaitCause>
-        requires core { core < length self.old.cores.items }
+        requires access { IsAccessIn self.old core addr offset width }
         requires few { length self.old.cores.items ≤ 16 }
-        requires short { self.old.limits.line_length ≤ LONGEST_LINE }
-        requires line { addr % self.old.limits.line_length ≡ 0 }
         requires inside { addr + self.old.limits.line_length ≤ length self.old.memory.items }
-        requires coherent { IsCoherent (bus_in self.old) }
-        requires in_line { offset + width ≤ self.old.limits.line_length }
-        requires width { IsWidth width }
-        requires aligned { offset % width ≡ 0 }
         ensures taken { IfOk result (λ hurt. IsTaken (bus_in self.old) (bus_in self.new) core addr offset width
             (room_at self.old.cores.items core addr) (is_in hurt)) }
         ensures waits { IfErr result (λ cause. (speculative.store_wait (bus_in self.old) core addr offset width
@@ -221,15 +184,9 @@ impl Parts {
         width: u32,
         value: u32,
     ) -> Step
-        requires core { core < length self.old.cores.items }
+        requires access { IsAccessIn self.old core addr offset width }
         requires few { length self.old.cores.items ≤ 16 }
-        requires short { self.old.limits.line_length ≤ LONGEST_LINE }
-        requires line { addr % self.old.limits.line_length ≡ 0 }
         requires inside { addr + self.old.limits.line_length ≤ length self.old.memory.items }
-        requires coherent { IsCoherent (bus_in self.old) }
-        requires in_line { offset + width ≤ self.old.limits.line_length }
-        requires width { IsWidth width }
-        requires aligned { offset % width ≡ 0 }
         ensures { MatchAnswer result
             (λ answer hurt. (answer ≡ 0) × IsStored (bus_in self.old) (bus_in self.new) core addr offset width value
             (room_at self.old.cores.items core addr) hurt)

@@ -1,5 +1,5 @@
 //! Loads and stores of a core whose attempt is straight.
-ghost use Rattle.std.specs.Prelude.{if◌then◌else◌, ◌≡◌, ℕ, ◌+◌, ◌<◌, ◌≤◌, ◌^◌, ◌%◌, false, length, Some, None};
+ghost use Rattle.std.specs.Prelude.{if◌then◌else◌, ◌≡◌, ℕ, ◌+◌, ◌<◌, ◌≤◌, ◌^◌, false, length, Some, None};
 ghost use Rattle.spec_states.specs.declared.line.TheConstants.{LONGEST_LINE};
 ghost use Rattle.cache_lines.specs.Lines.{way_count};
 ghost use Rattle.violations.specs.CoreSet.{is_in};
@@ -7,7 +7,7 @@ ghost use Rattle.bus_states.specs.Bus as bus_spec;
 ghost use Rattle.bus_states.specs.Coherent.{IsCoherent, speculates};
 ghost use Rattle.bus_states.specs.Messages as message_spec;
 ghost use Rattle.memory_bytes.specs.Bytes.{IsWidth, number_at};
-ghost use Rattle.spec_bus.specs.Parts.{bus_in, line_at, room_at};
+ghost use Rattle.spec_bus.specs.Parts.{IsAtLine, bus_in, line_at, room_at};
 ghost use Rattle.bus_states.specs.declared.notice.Notice.TheVariants.{Load, Publish};
 ghost use Rattle.spec_states.specs.declared.line.LineState.TheVariants.{S};
 ghost use Rattle.bus_states.specs.Straight.{unmarked_next, stores_alone, after_straight_load, straight_load_violates, after_straight_store, straight_store_violates};
@@ -73,17 +73,13 @@ impl Parts {
         offset: u32,
         width: u32,
     ) -> (u32, CoreSet)
-        requires core { core < length self.old.cores.items }
-        requires few { length self.old.cores.items ≤ 16 }
+        requires place { IsAtLine self.old core addr }
         requires short { self.old.limits.line_length ≤ LONGEST_LINE }
-        requires line { addr % self.old.limits.line_length ≡ 0 }
         requires inside { addr + self.old.limits.line_length ≤ length self.old.memory.items }
-        requires coherent { IsCoherent (bus_in self.old) }
         requires in_line { offset + width ≤ self.old.limits.line_length }
         requires width { IsWidth width }
         requires straight { speculates ((bus_in self.old).core core).attempt ≡ false }
-        requires free { message_spec.is_busy (bus_in self.old)
-            (message_spec.message_of (bus_in self.old) Load core addr) ≡ false }
+        requires free { message_spec.is_busy (bus_in self.old) (message_spec.message_of (bus_in self.old) Load core addr) ≡ false }
         ensures bus { bus_in self.new ≡ after_straight_load (bus_in self.old) core addr (room_at self.old.cores.items core addr) }
         ensures value { result.0 ≡ number_at (bus_spec.sees (bus_in self.old) core addr) offset width }
         ensures small { result.0 < 256 ^ width }
@@ -112,17 +108,13 @@ impl Parts {
         width: u32,
         value: u32,
     ) -> CoreSet
-        requires core { core < length self.old.cores.items }
-        requires few { length self.old.cores.items ≤ 16 }
+        requires place { IsAtLine self.old core addr }
         requires short { self.old.limits.line_length ≤ LONGEST_LINE }
-        requires line { addr % self.old.limits.line_length ≡ 0 }
         requires inside { addr + self.old.limits.line_length ≤ length self.old.memory.items }
-        requires coherent { IsCoherent (bus_in self.old) }
         requires in_line { offset + width ≤ self.old.limits.line_length }
         requires width { IsWidth width }
         requires straight { speculates ((bus_in self.old).core core).attempt ≡ false }
-        requires free { message_spec.is_busy (bus_in self.old)
-            (message_spec.message_of (bus_in self.old) Publish core addr) ≡ false }
+        requires free { message_spec.is_busy (bus_in self.old) (message_spec.message_of (bus_in self.old) Publish core addr) ≡ false }
         ensures bus { bus_in self.new
             ≡ after_straight_store (bus_in self.old) core addr offset width value (room_at self.old.cores.items core addr) }
         ensures hurt { (k : ℕ) → is_in result k ≡ straight_store_violates (bus_in self.old) core addr offset width value k }

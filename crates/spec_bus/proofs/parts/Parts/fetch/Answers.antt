@@ -14,7 +14,7 @@ room_of way line = record { way = way; line = line }
 pub write_back-requires-clause-inside : goal.write_back-requires-clause-inside
 write_back-requires-clause-inside c =
     rw (c.line-victim.ensures.value, c.tell.ensures.limits, c.tell.ensures.memory)
-    (victim_inside (bus_in c.args.self.now) c.args.core c.core.result.now (line_in c.core.result.now.cache c.args.addr c.args.way) c.requires.coherent c.core.ensures.state c.line-victim.ensures.copy)
+    (victim_inside (bus_in c.args.self.now) c.args.core c.core.result.now (line_in c.core.result.now.cache c.args.addr c.args.way) c.requires.place.coherent c.core.ensures.state c.line-victim.ensures.copy)
 
 pub returns : goal.returns
 returns c =

@@ -11,7 +11,7 @@ use Rattle.spec_bus.proofs.parts.Parts.load_miss.Goals as goal
 
 pub fetch-requires-clause-past : goal.fetch-requires-clause-past
 fetch-requires-clause-past c x le =
-    c.committed_line-line.ensures x ∙ committed-past (bus_in c.args.self.now) c.args.addr x c.requires.coherent le
+    c.committed_line-line.ensures x ∙ committed-past (bus_in c.args.self.now) c.args.addr x c.requires.access.coherent le
 
 pub returns-clause-bus : goal.returns-clause-bus
 returns-clause-bus c =
@@ -20,11 +20,11 @@ returns-clause-bus c =
     c.fetch.ensures
     ∙ ap (λ (line : ℕ → ℕ). after_message (bus_in c.args.self.now) (record { notice = Load; sender = c.args.core; addr = c.args.addr; line = line })
     (line_at c.args.self.now.cores.items c.args.core c.args.addr (Some c.args.way)) c.after_own_load-next.result)
-    (fun_ext (λ x. c.committed_line-line.ensures x ∙ sym (sees_absent (bus_in c.args.self.now) c.args.core c.args.addr c.requires.coherent c.requires.line c.requires.absent x)))
+    (fun_ext (λ x. c.committed_line-line.ensures x ∙ sym (sees_absent (bus_in c.args.self.now) c.args.core c.args.addr c.requires.access.coherent c.requires.access.line c.requires.absent x)))
     ∙ rw next refl
 
 pub returns-clause-value : goal.returns-clause-value
 returns-clause-value c =
     c.number_at.ensures.value
     ∙ ap (λ (line : ℕ → ℕ). number_at line c.args.offset c.args.width)
-    (fun_ext (λ x. c.committed_line-line.ensures x ∙ sym (sees_absent (bus_in c.args.self.now) c.args.core c.args.addr c.requires.coherent c.requires.line c.requires.absent x)))
+    (fun_ext (λ x. c.committed_line-line.ensures x ∙ sym (sees_absent (bus_in c.args.self.now) c.args.core c.args.addr c.requires.access.coherent c.requires.access.line c.requires.absent x)))

@@ -6,10 +6,12 @@ use Rattle.spec_bus.specs.Parts.{bus_in}
 use Rattle.spec_bus.proofs.PublishLoop.{line_published}
 use Rattle.spec_bus.proofs.parts.Parts.publish_line.Goals as goal
 
-pub claim-requires-clause-free : goal.claim-requires-clause-free
-claim-requires-clause-free c =
-    publish-free (bus_in c.args.self.now) c.args.core c.args.addr c.requires.coherent
-    (record { in_cores = c.requires.core; listed = c.requires.listed })
+pub claim-requires-clause-may : goal.claim-requires-clause-may
+claim-requires-clause-may c = record {
+  hurts = c.survey-survey.ensures.hurt;
+  free = publish-free (bus_in c.args.self.now) c.args.core c.args.addr c.requires.coherent
+      (record { in_cores = c.requires.core; listed = c.requires.listed });
+}
 
 pub returns-clause-bus : goal.returns-clause-bus
 returns-clause-bus c =

@@ -10,16 +10,16 @@ use Rattle.spec_bus.proofs.parts.Parts.store.Goals as goal
 pub write-requires-clause-held : goal.write-requires-clause-held
 write-requires-clause-held c =
     ap (λ (bus : Bus). is_valid ((bus.core c.args.core).copy c.args.addr).state) c.in-Ok.ensures.taken.bus
-    ∙ claimed_valid (bus_in c.args.self.now) c.args.core c.args.addr c.args.offset c.args.width _ c.requires.width
+    ∙ claimed_valid (bus_in c.args.self.now) c.args.core c.args.addr c.args.offset c.args.width _ c.requires.access.wide
 
 pub write-requires-clause-in_line : goal.write-requires-clause-in_line
 write-requires-clause-in_line c =
     let length : (core_at c.take_hold.new.self.cores.items c.args.core).line_length ≡ c.args.self.now.limits.line_length =
     ap (λ (bus : Bus). (bus.core c.args.core).line_length) c.in-Ok.ensures.taken.bus
     ∙ claimed_length (bus_in c.args.self.now) c.args.core c.args.addr c.args.offset c.args.width _
-    ∙ c.requires.coherent.lengths c.args.core c.requires.core in
-    let wide = (width-bounds c.args.width c.requires.width).0 in
-    let inside = c.requires.in_line in
+    ∙ c.requires.access.coherent.lengths c.args.core c.requires.access.there in
+    let wide = (width-bounds c.args.width c.requires.access.wide).0 in
+    let inside = c.requires.access.in_line in
     omega (arith, length, wide, inside)
 
 pub returns-in-Ok : goal.returns-in-Ok

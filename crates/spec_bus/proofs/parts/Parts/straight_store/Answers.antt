@@ -28,7 +28,7 @@ pub fetch-requires-clause-past : goal.fetch-requires-clause-past
 fetch-requires-clause-past c x le =
     c.with_number-stored-2.ensures.bytes x
     ∙ number-past (slice_index c.committed_line-cells.result) c.args.self.now.limits.line_length c.args.offset c.args.width c.args.value x c.requires.in_line le
-    (c.committed_line-cells.ensures x ∙ committed-past (bus_in c.args.self.now) c.args.addr x c.requires.coherent le)
+    (c.committed_line-cells.ensures x ∙ committed-past (bus_in c.args.self.now) c.args.addr x c.requires.place.coherent le)
 
 pub returns-then-is_valid-clause-bus : goal.returns-then-is_valid-clause-bus
 returns-then-is_valid-clause-bus c =
@@ -41,7 +41,7 @@ returns-then-is_valid-clause-bus c =
     (room_held (bus_in c.args.self.now) c.args.core c.args.addr (room_at c.args.self.now.cores.items c.args.core c.args.addr) held)
     (fun_ext (λ x. c.with_number-stored-then-is_valid.ensures.bytes x
     ∙ ap (λ (cell : ℕ → ℕ). with_number cell c.args.offset c.args.width c.args.value x)
-    (fun_ext (λ y. c.copy-copy.ensures.cells y ∙ sees-held (bus_in c.args.self.now) c.args.core c.args.addr c.requires.coherent c.requires.line held y))))
+    (fun_ext (λ y. c.copy-copy.ensures.cells y ∙ sees-held (bus_in c.args.self.now) c.args.core c.args.addr c.requires.place.coherent c.requires.place.line held y))))
     c.unmarked_if-next.ensures c.survey-survey.ensures.alone c.claim.ensures
 
 pub returns-clause-bus : goal.returns-clause-bus
@@ -56,5 +56,5 @@ returns-clause-bus c =
     (fun_ext (λ x. c.with_number-stored-2.ensures.bytes x
     ∙ ap (λ (cell : ℕ → ℕ). with_number cell c.args.offset c.args.width c.args.value x)
     (fun_ext (λ y. c.committed_line-cells.ensures y
-    ∙ sym (sees_committed (bus_in c.args.self.now) c.args.core c.args.addr c.requires.coherent c.requires.line c.requires.straight y)))))
+    ∙ sym (sees_committed (bus_in c.args.self.now) c.args.core c.args.addr c.requires.place.coherent c.requires.place.line c.requires.straight y)))))
     c.unmarked_if-next.ensures c.survey-survey.ensures.alone c.fetch.ensures

@@ -10,21 +10,21 @@ use Rattle.spec_bus.proofs.parts.Parts.take_hold.Goals as goal
 pub claim-requires-clause-mask : goal.claim-requires-clause-mask
 claim-requires-clause-mask c =
     rw c.in_ok-next.ensures.may.next_is
-    (store-within (bus_in c.args.self.now) c.args.core c.args.addr c.args.offset c.args.width c.requires.coherent c.requires.in_line)
+    (store-within (bus_in c.args.self.now) c.args.core c.args.addr c.args.offset c.args.width c.requires.access.coherent c.requires.access.in_line)
 
 pub fetch-requires-clause-past : goal.fetch-requires-clause-past
 fetch-requires-clause-past c x le =
-    c.committed_line-line.ensures x ∙ committed-past (bus_in c.args.self.now) c.args.addr x c.requires.coherent le
+    c.committed_line-line.ensures x ∙ committed-past (bus_in c.args.self.now) c.args.addr x c.requires.access.coherent le
 
 pub fetch-requires-clause-mask : goal.fetch-requires-clause-mask
 fetch-requires-clause-mask c =
     rw c.in_ok-next-2.ensures.may.next_is
-    (store-within (bus_in c.args.self.now) c.args.core c.args.addr c.args.offset c.args.width c.requires.coherent c.requires.in_line)
+    (store-within (bus_in c.args.self.now) c.args.core c.args.addr c.args.offset c.args.width c.requires.access.coherent c.requires.access.in_line)
 
 pub returns-in_ok-next-clause-taken : goal.returns-in_ok-next-clause-taken
 returns-in_ok-next-clause-taken c =
     taken_held (bus_in c.args.self.now) (bus_in c.claim.new.self) c.args.core c.args.addr c.args.offset c.args.width _ c.in_ok-next.next (slice_index c.copy-copy.result.cells) (is_in c.in_ok-next.hurt)
-    c.requires.coherent c.requires.line
+    c.requires.access.coherent c.requires.access.line
     (rw (← c.copy-copy.ensures.state, ← c.copy-copy.ensures.marks) (sym c.owns_line.ensures ∙ c.if-owns_line.false))
     (ap is_valid (sym c.copy-copy.ensures.state) ∙ sym c.is_valid.ensures ∙ c.if-is_valid.true)
     c.in_ok-next.ensures.may c.copy-copy.ensures.cells c.claim.ensures
@@ -32,7 +32,7 @@ returns-in_ok-next-clause-taken c =
 pub returns-in_ok-next-2-clause-taken : goal.returns-in_ok-next-2-clause-taken
 returns-in_ok-next-2-clause-taken c =
     taken_missed c.args.self.now (bus_in c.fetch.new.self) c.args.core c.args.addr c.args.offset c.args.width c.in-Some.way c.core.result.now c.in_ok-next-2.next (slice_index c.committed_line-line.result) (is_in c.in_ok-next-2.hurt)
-    c.core.ensures.is (sym c.victim.ensures.value ∙ c.in-Some.is) c.requires.coherent c.requires.line
+    c.core.ensures.is (sym c.victim.ensures.value ∙ c.in-Some.is) c.requires.access.coherent c.requires.access.line
     (rw (← c.copy-copy.ensures.state, ← c.copy-copy.ensures.marks) (sym c.owns_line.ensures ∙ c.if-owns_line.false))
     (ap is_valid (sym c.copy-copy.ensures.state) ∙ sym c.is_valid.ensures ∙ c.if-is_valid.false)
     c.in_ok-next-2.ensures.may c.committed_line-line.ensures c.fetch.ensures
