@@ -5,7 +5,8 @@ use Rattle.cache_lines.specs.declared.line.Line.{Line}
 use Rattle.cache_lines.specs.Lines.{invalid_line}
 use Rattle.cache_lines.specs.Lines as lines
 use Rattle.violations.specs.View.{StoreView, Waits}
-use Rattle.bus_states.specs.Bus.{Bus, line_of, offset_of}
+use Rattle.bus_states.specs.Bus.{Bus}
+use Rattle.bus_states.specs.Bus as states
 use Rattle.bus_states.specs.Messages.{Room}
 use Rattle.bus_states.specs.Speculative.{load_wait, store_wait}
 use Rattle.bus_states.specs.Views.{view_of}
@@ -23,6 +24,13 @@ pub record CachedView : Type 0 where
 abbrev pub bus : CachedView → Bus
 bus v = bus_of v.code v.limits v.cores v.memory
 
+-- the line in which this byte lies, and the byte's place there
+abbrev pub line_of : CachedView → ℕ → ℕ
+line_of v addr = states.line_of (bus v).line_length addr
+
+abbrev pub offset_of : CachedView → ℕ → ℕ
+offset_of v addr = states.offset_of (bus v).line_length addr
+
 -- for each core and line the line in the way that it takes: none where every way of its set carries marks
 abbrev pub room : CachedView → ℕ → ℕ → Option Room
 room v = room_at v.cores
@@ -34,9 +42,9 @@ store_view v = view_of (bus v)
 -- why a load or a store of a core waits, by its address and width
 abbrev pub waits : CachedView → Waits
 waits v = record {
-  load = λ core address width. let line = line_of (bus v).line_length address in load_wait (bus v) core line (room v core line);
-  store = λ core address width. let line = line_of (bus v).line_length address in
-      store_wait (bus v) core line (offset_of (bus v).line_length address) width (room v core line);
+  load = λ core address width. let line = line_of v address in load_wait (bus v) core line (room v core line);
+  store = λ core address width. let line = line_of v address in
+      store_wait (bus v) core line (offset_of v address) width (room v core line);
 }
 
 abbrev pub line_of_core : Option Core → ℕ → ℕ → Line

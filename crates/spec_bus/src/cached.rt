@@ -4,7 +4,6 @@ ghost use Rattle.violations.specs.Rule as rule;
 ghost use Rattle.violations.specs.Answers.{MatchStep, wait_of};
 ghost use Rattle.violations.specs.CoreSet.{is_in};
 ghost use Rattle.cache_lines.specs.Lines.{way_count};
-ghost use Rattle.bus_states.specs.Bus as bus_spec;
 ghost use Rattle.bus_states.specs.Attempts as attempts;
 ghost use Rattle.bus_states.specs.Coherent.{IsCoherent};
 ghost use Rattle.bus_states.specs.Speculative as speculative;
@@ -78,7 +77,7 @@ impl CachedBus {
 
     /// The address of the line in which a byte lies.
     fn line_of(&self, addr: u32) -> u32
-        ensures value { result ≡ bus_spec.line_of (spec.bus self.now).line_length addr }
+        ensures value { result ≡ spec.line_of self.now addr }
         ensures aligned { result % (spec.bus self.now).line_length ≡ 0 }
     {
         addr - addr % self.parts.limits.line_length
@@ -87,12 +86,9 @@ impl CachedBus {
     /// The copy that a core has of the line in which this address lies.
     pub fn line_at(&self, core: u32, addr: u32) -> LineView
         requires { core < (spec.bus self.now).shape.cores }
-        ensures state { result.state
-            ≡ (((spec.bus self.now).core core).copy (bus_spec.line_of (spec.bus self.now).line_length addr)).state }
-        ensures loaded { result.loaded
-            ≡ (((spec.bus self.now).core core).copy (bus_spec.line_of (spec.bus self.now).line_length addr)).marks.loaded }
-        ensures bytes { result.bytes
-            ≡ (((spec.bus self.now).core core).copy (bus_spec.line_of (spec.bus self.now).line_length addr)).marks.bytes }
+        ensures state { result.state ≡ (((spec.bus self.now).core core).copy (spec.line_of self.now addr)).state }
+        ensures loaded { result.loaded ≡ (((spec.bus self.now).core core).copy (spec.line_of self.now addr)).marks.loaded }
+        ensures bytes { result.bytes ≡ (((spec.bus self.now).core core).copy (spec.line_of self.now addr)).marks.bytes }
     {
         let copy = self.parts.copy(core as usize, self.line_of(addr));
         LineView {
@@ -195,11 +191,10 @@ impl EpochStore for CachedBus {
         requires access { view_spec.IsLoad (spec.store_view self.old).shape addr width }
         ensures waits { wait_of result ≡ (spec.waits self.old).load core addr width }
         ensures bus { MatchAnswer result
-            (λ value hurt. IsLoaded (spec.bus self.old) (spec.bus self.new) core (bus_spec.line_of (spec.bus self.old).line_length addr)
-            (bus_spec.offset_of (spec.bus self.old).line_length addr) width
-            (spec.room self.old core (bus_spec.line_of (spec.bus self.old).line_length addr)) value hurt)
-            (λ cause. (speculative.load_wait (spec.bus self.old) core (bus_spec.line_of (spec.bus self.old).line_length addr)
-            (spec.room self.old core (bus_spec.line_of (spec.bus self.old).line_length addr)) ≡ Some cause) × (self.new ≡ self.old)) }
+            (λ value hurt. IsLoaded (spec.bus self.old) (spec.bus self.new) core (spec.line_of self.old addr) (spec.offset_of self.old addr) width
+            (spec.room self.old core (spec.line_of self.old addr)) value hurt)
+            (λ cause. (speculative.load_wait (spec.bus self.old) core (spec.line_of self.old addr)
+            (spec.room self.old core (spec.line_of self.old addr)) ≡ Some cause) × (self.new ≡ self.old)) }
         ensures loads { MatchStep result (λ value hurt. rule.Loads (spec.store_view self.old) (spec.store_view self.new) core addr width value hurt)
             (self.new ≡ self.old) }
     {
@@ -215,12 +210,10 @@ impl EpochStore for CachedBus {
         requires access { view_spec.IsLoad (spec.store_view self.old).shape addr width }
         ensures waits { wait_of result ≡ (spec.waits self.old).store core addr width }
         ensures bus { MatchAnswer result
-            (λ answer hurt. (answer ≡ 0) × IsStored (spec.bus self.old) (spec.bus self.new) core
-            (bus_spec.line_of (spec.bus self.old).line_length addr) (bus_spec.offset_of (spec.bus self.old).line_length addr) width value
-            (spec.room self.old core (bus_spec.line_of (spec.bus self.old).line_length addr)) hurt)
-            (λ cause. (speculative.store_wait (spec.bus self.old) core (bus_spec.line_of (spec.bus self.old).line_length addr)
-            (bus_spec.offset_of (spec.bus self.old).line_length addr) width
-            (spec.room self.old core (bus_spec.line_of (spec.bus self.old).line_length addr)) ≡ Some cause) × (self.new ≡ self.old)) }
+            (λ answer hurt. (answer ≡ 0) × IsStored (spec.bus self.old) (spec.bus self.new) core (spec.line_of self.old addr)
+            (spec.offset_of self.old addr) width value (spec.room self.old core (spec.line_of self.old addr)) hurt)
+            (λ cause. (speculative.store_wait (spec.bus self.old) core (spec.line_of self.old addr) (spec.offset_of self.old addr) width
+            (spec.room self.old core (spec.line_of self.old addr)) ≡ Some cause) × (self.new ≡ self.old)) }
         ensures stores { MatchStep result
             (λ answer hurt. (answer ≡ 0) × rule.Stores (spec.store_view self.old) (spec.store_view self.new) core addr width value hurt) (self.new ≡ self.old) }
     {
@@ -245,10 +238,9 @@ impl EpochStore for CachedBus {
     fn straight_load(&mut self, core: u32, addr: u32, width: u32) -> (u32, CoreSet)
         requires runs { view_spec.Runs (spec.store_view self.old) core true }
         requires access { view_spec.IsLoad (spec.store_view self.old).shape addr width }
-        ensures bus { (spec.bus self.new) ≡ straight.after_straight_load (spec.bus self.old) core
-            (bus_spec.line_of (spec.bus self.old).line_length addr) (spec.room self.old core (bus_spec.line_of (spec.bus self.old).line_length addr)) }
-        ensures hurt { (k : ℕ) → is_in result.1 k ≡ straight.straight_load_violates (spec.bus self.old) core
-            (bus_spec.line_of (spec.bus self.old).line_length addr) k }
+        ensures bus { (spec.bus self.new) ≡ straight.after_straight_load (spec.bus self.old) core (spec.line_of self.old addr)
+            (spec.room self.old core (spec.line_of self.old addr)) }
+        ensures hurt { (k : ℕ) → is_in result.1 k ≡ straight.straight_load_violates (spec.bus self.old) core (spec.line_of self.old addr) k }
         ensures loads { rule.LoadsStraight (spec.store_view self.old) (spec.store_view self.new) core addr width result.0 (is_in result.1) }
     {
         let line = self.line_of(addr);
@@ -261,11 +253,10 @@ impl EpochStore for CachedBus {
     fn straight_store(&mut self, core: u32, addr: u32, width: u32, value: u32) -> CoreSet
         requires runs { view_spec.Runs (spec.store_view self.old) core true }
         requires access { view_spec.IsLoad (spec.store_view self.old).shape addr width }
-        ensures bus { (spec.bus self.new) ≡ straight.after_straight_store (spec.bus self.old) core
-            (bus_spec.line_of (spec.bus self.old).line_length addr) (bus_spec.offset_of (spec.bus self.old).line_length addr) width value
-            (spec.room self.old core (bus_spec.line_of (spec.bus self.old).line_length addr)) }
-        ensures hurt { (k : ℕ) → is_in result k ≡ straight.straight_store_violates (spec.bus self.old) core
-            (bus_spec.line_of (spec.bus self.old).line_length addr) (bus_spec.offset_of (spec.bus self.old).line_length addr) width value k }
+        ensures bus { (spec.bus self.new) ≡ straight.after_straight_store (spec.bus self.old) core (spec.line_of self.old addr)
+            (spec.offset_of self.old addr) width value (spec.room self.old core (spec.line_of self.old addr)) }
+        ensures hurt { (k : ℕ) → is_in result k ≡ straight.straight_store_violates (spec.bus self.old) core (spec.line_of self.old addr)
+            (spec.offset_of self.old addr) width value k }
         ensures stores { rule.StoresStraight (spec.store_view self.old) (spec.store_view self.new) core addr width value (is_in result) }
     {
         let line = self.line_of(addr);

@@ -4,7 +4,7 @@ ghost use Rattle.spec_states.specs.States.{is_modified};
 ghost use Rattle.cache_lines.specs.Lines.{set_count, way_count};
 ghost use Rattle.cache_lines.specs.Protocol.{copy_at};
 ghost use Rattle.violations.specs.View.{IsCommitted};
-ghost use Rattle.bus_states.specs.Bus as bus_spec;
+ghost use Rattle.bus_states.specs.Bus.{line_of, offset_of};
 ghost use Rattle.bus_states.specs.Coherent.{IsCoherent};
 ghost use Rattle.bus_states.specs.Views.{view_of};
 ghost use Rattle.spec_bus.specs.CoreStates.{is_modified_in, FitsMemory};
@@ -23,8 +23,8 @@ impl Core {
         requires fits { FitsMemory self.now.cache (length memory.old.items) }
         ensures size { length memory.new.items ≡ length memory.old.items }
         ensures bytes { (p : ℕ) → slice_index memory.new.items p
-            ≡ (if is_modified_in self.now.cache (bus_spec.line_of self.now.cache.line_length p) place then
-            (copy_at self.now.cache (bus_spec.line_of self.now.cache.line_length p)).cell (bus_spec.offset_of self.now.cache.line_length p)
+            ≡ (if is_modified_in self.now.cache (line_of self.now.cache.line_length p) place then
+            (copy_at self.now.cache (line_of self.now.cache.line_length p)).cell (offset_of self.now.cache.line_length p)
             else slice_index memory.old.items p) }
     {
         let line_length = self.cache.line_length();
@@ -39,8 +39,8 @@ impl Core {
         requires fits { FitsMemory self.now.cache (length memory.old.items) }
         ensures size { length memory.new.items ≡ length memory.old.items }
         ensures bytes { (p : ℕ) → slice_index memory.new.items p
-            ≡ (if is_modified (copy_at self.now.cache (bus_spec.line_of self.now.cache.line_length p)).state then
-            (copy_at self.now.cache (bus_spec.line_of self.now.cache.line_length p)).cell (bus_spec.offset_of self.now.cache.line_length p)
+            ≡ (if is_modified (copy_at self.now.cache (line_of self.now.cache.line_length p)).state then
+            (copy_at self.now.cache (line_of self.now.cache.line_length p)).cell (offset_of self.now.cache.line_length p)
             else slice_index memory.old.items p) }
     {
         let _first = self.cache.line(0, 0);

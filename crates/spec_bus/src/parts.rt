@@ -2,7 +2,7 @@ ghost use Rattle.std.specs.Prelude.{◌≡◌, ℕ, ◌+◌, ◌<◌, ◌≤◌,
 ghost use Rattle.spec_states.specs.declared.line.TheConstants.{LONGEST_LINE};
 ghost use Rattle.violations.specs.View.{epoch_of};
 ghost use Rattle.violations.specs.CoreSet.{is_in};
-ghost use Rattle.bus_states.specs.Bus as bus_spec;
+ghost use Rattle.bus_states.specs.Bus.{committed, is_later};
 ghost use Rattle.bus_states.specs.Coherent.{IsCoherent};
 ghost use Rattle.bus_states.specs.Messages as message_spec;
 ghost use Rattle.spec_bus.specs.CoreStates.{state_of};
@@ -72,7 +72,7 @@ impl Parts {
     pub(crate) fn is_later(&self, core: usize, k: usize) -> bool
         requires core { core < length self.now.cores.items }
         requires k { k < length self.now.cores.items }
-        ensures { result ≡ bus_spec.is_later (bus_in self.now) core k }
+        ensures { result ≡ is_later (bus_in self.now) core k }
     {
         epoch_of(self.core(core).attempt) < epoch_of(self.core(k).attempt)
     }
@@ -159,7 +159,7 @@ impl Parts {
     pub(crate) fn committed_line(&self, addr: u32) -> [u8; LONGEST_LINE]
         requires inside { addr + self.now.limits.line_length ≤ length self.now.memory.items }
         requires short { self.now.limits.line_length ≤ LONGEST_LINE }
-        ensures { (x : ℕ) → slice_index result x ≡ bus_spec.committed (bus_in self.now) addr x }
+        ensures { (x : ℕ) → slice_index result x ≡ committed (bus_in self.now) addr x }
     {
         let mut line = memory_line(
             &self.memory,

@@ -3,7 +3,7 @@ ghost use Rattle.std.specs.Prelude.{◌≡◌, ◌+◌, ◌<◌, ◌≤◌, ◌^
 ghost use Rattle.spec_states.specs.States.{is_valid};
 ghost use Rattle.cache_lines.specs.Lines.{way_count};
 ghost use Rattle.violations.specs.CoreSet.{is_in};
-ghost use Rattle.bus_states.specs.Bus as bus_spec;
+ghost use Rattle.bus_states.specs.Bus.{sees};
 ghost use Rattle.bus_states.specs.Messages as message_spec;
 ghost use Rattle.memory_bytes.specs.Bytes.{number_at};
 ghost use Rattle.bus_states.specs.Speculative as speculative;
@@ -37,7 +37,7 @@ impl Parts {
         requires held { is_valid (((bus_in self.old).core core).copy addr).state ≡ true }
         ensures bus { bus_in self.new ≡ speculative.kept_line (bus_in self.old) core addr
             (speculative.load_next (bus_in self.old) core addr offset width) }
-        ensures value { result ≡ number_at (bus_spec.sees (bus_in self.old) core addr) offset width }
+        ensures value { result ≡ number_at (sees (bus_in self.old) core addr) offset width }
         ensures small { result < 256 ^ width }
     {
         let copy = self.copy(core, addr);
@@ -66,7 +66,7 @@ impl Parts {
         ensures bus { bus_in self.new
             ≡ message_spec.after_message (bus_in self.old) (message_spec.message_of (bus_in self.old) Load core addr)
             (line_at self.old.cores.items core addr (Some way)) (speculative.load_next (bus_in self.old) core addr offset width) }
-        ensures value { result ≡ number_at (bus_spec.sees (bus_in self.old) core addr) offset width }
+        ensures value { result ≡ number_at (sees (bus_in self.old) core addr) offset width }
         ensures small { result < 256 ^ width }
     {
         let copy = self.copy(core, addr);

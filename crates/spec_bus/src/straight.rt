@@ -3,7 +3,7 @@ ghost use Rattle.std.specs.Prelude.{if◌then◌else◌, ◌≡◌, ℕ, ◌+◌
 ghost use Rattle.spec_states.specs.declared.line.TheConstants.{LONGEST_LINE};
 ghost use Rattle.cache_lines.specs.Lines.{way_count};
 ghost use Rattle.violations.specs.CoreSet.{is_in};
-ghost use Rattle.bus_states.specs.Bus as bus_spec;
+ghost use Rattle.bus_states.specs.Bus.{sees};
 ghost use Rattle.bus_states.specs.Coherent.{IsCoherent, speculates};
 ghost use Rattle.bus_states.specs.Messages as message_spec;
 ghost use Rattle.memory_bytes.specs.Bytes.{IsWidth, number_at};
@@ -81,7 +81,7 @@ impl Parts {
         requires straight { speculates ((bus_in self.old).core core).attempt ≡ false }
         requires free { message_spec.is_busy (bus_in self.old) (message_spec.message_of (bus_in self.old) Load core addr) ≡ false }
         ensures bus { bus_in self.new ≡ after_straight_load (bus_in self.old) core addr (room_at self.old.cores.items core addr) }
-        ensures value { result.0 ≡ number_at (bus_spec.sees (bus_in self.old) core addr) offset width }
+        ensures value { result.0 ≡ number_at (sees (bus_in self.old) core addr) offset width }
         ensures small { result.0 < 256 ^ width }
         ensures hurt { (k : ℕ) → is_in result.1 k ≡ straight_load_violates (bus_in self.old) core addr k }
     {
