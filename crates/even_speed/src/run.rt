@@ -4,9 +4,8 @@ ghost use Rattle.rv32_image.specs.Image.{IsImage};
 ghost use Rattle.rv32_exec.specs.Hart.{HartState};
 ghost use Rattle.rv32_exec.specs.NextEvent.{next_event};
 ghost use Rattle.spec_history.specs.FlatState.{FlatState};
-ghost use Rattle.spec_history.specs.Replay.{replay};
 ghost use Rattle.homefree.specs.Acted.{IfArrived};
-ghost use Rattle.homefree.specs.BookView.{IsOfSameLoop};
+ghost use Rattle.homefree.specs.BookView.{IsOfSameLoop, ReplaysTo};
 ghost use Rattle.homefree.specs.Counted.{IsNoMore};
 ghost use Rattle.homefree.specs.Driven.{Driven, IsInOrder, TurnedWith, driver, with_held};
 ghost use Rattle.homefree.specs.Held.{HaveArrived, harts_of, held_at, held_by};
@@ -116,7 +115,7 @@ fn step<S: EpochStore>(
     ensures turned { TurnedWith S.view S.waits (driver book.old shares.old) core (harts_of held.old core) result (driver book.new shares.new) }
     ensures same { IsOfSameLoop book.old book.new }
     ensures shares { IsNoMore shares.new book.new.totals }
-    ensures over { (end : End) (s : FlatState) → result ≡ Ok (Answer.Over end) → replay book.new.image book.new.cores book.new.history ≡ Some s → s.end ≡ Some end }
+    ensures over { (end : End) (s : FlatState) → result ≡ Ok (Answer.Over end) → ReplaysTo book.new s → s.end ≡ Some end }
     ensures held { HaveArrived book.new.image held.new }
     ensures harts { (k : ℕ) → harts_of held.new k ≡ with_held (harts_of held.old) core (held_by result (harts_of held.old core)) k }
     ensures alone { book.old.cores ≡ 1 → (book.new.totals.restarts ≡ 0) × NeverWaits result }

@@ -1,8 +1,8 @@
 -- Why a core has to come again.
-use Rattle.std.specs.Prelude.{◌≡◌, ◌<◌, ◌≤◌, false, Some, None, Result, Ok, Err}
+use Rattle.std.specs.Prelude.{◌≡◌, ℕ, ◌<◌, ◌≤◌, false, Some, None, Result, Ok, Err}
 use Rattle.rv32_exec.specs.declared.stop.Stop.{Stop}
 use Rattle.rv32_exec.specs.NextEvent.{next_event}
-use Rattle.spec_history.specs.FlatState.{CoreState}
+use Rattle.spec_history.specs.FlatState.{CoreState, FlatState}
 use Rattle.homefree.specs.declared.answer.Answer.{Answer}
 use Rattle.homefree.specs.declared.answer.Answer.TheVariants.{Go, Again, Left, Over, Stopped}
 use Rattle.homefree.specs.declared.answer.Cause.{Cause}
@@ -36,6 +36,12 @@ IsWhy t NotHomefree = IsLaterAt t IsEnd
 IsWhy t NoWay = IsWaitFor t wait.NoWay
 IsWhy t OrbFull = IsWaitFor t wait.OrbFull
 IsWhy t OrbBusy = IsWaitFor t wait.OrbBusy
+
+-- the core runs the homefree epoch
+pub record RunsHomefree (s : FlatState) (core : ℕ) : Type 0 where
+  pub running : CoreState
+  pub runs : s.cores core ≡ Some running
+  pub is_homefree : running.epoch ≡ s.homefree
 
 abbrev pub IfAgain : Result Answer TurnFault → (Cause → Type 0) → Type 0
 IfAgain (Ok (Again cause)) P = P cause

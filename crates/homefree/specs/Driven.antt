@@ -9,12 +9,11 @@ use Rattle.rv32_exec.specs.Sequential.{sequential_result}
 use Rattle.run_ledger.specs.declared.counts.Counts.{Counts}
 use Rattle.spec_history.specs.FlatState.{FlatState}
 use Rattle.spec_history.specs.Laws.{Holds}
-use Rattle.spec_history.specs.Replay.{replay}
 use Rattle.violations.specs.View.{StoreView, Waits}
 use Rattle.homefree.specs.declared.answer.Answer.{Answer}
 use Rattle.homefree.specs.declared.answer.Answer.TheVariants.{Go, Again, Left, Over, Stopped}
 use Rattle.homefree.specs.declared.fault.TurnFault.{TurnFault}
-use Rattle.homefree.specs.BookView.{BookView}
+use Rattle.homefree.specs.BookView.{BookView, ReplaysTo}
 use Rattle.homefree.specs.Turned.{Turned}
 
 -- where `advance` comes to from a hart
@@ -43,7 +42,7 @@ driver book shares = record { book = book; shares = shares }
 
 -- the turn of a core with this hart in hand
 abbrev pub TurnedWith : {S : Type 0} → (S → StoreView) → (S → Waits) → Driver S → ℕ → Option HartState → Result Answer TurnFault → Driver S → Type 0
-TurnedWith view waits old core held answer new = (s : FlatState) → replay old.book.image old.book.cores old.book.history ≡ Some s
+TurnedWith view waits old core held answer new = (s : FlatState) → ReplaysTo old.book s
     → Turned view waits old.book s old.shares core (option_map (arrival_of old.book.image) held) answer new.book new.shares
 
 -- the drive ends with what is said, or goes on with the answer

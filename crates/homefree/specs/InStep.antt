@@ -2,20 +2,19 @@
 use Rattle.std.specs.Prelude.{◌≡◌, ◌<◌, ◌≤◌, All, length, Some}
 use Rattle.rv32_image.specs.Image.{IsImage}
 use Rattle.spec_history.specs.FlatState.{FlatState}
-use Rattle.spec_history.specs.Replay.{replay}
 use Rattle.violations.specs.View.{StoreView}
 use Rattle.violations.specs.Rule.{IsCoreCount, shape_of}
 use Rattle.homefree.specs.declared.answer.StopCause.TheVariants.{HistoryFull}
 use Rattle.homefree.specs.Agrees.{Agrees}
 use Rattle.homefree.specs.Caused.{HasCauses, HasKinds}
 use Rattle.homefree.specs.Counted.{counted_in}
-use Rattle.homefree.specs.BookView.{BookView, IsFull}
+use Rattle.homefree.specs.BookView.{BookView, IsFull, ReplaysTo}
 use Rattle.homefree.specs.Missed.{PassesOverNone, IsOfCaches}
 
 pub record InStep {S : Type 0} (view : S → StoreView) (b : BookView S) : Type 0 where
   -- the state that the history leads to
   pub state : FlatState
-  pub replays : replay b.image b.cores b.history ≡ Some state
+  pub replays : ReplaysTo b state
   pub agrees : Agrees state (view b.store)
   -- the store is for this image and these cores
   pub shape : (view b.store).shape ≡ shape_of b.image b.cores

@@ -1,16 +1,15 @@
 ghost use Rattle.std.specs.Prelude.{true, false, Bool, ◌≡◌, ◌≢◌, ◌+◌, ◌<◌, ◌≤◌, ◌++◌, [], ℕ, length, IfOk, IfSome, Some, None, option_copied, OnOk, vec_len, vec_capacity, is_none, ◌&&◌, if◌then◌else◌};
 ghost use Rattle.rv32_image.specs.Version.{limits_of};
 ghost use Rattle.run_ledger.specs.Counts.{no_counts};
-ghost use Rattle.spec_history.specs.FlatState.{FlatState, CoreState};
-ghost use Rattle.spec_history.specs.Replay.{replay};
+ghost use Rattle.spec_history.specs.FlatState.{FlatState};
 ghost use Rattle.violations.specs.Rule.{IsCoreCount, IsFresh};
 ghost use Rattle.violations.specs.Rule.{IsSameView};
-ghost use Rattle.homefree.specs.BookView.{IsFull};
+ghost use Rattle.homefree.specs.BookView.{IsFull, ReplaysTo};
 ghost use Rattle.homefree.specs.BookInside.{IsAsBefore, IsBook, book_of};
 ghost use Rattle.homefree.specs.InStep.{InStep};
 ghost use Rattle.homefree.specs.Turned.{Turned, turn_at};
 ghost use Rattle.homefree.specs.Grown.{GrowsBy};
-ghost use Rattle.homefree.specs.Again.{IfAgain, IsWhy};
+ghost use Rattle.homefree.specs.Again.{IfAgain, IsWhy, RunsHomefree};
 ghost use Rattle.homefree.specs.Acted.{IfArrived};
 ghost use Rattle.homefree.specs.Came as spec;
 ghost use Rattle.homefree.specs.Counted.{IsNoMore};
@@ -150,16 +149,13 @@ impl<S: EpochStore> Book<S> {
         requires core { core < self.old.cores }
         requires next { IfArrived self.old.image (option_copied next) }
         requires shares { IsNoMore shares.old self.old.totals }
-        ensures turned { (s : FlatState) → replay self.old.image self.old.cores self.old.history ≡ Some s
+        ensures turned { (s : FlatState) → ReplaysTo self.old s
             → Turned S.view S.waits self.old s shares.old core (option_copied next.entry) result self.new shares.new }
         ensures grows { GrowsBy core self.old self.new shares.old shares.new }
         ensures shares { IsNoMore shares.new self.new.totals }
-        ensures again { (s : FlatState) → replay self.old.image self.old.cores self.old.history ≡ Some s
-            → IfAgain result (IsWhy (turn_at S.waits self.old s core (option_copied next.entry))) }
-        ensures homefree { (s : FlatState) (c : CoreState) (cause : Cause) → replay self.old.image self.old.cores self.old.history ≡ Some s
-            → s.cores core ≡ Some c → c.epoch ≡ s.homefree → result ≢ Ok (Answer.Again cause) }
-        ensures over { (end : End) (s : FlatState) → result ≡ Ok (Answer.Over end) → replay self.new.image self.new.cores self.new.history ≡ Some s
-            → s.end ≡ Some end }
+        ensures again { (s : FlatState) → ReplaysTo self.old s → IfAgain result (IsWhy (turn_at S.waits self.old s core (option_copied next.entry))) }
+        ensures homefree { (s : FlatState) (cause : Cause) → ReplaysTo self.old s → RunsHomefree s core → result ≢ Ok (Answer.Again cause) }
+        ensures over { (end : End) (s : FlatState) → result ≡ Ok (Answer.Over end) → ReplaysTo self.new s → s.end ≡ Some end }
         ensures full { result ≡ Err TurnFault.HistoryFull → IsFull self.new }
         ensures most { length self.new.history < length self.old.history + (limits_of self.old.image.version).free_entries }
     {
@@ -177,7 +173,7 @@ impl<S: EpochStore> Book<S> {
         requires core { core < self.old.cores }
         requires next { IfArrived self.old.image (option_copied next) }
         requires shares { IsNoMore shares.old self.old.totals }
-        ensures turned { (s : FlatState) → replay self.old.image self.old.cores self.old.history ≡ Some s
+        ensures turned { (s : FlatState) → ReplaysTo self.old s
             → Turned S.view S.waits self.old s shares.old core (option_copied next.entry) result self.new shares.new }
         ensures most { length self.new.history < length self.old.history + (limits_of self.old.image.version).free_entries }
     {
@@ -196,8 +192,7 @@ impl<S: EpochStore> Book<S> {
     /// false and changes nothing. `HistoryFull` is handed in only where the history has no room for a turn.
     pub fn stop(&mut self, cause: StopCause) -> bool
         requires { cause ≡ StopCause.HistoryFull → IsFull self.old }
-        ensures answer { (s : FlatState) → replay self.old.image self.old.cores self.old.history ≡ Some s
-            → result ≡ (is_none s.end && is_none self.old.stopped) }
+        ensures answer { (s : FlatState) → ReplaysTo self.old s → result ≡ (is_none s.end && is_none self.old.stopped) }
         ensures book { self.new ≡ (if result then record self.old { stopped = Some cause } else self.old) }
     {
         if self.inside.parts.register.end.is_some() || self.inside.stopped.is_some() {
@@ -222,7 +217,7 @@ fn turn_within<S: EpochStore>(
     requires next { IfArrived parts.old.register.image (option_copied next) }
     requires shares { IsNoMore shares.old parts.old.register.totals }
     ensures book { IsBook S.view parts.new.register parts.new.store room stopped }
-    ensures turned { (s : FlatState) → replay parts.old.register.image (length parts.old.register.running.items) parts.old.register.history.items ≡ Some s
+    ensures turned { (s : FlatState) → ReplaysTo (book_of parts.old.register parts.old.store room stopped) s
         → Turned S.view S.waits (book_of parts.old.register parts.old.store room stopped) s shares.old core (option_copied next.entry) result
         (book_of parts.new.register parts.new.store room stopped) shares.new }
     ensures most { length parts.new.register.history.items < length parts.old.register.history.items + (limits_of parts.old.register.image.version).free_entries }

@@ -1,8 +1,8 @@
 //! What can be read of a book.
 ghost use Rattle.std.specs.Prelude.{◌≡◌, ℕ, IfOk, length, Some, None, slice_get, nat_lt, if◌then◌else◌};
 ghost use Rattle.spec_history.specs.FlatState.{FlatState};
-ghost use Rattle.spec_history.specs.Replay.{replay};
 ghost use Rattle.violations.specs.View.{IsCommitted};
+ghost use Rattle.homefree.specs.BookView.{ReplaysTo};
 ghost use Rattle.homefree.specs.InStep.{InStep};
 
 use crate::answer::StopCause;
@@ -65,7 +65,7 @@ impl<S: EpochStore> Book<S> {
 
     /// The homefree epoch: the first that has not committed.
     pub fn homefree(&self) -> u32
-        ensures homefree { (s : FlatState) → replay self.now.image self.now.cores self.now.history ≡ Some s → result ≡ s.homefree }
+        ensures homefree { (s : FlatState) → ReplaysTo self.now s → result ≡ s.homefree }
         ensures step { InStep S.view self.now }
     {
         self.inside.parts.register.homefree
@@ -73,7 +73,7 @@ impl<S: EpochStore> Book<S> {
 
     /// How the loop ended, where it is over.
     pub fn ended(&self) -> Option<End>
-        ensures end { (s : FlatState) → replay self.now.image self.now.cores self.now.history ≡ Some s → result ≡ s.end }
+        ensures end { (s : FlatState) → ReplaysTo self.now s → result ≡ s.end }
         ensures step { InStep S.view self.now }
     {
         self.inside.parts.register.end

@@ -1,10 +1,9 @@
 //! Turns by a list of core numbers, on one thread.
 ghost use Rattle.std.specs.Prelude.{◌≡◌, ◌<◌, ◌==◌, ℕ, All, None, Some, length, if◌then◌else◌};
 ghost use Rattle.spec_history.specs.FlatState.{FlatState};
-ghost use Rattle.spec_history.specs.Replay.{replay};
 ghost use Rattle.homefree.specs.Counted.{IsNoMore};
 ghost use Rattle.homefree.specs.Driven.{Driven, TurnedWith, IfEnded, IsInOrder, driver, held_after, with_held};
-ghost use Rattle.homefree.specs.BookView.{IsOfSameLoop};
+ghost use Rattle.homefree.specs.BookView.{IsOfSameLoop, ReplaysTo};
 ghost use Rattle.homefree.specs.Grown.{GrowsBy};
 ghost use Rattle.homefree.specs.Held.{HaveArrived, harts_of, held_at, held_by};
 
@@ -63,7 +62,7 @@ pub fn step<S: EpochStore>(
     ensures grows { GrowsBy core book.old book.new shares.old shares.new }
     ensures same { IsOfSameLoop book.old book.new }
     ensures shares { IsNoMore shares.new book.new.totals }
-    ensures over { (end : End) (s : FlatState) → result ≡ Ok (Answer.Over end) → replay book.new.image book.new.cores book.new.history ≡ Some s → s.end ≡ Some end }
+    ensures over { (end : End) (s : FlatState) → result ≡ Ok (Answer.Over end) → ReplaysTo book.new s → s.end ≡ Some end }
     ensures held { HaveArrived book.new.image held.new }
     ensures harts { (k : ℕ) → harts_of held.new k ≡ with_held (harts_of held.old) core (held_by result (harts_of held.old core)) k }
 {

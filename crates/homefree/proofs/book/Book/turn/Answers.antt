@@ -23,9 +23,9 @@ returns-clause-again g c = λ s replays.
     c.look.ensures (c.take_turn.ensures.turned s replays)
 
 pub returns-clause-homefree : goal.returns-clause-homefree
-returns-clause-homefree g c = λ s runs cause replays at home.
+returns-clause-homefree g c = λ s cause replays home.
     turn_never_again g.S.EpochStore.view g.S.EpochStore.waits c.args.self.now c.take_turn.new.self s c.args.shares.now c.take_turn.new.shares c.args.core (option_copied c.args.next) c.take_turn.result replays
-    runs cause at home (c.take_turn.ensures.turned s replays)
+    home.running cause home.runs home.is_homefree (c.take_turn.ensures.turned s replays)
 
 pub returns-clause-over : goal.returns-clause-over
 returns-clause-over g c = λ end u is leads.
