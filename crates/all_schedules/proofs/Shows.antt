@@ -5,12 +5,12 @@ use Rattle.rv32_exec.specs.declared.sequential.End.{End}
 use Rattle.spec_history.specs.FlatState.{FlatState}
 use Rattle.spec_history.specs.Laws.{IsPublished}
 use Rattle.spec_history.specs.Replay.{replay}
-use Rattle.spec_history.proofs.Replays.{replayed}
+use Rattle.spec_history.proofs.Replay.Replays.{replayed}
 use Rattle.violations.specs.View.{StoreView, IsCommitted}
 use Rattle.homefree.specs.BookView.{BookView}
 use Rattle.homefree.specs.Driven.{IsInOrder}
 use Rattle.homefree.specs.InStep.{InStep}
-use Rattle.homefree.proofs.Drives.{in_order}
+use Rattle.homefree.proofs.Books.Drives.{in_order}
 use Rattle.trace_commands.specs.declared.outcome.Outcome.{Outcome}
 use Rattle.trace_commands.specs.Report.{open_report, report_of}
 use Rattle.trace_text.specs.Laws.{AreEntries}

@@ -7,7 +7,7 @@ use Rattle.std.specs.Option.{option_or}
 use Rattle.spec_history.specs.declared.entry.Entry.{Entry}
 use Rattle.spec_history.specs.Conflict.{entry_is}
 use Rattle.spec_history.specs.Searches.{first_below}
-use Rattle.spec_history.proofs.Searches.{first_at, first_none}
+use Rattle.spec_history.proofs.Searches.Tests.{first_at, first_none}
 use Rattle.conflicts.specs.declared.explanation.Explanation.{Explanation}
 use Rattle.conflicts.specs.declared.explanation.Runner.{Runner}
 use Rattle.conflicts.specs.Fates.{first_after, is_over, over_at}

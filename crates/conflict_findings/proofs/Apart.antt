@@ -5,7 +5,7 @@ use Rattle.spec_history.specs.declared.entry.Entry.{Entry}
 use Rattle.spec_history.specs.declared.entry.What.TheVariants.{Hurt}
 use Rattle.spec_history.specs.FlatState.{CoreState, FlatState}
 use Rattle.spec_history.specs.Refusal.{any_below, can_be_hurt, refusal_of, runs_and}
-use Rattle.spec_history.proofs.Legal.{legal_entry}
+use Rattle.spec_history.proofs.OneEntry.Legal.{legal_entry}
 use Rattle.conflicts.specs.declared.explanation.Explanation.{Explanation}
 use Rattle.conflicts.specs.Explained.{IsExplainedIn}
 

@@ -18,11 +18,11 @@ use Rattle.spec_history.specs.Laws.{IsKept}
 use Rattle.spec_history.specs.Refusal.{any_below, can_be_hurt, has, is_at, refusal_of, runs_and}
 use Rattle.spec_history.specs.Replay.{replay, replay_from, where_legal}
 use Rattle.spec_history.specs.declared.illegal.Illegal.{Illegal}
-use Rattle.spec_history.proofs.Joining.{splits}
-use Rattle.spec_history.proofs.Keeping.{with_core_other, with_core_same}
-use Rattle.spec_history.proofs.Legal.{IsLegalEntry, and_true, legal_entry, not_true, some_below}
-use Rattle.spec_history.proofs.Reaching.{no_entries}
-use Rattle.spec_history.proofs.Replays.{effect-idle, effect-on, not_running, replayed}
+use Rattle.spec_history.proofs.Replay.Joining.{splits}
+use Rattle.spec_history.proofs.OneEntry.Keeping.{with_core_other, with_core_same}
+use Rattle.spec_history.proofs.OneEntry.Legal.{IsLegalEntry, and_true, legal_entry, not_true, some_below}
+use Rattle.spec_history.proofs.Replay.Reaching.{no_entries}
+use Rattle.spec_history.proofs.Replay.Replays.{effect-idle, effect-on, not_running, replayed}
 use Rattle.conflicts.specs.declared.explanation.Runner.{Runner}
 use Rattle.conflicts.specs.Attempts.{is_begin}
 use Rattle.conflict_findings.specs.declared.ended.Ended.{Ended}

@@ -8,7 +8,7 @@ use Rattle.conflicts.specs.Attempts.{core_does, is_after, is_begin, is_start}
 use Rattle.spec_history.specs.Searches.{count_below, last_below}
 use Rattle.conflicts.proofs.Backwards.{last_at}
 use Rattle.conflicts.proofs.Numbering.{no_one, one_in, other_in}
-use Rattle.spec_history.proofs.Searches.{and_no}
+use Rattle.spec_history.proofs.Searches.Tests.{and_no}
 use Rattle.conflict_findings.specs.declared.followed.NumberedAttempt.{NumberedAttempt}
 use Rattle.conflict_findings.specs.Followed.{IsNumbered, own_at, stepped}
 

@@ -6,7 +6,7 @@ use Rattle.rv32_image.specs.Image.{LoadedImage}
 use Rattle.rv32_image.specs.Version.{limits_of}
 use Rattle.spec_history.specs.declared.entry.Entry.{Entry}
 use Rattle.spec_history.specs.Searches.{first_below}
-use Rattle.spec_history.proofs.Searches.{first_at, first_none}
+use Rattle.spec_history.proofs.Searches.Tests.{first_at, first_none}
 use Rattle.conflicts.specs.Attempts.{first_read, reads_outside}
 use Rattle.conflicts.proofs.Blaming.{either_way, not_so}
 use Rattle.conflict_findings.specs.Runs.{byte_in, earlier, load_in}

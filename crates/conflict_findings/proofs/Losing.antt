@@ -16,15 +16,15 @@ use Rattle.spec_history.specs.FlatState.{CoreState, FlatState}
 use Rattle.spec_history.specs.Laws.{IsKept}
 use Rattle.spec_history.specs.Refusal.{has, is_at, refusal_of}
 use Rattle.spec_history.specs.Replay.{replay, replay_from, where_legal}
-use Rattle.spec_history.proofs.Joining.{splits}
-use Rattle.spec_history.proofs.Legal.{legal_entry}
-use Rattle.spec_history.proofs.Replays.{replayed}
+use Rattle.spec_history.proofs.Replay.Joining.{splits}
+use Rattle.spec_history.proofs.OneEntry.Legal.{legal_entry}
+use Rattle.spec_history.proofs.Replay.Replays.{replayed}
 use Rattle.conflicts.specs.declared.explanation.Explanation.{Explanation}
 use Rattle.conflicts.specs.declared.explanation.Runner.{Runner}
 use Rattle.spec_history.specs.Conflict.{entry_is, passes, is_hurt}
 use Rattle.conflicts.specs.Attempts.{state_before}
 use Rattle.conflicts.specs.Explained.{IsExplained, places_of, violations_before}
-use Rattle.spec_history.proofs.Searches.{first_at}
+use Rattle.spec_history.proofs.Searches.Tests.{first_at}
 use Rattle.conflict_findings.specs.declared.ended.Ended.{Ended}
 use Rattle.conflict_findings.specs.declared.ended.Ending.{Ending}
 use Rattle.conflict_findings.specs.declared.ended.Ending.TheVariants.{Committed, Violated, Cancelled}

@@ -8,9 +8,9 @@ use Rattle.spec_history.specs.FlatState.{CoreState, FlatState, first_state}
 use Rattle.spec_history.specs.Effect.{by_core, effect, hurt_at, idle_at}
 use Rattle.spec_history.specs.Refusal.{is_there, refusal_of, runs_and}
 use Rattle.spec_history.specs.View.{FlatView, IsApplied, cores_in, state_in}
-use Rattle.spec_history.proofs.Keeping.{at_core}
-use Rattle.spec_history.proofs.Legal.{and_true, legal_entry}
-use Rattle.spec_history.proofs.Replays.{effect-idle, effect-on, not_running}
+use Rattle.spec_history.proofs.OneEntry.Keeping.{at_core}
+use Rattle.spec_history.proofs.OneEntry.Legal.{and_true, legal_entry}
+use Rattle.spec_history.proofs.Replay.Replays.{effect-idle, effect-on, not_running}
 use Rattle.spec_history.specs.Conflict.{passes}
 use Rattle.conflicts.specs.Attempts.{is_begin}
 use Rattle.conflict_findings.specs.Violated.{AreMarked, hurts, is_violated, is_violation}

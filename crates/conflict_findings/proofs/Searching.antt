@@ -12,7 +12,7 @@ use Rattle.rv32_image.specs.Image.{LoadedImage}
 use Rattle.rv32_image.specs.declared.version.Version.{Version}
 use Rattle.rv32_image.specs.declared.version.Version.TheVariants.{One, Two}
 use Rattle.rv32_image.specs.Version.{limits_of}
-use Rattle.spec_history.proofs.Legal.{and_true, some_below}
+use Rattle.spec_history.proofs.OneEntry.Legal.{and_true, some_below}
 use Rattle.spec_history.specs.Conflict.{Meeting, is_shared, line_has, line_of}
 use Rattle.conflicts.proofs.Blaming.{either_way}
 use Rattle.conflict_findings.specs.Runs.{AreRead, is_falsely_shared}

@@ -9,8 +9,8 @@ use Rattle.spec_history.specs.declared.kind.Kind.{Kind}
 use Rattle.spec_history.specs.FlatState.{CoreState, FlatState}
 use Rattle.spec_history.specs.Laws.{IsKept}
 use Rattle.spec_history.specs.Replay.{replay}
-use Rattle.spec_history.proofs.Legal.{legal_entry}
-use Rattle.spec_history.proofs.Replays.{replayed}
+use Rattle.spec_history.proofs.OneEntry.Legal.{legal_entry}
+use Rattle.spec_history.proofs.Replay.Replays.{replayed}
 use Rattle.conflicts.specs.declared.explanation.Blame.{Blame}
 use Rattle.conflicts.specs.declared.explanation.Explanation.{Explanation}
 use Rattle.conflicts.specs.Explained.{IsExplained, IsExplainedIn, places_of}

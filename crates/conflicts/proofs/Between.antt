@@ -14,10 +14,10 @@ use Rattle.spec_history.specs.FlatState.{CoreState, FlatState}
 use Rattle.spec_history.specs.Effect.{effect, hurt_at, idle_at}
 use Rattle.spec_history.specs.Refusal.{any_below, runs_and, can_be_hurt, is_an_exit, is_at, is_there, next_is, refusal_of}
 use Rattle.spec_history.specs.Replay.{replay, replay_from, where_legal}
-use Rattle.spec_history.proofs.Legal.{legal_entry, legal_is, and_true, not_true, some_below}
-use Rattle.spec_history.proofs.Missing.{quiet_misses}
-use Rattle.spec_history.proofs.Searches.{one_passes}
-use Rattle.spec_history.proofs.Replays.{Whole, all_entries, effect-on, replayed}
+use Rattle.spec_history.proofs.OneEntry.Legal.{legal_entry, legal_is, and_true, not_true, some_below}
+use Rattle.spec_history.proofs.Searches.Missing.{quiet_misses}
+use Rattle.spec_history.proofs.Searches.Tests.{one_passes}
+use Rattle.spec_history.proofs.Replay.Replays.{Whole, all_entries, effect-on, replayed}
 use Rattle.spec_history.specs.Conflict.{is_changed, own_bytes, read_bytes, written, is_notice}
 use Rattle.conflicts.specs.Laws.{cancels_one, commits, missed_by, notices_by, refusal_after}
 use Rattle.conflicts.proofs.Needed.{before_of, core_other, missed_from, running, with_hurt}

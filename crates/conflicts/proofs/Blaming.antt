@@ -4,7 +4,7 @@ use Rattle.rv32_image.specs.Image.{LoadedImage}
 use Rattle.spec_history.specs.declared.entry.Entry.{Entry}
 use Rattle.conflicts.specs.Attempts.{attempt_place, core_does, is_after, loads_byte}
 use Rattle.conflicts.specs.Blame.{Violation, blame_at, blame_of, blamed_byte, is_read_at}
-use Rattle.spec_history.proofs.Searches.{first_none}
+use Rattle.spec_history.proofs.Searches.Tests.{first_none}
 
 by_load : (after loads stored blamed : Bool) → loads ≡ false → (blamed && ((after && loads) && stored)) ≡ false
 by_load true true stored true is = absurd cc

@@ -10,8 +10,8 @@ use Rattle.rv32_exec.specs.Arrival.{Arrival}
 use Rattle.spec_history.specs.FlatState.{CoreState, FlatState, arrival_of}
 use Rattle.spec_history.specs.Refusal.{any_below, can_be_hurt, is_at, runs_and, refusal_of}
 use Rattle.spec_history.specs.Replay.{replay}
-use Rattle.spec_history.proofs.Legal.{legal_entry, and_true, some_below}
-use Rattle.spec_history.proofs.Searches.{one_passes}
+use Rattle.spec_history.proofs.OneEntry.Legal.{legal_entry, and_true, some_below}
+use Rattle.spec_history.proofs.Searches.Tests.{one_passes}
 use Rattle.conflicts.specs.declared.explanation.Blame.{Blame}
 use Rattle.conflicts.specs.declared.explanation.Explanation.{Explanation}
 use Rattle.spec_history.specs.declared.kind.Kind.{Kind}

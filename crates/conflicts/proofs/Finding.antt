@@ -6,7 +6,7 @@ use Rattle.spec_history.specs.Searches.{first_below, last_below}
 use Rattle.conflicts.specs.Attempts.{is_after}
 use Rattle.conflicts.specs.Blame.{is_place}
 use Rattle.conflicts.proofs.Backwards.{from_start, last_at, none_after}
-use Rattle.spec_history.proofs.Searches.{first_at}
+use Rattle.spec_history.proofs.Searches.Tests.{first_at}
 use Rattle.conflicts.proofs.Blaming.{either_way}
 
 -- ---- what is known of a number that was found

@@ -3,7 +3,7 @@ use Rattle.std.proofs.Common.{◌≡◌, ℕ, ◌<◌, false, List, length, slic
 use Rattle.memory_bytes.specs.Shadow.{IsAmong}
 use Rattle.rv32_image.specs.Image.{LoadedImage}
 use Rattle.spec_history.specs.Refusal.{any_below}
-use Rattle.spec_history.proofs.Searches.{all_fail, and_no}
+use Rattle.spec_history.proofs.Searches.Tests.{all_fail, and_no}
 use Rattle.conflicts.specs.declared.meeting.ByteTest.{ByteTest}
 use Rattle.conflicts.specs.declared.meeting.ByteTest.TheVariants.{Changed, Shared, Beside}
 use Rattle.spec_history.specs.Conflict.{Meeting}

@@ -6,11 +6,11 @@ use Rattle.rv32_image.specs.Image.{LoadedImage}
 use Rattle.rv32_image.specs.declared.version.Version.{Version}
 use Rattle.rv32_image.specs.declared.version.Version.TheVariants.{One, Two}
 use Rattle.rv32_image.specs.Version.{limits_of}
-use Rattle.spec_history.proofs.Legal.{and_true, some_below}
+use Rattle.spec_history.proofs.OneEntry.Legal.{and_true, some_below}
 use Rattle.spec_history.specs.Searches.{IsNext, count_below}
 use Rattle.spec_history.specs.Conflict.{Meeting, holds_line, line_of}
 use Rattle.conflicts.specs.Parties.{holds_other}
-use Rattle.spec_history.proofs.Searches.{count_none, count_one}
+use Rattle.spec_history.proofs.Searches.Tests.{count_none, count_one}
 use Rattle.conflicts.proofs.Blaming.{either_way, not_so}
 
 -- ---- the nearest of so many lines

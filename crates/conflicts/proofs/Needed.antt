@@ -12,10 +12,10 @@ use Rattle.spec_history.specs.Effect.{effect, effect_on, hurt_at}
 use Rattle.spec_history.specs.Refusal.{any_below, runs, runs_and, can_be_hurt, is_at, is_there, is_next, next_is, is_that_store, is_the_end, is_that_fault, is_an_exit, is_homefree, is_value, has_read, other_has_read, misses_a_hurt, misses_a_cancel, other_runs, refusal_of}
 use Rattle.spec_history.specs.Replay.{replay}
 use Rattle.spec_history.specs.Laws.{IsKept}
-use Rattle.spec_history.proofs.Legal.{IsLegalEntry, legal_entry, and_true, not_true, some_below, none_below}
-use Rattle.spec_history.proofs.Keeping.{same_core}
-use Rattle.spec_history.proofs.Searches.{all_fail, one_passes}
-use Rattle.spec_history.proofs.Replays.{Whole, replayed, effect-on}
+use Rattle.spec_history.proofs.OneEntry.Legal.{IsLegalEntry, legal_entry, and_true, not_true, some_below, none_below}
+use Rattle.spec_history.proofs.OneEntry.Keeping.{same_core}
+use Rattle.spec_history.proofs.Searches.Tests.{all_fail, one_passes}
+use Rattle.spec_history.proofs.Replay.Replays.{Whole, replayed, effect-on}
 use Rattle.spec_history.specs.Conflict.{written, meeting, is_changed, read_bytes}
 use Rattle.conflicts.specs.Laws.{commits, missed_by}
 

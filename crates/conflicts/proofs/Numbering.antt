@@ -4,7 +4,7 @@ use Rattle.std.proofs.lemmas.Bool.{cases_eq}
 use Rattle.spec_history.specs.Searches.{count_below, last_below}
 use Rattle.conflicts.specs.Attempts.{is_after}
 use Rattle.conflicts.proofs.Backwards.{Passed, last_at, last_none, passed_more}
-use Rattle.spec_history.proofs.Searches.{count_one, count_other}
+use Rattle.spec_history.proofs.Searches.Tests.{count_one, count_other}
 
 pub no_one : (n : ℕ) (test : ℕ → Bool) → ((k : ℕ) → k < n → test k ≡ false) → count_below n test ≡ 0
 unfolding count_below

@@ -1,7 +1,7 @@
 -- What no load reads.
 use Rattle.std.proofs.Common.{◌≡◌, ℕ, ◌<◌, ◌&&◌, Bool, true, false, List, Option, Some, None, refl, ap, ◌∙◌, arith, le-ltb}
 use Rattle.spec_history.specs.declared.entry.Entry.{Entry}
-use Rattle.spec_history.proofs.Searches.{first_none}
+use Rattle.spec_history.proofs.Searches.Tests.{first_none}
 use Rattle.conflicts.specs.Attempts.{attempt_place, first_read, is_after, reads_outside}
 
 by_after : (after loads unstored : Bool) → after ≡ false → ((after && loads) && unstored) ≡ false

@@ -7,8 +7,8 @@ use Rattle.spec_history.specs.declared.entry.What.{What}
 use Rattle.spec_history.specs.declared.entry.What.TheVariants.{Start, Load, Store, Hurt, Cancel, Restart, Publish, Commit, Fault}
 use Rattle.spec_history.specs.Conflict.{entry_is, passes}
 use Rattle.spec_history.specs.Searches.{IsNext, first_below}
-use Rattle.spec_history.proofs.Legal.{and_true, some_below}
-use Rattle.spec_history.proofs.Searches.{first_at, first_none, one_passes}
+use Rattle.spec_history.proofs.OneEntry.Legal.{and_true, some_below}
+use Rattle.spec_history.proofs.Searches.Tests.{first_at, first_none, one_passes}
 use Rattle.conflicts.specs.Attempts.{core_does, covers, is_begin, stores_byte}
 use Rattle.conflicts.specs.Later.{came_true_at, ends_or_stores, stores_one, stores_to}
 use Rattle.conflicts.proofs.Blaming.{either_way, not_so}

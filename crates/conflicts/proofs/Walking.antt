@@ -7,7 +7,7 @@ use Rattle.std.specs.Ordering.{nat_cmp}
 use Rattle.std.proofs.lemmas.Bool.{cases_eq}
 use Rattle.spec_history.specs.declared.entry.Entry.{Entry}
 use Rattle.spec_history.specs.Searches.{first_below, last_below}
-use Rattle.spec_history.proofs.Searches.{and_no, first_none}
+use Rattle.spec_history.proofs.Searches.Tests.{and_no, first_none}
 use Rattle.conflicts.specs.Attempts.{attempt_place, core_does, first_read, is_after, is_begin, last_store, loads_byte, reads_outside, stores_byte}
 use Rattle.conflicts.specs.Behind.{AreBehind, IsBehind, is_within, kept_first, kept_last}
 use Rattle.conflicts.specs.declared.behind.Accesses.{Accesses}

@@ -10,7 +10,7 @@ use Rattle.spec_history.specs.Replay.{count_of, counts_of}
 use Rattle.ticket_lock.specs.Past.{is_of, entries_of}
 use Rattle.homefree.specs.Counted.{as_counts, counted_in, IsNoMore}
 use Rattle.homefree.specs.LockView.{past_of, history_of}
-use Rattle.homefree.proofs.Tallies.{few_counts}
+use Rattle.homefree.proofs.Books.Tallies.{few_counts}
 use Rattle.core_threads.specs.Passes.{counts_in}
 
 counts_same : (a b c d e f g h : ℕ) → a ≡ b → c ≡ d → e ≡ f → g ≡ h

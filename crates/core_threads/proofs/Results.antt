@@ -6,7 +6,7 @@ use Rattle.rv32_exec.specs.declared.sequential.End.{End}
 use Rattle.run_ledger.specs.declared.counts.Counts.{Counts}
 use Rattle.spec_history.specs.declared.entry.Entry.{Entry}
 use Rattle.spec_history.specs.declared.entry.What.{What}
-use Rattle.spec_history.proofs.Replays.{replayed}
+use Rattle.spec_history.proofs.Replay.Replays.{replayed}
 use Rattle.violations.specs.View.{StoreView}
 use Rattle.ticket_lock.specs.Past.{is_of, entries_of}
 use Rattle.ticket_lock.specs.Known.{mine}
@@ -14,8 +14,8 @@ use Rattle.homefree.specs.declared.answer.StopCause.{StopCause}
 use Rattle.homefree.specs.BookView.{BookView}
 use Rattle.homefree.specs.InStep.{InStep}
 use Rattle.homefree.specs.LockView.{loop_of, past_of}
-use Rattle.homefree.proofs.Drives.{in_order}
-use Rattle.homefree.proofs.Knowing.{are_known}
+use Rattle.homefree.proofs.Books.Drives.{in_order}
+use Rattle.homefree.proofs.Violations.Knowing.{are_known}
 use Rattle.core_threads.specs.declared.fault.RunFault.{RunFault}
 use Rattle.core_threads.specs.Faults.{fault_of}
 use Rattle.core_threads.specs.Passes.{Knows, IsCounted, counts_in}

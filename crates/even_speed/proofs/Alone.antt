@@ -9,9 +9,9 @@ use Rattle.spec_history.specs.FlatState.{CoreState, FlatState, begun, first_stat
 use Rattle.spec_history.specs.Effect.{by_core, effect, effect_on, effect_idle, with_core}
 use Rattle.spec_history.specs.Refusal.{refusal_of, runs_and}
 use Rattle.spec_history.specs.Replay.{replay_from, replay, count_of, counts_of}
-use Rattle.spec_history.proofs.Keeping.{with_core_other, with_core_same}
-use Rattle.spec_history.proofs.Legal.{IsLegalEntry, and_true, legal_entry, some_below}
-use Rattle.spec_history.proofs.Replays.{effect-on, effect-idle, legal_by, on_core}
+use Rattle.spec_history.proofs.OneEntry.Keeping.{with_core_other, with_core_same}
+use Rattle.spec_history.proofs.OneEntry.Legal.{IsLegalEntry, and_true, legal_entry, some_below}
+use Rattle.spec_history.proofs.Replay.Replays.{effect-on, effect-idle, legal_by, on_core}
 use Rattle.violations.specs.View.{StoreView}
 use Rattle.homefree.specs.declared.answer.Answer.{Answer}
 use Rattle.homefree.specs.declared.answer.Answer.TheVariants.{Go, Again, Left, Over, Stopped}

@@ -14,12 +14,12 @@ use Rattle.spec_history.specs.declared.entry.What.{What}
 use Rattle.spec_history.specs.declared.entry.What.TheVariants as what
 use Rattle.spec_history.specs.FlatState.{CoreState, FlatState}
 use Rattle.spec_history.specs.Replay.{counts_of, replay, replay_from}
-use Rattle.spec_history.proofs.Accesses.{load_counts}
-use Rattle.spec_history.proofs.Going.{Going, homefree_run}
-use Rattle.spec_history.proofs.Joining.{no_entry, splits}
-use Rattle.spec_history.proofs.Keeping.{with_core_other, with_core_same}
-use Rattle.spec_history.proofs.Progress.{outcome_there}
-use Rattle.spec_history.proofs.Replays.{effect-on, effect-idle, replayed}
+use Rattle.spec_history.proofs.OneEntry.Accesses.{load_counts}
+use Rattle.spec_history.proofs.OneEntry.Going.{Going, homefree_run}
+use Rattle.spec_history.proofs.Replay.Joining.{no_entry, splits}
+use Rattle.spec_history.proofs.OneEntry.Keeping.{with_core_other, with_core_same}
+use Rattle.spec_history.proofs.OneEntry.Progress.{outcome_there}
+use Rattle.spec_history.proofs.Replay.Replays.{effect-on, effect-idle, replayed}
 use Rattle.violations.specs.View.{StoreView, Waits}
 use Rattle.homefree.specs.declared.answer.Answer.{Answer}
 use Rattle.homefree.specs.declared.answer.Answer.TheVariants.{Go, Again, Over}
@@ -32,7 +32,7 @@ use Rattle.homefree.specs.Hurts.{entry}
 use Rattle.homefree.specs.InStep.{InStep}
 use Rattle.homefree.specs.Turned.{Outcome, Turn, Turned, cause_of, does, left_or_over, turn_at}
 use Rattle.homefree.specs.Turned as turn
-use Rattle.homefree.proofs.Following.{one_state}
+use Rattle.homefree.proofs.Books.Following.{one_state}
 use Rattle.even_speed.specs.Even.{restarts}
 use Rattle.even_speed.specs.InOrder.{epoch_count, executed_in}
 use Rattle.even_speed.specs.Timed.{Came, CameBy, From, GoesTo, Leads, Leaves, StaysAt}

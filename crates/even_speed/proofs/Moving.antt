@@ -8,9 +8,9 @@ use Rattle.spec_history.specs.FlatState.{CoreState, FlatState}
 use Rattle.spec_history.specs.Effect.{effect, effect_on, hurt_at}
 use Rattle.spec_history.specs.Refusal.{refusal_of, runs_and}
 use Rattle.spec_history.specs.Replay.{count_of, counts_of, replay_from}
-use Rattle.spec_history.proofs.Keeping.{with_core_other, with_core_same}
-use Rattle.spec_history.proofs.Legal.{IsLegalEntry, and_true, legal_entry}
-use Rattle.spec_history.proofs.Replays.{effect-on, effect-idle, legal_by}
+use Rattle.spec_history.proofs.OneEntry.Keeping.{with_core_other, with_core_same}
+use Rattle.spec_history.proofs.OneEntry.Legal.{IsLegalEntry, and_true, legal_entry}
+use Rattle.spec_history.proofs.Replay.Replays.{effect-on, effect-idle, legal_by}
 use Rattle.homefree.specs.Hurts.{entry, entry_for_each}
 use Rattle.even_speed.specs.Timed.{Moves}
 

@@ -9,7 +9,7 @@ use Rattle.rv32_exec.specs.Hart.{HartState}
 use Rattle.rv32_exec.specs.NextEvent.{next_event}
 use Rattle.spec_history.specs.FlatState.{CoreState, FlatState, first_state}
 use Rattle.spec_history.specs.Replay.{replay}
-use Rattle.spec_history.proofs.Reaching.{no_entries}
+use Rattle.spec_history.proofs.Replay.Reaching.{no_entries}
 use Rattle.homefree.specs.declared.answer.Answer.{Answer}
 use Rattle.homefree.specs.declared.answer.Answer.TheVariants.{Go, Again, Left, Over, Stopped}
 use Rattle.homefree.specs.declared.answer.Cause.{Cause}
@@ -19,7 +19,7 @@ use Rattle.homefree.specs.declared.answer.Cause.TheVariants.{NoEpoch, NotHomefre
 use Rattle.homefree.specs.declared.fault.TurnFault.{TurnFault}
 use Rattle.homefree.specs.BookView.{BookView, IsOfSameLoop}
 use Rattle.homefree.specs.Driven.{Driver, held_after, with_held}
-use Rattle.homefree.proofs.Following.{one_state}
+use Rattle.homefree.proofs.Books.Following.{one_state}
 use Rattle.even_speed.specs.declared.account.Account.{Account}
 use Rattle.even_speed.specs.declared.clock.Clock.{Clock}
 use Rattle.even_speed.specs.declared.clock.Next.{Next}

@@ -21,7 +21,7 @@ use Rattle.homefree.specs.Hurts.{entry, hurts, cancels}
 use Rattle.homefree.specs.InStep.{InStep}
 use Rattle.homefree.specs.Turned as turn
 use Rattle.homefree.specs.Turned.{Turn, Outcome, Turned, does, publish_of, publishes_unless}
-use Rattle.homefree.proofs.Books.{agrees_same}
+use Rattle.homefree.proofs.Books.Turns.{agrees_same}
 use Rattle.turn_steps.specs.Rows.{IsSameRow}
 use Rattle.turn_steps.specs.Laws.{KeepsRows, KeepsMemory, touches, stores_in, commits}
 use Rattle.turn_steps.proofs.Lines.{load_aligned, store_aligned, in_no_other, unstored}

@@ -4,7 +4,7 @@ use Rattle.rand_xoshiro.specs.SplitMix64.{mix_u64, next_state}
 use Rattle.homefree.specs.Acted.{IfArrived}
 use Rattle.homefree.specs.Driven.{Driven, driver}
 use Rattle.homefree.specs.Held.{harts_of}
-use Rattle.homefree.proofs.Drives.{none_held, no_harts}
+use Rattle.homefree.proofs.Books.Drives.{none_held, no_harts}
 use Rattle.all_schedules.specs.Drawn.{core_at, drawn, most_turns, state_after}
 use Rattle.all_schedules.proofs.Draws.{drawn_none, drives_drawn, ends_fault, ends_over, ends_stopped, goes_on, more_drawn, more_state, most_taken, state_none}
 use Rattle.all_schedules.proofs.drawing.drive_drawn.Goals as goal

@@ -1,8 +1,8 @@
 use Rattle.std.proofs.Common.{sym, ◌∙◌, arith}
 use Rattle.spec_history.specs.Refusal.{is_at}
 use Rattle.spec_history.specs.View.{state_in}
-use Rattle.spec_history.proofs.CoreStates.{also_at}
-use Rattle.spec_history.proofs.Searches.{first_at, first_none}
+use Rattle.spec_history.proofs.CodedCores.CoreStates.{also_at}
+use Rattle.spec_history.proofs.Searches.Tests.{first_at, first_none}
 use Rattle.conflict_findings.proofs.ending.core_at.Goals as goal
 
 pub returns-then-is_at : goal.returns-then-is_at

@@ -4,7 +4,7 @@ use Rattle.std.proofs.lemmas.List.{take_all}
 use Rattle.spec_history.specs.FlatState.{FlatState}
 use Rattle.spec_history.specs.Replay.{replay}
 use Rattle.spec_history.specs.View.{state_in, cores_in}
-use Rattle.spec_history.proofs.Reaching.{no_entries, audited_more}
+use Rattle.spec_history.proofs.Replay.Reaching.{no_entries, audited_more}
 use Rattle.conflicts.proofs.Explaining.{legal_in}
 use Rattle.conflict_findings.specs.Ends.{ended_before, running_below, running_from}
 use Rattle.conflict_findings.specs.Violated.{AreMarked}

@@ -1,7 +1,7 @@
 use Rattle.std.proofs.Common.{◌≡◌, ◌<◌, ◌∙◌, length, subst, arith}
 use Rattle.std.proofs.lemmas.Option.{slice_get-get_or}
 use Rattle.spec_history.specs.View.{state_in, cores_in}
-use Rattle.spec_history.proofs.Reaching.{no_entries, audited_more}
+use Rattle.spec_history.proofs.Replay.Reaching.{no_entries, audited_more}
 use Rattle.conflicts.proofs.Explaining.{legal_in}
 use Rattle.conflict_text.specs.Why.{AreTold}
 use Rattle.conflict_text.proofs.Gathering.{more_told, none_told}

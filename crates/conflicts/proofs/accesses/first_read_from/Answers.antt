@@ -1,6 +1,6 @@
 use Rattle.std.proofs.Common.{◌≤◌, ℕ, Bool, sym, ◌∙◌, arith}
 use Rattle.conflicts.specs.Attempts.{reads_outside}
-use Rattle.spec_history.proofs.Searches.{first_at, first_none}
+use Rattle.spec_history.proofs.Searches.Tests.{first_at, first_none}
 use Rattle.conflicts.proofs.Reading.{unread_until}
 use Rattle.conflicts.proofs.accesses.first_read_from.Goals as goal
 

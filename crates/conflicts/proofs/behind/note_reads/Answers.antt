@@ -1,7 +1,7 @@
 use Rattle.std.proofs.Common.{◌&&◌, ◌∙◌, Bool, is_none, sym, ap, arith}
 use Rattle.std.specs.BTreeMap.{get}
 use Rattle.std.specs.Ordering.{nat_cmp}
-use Rattle.spec_history.proofs.Legal.{and_true}
+use Rattle.spec_history.proofs.OneEntry.Legal.{and_true}
 use Rattle.conflicts.specs.Behind.{kept_first}
 use Rattle.conflicts.proofs.Storing.{apart_by}
 use Rattle.conflicts.proofs.Walking.{ended, none_read, read_else, read_more}

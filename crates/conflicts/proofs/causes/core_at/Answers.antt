@@ -1,7 +1,7 @@
 use Rattle.std.proofs.Common.{arith}
 use Rattle.spec_history.specs.Refusal.{is_at}
 use Rattle.spec_history.specs.View as view
-use Rattle.spec_history.proofs.Searches.{all_fail}
+use Rattle.spec_history.proofs.Searches.Tests.{all_fail}
 use Rattle.conflicts.proofs.causes.core_at.Goals as goal
 
 pub returns : goal.returns

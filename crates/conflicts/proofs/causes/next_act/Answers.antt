@@ -1,7 +1,7 @@
 use Rattle.std.proofs.Common.{◌≡◌, ◌<◌, ◌&&◌, ◌∙◌, ℕ, true, length, nat_lt, not, sym, ap, arith, lt-ltb}
-use Rattle.spec_history.proofs.CoreStates.{also_at}
+use Rattle.spec_history.proofs.CodedCores.CoreStates.{also_at}
 use Rattle.spec_history.specs.Conflict.{entry_is, is_notice}
-use Rattle.spec_history.proofs.Searches.{first_at, first_none, and_no}
+use Rattle.spec_history.proofs.Searches.Tests.{first_at, first_none, and_no}
 use Rattle.conflicts.proofs.causes.next_act.Goals as goal
 
 pub returns-then-is_act-clause-next : goal.returns-then-is_act-clause-next

@@ -1,8 +1,8 @@
 use Rattle.std.proofs.Common.{◌&&◌, ◌∙◌, ℕ, Bool, nat_lt, length, sym, ap, arith, le-ltb}
-use Rattle.spec_history.proofs.CoreStates.{also_at}
+use Rattle.spec_history.proofs.CodedCores.CoreStates.{also_at}
 use Rattle.spec_history.specs.Conflict.{entry_is}
 use Rattle.conflicts.specs.Fates.{shows}
-use Rattle.spec_history.proofs.Searches.{first_at, first_none}
+use Rattle.spec_history.proofs.Searches.Tests.{first_at, first_none}
 use Rattle.conflicts.proofs.fates.first_after.Goals as goal
 
 pub loop-j-init : goal.loop-j-init

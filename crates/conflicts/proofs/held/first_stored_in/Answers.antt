@@ -1,8 +1,8 @@
 use Rattle.std.proofs.Common.{◌&&◌, ◌∙◌, ℕ, Bool, Option, sym, ap, arith, le-ltb}
-use Rattle.spec_history.proofs.CoreStates.{also_at}
+use Rattle.spec_history.proofs.CodedCores.CoreStates.{also_at}
 use Rattle.conflicts.specs.Attempts.{attempt_does, core_does, is_after}
 use Rattle.conflicts.specs.Blame.{stores_in}
-use Rattle.spec_history.proofs.Searches.{first_at, first_none}
+use Rattle.spec_history.proofs.Searches.Tests.{first_at, first_none}
 use Rattle.conflicts.proofs.held.first_stored_in.Goals as goal
 
 pub loop-place-init : goal.loop-place-init

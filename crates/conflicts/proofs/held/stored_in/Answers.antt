@@ -1,7 +1,7 @@
 use Rattle.std.proofs.Common.{◌&&◌, ℕ, Bool, Option, sym, ap}
 use Rattle.conflicts.specs.Attempts.{attempt_does, core_does, is_after}
 use Rattle.conflicts.specs.Blame.{stores_in}
-use Rattle.spec_history.proofs.Searches.{first_none}
+use Rattle.spec_history.proofs.Searches.Tests.{first_none}
 use Rattle.conflicts.proofs.held.stored_in.Goals as goal
 
 pub returns-in-None : goal.returns-in-None

@@ -2,7 +2,7 @@ use Rattle.std.proofs.Common.{◌≡◌, ◌<◌, ◌∙◌, Result, Ok, Err, On
 use Rattle.std.specs.Result.{is_err}
 use Rattle.std.proofs.lemmas.Option.{slice_get-get_or}
 use Rattle.spec_history.specs.View.{state_in, cores_in}
-use Rattle.spec_history.proofs.Reaching.{no_entries, audited_more, audited_fault}
+use Rattle.spec_history.proofs.Replay.Reaching.{no_entries, audited_more, audited_fault}
 use Rattle.conflicts.specs.Explained.{IsExplained, places_of}
 use Rattle.conflicts.proofs.Explaining.{no_places, each_more, explained_more, legal_in}
 use Rattle.conflicts.proofs.history.explain.Goals as goal

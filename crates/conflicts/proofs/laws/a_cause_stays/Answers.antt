@@ -1,4 +1,4 @@
-use Rattle.spec_history.proofs.Staying.{stays}
+use Rattle.spec_history.proofs.Replay.Staying.{stays}
 use Rattle.conflicts.proofs.laws.a_cause_stays.Goals as goal
 
 pub returns : goal.returns

@@ -2,7 +2,7 @@ use Rattle.std.proofs.Common.{◌≡◌, ◌<◌, ◌∙◌, Result, Ok, Err, On
 use Rattle.std.specs.Result.{is_err}
 use Rattle.std.proofs.lemmas.Option.{slice_get-get_or}
 use Rattle.spec_history.specs.View.{state_in}
-use Rattle.spec_history.proofs.Reaching.{no_entries, audited_more, audited_fault}
+use Rattle.spec_history.proofs.Replay.Reaching.{no_entries, audited_more, audited_fault}
 use Rattle.conflicts.proofs.Growing.{no_sites, sites_more}
 use Rattle.conflicts.proofs.standing.sites.Goals as goal
 

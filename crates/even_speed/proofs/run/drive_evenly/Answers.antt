@@ -9,7 +9,7 @@ use Rattle.homefree.specs.declared.answer.StopCause.{StopCause}
 use Rattle.homefree.specs.Acted.{IfArrived}
 use Rattle.homefree.specs.Driven.{Driver, driver}
 use Rattle.homefree.specs.Held.{harts_of}
-use Rattle.homefree.proofs.Drives.{in_order, none_held, no_harts}
+use Rattle.homefree.proofs.Books.Drives.{in_order, none_held, no_harts}
 use Rattle.violations.proofs.Opening.{most_few}
 use Rattle.even_speed.specs.declared.clock.Clock.{Clock}
 use Rattle.even_speed.specs.declared.clocks.Turn.{Turn}

@@ -1,6 +1,6 @@
 use Rattle.std.proofs.Common.{◌≡◌, ◌<◌, refl, subst, ◌∙◌, arith, length}
-use Rattle.homefree.proofs.Batches.{running_read}
-use Rattle.homefree.proofs.Cancelling.{CancelsBelow, none_below, one_below, own_below, all_below, same_attempt}
+use Rattle.homefree.proofs.Fields.Batches.{running_read}
+use Rattle.homefree.proofs.Cases.Cancelling.{CancelsBelow, none_below, one_below, own_below, all_below, same_attempt}
 use Rattle.homefree.specs.Arms.{HasAttempt}
 use Rattle.homefree.proofs.attempts.cancel_attempts.Goals as goal
 use Rattle.homefree.proofs.attempts.cancel_attempts.Goals.{then-k-by, else-k-by}

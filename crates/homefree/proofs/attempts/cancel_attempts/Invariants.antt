@@ -1,5 +1,5 @@
 use Rattle.std.proofs.Common.{◌≡◌}
-use Rattle.homefree.proofs.Cancelling.{CancelsBelow}
+use Rattle.homefree.proofs.Cases.Cancelling.{CancelsBelow}
 use Rattle.homefree.proofs.attempts.cancel_attempts.Given as goal
 
 abbrev pub invariant-loop-k : goal.invariant-loop-k

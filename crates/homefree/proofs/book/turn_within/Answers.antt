@@ -1,5 +1,5 @@
 use Rattle.std.proofs.Common.{option_copied}
-use Rattle.homefree.proofs.Books.{fits_same, book_same, turned_refused, turned_acts, may_note, book_acts, acts_most, same_most, has_free, has_room}
+use Rattle.homefree.proofs.Books.Turns.{fits_same, book_same, turned_refused, turned_acts, may_note, book_acts, acts_most, same_most, has_free, has_room}
 use Rattle.homefree.proofs.book.turn_within.Goals as goal
 
 pub returns-in_default-make_room-clause-book : goal.returns-in_default-make_room-clause-book

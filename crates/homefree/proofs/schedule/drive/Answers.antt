@@ -3,7 +3,7 @@ use Rattle.std.proofs.lemmas.Result.{err_from_is_err_and}
 use Rattle.homefree.specs.Acted.{IfArrived}
 use Rattle.homefree.specs.Driven.{Driven, driver}
 use Rattle.homefree.specs.Held.{harts_of}
-use Rattle.homefree.proofs.Drives.{in_order, ends_over, ends_stopped, ends_fault, goes_on, none_held, no_harts}
+use Rattle.homefree.proofs.Books.Drives.{in_order, ends_over, ends_stopped, ends_fault, goes_on, none_held, no_harts}
 use Rattle.homefree.proofs.schedule.drive.Goals as goal
 
 pub loop-core-init : goal.loop-core-init

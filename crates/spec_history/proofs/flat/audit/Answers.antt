@@ -1,5 +1,5 @@
 use Rattle.std.proofs.Common.{◌<◌, length, ◌∙◌, inl, arith}
-use Rattle.spec_history.proofs.Reaching.{no_entries, audited_more, audited_fault}
+use Rattle.spec_history.proofs.Replay.Reaching.{no_entries, audited_more, audited_fault}
 use Rattle.spec_history.proofs.flat.audit.Goals as goal
 
 pub loop-place-init : goal.loop-place-init

@@ -1,4 +1,4 @@
-use Rattle.spec_history.proofs.Faults.{fault_in_order}
+use Rattle.spec_history.proofs.Replay.Faults.{fault_in_order}
 use Rattle.spec_history.proofs.laws.a_fault_is_that_of_the_sequential_loop.Goals as goal
 
 pub returns : goal.returns

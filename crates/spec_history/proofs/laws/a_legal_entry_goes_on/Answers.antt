@@ -1,4 +1,4 @@
-use Rattle.spec_history.proofs.Reaching.{one_more_entry}
+use Rattle.spec_history.proofs.Replay.Reaching.{one_more_entry}
 use Rattle.spec_history.proofs.laws.a_legal_entry_goes_on.Goals as goal
 
 pub returns : goal.returns

@@ -1,4 +1,4 @@
-use Rattle.spec_history.proofs.Joining as joining
+use Rattle.spec_history.proofs.Replay.Joining as joining
 use Rattle.spec_history.proofs.laws.a_replay_splits.Goals as goal
 
 pub returns-clause-splits : goal.returns-clause-splits

@@ -1,4 +1,4 @@
-use Rattle.spec_history.proofs.Counting.{commits_are}
+use Rattle.spec_history.proofs.Replay.Counting.{commits_are}
 use Rattle.spec_history.proofs.laws.commits_are_the_epochs_before_the_homefree_one.Goals as goal
 
 pub returns : goal.returns

@@ -1,4 +1,4 @@
-use Rattle.spec_history.proofs.Counting as counting
+use Rattle.spec_history.proofs.Replay.Counting as counting
 use Rattle.spec_history.proofs.laws.counts_add.Goals as goal
 
 pub returns : goal.returns

@@ -1,4 +1,4 @@
-use Rattle.spec_history.proofs.Replays.{replayed}
+use Rattle.spec_history.proofs.Replay.Replays.{replayed}
 use Rattle.spec_history.proofs.laws.every_replay_keeps.Goals as goal
 
 pub returns : goal.returns

@@ -1,4 +1,4 @@
-use Rattle.spec_history.proofs.Replays.{replayed}
+use Rattle.spec_history.proofs.Replay.Replays.{replayed}
 use Rattle.spec_history.proofs.laws.the_end_is_that_of_the_sequential_loop.Goals as goal
 
 pub returns : goal.returns

@@ -1,5 +1,5 @@
 use Rattle.std.proofs.Common.{◌≡◌, ◌+◌, ◌++◌, ◌∷◌, [], cond, not, length, ap, ◌∙◌, length-append}
-use Rattle.spec_history.proofs.Reaching.{idle_more}
+use Rattle.spec_history.proofs.Replay.Reaching.{idle_more}
 use Rattle.spec_history.proofs.machine.idle_cores.Goals as goal
 
 pub loop-preserved : goal.loop-preserved

@@ -5,7 +5,7 @@ use Rattle.homefree.specs.declared.fault.TurnFault.TheVariants.{HistoryFull}
 use Rattle.homefree.specs.Acted.{IfArrived}
 use Rattle.homefree.specs.Driven.{Driven, driver}
 use Rattle.homefree.specs.Held.{harts_of}
-use Rattle.homefree.proofs.Drives.{ends_fault, goes_on, none_held, no_harts}
+use Rattle.homefree.proofs.Books.Drives.{ends_fault, goes_on, none_held, no_harts}
 use Rattle.turn_steps.specs.Memory.{ShowsMemory}
 use Rattle.turn_steps.specs.Stepped.{Stepped}
 use Rattle.turn_steps.proofs.Steps.{full_fault, tells_on, tells_over, tells_stopped}

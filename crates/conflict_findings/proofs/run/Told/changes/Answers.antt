@@ -1,7 +1,7 @@
 use Rattle.std.proofs.Common.{◌≡◌, ◌<◌, ◌≤◌, ◌+◌, ◌&&◌, Bool, true, false, nat_le, nat_lt, refl, sym, ap, ◌∙◌, inl, inr, arith, le-leb, lt-ltb, leb-true}
 use Rattle.std.proofs.lemmas.Bool.{cases_eq}
-use Rattle.spec_history.proofs.Legal.{and_true}
-use Rattle.spec_history.proofs.Searches.{all_fail, one_passes}
+use Rattle.spec_history.proofs.OneEntry.Legal.{and_true}
+use Rattle.spec_history.proofs.Searches.Tests.{all_fail, one_passes}
 use Rattle.conflicts.specs.Attempts.{covers}
 use Rattle.spec_history.specs.Conflict.{is_changed}
 use Rattle.conflicts.specs.Parties.{meeting_in}

@@ -1,7 +1,7 @@
 use Rattle.std.proofs.Common.{◌≡◌, ◌<◌, ◌+◌, ◌*◌, ℕ, Bool, true, is_some, sym, ap, ◌∙◌, arith}
 use Rattle.rv32_image.specs.declared.version.Limits.{Limits}
 use Rattle.rv32_image.specs.Version.{limits_of}
-use Rattle.spec_history.proofs.Searches.{all_fail, one_passes}
+use Rattle.spec_history.proofs.Searches.Tests.{all_fail, one_passes}
 use Rattle.conflicts.specs.Parties.{meeting_in}
 use Rattle.conflict_findings.proofs.run.Told.has_read.Goals as goal
 

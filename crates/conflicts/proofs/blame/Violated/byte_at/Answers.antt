@@ -3,7 +3,7 @@ use Rattle.std.proofs.lemmas.Bool.{cases_eq}
 use Rattle.conflicts.specs.Attempts.{core_does, loads_byte}
 use Rattle.conflicts.specs.Blame.{is_read_at}
 use Rattle.conflicts.specs.Violated.{violation_in}
-use Rattle.spec_history.proofs.Searches.{first_at, first_none}
+use Rattle.spec_history.proofs.Searches.Tests.{first_at, first_none}
 use Rattle.conflicts.proofs.Blaming.{either_way, not_so, unloaded}
 use Rattle.conflicts.proofs.blame.Violated.byte_at.Goals as goal
 

@@ -1,7 +1,7 @@
 use Rattle.std.proofs.Common.{◌≤◌, ℕ, Bool, is_some, sym, ap, ◌∙◌, arith}
 use Rattle.conflicts.specs.Blame.{blamed_byte}
 use Rattle.conflicts.specs.Violated.{violation_in}
-use Rattle.spec_history.proofs.Searches.{first_at, first_none}
+use Rattle.spec_history.proofs.Searches.Tests.{first_at, first_none}
 use Rattle.conflicts.proofs.Blaming.{unread_until}
 use Rattle.conflicts.proofs.blame.Violated.load.Goals as goal
 

@@ -1,8 +1,8 @@
 use Rattle.std.proofs.Common.{◌<◌, ◌&&◌, not, nat_lt, ℕ, Bool, Option, unwrap_or, sym, ap, ◌∙◌, arith, le-ltb, lt-ltb}
-use Rattle.spec_history.proofs.CoreStates.{also_at}
+use Rattle.spec_history.proofs.CodedCores.CoreStates.{also_at}
 use Rattle.conflicts.specs.Blame.{is_alike}
 use Rattle.conflicts.specs.Violated.{violation_in}
-use Rattle.spec_history.proofs.Searches.{first_at, first_none}
+use Rattle.spec_history.proofs.Searches.Tests.{first_at, first_none}
 use Rattle.conflicts.proofs.blame.Violated.range_end.Goals as goal
 
 pub loop-addr-init : goal.loop-addr-init

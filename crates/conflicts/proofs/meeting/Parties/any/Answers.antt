@@ -1,6 +1,6 @@
 use Rattle.std.proofs.Common.{◌<◌, slice_index, sym, ap, ◌∙◌, arith}
 use Rattle.rv32_image.specs.Image.{LoadedImage}
-use Rattle.spec_history.proofs.Searches.{one_passes}
+use Rattle.spec_history.proofs.Searches.Tests.{one_passes}
 use Rattle.conflicts.specs.Parties.{meeting_in, passes}
 use Rattle.conflicts.proofs.Listed.{none_listed}
 use Rattle.conflicts.proofs.meeting.Parties.any.Goals as goal

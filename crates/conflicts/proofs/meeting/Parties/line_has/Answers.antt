@@ -1,7 +1,7 @@
 use Rattle.std.proofs.Common.{◌≡◌, ◌<◌, ◌+◌, ◌*◌, ℕ, true, sym, ap, ◌∙◌, arith}
 use Rattle.rv32_image.specs.declared.version.Limits.{Limits}
 use Rattle.rv32_image.specs.Version.{limits_of}
-use Rattle.spec_history.proofs.Searches.{all_fail, one_passes}
+use Rattle.spec_history.proofs.Searches.Tests.{all_fail, one_passes}
 use Rattle.conflicts.specs.Parties.{meeting_in, is_of}
 use Rattle.conflicts.proofs.meeting.Parties.line_has.Goals as goal
 

@@ -1,6 +1,6 @@
 use Rattle.std.proofs.Common.{subst, rules}
 use Rattle.homefree.specs.InStep.{InStep}
-use Rattle.homefree.proofs.Books.{in_step}
+use Rattle.homefree.proofs.Books.Turns.{in_step}
 use Rattle.homefree.proofs.book.Book.ended.Goals as goal
 
 pub returns-clause-end : goal.returns-clause-end

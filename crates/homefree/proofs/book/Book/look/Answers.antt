@@ -1,6 +1,6 @@
 use Rattle.std.proofs.Common.{subst}
 use Rattle.homefree.specs.InStep.{InStep}
-use Rattle.homefree.proofs.Books.{in_step}
+use Rattle.homefree.proofs.Books.Turns.{in_step}
 use Rattle.homefree.proofs.book.Book.look.Goals as goal
 
 pub returns : goal.returns

@@ -1,5 +1,5 @@
 use Rattle.std.proofs.Common.{refl}
-use Rattle.homefree.proofs.Books.{first_book}
+use Rattle.homefree.proofs.Books.Turns.{first_book}
 use Rattle.homefree.proofs.book.Book.new.Goals as goal
 
 pub invariant_of-book : goal.invariant_of-book

@@ -1,4 +1,4 @@
-use Rattle.homefree.proofs.Books.{book_stopped}
+use Rattle.homefree.proofs.Books.Turns.{book_stopped}
 use Rattle.homefree.proofs.book.Book.stop.Goals as goal
 
 pub invariant_of-self : goal.invariant_of-self

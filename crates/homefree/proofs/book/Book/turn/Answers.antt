@@ -1,7 +1,7 @@
 use Rattle.std.proofs.Common.{option_copied}
 use Rattle.homefree.specs.Counted.{counted_in}
-use Rattle.homefree.proofs.Tallies.{shares_still}
-use Rattle.homefree.proofs.Following.{turn_grows, turn_why, turn_never_again, turn_ends, turn_full}
+use Rattle.homefree.proofs.Books.Tallies.{shares_still}
+use Rattle.homefree.proofs.Books.Following.{turn_grows, turn_why, turn_never_again, turn_ends, turn_full}
 use Rattle.homefree.proofs.book.Book.turn.Goals as goal
 
 pub returns-clause-grows : goal.returns-clause-grows

@@ -3,9 +3,9 @@ use Rattle.rv32_exec.specs.declared.stop.Stop.TheVariants.{Ended}
 use Rattle.run_ledger.specs.declared.counts.Counts.{Counts}
 use Rattle.run_ledger.specs.Counts.{no_counts}
 use Rattle.homefree.specs.Arms.{running_by}
-use Rattle.homefree.proofs.Hurting.{totals_same}
-use Rattle.homefree.proofs.Accessing.{at_this}
-use Rattle.homefree.proofs.Ending.{room_mid, homefree_mid, at_mid, leaves, committed}
+use Rattle.homefree.proofs.Fields.Hurting.{totals_same}
+use Rattle.homefree.proofs.Cases.Accessing.{at_this}
+use Rattle.homefree.proofs.Cases.Ending.{room_mid, homefree_mid, at_mid, leaves, committed}
 use Rattle.homefree.proofs.parts.Parts.commit.Goals as goal
 
 pub commit-requires-clause-room : goal.commit-requires-clause-room

@@ -3,10 +3,10 @@ use Rattle.rv32_exec.specs.declared.stop.Stop.TheVariants.{Ended}
 use Rattle.run_ledger.specs.declared.counts.Counts.{Counts}
 use Rattle.run_ledger.specs.Counts.{no_counts}
 use Rattle.homefree.specs.Arms.{running_by}
-use Rattle.homefree.proofs.Standing.{few_cores}
-use Rattle.homefree.proofs.Accessing.{at_this}
-use Rattle.homefree.proofs.Ending.{room_mid}
-use Rattle.homefree.proofs.Exiting.{others_attempts, homefree_last, room_last, totals_last, at_last, exited}
+use Rattle.homefree.proofs.Cases.Standing.{few_cores}
+use Rattle.homefree.proofs.Cases.Accessing.{at_this}
+use Rattle.homefree.proofs.Cases.Ending.{room_mid}
+use Rattle.homefree.proofs.Cases.Exiting.{others_attempts, homefree_last, room_last, totals_last, at_last, exited}
 use Rattle.homefree.proofs.parts.Parts.exit.Goals as goal
 
 pub cancel_attempts-requires-clause-few : goal.cancel_attempts-requires-clause-few

@@ -1,7 +1,7 @@
 use Rattle.std.proofs.Common.{arith}
 use Rattle.homefree.specs.Arms.{running_by}
-use Rattle.homefree.proofs.Accessing.{at_this}
-use Rattle.homefree.proofs.Ending.{too_early, room_mid, faulted}
+use Rattle.homefree.proofs.Cases.Accessing.{at_this}
+use Rattle.homefree.proofs.Cases.Ending.{too_early, room_mid, faulted}
 use Rattle.homefree.proofs.parts.Parts.fault.Goals as goal
 
 pub returns-then-epoch-self : goal.returns-then-epoch-self

@@ -1,6 +1,6 @@
 use Rattle.rv32_exec.specs.declared.stop.Stop.TheVariants.{Ended}
 use Rattle.homefree.specs.Arms.{running_by}
-use Rattle.homefree.proofs.Ending.{too_early}
+use Rattle.homefree.proofs.Cases.Ending.{too_early}
 use Rattle.homefree.proofs.parts.Parts.finish.Goals as goal
 
 pub returns-then-now-self : goal.returns-then-now-self

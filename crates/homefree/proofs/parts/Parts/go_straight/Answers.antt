@@ -2,8 +2,8 @@ use Rattle.std.proofs.Common.{refl, true}
 use Rattle.violations.specs.CoreSet.{is_in}
 use Rattle.violations.specs.View.{attempt_of}
 use Rattle.homefree.specs.Arms.{running_by}
-use Rattle.homefree.proofs.Standing.{may_publish}
-use Rattle.homefree.proofs.GoingStraight.{was_straight, went_straight}
+use Rattle.homefree.proofs.Cases.Standing.{may_publish}
+use Rattle.homefree.proofs.Cases.GoingStraight.{was_straight, went_straight}
 use Rattle.homefree.proofs.parts.Parts.go_straight.Goals as goal
 
 pub returns-then-now-clause-straight : goal.returns-then-now-clause-straight

@@ -1,8 +1,8 @@
 use Rattle.std.proofs.Common.{refl, sym}
 use Rattle.violations.specs.CoreSet.{is_in}
 use Rattle.homefree.specs.Arms.{running_by}
-use Rattle.homefree.proofs.Standing.{may_load}
-use Rattle.homefree.proofs.Accessing.{at_this, loaded, waited}
+use Rattle.homefree.proofs.Cases.Standing.{may_load}
+use Rattle.homefree.proofs.Cases.Accessing.{at_this, loaded, waited}
 use Rattle.homefree.proofs.parts.Parts.load.Goals as goal
 
 pub load-requires-clause-access : goal.load-requires-clause-access

@@ -1,5 +1,5 @@
 use Rattle.std.proofs.Common.{option_copied}
-use Rattle.homefree.proofs.Acting.{restarted, may_restart}
+use Rattle.homefree.proofs.Cases.Acting.{restarted, may_restart}
 use Rattle.homefree.proofs.parts.Parts.restart.Goals as goal
 
 pub begin-requires-clause-may : goal.begin-requires-clause-may

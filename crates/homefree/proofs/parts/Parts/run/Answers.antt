@@ -1,5 +1,5 @@
 use Rattle.homefree.specs.Arms.{running_by}
-use Rattle.homefree.proofs.Standing.{straight_homefree}
+use Rattle.homefree.proofs.Cases.Standing.{straight_homefree}
 use Rattle.homefree.proofs.parts.Parts.run.Goals as goal
 
 pub straight_load-requires-clause-homefree : goal.straight_load-requires-clause-homefree

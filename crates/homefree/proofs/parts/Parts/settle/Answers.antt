@@ -1,7 +1,7 @@
 use Rattle.violations.specs.CoreSet.{is_in}
 use Rattle.homefree.specs.Arms.{running_by}
-use Rattle.homefree.proofs.Standing.{may_publish}
-use Rattle.homefree.proofs.Ending.{was_settled, settled}
+use Rattle.homefree.proofs.Cases.Standing.{may_publish}
+use Rattle.homefree.proofs.Cases.Ending.{was_settled, settled}
 use Rattle.homefree.proofs.parts.Parts.settle.Goals as goal
 
 pub returns-then-now-clause-settled : goal.returns-then-now-clause-settled

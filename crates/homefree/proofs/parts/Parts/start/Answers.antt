@@ -1,5 +1,5 @@
 use Rattle.std.proofs.Common.{◌<◌, option_copied, arith}
-use Rattle.homefree.proofs.Acting.{found_none, started, may_start}
+use Rattle.homefree.proofs.Cases.Acting.{found_none, started, may_start}
 use Rattle.homefree.proofs.parts.Parts.start.Goals as goal
 
 pub returns-then-epoch-epochs : goal.returns-then-epoch-epochs

@@ -1,8 +1,8 @@
 use Rattle.std.proofs.Common.{refl, sym}
 use Rattle.violations.specs.CoreSet.{is_in}
 use Rattle.homefree.specs.Arms.{running_by}
-use Rattle.homefree.proofs.Standing.{may_store}
-use Rattle.homefree.proofs.Accessing.{at_this, stored, waited}
+use Rattle.homefree.proofs.Cases.Standing.{may_store}
+use Rattle.homefree.proofs.Cases.Accessing.{at_this, stored, waited}
 use Rattle.homefree.proofs.parts.Parts.store.Goals as goal
 
 pub store-requires-clause-access : goal.store-requires-clause-access

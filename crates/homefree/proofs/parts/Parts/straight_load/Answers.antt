@@ -3,10 +3,10 @@ use Rattle.run_ledger.specs.declared.counts.Counts.{Counts}
 use Rattle.run_ledger.specs.Counts.{no_counts}
 use Rattle.violations.specs.CoreSet.{is_in}
 use Rattle.homefree.specs.Arms.{running_by}
-use Rattle.homefree.proofs.Hurting.{totals_same}
-use Rattle.homefree.proofs.Standing.{may_load, may_hurt}
-use Rattle.homefree.proofs.Accessing.{at_this}
-use Rattle.homefree.proofs.GoingStraight.{at_after, room_of_other, loaded_straight}
+use Rattle.homefree.proofs.Fields.Hurting.{totals_same}
+use Rattle.homefree.proofs.Cases.Standing.{may_load, may_hurt}
+use Rattle.homefree.proofs.Cases.Accessing.{at_this}
+use Rattle.homefree.proofs.Cases.GoingStraight.{at_after, room_of_other, loaded_straight}
 use Rattle.homefree.proofs.parts.Parts.straight_load.Goals as goal
 
 pub straight_load-value-requires-clause-access : goal.straight_load-value-requires-clause-access

@@ -1,6 +1,6 @@
 use Rattle.std.proofs.Common.{◌≢◌, option_copied, sym, ◌∙◌}
-use Rattle.homefree.proofs.Batches.{running_read}
-use Rattle.homefree.proofs.Acting.{told, none_stale, other_stale, differs, same_hart, handed_in, arrives}
+use Rattle.homefree.proofs.Fields.Batches.{running_read}
+use Rattle.homefree.proofs.Cases.Acting.{told, none_stale, other_stale, differs, same_hart, handed_in, arrives}
 use Rattle.homefree.proofs.parts.Parts.turn.Goals as goal
 
 pub returns-in-None-next : goal.returns-in-None-next

@@ -1,5 +1,5 @@
 use Rattle.std.proofs.Common.{refl}
-use Rattle.homefree.proofs.Noting.{cancel_noted}
+use Rattle.homefree.proofs.Fields.Noting.{cancel_noted}
 use Rattle.homefree.proofs.register.Register.cancel.Goals as goal
 
 pub returns-clause-steps : goal.returns-clause-steps

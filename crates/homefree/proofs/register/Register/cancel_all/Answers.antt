@@ -2,8 +2,8 @@ use Rattle.std.proofs.Common.{◌≡◌, refl, sym, ◌∙◌, arith, length}
 use Rattle.run_ledger.specs.Counts.{no_counts}
 use Rattle.spec_history.specs.declared.entry.What.TheVariants.{Cancel}
 use Rattle.homefree.specs.Noted.{epoch_in, other_kept}
-use Rattle.homefree.proofs.Steps.{steps_none}
-use Rattle.homefree.proofs.Batches.{batch_most, one_cancel_more, no_cancel_more}
+use Rattle.homefree.proofs.Fields.Steps.{steps_none}
+use Rattle.homefree.proofs.Fields.Batches.{batch_most, one_cancel_more, no_cancel_more}
 use Rattle.homefree.proofs.register.Register.cancel_all.Goals as goal
 use Rattle.homefree.proofs.register.Register.cancel_all.Goals.{then-k-by, else-k-by}
 

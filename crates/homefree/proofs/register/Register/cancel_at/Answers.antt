@@ -1,5 +1,5 @@
 use Rattle.std.proofs.Common.{◌∙◌}
-use Rattle.homefree.proofs.Batches.{running_read, cancelled_here, idle_here}
+use Rattle.homefree.proofs.Fields.Batches.{running_read, cancelled_here, idle_here}
 use Rattle.homefree.proofs.register.Register.cancel_at.Goals as goal
 
 pub returns-in-Some-clause-steps : goal.returns-in-Some-clause-steps

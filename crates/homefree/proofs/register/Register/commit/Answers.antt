@@ -1,6 +1,6 @@
 use Rattle.std.proofs.Common.{refl}
 use Rattle.homefree.specs.Arms.{running_by}
-use Rattle.homefree.proofs.Noting.{committed}
+use Rattle.homefree.proofs.Fields.Noting.{committed}
 use Rattle.homefree.proofs.register.Register.commit.Goals as goal
 
 pub returns-clause-steps : goal.returns-clause-steps

@@ -1,6 +1,6 @@
 use Rattle.std.proofs.Common.{refl}
 use Rattle.homefree.specs.Arms.{running_by}
-use Rattle.homefree.proofs.Noting.{faulted}
+use Rattle.homefree.proofs.Fields.Noting.{faulted}
 use Rattle.homefree.proofs.register.Register.fault.Goals as goal
 
 pub returns-clause-steps : goal.returns-clause-steps

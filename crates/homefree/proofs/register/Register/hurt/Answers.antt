@@ -1,5 +1,5 @@
 use Rattle.std.proofs.Common.{refl}
-use Rattle.homefree.proofs.Noting.{hurt_noted}
+use Rattle.homefree.proofs.Fields.Noting.{hurt_noted}
 use Rattle.homefree.proofs.register.Register.hurt.Goals as goal
 
 pub returns-clause-steps : goal.returns-clause-steps

@@ -1,10 +1,10 @@
 use Rattle.std.proofs.Common.{◌≡◌, refl, sym, ◌∙◌, arith, length}
 use Rattle.run_ledger.specs.Counts.{no_counts}
 use Rattle.violations.specs.CoreSet.{is_in}
-use Rattle.homefree.proofs.Steps.{steps_none}
+use Rattle.homefree.proofs.Fields.Steps.{steps_none}
 use Rattle.spec_history.specs.declared.entry.What.TheVariants.{Hurt}
 use Rattle.homefree.specs.Noted.{epoch_in}
-use Rattle.homefree.proofs.Batches.{apart_by, batch_most, one_hurt_more, no_hurt_more}
+use Rattle.homefree.proofs.Fields.Batches.{apart_by, batch_most, one_hurt_more, no_hurt_more}
 use Rattle.homefree.proofs.register.Register.hurt_all.Goals as goal
 use Rattle.homefree.proofs.register.Register.hurt_all.Goals.{then-has, else-has}
 

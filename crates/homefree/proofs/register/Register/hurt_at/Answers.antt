@@ -3,7 +3,7 @@ use Rattle.spec_history.specs.declared.entry.What.TheVariants.{Hurt}
 use Rattle.homefree.specs.Hurts.{entry}
 use Rattle.homefree.specs.Noted.{epoch_kept}
 use Rattle.homefree.specs.Steps.{Steps}
-use Rattle.homefree.proofs.Batches.{running_read}
+use Rattle.homefree.proofs.Fields.Batches.{running_read}
 use Rattle.homefree.proofs.register.Register.hurt_at.Goals as goal
 
 pub returns-clause-steps : goal.returns-clause-steps

@@ -3,9 +3,9 @@ use Rattle.std.proofs.lemmas.Bool.Decides.{nat_tests}
 use Rattle.run_ledger.specs.Counts.{no_counts}
 use Rattle.violations.specs.CoreSet.{is_in}
 use Rattle.homefree.specs.Kept.{running_at}
-use Rattle.homefree.proofs.Noting.{published}
-use Rattle.homefree.proofs.Steps.{steps_then}
-use Rattle.homefree.proofs.Hurting.{room_after}
+use Rattle.homefree.proofs.Fields.Noting.{published}
+use Rattle.homefree.proofs.Fields.Steps.{steps_then}
+use Rattle.homefree.proofs.Fields.Hurting.{room_after}
 use Rattle.homefree.proofs.register.Register.publish.Goals as goal
 
 pub note-requires : goal.note-requires

@@ -1,7 +1,7 @@
 use Rattle.std.proofs.Common.{refl, ap, ◌∙◌}
 use Rattle.homefree.specs.declared.answer.Answer.TheVariants.{Go}
-use Rattle.homefree.proofs.Coming.{went_on}
-use Rattle.homefree.proofs.Noting.{restarted}
+use Rattle.homefree.proofs.Fields.Coming.{went_on}
+use Rattle.homefree.proofs.Fields.Noting.{restarted}
 use Rattle.homefree.proofs.register.Register.restart.Goals as goal
 
 pub returns-clause-steps : goal.returns-clause-steps

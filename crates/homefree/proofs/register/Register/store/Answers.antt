@@ -3,10 +3,10 @@ use Rattle.run_ledger.specs.declared.counts.Counts.{Counts}
 use Rattle.run_ledger.specs.Counts.{no_counts}
 use Rattle.violations.specs.CoreSet.{is_in}
 use Rattle.homefree.specs.Arms.{running_by}
-use Rattle.homefree.proofs.Coming.{went_on}
-use Rattle.homefree.proofs.Noting.{stored_on}
-use Rattle.homefree.proofs.Steps.{steps_then}
-use Rattle.homefree.proofs.Hurting.{room_after, totals_same, at_stop_after}
+use Rattle.homefree.proofs.Fields.Coming.{went_on}
+use Rattle.homefree.proofs.Fields.Noting.{stored_on}
+use Rattle.homefree.proofs.Fields.Steps.{steps_then}
+use Rattle.homefree.proofs.Fields.Hurting.{room_after, totals_same, at_stop_after}
 use Rattle.homefree.proofs.register.Register.store.Goals as goal
 
 pub note-requires : goal.note-requires

@@ -7,7 +7,7 @@ use Rattle.spec_history.specs.FlatState.{FlatState}
 use Rattle.spec_history.specs.Refusal.{refusal_of}
 use Rattle.spec_history.specs.Machine.{state_of, count_of_cores}
 use Rattle.spec_history.specs.View.{IsReached}
-use Rattle.spec_history.proofs.Reaching.{reached_more, homefree_within}
+use Rattle.spec_history.proofs.Replay.Reaching.{reached_more, homefree_within}
 use Rattle.spec_history.proofs.flat.Flat.apply.Goals as goal
 
 pub returns-in-Some-clause-answer : goal.returns-in-Some-clause-answer

@@ -1,4 +1,4 @@
-use Rattle.spec_history.proofs.Reaching.{reached_first}
+use Rattle.spec_history.proofs.Replay.Reaching.{reached_first}
 use Rattle.spec_history.proofs.flat.Flat.new.Goals as goal
 
 pub invariant_of-result : goal.invariant_of-result

@@ -1,8 +1,8 @@
 use Rattle.std.proofs.Common.{◌<◌, ◌≤◌, length, refl, sym, ap, ◌∙◌, arith}
 use Rattle.spec_history.specs.Refusal.{can_be_hurt}
 use Rattle.spec_history.specs.Machine.{cores_of}
-use Rattle.spec_history.proofs.Searches.{all_fail, one_passes}
-use Rattle.spec_history.proofs.CoreStates.{core_there, state_there, also_at}
+use Rattle.spec_history.proofs.Searches.Tests.{all_fail, one_passes}
+use Rattle.spec_history.proofs.CodedCores.CoreStates.{core_there, state_there, also_at}
 use Rattle.spec_history.proofs.machine.Machine.can_hurt.Goals as goal
 
 pub returns-then-can_be_hurt : goal.returns-then-can_be_hurt

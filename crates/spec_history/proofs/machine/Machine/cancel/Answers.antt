@@ -2,8 +2,8 @@ use Rattle.std.proofs.Common.{rules, ◌≡◌, ◌<◌, ◌≤◌, length, refl
 use Rattle.std.specs.Vec.{with_items}
 use Rattle.spec_history.specs.Effect.{idle_at}
 use Rattle.spec_history.specs.Cores.{core_of}
-use Rattle.spec_history.proofs.Parts.{whole_items}
-use Rattle.spec_history.proofs.Changing.{changing_start, changing_more, changed_becomes}
+use Rattle.spec_history.proofs.CodedCores.Parts.{whole_items}
+use Rattle.spec_history.proofs.CodedCores.Changing.{changing_start, changing_more, changed_becomes}
 use Rattle.spec_history.proofs.machine.Machine.cancel.Goals as goal
 
 pub loop-core-init : goal.loop-core-init

@@ -7,10 +7,10 @@ use Rattle.spec_history.specs.declared.entry.What.TheVariants.{Commit}
 use Rattle.spec_history.specs.Effect.{effect_on}
 use Rattle.spec_history.specs.Refusal.{next_is, is_an_exit, is_the_end}
 use Rattle.spec_history.specs.Machine.{state_of}
-use Rattle.spec_history.proofs.CoreStates.{kept_own}
-use Rattle.spec_history.proofs.Performed.{finds, finds_core, commits, becomes}
-use Rattle.spec_history.proofs.Legal.{the_end}
-use Rattle.spec_history.proofs.Replays.{on_core}
+use Rattle.spec_history.proofs.CodedCores.CoreStates.{kept_own}
+use Rattle.spec_history.proofs.CodedCores.Performed.{finds, finds_core, commits, becomes}
+use Rattle.spec_history.proofs.OneEntry.Legal.{the_end}
+use Rattle.spec_history.proofs.Replay.Replays.{on_core}
 use Rattle.rv32_exec.specs.declared.stop.Stop.{Stop}
 use Rattle.rv32_exec.specs.declared.stop.Stop.TheVariants as stop
 use Rattle.spec_history.proofs.machine.Machine.commit.Goals as goal

@@ -2,8 +2,8 @@ use Rattle.std.proofs.Common.{◌≡◌, ◌<◌, length, slice_index, sym, ◌�
 use Rattle.memory_bytes.specs.Maps.{over}
 use Rattle.memory_bytes.specs.Shadow.{byte_in}
 use Rattle.spec_history.specs.Machine.{count_of_cores, state_of}
-use Rattle.spec_history.proofs.Searches.{one_passes}
-use Rattle.spec_history.proofs.Missing.{is_unseen, byte_is, passed_all}
+use Rattle.spec_history.proofs.Searches.Tests.{one_passes}
+use Rattle.spec_history.proofs.Searches.Missing.{is_unseen, byte_is, passed_all}
 use Rattle.spec_history.proofs.machine.Machine.commit_misses.Goals as goal
 
 pub returns-then-change_is_missed : goal.returns-then-change_is_missed

@@ -1,6 +1,6 @@
 use Rattle.memory_bytes.specs.Shadow.{byte_in}
 use Rattle.spec_history.specs.Machine.{count_of_cores, state_of}
-use Rattle.spec_history.proofs.Missing.{Passed}
+use Rattle.spec_history.proofs.Searches.Missing.{Passed}
 use Rattle.spec_history.proofs.machine.Machine.commit_misses.Given as goal
 
 -- the bytes so far would not change unseen

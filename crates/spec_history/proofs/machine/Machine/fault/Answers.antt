@@ -5,9 +5,9 @@ use Rattle.rv32_exec.specs.Hart.{HartState}
 use Rattle.spec_history.specs.declared.entry.What.TheVariants.{Fault}
 use Rattle.spec_history.specs.Effect.{effect_on}
 use Rattle.spec_history.specs.Machine.{state_of}
-use Rattle.spec_history.proofs.CoreStates.{kept_own}
-use Rattle.spec_history.proofs.Performed.{finds, finds_core, event_now, epoch_is, becomes_still}
-use Rattle.spec_history.proofs.Replays.{effect-on}
+use Rattle.spec_history.proofs.CodedCores.CoreStates.{kept_own}
+use Rattle.spec_history.proofs.CodedCores.Performed.{finds, finds_core, event_now, epoch_is, becomes_still}
+use Rattle.spec_history.proofs.Replay.Replays.{effect-on}
 use Rattle.spec_history.proofs.machine.Machine.fault.Goals as goal
 
 pub index-core-requires : goal.index-core-requires

@@ -1,5 +1,5 @@
 use Rattle.spec_history.specs.Effect.{hurt_at}
-use Rattle.spec_history.proofs.Changing.{Changing}
+use Rattle.spec_history.proofs.CodedCores.Changing.{Changing}
 use Rattle.spec_history.proofs.machine.Machine.hurt.Given as goal
 
 -- the cores so far have changed

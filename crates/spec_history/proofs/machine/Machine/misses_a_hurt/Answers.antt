@@ -5,8 +5,8 @@ use Rattle.spec_history.specs.Refusal.{changes_unseen}
 use Rattle.spec_history.specs.Machine.{count_of_cores, state_of}
 use Rattle.memory_bytes.specs.Maps.{over, stored}
 use Rattle.memory_bytes.specs.Shadow.{byte_in}
-use Rattle.spec_history.proofs.CoreStates.{state_there, idle_state, running_state}
-use Rattle.spec_history.proofs.Missing.{IsQuiet, IsCommitting, idle_misses, quiet_misses, committing_misses, straight_misses, speculative_misses}
+use Rattle.spec_history.proofs.CodedCores.CoreStates.{state_there, idle_state, running_state}
+use Rattle.spec_history.proofs.Searches.Missing.{IsQuiet, IsCommitting, idle_misses, quiet_misses, committing_misses, straight_misses, speculative_misses}
 use Rattle.spec_history.proofs.machine.Machine.misses_a_hurt.Goals as goal
 
 pub returns-in_default : goal.returns-in_default

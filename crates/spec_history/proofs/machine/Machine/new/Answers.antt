@@ -2,8 +2,8 @@ use Rattle.std.proofs.Common.{rules, ◌≡◌, cond, Some, None, length, slice_
 use Rattle.rv32_exec.specs.declared.sequential.End.TheVariants.{Done}
 use Rattle.spec_history.specs.FlatState.{end_at}
 use Rattle.spec_history.specs.Machine.{cores_of}
-use Rattle.spec_history.proofs.Parts.{same_state}
-use Rattle.spec_history.proofs.Reaching.{idle_states}
+use Rattle.spec_history.proofs.CodedCores.Parts.{same_state}
+use Rattle.spec_history.proofs.Replay.Reaching.{idle_states}
 use Rattle.spec_history.proofs.machine.Machine.new.Goals as goal
 use Rattle.spec_history.proofs.machine.Machine.new.Goals.{then-epochs-eq0, else-epochs-eq0}
 

@@ -1,8 +1,8 @@
 use Rattle.std.proofs.Common.{◌≡◌, ◌<◌, ◌≤◌, ◌==◌, ◌&&◌, not, true, false, ℕ, length, refl, sym, ap, ◌∙◌, arith, ne_eqb, eq-eqb}
 use Rattle.spec_history.specs.Refusal.{has_read}
 use Rattle.spec_history.specs.Machine.{cores_of}
-use Rattle.spec_history.proofs.Searches.{all_fail, one_passes}
-use Rattle.spec_history.proofs.CoreStates.{core_there, state_there, also_at}
+use Rattle.spec_history.proofs.Searches.Tests.{all_fail, one_passes}
+use Rattle.spec_history.proofs.CodedCores.CoreStates.{core_there, state_there, also_at}
 use Rattle.spec_history.proofs.machine.Machine.other_has_read.Goals as goal
 use Rattle.spec_history.proofs.machine.Machine.other_has_read.Goals.{else-k-by-via-then-k-by+else-has_read, else-k-by-via-else-k-by}
 

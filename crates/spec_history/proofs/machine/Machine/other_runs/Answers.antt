@@ -1,8 +1,8 @@
 use Rattle.std.proofs.Common.{◌≡◌, ◌<◌, ◌≤◌, ◌==◌, ◌&&◌, not, is_some, true, ℕ, length, sym, ap, ◌∙◌, arith, ne_eqb}
 use Rattle.spec_history.specs.Machine.{cores_of}
-use Rattle.spec_history.proofs.Legal.{not_false}
-use Rattle.spec_history.proofs.Searches.{all_fail, one_passes}
-use Rattle.spec_history.proofs.CoreStates.{core_there, state_there}
+use Rattle.spec_history.proofs.OneEntry.Legal.{not_false}
+use Rattle.spec_history.proofs.Searches.Tests.{all_fail, one_passes}
+use Rattle.spec_history.proofs.CodedCores.CoreStates.{core_there, state_there}
 use Rattle.spec_history.proofs.machine.Machine.other_runs.Goals as goal
 
 pub returns-then-not-is_idle : goal.returns-then-not-is_idle

@@ -1,8 +1,8 @@
 use Rattle.std.proofs.Common.{sym, ◌∙◌}
 use Rattle.spec_history.specs.declared.entry.What.TheVariants.{Hurt, Cancel}
 use Rattle.spec_history.specs.Machine.{state_of, IsLegal}
-use Rattle.spec_history.proofs.Performed.{finds}
-use Rattle.spec_history.proofs.Replays.{effect-on}
+use Rattle.spec_history.proofs.CodedCores.Performed.{finds}
+use Rattle.spec_history.proofs.Replay.Replays.{effect-on}
 use Rattle.spec_history.proofs.machine.Machine.perform.Goals as goal
 
 pub returns-in-Hurt : goal.returns-in-Hurt

@@ -1,6 +1,6 @@
 use Rattle.std.proofs.Common.{rules, ◌<◌, length, refl, subst, Result, Ok, Err, OnOk}
 use Rattle.spec_history.specs.Machine.{IsInMemory}
-use Rattle.spec_history.proofs.Performed.{as_before, room_at}
+use Rattle.spec_history.proofs.CodedCores.Performed.{as_before, room_at}
 use Rattle.spec_history.proofs.machine.Machine.prepare.Goals as goal
 
 on_ok : {T E A B : Type 0} (r : Result T E) → OnOk r A → (A → B) → OnOk r B

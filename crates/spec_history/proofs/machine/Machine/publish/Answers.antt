@@ -4,9 +4,9 @@ use Rattle.spec_history.specs.declared.entry.What.TheVariants.{Publish}
 use Rattle.spec_history.specs.Effect.{effect_on, after_publish}
 use Rattle.spec_history.specs.Cores.{published_by}
 use Rattle.spec_history.specs.Machine.{state_of}
-use Rattle.spec_history.proofs.CoreStates.{kept_own}
-use Rattle.spec_history.proofs.Performed.{finds, finds_core, published_now, becomes}
-use Rattle.spec_history.proofs.Replays.{effect-on}
+use Rattle.spec_history.proofs.CodedCores.CoreStates.{kept_own}
+use Rattle.spec_history.proofs.CodedCores.Performed.{finds, finds_core, published_now, becomes}
+use Rattle.spec_history.proofs.Replay.Replays.{effect-on}
 use Rattle.spec_history.proofs.machine.Machine.publish.Goals as goal
 
 pub index_mut-core-requires : goal.index_mut-core-requires

@@ -1,6 +1,6 @@
 use Rattle.std.proofs.Common.{sym, ◌∙◌}
 use Rattle.spec_history.specs.Machine.{state_of}
-use Rattle.spec_history.proofs.Legal.{next_in_memory}
+use Rattle.spec_history.proofs.OneEntry.Legal.{next_in_memory}
 use Rattle.spec_history.proofs.machine.Machine.refusal.Goals as goal
 
 pub is_value-requires-clause-within : goal.is_value-requires-clause-within

@@ -2,8 +2,8 @@ use Rattle.std.proofs.Common.{rules, ◌<◌, length, Some, refl, ap, ◌∙◌,
 use Rattle.spec_history.specs.declared.entry.What.TheVariants.{Restart}
 use Rattle.spec_history.specs.FlatState.{begun}
 use Rattle.spec_history.specs.Machine.{state_of}
-use Rattle.spec_history.proofs.Performed.{finds, finds_core, epoch_is, becomes}
-use Rattle.spec_history.proofs.Replays.{effect-on}
+use Rattle.spec_history.proofs.CodedCores.Performed.{finds, finds_core, epoch_is, becomes}
+use Rattle.spec_history.proofs.Replay.Replays.{effect-on}
 use Rattle.spec_history.proofs.machine.Machine.restart.Goals as goal
 
 pub index_mut-core-requires : goal.index_mut-core-requires

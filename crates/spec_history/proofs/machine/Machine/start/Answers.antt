@@ -2,10 +2,10 @@ use Rattle.std.proofs.Common.{rules, ◌<◌, ◌==◌, nat_lt, length, Some, re
 use Rattle.spec_history.specs.declared.entry.What.TheVariants.{Start}
 use Rattle.spec_history.specs.FlatState.{begun}
 use Rattle.spec_history.specs.Machine.{state_of, count_of_cores}
-use Rattle.spec_history.proofs.Legal.{and_true, legal_entry}
-use Rattle.spec_history.proofs.CoreStates.{core_there, idle_state}
-use Rattle.spec_history.proofs.Performed.{becomes}
-use Rattle.spec_history.proofs.Replays.{effect-idle}
+use Rattle.spec_history.proofs.OneEntry.Legal.{and_true, legal_entry}
+use Rattle.spec_history.proofs.CodedCores.CoreStates.{core_there, idle_state}
+use Rattle.spec_history.proofs.CodedCores.Performed.{becomes}
+use Rattle.spec_history.proofs.Replay.Replays.{effect-idle}
 use Rattle.spec_history.proofs.machine.Machine.start.Goals as goal
 
 pub index_mut-core-requires : goal.index_mut-core-requires

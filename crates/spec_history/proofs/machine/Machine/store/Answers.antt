@@ -8,10 +8,10 @@ use Rattle.spec_history.specs.declared.entry.What.TheVariants.{Store}
 use Rattle.spec_history.specs.Effect.{after_store}
 use Rattle.spec_history.specs.Cores.{published_by}
 use Rattle.spec_history.specs.Machine.{state_of}
-use Rattle.spec_history.proofs.Legal.{that_store, next_in_memory}
-use Rattle.spec_history.proofs.Parts.{whole_items}
-use Rattle.spec_history.proofs.Performed.{finds, finds_core, event_now, event_at, published_now, published_still, stores, becomes}
-use Rattle.spec_history.proofs.Replays.{on_core}
+use Rattle.spec_history.proofs.OneEntry.Legal.{that_store, next_in_memory}
+use Rattle.spec_history.proofs.CodedCores.Parts.{whole_items}
+use Rattle.spec_history.proofs.CodedCores.Performed.{finds, finds_core, event_now, event_at, published_now, published_still, stores, becomes}
+use Rattle.spec_history.proofs.Replay.Replays.{on_core}
 use Rattle.spec_history.proofs.machine.Machine.store.Goals as goal
 
 pub index_mut-core-requires : goal.index_mut-core-requires

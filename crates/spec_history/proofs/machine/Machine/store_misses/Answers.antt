@@ -1,9 +1,9 @@
 use Rattle.std.proofs.Common.{◌≡◌, ◌+◌, ◌%◌, ◌<◌, length, sym, ◌∙◌, arith}
 use Rattle.memory_bytes.specs.Maps.{over, stored}
 use Rattle.spec_history.specs.Machine.{count_of_cores, state_of}
-use Rattle.spec_history.proofs.Searches.{one_passes}
+use Rattle.spec_history.proofs.Searches.Tests.{one_passes}
 use Rattle.memory_bytes.proofs.Stores.{storing_start, storing_more, storing_byte}
-use Rattle.spec_history.proofs.Missing.{is_unseen, byte_is, below_start, below_more_bytes, below_all}
+use Rattle.spec_history.proofs.Searches.Missing.{is_unseen, byte_is, below_start, below_more_bytes, below_all}
 use Rattle.spec_history.proofs.machine.Machine.store_misses.Goals as goal
 
 pub loop-i-init : goal.loop-i-init

@@ -1,6 +1,6 @@
 use Rattle.spec_history.specs.Machine.{count_of_cores, state_of}
 use Rattle.memory_bytes.proofs.Stores.{Storing}
-use Rattle.spec_history.proofs.Missing.{Below}
+use Rattle.spec_history.proofs.Searches.Missing.{Below}
 use Rattle.spec_history.proofs.machine.Machine.store_misses.Given as goal
 
 -- the bytes so far would not change unseen, and the rest of the value is to come

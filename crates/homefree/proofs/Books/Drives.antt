@@ -1,0 +1,77 @@
+-- The turns of a list of core numbers, one after another, and the end that they come to.
+use Rattle.std.proofs.Common.{◌≡◌, ◌≢◌, ℕ, ◌+◌, ◌<◌, List, ◌∷◌, length, get_or, drop, Option, Some, None, Result, Ok, Err, option_map, refl, sym, ap, subst, ◌∙◌, arith, add-one, drop-cons}
+use Rattle.std.proofs.Math.Path.{fun_ext}
+use Rattle.std.proofs.lemmas.List.{get_or-replicate, get_or_past}
+use native.Mathlib.Decide.{dec_lt}
+use Rattle.std.proofs.Math.ListN.{replicate, length-replicate}
+use Rattle.rv32_exec.specs.declared.sequential.End.{End}
+use Rattle.rv32_exec.specs.Hart.{HartState}
+use Rattle.spec_history.proofs.Replay.Replays.{replayed}
+use Rattle.violations.specs.View.{StoreView, Waits}
+use Rattle.homefree.specs.declared.answer.Answer.{Answer}
+use Rattle.homefree.specs.declared.answer.Answer.TheVariants.{Go, Again, Left, Over, Stopped}
+use Rattle.homefree.specs.declared.answer.StopCause.{StopCause}
+use Rattle.homefree.specs.declared.fault.TurnFault.{TurnFault}
+use Rattle.homefree.specs.BookView.{BookView}
+use Rattle.homefree.specs.Driven.{Driver, Driven, TurnedWith, EndsOrGoes, IsInOrder, held_after, with_held}
+use Rattle.homefree.specs.Held.{held_at, harts_of, held_by}
+use Rattle.homefree.specs.InStep.{InStep}
+
+-- the end of a book in step is that of the sequential loop, with its memory
+pub in_order : {S : Type 0} (view : S → StoreView) (b : BookView S) (end : End) → (i : InStep view b) → i.state.end ≡ Some end → IsInOrder b.image end (view b.store).committed
+in_order view b end i over =
+    let e = (replayed b.image b.cores b.history i.state i.is_image i.replays).ends end over in record {
+      end_is = e.end_is;
+      holds = record { long = e.holds.long; bytes = λ a. i.agrees.committed a ∙ e.holds.bytes a };
+    }
+
+-- no core has anything in hand at first
+pub none_held : (n k : ℕ) → held_at (replicate n None) k ≡ None
+none_held n k = elim (dec_lt k n) [
+  | yes there ↦ get_or-replicate n k None None there
+  | no past ↦ get_or_past (replicate n None) k None (rw length-replicate (omega (arith, past)))
+]
+
+pub no_harts : (n : ℕ) → harts_of (replicate n None) ≡ (λ _. None)
+no_harts n = fun_ext (λ k. ap (option_map (λ a. a.base)) (none_held n k))
+
+-- the first of the rest
+rest_is : (xs : List ℕ) (i : ℕ) → i < length xs → drop i xs ≡ get_or xs i 0 ∷ drop (i + 1) xs
+rest_is xs i there = rw (add-one, drop-cons xs i 0) refl
+
+module _ {S : Type 0} (view : S → StoreView) (waits : S → Waits) (harts : ℕ → Option HartState) (mid next : Driver S) (xs : List ℕ) (i : ℕ) (there : i < length xs)
+    (P : Result (Option End) TurnFault → Driver S → Type 0)
+    (drives : (result : Result (Option End) TurnFault) (new : Driver S) → Driven view waits harts mid (drop i xs) result new → P result new) where
+  abbrev core : ℕ
+  core = get_or xs i 0
+
+  by_turn : (answer : Result Answer TurnFault) (result : Result (Option End) TurnFault) (new : Driver S) → TurnedWith view waits mid core (harts core) answer next
+      → EndsOrGoes answer (λ r. (new ≡ next) × (result ≡ r)) (λ a. Driven view waits (with_held harts core (held_after a (harts core))) next (drop (i + 1) xs) result new)
+      → P result new
+  by_turn answer result new turned more =
+      drives result new (subst (λ ys. Driven view waits harts mid ys result new) (sym (rest_is xs i there)) (next, answer, turned, more))
+
+  pub ends_over : (answer : Answer) (end : End) → answer ≡ Over end → TurnedWith view waits mid core (harts core) (Ok answer) next → P (Ok (Some end)) next
+  ends_over answer end is turned = by_turn (Ok (Over end)) (Ok (Some end)) next (subst (λ a. TurnedWith view waits mid core (harts core) (Ok a) next) is turned) (refl, refl)
+
+  pub ends_stopped : (answer : Answer) (cause : StopCause) → answer ≡ Stopped cause → TurnedWith view waits mid core (harts core) (Ok answer) next → P (Ok None) next
+  ends_stopped answer cause is turned = by_turn (Ok (Stopped cause)) (Ok None) next (subst (λ a. TurnedWith view waits mid core (harts core) (Ok a) next) is turned) (refl, refl)
+
+  pub ends_fault : (fault : TurnFault) → TurnedWith view waits mid core (harts core) (Err fault) next → P (Err fault) next
+  ends_fault fault turned = by_turn (Err fault) (Err fault) next turned (refl, refl)
+
+  more_by : (answer : Answer) (result : Result (Option End) TurnFault) (new : Driver S) → ((end : End) → answer ≢ Over end) → ((cause : StopCause) → answer ≢ Stopped cause)
+      → Driven view waits (with_held harts core (held_after answer (harts core))) next (drop (i + 1) xs) result new
+      → EndsOrGoes (Ok answer) (λ r. (new ≡ next) × (result ≡ r)) (λ a. Driven view waits (with_held harts core (held_after a (harts core))) next (drop (i + 1) xs) result new)
+  more_by (Go hart) result new going unstopped d = d
+  more_by (Again cause) result new going unstopped d = d
+  more_by Left result new going unstopped d = d
+  more_by (Over end) result new going unstopped d = absurd (going end refl)
+  more_by (Stopped cause) result new going unstopped d = absurd (unstopped cause refl)
+
+  pub goes_on : (answer : Answer) (harts' : ℕ → Option HartState) → ((end : End) → answer ≢ Over end) → ((cause : StopCause) → answer ≢ Stopped cause)
+      → ((k : ℕ) → harts' k ≡ with_held harts core (held_by (Ok answer) (harts core)) k) → TurnedWith view waits mid core (harts core) (Ok answer) next
+      → (result : Result (Option End) TurnFault) (new : Driver S) → Driven view waits harts' next (drop (i + 1) xs) result new → P result new
+  goes_on answer harts' going unstopped same turned result new d =
+      by_turn (Ok answer) result new turned (more_by answer result new going unstopped
+      (subst (λ (h : ℕ → Option HartState). Driven view waits h next (drop (i + 1) xs) result new) (fun_ext same) d))

@@ -1,0 +1,274 @@
+-- What follows from a turn, over the definitions alone: how the history grows, why a core has to come again, and that an end
+-- which a turn answers is that of its history.
+use Rattle.std.proofs.Common.{◌≡◌, ◌≢◌, ◌≤◌, ◌<◌, ℕ, ◌+◌, Bool, true, false, cond, List, [], Option, Some, None, Result, Ok, Err, refl, sym, ap, subst, ◌∙◌, arith, append-nil}
+use Rattle.std.proofs.lemmas.List.Elements.{All-nil}
+use Rattle.rv32_exec.specs.declared.sequential.End.{End}
+use Rattle.rv32_exec.specs.declared.sequential.End.TheVariants.{Exit}
+use Rattle.rv32_exec.specs.Arrival.{Arrival}
+use Rattle.rv32_exec.specs.Hart.{HartState}
+use Rattle.run_ledger.specs.declared.counts.Counts.{Counts}
+use Rattle.spec_history.specs.declared.entry.Entry.{Entry}
+use Rattle.spec_history.specs.FlatState.{CoreState, FlatState, end_at}
+use Rattle.spec_history.specs.Replay.{replay, replay_from}
+use Rattle.spec_history.specs.Laws.{IsKept}
+use Rattle.spec_history.proofs.Replay.Joining.{history_goes_on}
+use Rattle.spec_history.proofs.Replay.Replays.{replayed}
+use Rattle.violations.specs.View.{StoreView, Waits}
+use Rattle.violations.specs.declared.step.WaitCause.{WaitCause}
+use Rattle.violations.specs.declared.step.WaitCause.TheVariants as wait
+use Rattle.homefree.specs.declared.answer.Answer.{Answer}
+use Rattle.homefree.specs.declared.answer.Answer.TheVariants.{Go, Again, Over, Stopped}
+use Rattle.homefree.specs.declared.answer.Cause.{Cause}
+use Rattle.homefree.specs.declared.answer.StopCause.{StopCause}
+use Rattle.homefree.specs.declared.fault.TurnFault.{TurnFault}
+use Rattle.homefree.specs.declared.fault.TurnFault.TheVariants.{HistoryFull}
+use Rattle.homefree.specs.Again.{IsWhy, IfAgain, IsWaitFor}
+use Rattle.homefree.specs.Agrees.{Agrees}
+use Rattle.homefree.specs.BookView.{BookView, IsFull}
+use Rattle.homefree.specs.Grown.{GrowsBy}
+use Rattle.homefree.specs.InStep.{InStep}
+use Rattle.homefree.specs.Turned as turn
+use Rattle.homefree.specs.Turned.{Turn, Outcome, Turned, turn_at, does, wait_at, cause_of, left_or_over}
+use Rattle.homefree.proofs.State.Arms.{Comes}
+use Rattle.homefree.proofs.Books.Turns.{agrees_same, sum_nothing}
+use Rattle.homefree.proofs.Books.Entries.{AllBy, acts_by}
+use Rattle.homefree.proofs.State.Ends as ends
+use Rattle.homefree.proofs.Books.NeverAgain.{never_again}
+
+-- ---- the state of a book
+
+pub one_state : (o : Option FlatState) (s t : FlatState) → o ≡ Some s → o ≡ Some t → s ≡ t
+one_state o s t one two = cc
+
+kept_in : {S : Type 0} (view : S → StoreView) (b : BookView S) (i : InStep view b) (s : FlatState) → replay b.image b.cores b.history ≡ Some s → s.end ≡ None
+    → IsKept b.image b.cores s
+kept_in view b i s replays going = ((replayed b.image b.cores b.history s i.is_image replays).going going).kept
+
+agrees_in : {S : Type 0} (view : S → StoreView) (b : BookView S) (i : InStep view b) (s : FlatState) → replay b.image b.cores b.history ≡ Some s → Agrees s (view b.store)
+agrees_in view b i s replays = subst (λ x. Agrees x (view b.store)) (one_state (replay b.image b.cores b.history) i.state s i.replays replays) i.agrees
+
+-- ---- a core that has to come again
+
+why_by : (P : Cause → Type 0) (answer other : Result Answer TurnFault) → answer ≡ other → IfAgain other P → IfAgain answer P
+why_by P answer other is why = subst (λ a. IfAgain a P) (sym is) why
+
+why_does : (P : Cause → Type 0) (out : Outcome) (entries : List Entry) (answer : Answer) → out ≡ does entries answer → IfAgain (Ok answer) P → IfAgain (Ok out.answer) P
+why_does P out entries answer is why = why_by P (Ok out.answer) (Ok answer) (ap (λ (o : Outcome). Ok o.answer) is) why
+
+left_never : (P : Cause → Type 0) (o : Option End) → IfAgain (Ok (left_or_over o)) P
+left_never P None = tt
+left_never P (Some end) = tt
+
+later_by : (homefree epoch : ℕ) → homefree ≤ epoch → epoch ≢ homefree → homefree < epoch
+later_by homefree epoch from isnt = omega (arith, from, isnt)
+
+waits_for : (t : Turn) (cause : WaitCause) → IsWaitFor t cause → IfAgain (Ok (Again (cause_of cause))) (IsWhy t)
+waits_for t wait.NoWay l = l
+waits_for t wait.OrbFull l = l
+waits_for t wait.OrbBusy l = l
+
+module _ (t : Turn) (v w : StoreView) (out : Outcome) (kept : IsKept t.image t.cores t.state) where
+  follows_why : turn.Follows t v w out → IfAgain (Ok out.answer) (IsWhy t)
+  follows_why (turn.loads l) = why_does (IsWhy t) out _ _ l.out_is tt
+  follows_why (turn.stores l) = why_does (IsWhy t) out _ _ l.out_is tt
+  follows_why (turn.waits l) = why_does (IsWhy t) out _ _ l.out_is (waits_for t l.cause (record {
+    core = l.core;
+    runs = l.comes.is_at.runs;
+    unhurt = l.comes.is_at.unhurt;
+    later = later_by t.state.homefree l.core.epoch (kept.core t.core l.core l.comes.is_at.runs).from l.later;
+    event = subst (λ a. wait_at t.waits t.core a ≡ Some l.cause) (sym l.comes.is_at.event) l.waits;
+  }))
+  follows_why (turn.loads_straight l) = why_does (IsWhy t) out _ _ l.out_is tt
+  follows_why (turn.stores_straight l) = why_does (IsWhy t) out _ _ l.out_is tt
+  follows_why (turn.is_early l) = why_does (IsWhy t) out _ _ l.out_is (record {
+    core = l.core;
+    runs = l.comes.runs;
+    unhurt = l.comes.unhurt;
+    later = later_by t.state.homefree l.core.epoch (kept.core t.core l.core l.comes.runs).from l.later;
+    event = subst (λ a. turn.IsEnd a) (sym l.comes.event) l.ends;
+  })
+  follows_why (turn.commits l) = why_does (IsWhy t) out _ _ l.out_is (left_never (IsWhy t) (end_at t.image (t.state.homefree + 1)))
+  follows_why (turn.exits_loop l) = why_does (IsWhy t) out _ _ l.out_is tt
+  follows_why (turn.faults l) = why_does (IsWhy t) out _ _ l.out_is tt
+
+  acts_why : turn.Acts t v w out → IfAgain (Ok out.answer) (IsWhy t)
+  acts_why (turn.starts l) = why_does (IsWhy t) out _ _ l.out_is tt
+  acts_why (turn.finds_none l) = why_does (IsWhy t) out _ _ l.out_is (record { idle = l.idle; left = l.left })
+  acts_why (turn.restarts l) = why_does (IsWhy t) out _ _ l.out_is tt
+  acts_why (turn.is_told l) = why_does (IsWhy t) out _ _ l.out_is tt
+  acts_why (turn.follows l) = follows_why l
+
+-- ---- an end
+
+abbrev EndsSo : Turn → Outcome → End → Type 0
+EndsSo t out end = (u : FlatState) × (replay_from t.image t.cores t.state out.entries ≡ Some u) × (u.end ≡ Some end)
+
+answer_is : (out other : Outcome) (answer : Answer) → out ≡ other → out.answer ≡ answer → other.answer ≡ answer
+answer_is out other answer same is = sym (ap (λ (o : Outcome). o.answer) same) ∙ is
+
+no_end : (t : Turn) (out : Outcome) (entries : List Entry) (answer : Answer) (end : End) → out ≡ does entries answer → out.answer ≡ Over end → answer ≢ Over end → EndsSo t out end
+no_end t out entries answer end same is isnt = absurd (isnt (answer_is out (does entries answer) (Over end) same is))
+
+go_isnt : (hart : HartState) (end : End) → Go hart ≢ Over end
+go_isnt hart end is = cc
+
+again_isnt : (cause : Cause) (end : End) → Again cause ≢ Over end
+again_isnt cause end is = cc
+
+left_over : (o : Option End) (end : End) → left_or_over o ≡ Over end → o ≡ Some end
+left_over None end is = absurd cc
+left_over (Some e) end is = cc
+
+over_same : (e end : End) → Over e ≡ Over end → e ≡ end
+over_same e end is = cc
+
+-- the entries lead to a state of this end
+ends_so : (t : Turn) (out : Outcome) (entries : List Entry) (answer : Answer) (u : FlatState) (w : StoreView) (end : End) → out ≡ does entries answer
+    → Comes t.image t.cores t.state entries u w → u.end ≡ Some end → EndsSo t out end
+ends_so t out entries answer u w end same comes is =
+    (u, subst (λ (o : Outcome). replay_from t.image t.cores t.state o.entries ≡ Some u) (sym same) comes.replays, is)
+
+exit_end : (b : Bool) (exit end : End) (o : Option End) → b ≡ true → exit ≡ end → cond b (Some exit) o ≡ Some end
+exit_end true exit end o is same = ap Some same
+exit_end false exit end o is same = absurd cc
+
+stay_end : (b : Bool) (exit end : End) (o : Option End) → b ≡ false → o ≡ Some end → cond b (Some exit) o ≡ Some end
+stay_end true exit end o is same = absurd cc
+stay_end false exit end o is same = same
+
+module _ (t : Turn) (v w : StoreView) (out : Outcome) (going : t.state.end ≡ None) (kept : IsKept t.image t.cores t.state) (agrees : Agrees t.state v) (end : End) (over : out.answer ≡ Over end) where
+  commit_ends : turn.IsCommit t v w out → EndsSo t out end
+  commit_ends l =
+      let a = l.comes.is_at in
+      let p = ends.has_published t.image t.cores t.state v t.core l.core going kept agrees a.runs a.unhurt l.between l.hurt l.comes.publishes in
+      let comes = ends.commits t.image t.cores t.state v t.core l.core going kept agrees a.runs a.unhurt l.between l.hurt p l.comes.homefree w a.event l.stays l.store in
+      ends_so t out _ _ _ w end l.out_is comes
+      (stay_end _ _ end _ l.stays (left_over (end_at t.image (t.state.homefree + 1)) end (answer_is out _ (Over end) l.out_is over)))
+
+  exit_ends : turn.IsExit t v w out → EndsSo t out end
+  exit_ends l =
+      let a = l.comes.is_at in
+      let p = ends.has_published t.image t.cores t.state v t.core l.core going kept agrees a.runs a.unhurt l.between l.hurt l.comes.publishes in
+      let comes = ends.exits_loop t.image t.cores t.state t.core l.core going kept a.unhurt l.comes.homefree l.between l.hurt p a.event l.exits l.alone w l.cancelled l.store in
+      ends_so t out _ _ _ w end l.out_is comes
+      (exit_end _ (Exit t.state.homefree) end _ l.exits (ap Exit (sym l.comes.homefree) ∙ over_same (Exit l.core.epoch) end (answer_is out _ (Over end) l.out_is over)))
+
+  fault_ends : turn.IsFault t v w out → EndsSo t out end
+  fault_ends l =
+      let a = l.comes.is_at in
+      let p = ends.has_published t.image t.cores t.state v t.core l.core going kept agrees a.runs a.unhurt w l.hurt l.comes.publishes in
+      let comes = ends.faults t.image t.cores t.state v t.core l.core going kept agrees a.runs a.unhurt w l.hurt p l.comes.homefree l.cause l.pc a.event in
+      ends_so t out _ _ _ w end l.out_is comes (ap Some (over_same _ end (answer_is out _ (Over end) l.out_is over)))
+
+  follows_ends : turn.Follows t v w out → EndsSo t out end
+  follows_ends (turn.loads l) = no_end t out _ _ end l.out_is over (go_isnt _ end)
+  follows_ends (turn.stores l) = no_end t out _ _ end l.out_is over (go_isnt _ end)
+  follows_ends (turn.waits l) = no_end t out _ _ end l.out_is over (again_isnt _ end)
+  follows_ends (turn.loads_straight l) = no_end t out _ _ end l.out_is over (go_isnt _ end)
+  follows_ends (turn.stores_straight l) = no_end t out _ _ end l.out_is over (go_isnt _ end)
+  follows_ends (turn.is_early l) = no_end t out _ _ end l.out_is over (again_isnt _ end)
+  follows_ends (turn.commits l) = commit_ends l
+  follows_ends (turn.exits_loop l) = exit_ends l
+  follows_ends (turn.faults l) = fault_ends l
+
+  acts_ends : turn.Acts t v w out → EndsSo t out end
+  acts_ends (turn.starts l) = no_end t out _ _ end l.out_is over (go_isnt _ end)
+  acts_ends (turn.finds_none l) = no_end t out _ _ end l.out_is over (again_isnt _ end)
+  acts_ends (turn.restarts l) = no_end t out _ _ end l.out_is over (go_isnt _ end)
+  acts_ends (turn.is_told l) = no_end t out _ _ end l.out_is over (go_isnt _ end)
+  acts_ends (turn.follows l) = follows_ends l
+
+-- ---- a turn of a book
+
+ok_over : (answer : Result Answer TurnFault) (other : Answer) (end : End) → answer ≡ Ok other → answer ≡ Ok (Over end) → other ≡ Over end
+ok_over answer other end is over = cc
+
+ok_stopped : (answer : Result Answer TurnFault) (cause : StopCause) (end : End) → answer ≡ Ok (Stopped cause) → answer ≡ Ok (Over end) → ⊥
+ok_stopped answer cause end is over = cc
+
+err_over : (answer : Result Answer TurnFault) (fault : TurnFault) (end : End) → answer ≡ Err fault → answer ≡ Ok (Over end) → ⊥
+err_over answer fault end is over = cc
+
+module _ {S : Type 0} (view : S → StoreView) (waits : S → Waits) (old new : BookView S) (s : FlatState) (shares shares' : Counts) (core : ℕ) (next : Option Arrival) (answer : Result Answer TurnFault)
+    (replays : replay old.image old.cores old.history ≡ Some s) where
+  abbrev here : Turn
+  here = turn_at waits old s core next
+
+  same_grows : new ≡ old → shares' ≡ shares → GrowsBy core old new shares shares'
+  same_grows same held = subst (λ b. GrowsBy core old b shares shares') (sym same) (subst (λ c. GrowsBy core old old shares c) (sym held) (record {
+    image = refl;
+    cores = refl;
+    room = refl;
+    stopped = refl;
+    entries = [];
+    history = sym (append-nil old.history);
+    by = All-nil (λ (e : Entry). e.by ≡ core);
+    totals = sum_nothing old.totals;
+    held = sum_nothing shares;
+  }))
+
+  grown : (entries : List Entry) → turn.Grows old new shares shares' entries → AllBy core entries → GrowsBy core old new shares shares'
+  grown entries g by = record {
+    image = g.image;
+    cores = g.cores;
+    room = g.room;
+    stopped = g.stopped;
+    entries = entries;
+    history = g.history;
+    by = by;
+    totals = g.totals;
+    held = g.held;
+  }
+
+  pub turn_grows : Turned view waits old s shares core next answer new shares' → GrowsBy core old new shares shares'
+  turn_grows (turn.over o same held) = same_grows same held
+  turn_grows (turn.stopped o same held) = same_grows same held
+  turn_grows (turn.full o same held) = same_grows same held
+  turn_grows (turn.no_memory may same grows is) = grown [] grows (All-nil (λ (e : Entry). e.by ≡ core))
+  turn_grows (turn.acts a) = grown a.out.entries a.grows (acts_by here a.reserved (view new.store) a.out a.acts)
+
+  pub turn_why : InStep view old → Turned view waits old s shares core next answer new shares' → IfAgain answer (IsWhy here)
+  turn_why i (turn.over o same held) = why_by (IsWhy here) answer _ o.answer_is tt
+  turn_why i (turn.stopped o same held) = why_by (IsWhy here) answer _ o.answer_is tt
+  turn_why i (turn.full o same held) = why_by (IsWhy here) answer _ o.answer_is tt
+  turn_why i (turn.no_memory may same grows is) = why_by (IsWhy here) answer _ is tt
+  turn_why i (turn.acts a) = why_by (IsWhy here) answer _ a.answer_is
+      (acts_why here a.reserved (view new.store) a.out (kept_in view old i s replays a.may.going) a.acts)
+
+  pub turn_never_again : (c : CoreState) (cause : Cause) → s.cores core ≡ Some c → c.epoch ≡ s.homefree → Turned view waits old s shares core next answer new shares' → answer ≢ Ok (Again cause)
+  turn_never_again c cause at home (turn.over o same held) is = let e = o.answer_is in cc
+  turn_never_again c cause at home (turn.stopped o same held) is = let e = o.answer_is in cc
+  turn_never_again c cause at home (turn.full o same held) is = let e = o.answer_is in cc
+  turn_never_again c cause at home (turn.no_memory may same grows e) is = cc
+  turn_never_again c cause at home (turn.acts a) is = let e = a.answer_is in
+      never_again here a.reserved (view new.store) a.out c cause at home a.acts (ok_again answer a.out.answer cause e is)
+    where
+      ok_again : (answer : Result Answer TurnFault) (other : Answer) (cause : Cause) → answer ≡ Ok other → answer ≡ Ok (Again cause) → other ≡ Again cause
+      ok_again answer other cause is again = cc
+
+  -- where the history led to a state of this end, it still does
+  same_end : (end : End) → new ≡ old → s.end ≡ Some end → (u : FlatState) → replay new.image new.cores new.history ≡ Some u → u.end ≡ Some end
+  same_end end same is = subst (λ b. (u : FlatState) → replay b.image b.cores b.history ≡ Some u → u.end ≡ Some end) (sym same)
+      (λ u leads. ap (λ (x : FlatState). x.end) (one_state (replay old.image old.cores old.history) u s leads replays) ∙ is)
+
+  pub turn_ends : InStep view old → Turned view waits old s shares core next answer new shares' → (end : End) → answer ≡ Ok (Over end)
+      → (u : FlatState) → replay new.image new.cores new.history ≡ Some u → u.end ≡ Some end
+  turn_ends i (turn.over o same held) end is u leads = same_end o.end same o.over u leads ∙ ap Some (over_same o.end end (ok_over answer (Over o.end) end o.answer_is is))
+  turn_ends i (turn.stopped o same held) end is u leads = absurd (ok_stopped answer o.cause end o.answer_is is)
+  turn_ends i (turn.full o same held) end is u leads = absurd (err_over answer _ end o.answer_is is)
+  turn_ends i (turn.no_memory may same grows refused) end is u leads = absurd (err_over answer _ end refused is)
+  turn_ends i (turn.acts a) end is u leads =
+      let going = a.may.going in
+      let agrees = agrees_same s (view old.store) a.reserved (agrees_in view old i s replays) a.same in
+      let ended = acts_ends here a.reserved (view new.store) a.out going (kept_in view old i s replays going) agrees end (ok_over answer a.out.answer end a.answer_is is) a.acts in
+      let goes : replay new.image new.cores new.history ≡ Some ended.0 = rw (a.grows.image, a.grows.cores, a.grows.history)
+      (history_goes_on old.image old.cores old.history a.out.entries s ended.0 replays ended.1) in
+      ap (λ (x : FlatState). x.end) (one_state (replay new.image new.cores new.history) u ended.0 leads goes) ∙ ended.2
+
+  -- a history that is said to be full is
+  pub turn_full : Turned view waits old s shares core next answer new shares' → answer ≡ Err HistoryFull → IsFull new
+  turn_full (turn.over o same held) is = let e = o.answer_is in absurd cc
+  turn_full (turn.stopped o same held) is = let e = o.answer_is in absurd cc
+  turn_full (turn.full o same held) is = subst (λ b. IsFull b) (sym same) o.full
+  turn_full (turn.no_memory may same grows e) is = absurd cc
+  turn_full (turn.acts a) is = let e = a.answer_is in absurd cc

@@ -1,0 +1,225 @@
+-- What the rule of the store says of a violation, in the words of the report: its kind is known.
+use Rattle.std.proofs.Common.{◌≡◌, ◌≢◌, ℕ, zero, suc, ◌+◌, ◌*◌, ◌/◌, ◌%◌, ◌<◌, ◌≤◌, ◌==◌, ◌&&◌, ◌||◌, not, Bool, true, false, nat_lt, is_some, List, [], ◌∷◌, length, All, if◌then◌else◌, refl, sym, ap, subst, ◌∙◌, inl, inr, arith, eq-eqb, ne_eqb, lt-ltb, le-leb}
+use Rattle.std.specs.List.{list_any}
+use Rattle.std.proofs.lemmas.Bool.{cases_eq}
+use Rattle.std.proofs.lemmas.List.Elements.{All-nil, All-cons, All-head, All-tail, All-weaker}
+use Rattle.rv32_image.specs.Image.{LoadedImage}
+use Rattle.rv32_image.specs.Version.{limits_of}
+use Rattle.rv32_image.specs.declared.version.Version.{Version}
+use Rattle.rv32_image.specs.declared.version.Version.TheVariants.{One, Two}
+use Rattle.spec_history.specs.declared.entry.What.{What}
+use Rattle.spec_history.specs.declared.entry.What.TheVariants.{Load, Store}
+use Rattle.spec_history.specs.FlatState.{CoreState}
+use Rattle.spec_history.proofs.Searches.Tests.{one_passes}
+use Rattle.spec_history.specs.Refusal.{any_below}
+use Rattle.spec_history.specs.declared.kind.Kind.TheVariants.{TrueSharing, SilentStore, FalseSharing, FullBuffer, Unexplained}
+use Rattle.spec_history.specs.Conflict.{Meeting, kind_with, is_changed, is_shared, is_beside, is_crowded, is_full_at, holds_line, line_has}
+use Rattle.spec_history.specs.Conflict as conflict
+use Rattle.spec_history.specs.Searches.{count_below}
+use Rattle.violations.specs.View.{Shape, StoreView}
+use Rattle.violations.specs.View as view
+use Rattle.violations.specs.Rule.{OwnsIn, AreApart, IsCrowded, shape_of}
+use Rattle.homefree.specs.Agrees.{HasReadIn}
+
+abbrev pub line_length : LoadedImage → ℕ
+line_length image = (limits_of image.version).line_length
+
+-- ---- a kind
+
+by_tests : (a b c d : Bool) → (c || d) ≡ true → (if a then TrueSharing else if b then SilentStore else if c then FalseSharing else if d then FullBuffer else Unexplained) ≢ Unexplained
+by_tests true b c d is same = cc
+by_tests false true c d is same = cc
+by_tests false false true d is same = cc
+by_tests false false false true is same = cc
+by_tests false false false false is same = cc
+
+kind_is : (image : LoadedImage) (m : Meeting) (cause : What) → (any_below image.size (is_beside image m) || is_crowded image m cause) ≡ true → kind_with image m cause ≢ Unexplained
+kind_is image m cause is =
+    by_tests (any_below image.size (is_changed m)) (any_below image.size (is_shared m)) (any_below image.size (is_beside image m)) (is_crowded image m cause) is
+
+and_both : (a b : Bool) → a ≡ true → b ≡ true → (a && b) ≡ true
+and_both a b x y = rw (x, y) refl
+
+or_first : (a b : Bool) → a ≡ true → (a || b) ≡ true
+or_first a b is = rw is refl
+
+or_second : (a b : Bool) → b ≡ true → (a || b) ≡ true
+or_second true b is = refl
+or_second false b is = is
+
+-- ---- lines
+
+-- the byte stands at its place in the line of another byte that lies there
+in_line : (v : Version) (a b : ℕ) → b / (limits_of v).line_length ≡ a / (limits_of v).line_length
+    → b / (limits_of v).line_length * (limits_of v).line_length + a % (limits_of v).line_length ≡ a
+in_line One a b same = omega (arith, same)
+in_line Two a b same = omega (arith, same)
+
+place_below : (v : Version) (a : ℕ) → a % (limits_of v).line_length < (limits_of v).line_length
+place_below One a = omega arith
+place_below Two a = omega arith
+
+-- lines by their first bytes, and by their numbers
+same_number : (v : Version) (a b : ℕ) → (limits_of v).line_length * (a / (limits_of v).line_length) ≡ (limits_of v).line_length * (b / (limits_of v).line_length)
+    → a / (limits_of v).line_length ≡ b / (limits_of v).line_length
+same_number One a b same = omega (arith, same)
+same_number Two a b same = omega (arith, same)
+
+number_below : (v : Version) (a size : ℕ) → a < size → size % (limits_of v).line_length ≡ 0 → a / (limits_of v).line_length < size / (limits_of v).line_length
+number_below One a size below whole = omega (arith, below, whole)
+number_below Two a size below whole = omega (arith, below, whole)
+
+line_below : (v : Version) (a b size : ℕ) → a / (limits_of v).line_length ≡ b / (limits_of v).line_length → a < size → size % (limits_of v).line_length ≡ 0 → b < size
+line_below One a b size same below whole = omega (arith, same, below, whole)
+line_below Two a b size same below whole = omega (arith, same, below, whole)
+
+-- a line of which a byte passes
+has_byte : (image : LoadedImage) (line a : ℕ) (test : ℕ → Bool) → line ≡ a / line_length image → test a ≡ true → line_has image line test ≡ true
+has_byte image line a test at passes =
+    one_passes (line_length image) (λ x. test (line * line_length image + x)) (a % line_length image) (place_below image.version a)
+    (ap test (ap (λ n. n * line_length image + a % line_length image) at ∙ in_line image.version a a refl) ∙ passes)
+
+line_in : (image : LoadedImage) (count : ℕ) (shape : Shape) (a b : ℕ) → shape ≡ shape_of image count → view.line_of shape a ≡ view.line_of shape b
+    → a / line_length image ≡ b / line_length image
+line_in image count shape a b is same =
+    same_number image.version a b (ap (λ (s : Shape). view.line_of s a) (sym is) ∙ (same ∙ ap (λ (s : Shape). view.line_of s b) is))
+
+-- ---- bytes that meet in a line
+
+pub is_met : (image : LoadedImage) (count : ℕ) (shape : Shape) (m : Meeting) (cause : What) (c : CoreState) (a : ℕ) → shape ≡ shape_of image count
+    → ((x : ℕ) → m.reads x ≡ c.outside x) → ((x : ℕ) → is_some (c.outside x) ≡ true → x < image.size) → is_some (m.writes a) ≡ true → HasReadIn shape c a
+    → kind_with image m cause ≢ Unexplained
+is_met image count shape m cause c a is reads within written read =
+    kind_is image m cause (or_first _ (is_crowded image m cause)
+    (one_passes image.size (is_beside image m) read.at (within read.at read.read)
+    (and_both (is_some (m.reads read.at)) _ (ap (λ o. is_some o) (reads read.at) ∙ read.read)
+    (has_byte image (conflict.line_of image read.at) a (λ b. is_some (m.writes b)) (line_in image count shape read.at a is read.in_line) written))))
+
+-- ---- numbers that pass, counted
+
+counts_same : (n : ℕ) (f g : ℕ → Bool) → ((k : ℕ) → k < n → f k ≡ g k) → count_below n f ≡ count_below n g
+unfolding count_below
+counts_same zero f g same = refl
+counts_same (suc n) f g same = rw (counts_same n f g (λ k below. same k (omega (arith, below))), same n (omega arith)) refl
+
+abbrev but : (ℕ → Bool) → ℕ → ℕ → Bool
+but test i j = not (j == i) && test j
+
+unless_this : (test : ℕ → Bool) (i j : ℕ) → j ≢ i → but test i j ≡ test j
+unless_this test i j other = rw (ne_eqb j i other) refl
+
+not_this : (test : ℕ → Bool) (i : ℕ) → but test i i ≡ false
+not_this test i = rw (eq-eqb i i refl) refl
+
+-- without one that passes there is one fewer
+one_fewer : (n : ℕ) (test : ℕ → Bool) (i : ℕ) → i < n → test i ≡ true → count_below n test ≡ count_below n (but test i) + 1
+unfolding count_below
+one_fewer zero test i below passes = absurd (omega (arith, below))
+one_fewer (suc n) test i below passes = elim (cases_eq i n) [
+  | inl e ↦
+      (let others : count_below n test ≡ count_below n (but test n) = counts_same n test (but test n) (λ k low. sym (unless_this test n k (λ same. absurd (omega (arith, same, low))))) in
+      rw (e, others, not_this test n, sym (ap test e) ∙ passes) (omega arith))
+  | inr other ↦
+      (let rest = one_fewer n test i (omega (arith, below, other)) passes in
+      rw (rest, unless_this test i n (λ same. other (sym same))) (last (count_below n (but test i)) (if test n then 1 else 0)))
+]
+  where
+    last : (m k : ℕ) → m + 1 + k ≡ m + k + 1
+    last m k = omega arith
+
+-- the line is that of a number below n that passes
+record IsOf (length n : ℕ) (test : ℕ → Bool) (line : ℕ) : Type 0 where
+  pub number : ℕ
+  pub is : line ≡ length * number
+  pub below : number < n
+  pub passes : test number ≡ true
+
+first_other : (line other : ℕ) (b : Bool) → ((other == line) || b) ≡ false → (other ≢ line) × (b ≡ false)
+first_other line other true is = absurd (let x : ⊥ = cases (other == line) is in x)
+  where
+    cases : (c : Bool) → (c || true) ≡ false → ⊥
+    cases true e = cc
+    cases false e = cc
+first_other line other false is = (λ same. clash (other == line) is (eq-eqb other line same), refl)
+  where
+    clash : (c : Bool) → (c || false) ≡ false → c ≡ true → ⊥
+    clash true e f = cc
+    clash false e f = cc
+
+still_of : (length n : ℕ) (test : ℕ → Bool) (line i : ℕ) (lines : List ℕ) → line ≡ length * i → list_any (λ other. other == line) lines ≡ false
+    → All (IsOf length n test) lines → All (IsOf length n (but test i)) lines
+still_of length n test line i [] is apart all = All-nil (IsOf length n (but test i))
+still_of length n test line i (x ∷ xs) is apart all =
+    let two = first_other line x (list_any (λ other. other == line) xs) apart in
+    let one = All-head (IsOf length n test) x xs all in
+    All-cons (IsOf length n (but test i)) x xs
+    (record {
+      number = one.number;
+      is = one.is;
+      below = one.below;
+      passes = unless_this test i one.number (λ same. two.0 (one.is ∙ (ap (λ k. length * k) same ∙ sym is))) ∙ one.passes;
+    })
+    (still_of length n test line i xs is two.1 (All-tail (IsOf length n test) x xs all))
+
+-- lines apart are no more than the numbers that pass
+at_most : (long n : ℕ) (lines : List ℕ) (test : ℕ → Bool) → AreApart lines → All (IsOf long n test) lines → length lines ≤ count_below n test
+at_most long n [] test apart all = omega arith
+at_most long n (line ∷ lines) test apart all =
+    let one = All-head (IsOf long n test) line lines all in
+    let rest = at_most long n lines (but test one.number) apart.1
+    (still_of long n test line one.number lines one.is apart.0 (All-tail (IsOf long n test) line lines all)) in
+    let fewer = one_fewer n test one.number one.below one.passes in
+    omega (arith, rest, fewer)
+
+-- ---- a full buffer
+
+module _ (image : LoadedImage) (count : ℕ) (v : StoreView) (m : Meeting) (c : CoreState) (k address : ℕ) (shape : v.shape ≡ shape_of image count)
+    (whole : image.size % line_length image ≡ 0) (stores : (x : ℕ) → m.stores x ≡ c.own x) (own : (x : ℕ) → v.own k x ≡ is_some (c.own x)) where
+  holds_at : (a : ℕ) → v.own k a ≡ true → holds_line image m (a / line_length image) ≡ true
+  holds_at a owned = has_byte image (a / line_length image) a (λ b. is_some (m.stores b)) refl (ap (λ o. is_some o) (stores a) ∙ (sym (own a) ∙ owned))
+
+  first_byte : (line a : ℕ) → view.line_of v.shape a ≡ line → line ≡ line_length image * (a / line_length image)
+  first_byte line a is = sym is ∙ ap (λ (s : Shape). view.line_of s a) shape
+
+  below_size : (a : ℕ) → a < v.shape.size → a < image.size
+  below_size a below = subst (λ n. a < n) (ap (λ (s : Shape). s.size) shape) below
+
+  abbrev holds_other : ℕ → Bool
+  holds_other other = not (other == conflict.line_of image address) && holds_line image m other
+
+  is_other : (line : ℕ) → (line ≢ view.line_of v.shape address) × OwnsIn v k line → IsOf (line_length image) (image.size / line_length image) holds_other line
+  is_other line two =
+      let o = two.1 in record {
+        number = o.at / line_length image;
+        is = first_byte line o.at o.in_line;
+        below = number_below image.version o.at image.size (below_size o.at o.within) whole;
+        passes = and_both (not (o.at / line_length image == conflict.line_of image address)) _
+            (ap not (ne_eqb (o.at / line_length image) (conflict.line_of image address) (λ same. two.0
+            (first_byte line o.at o.in_line ∙ (ap (λ n. line_length image * n) same ∙ sym (ap (λ (s : Shape). view.line_of s address) shape))))))
+            (holds_at o.at o.owned);
+      }
+
+  is_full : IsCrowded v k address → is_full_at image m (conflict.line_of image address) ≡ true
+  is_full crowded =
+      let here = crowded.here in
+      let same = line_in image count v.shape here.at address shape here.in_line in
+      let all = All-weaker (λ line. (line ≢ view.line_of v.shape address) × OwnsIn v k line) (IsOf (line_length image) (image.size / line_length image) holds_other) is_other crowded.others crowded.each in
+      let many = at_most (line_length image) (image.size / line_length image) crowded.others holds_other crowded.apart all in
+      let full = crowded.full in
+      let limit : v.shape.limits.buffer_lines ≡ (limits_of image.version).buffer_lines = ap (λ (s : Shape). s.limits.buffer_lines) shape in
+      and_both (holds_line image m (conflict.line_of image address)) _ (ap (holds_line image m) (sym same) ∙ holds_at here.at here.owned)
+      (le-leb (limits_of image.version).buffer_lines (count_below (image.size / line_length image) holds_other) (omega (arith, many, full, limit)))
+
+  -- it lies in memory, as the byte that is owned there
+  below_it : IsCrowded v k address → nat_lt address image.size ≡ true
+  below_it crowded =
+      let here = crowded.here in
+      lt-ltb address image.size (line_below image.version here.at address image.size (line_in image count v.shape here.at address shape here.in_line) (below_size here.at here.within) whole)
+
+  pub load_crowded : (width value : ℕ) → IsCrowded v k address → kind_with image m (Load address width value) ≢ Unexplained
+  load_crowded width value crowded =
+      kind_is image m (Load address width value) (or_second (any_below image.size (is_beside image m)) _ (and_both (nat_lt address image.size) _ (below_it crowded) (is_full crowded)))
+
+  pub store_crowded : (width value : ℕ) → IsCrowded v k address → kind_with image m (Store address width value) ≢ Unexplained
+  store_crowded width value crowded =
+      kind_is image m (Store address width value) (or_second (any_below image.size (is_beside image m)) _ (and_both (nat_lt address image.size) _ (below_it crowded) (is_full crowded)))

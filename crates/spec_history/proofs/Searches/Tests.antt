@@ -1,0 +1,61 @@
+-- Tests below a number, from what a loop has found, and what a search from the front finds.
+use Rattle.std.proofs.Common.{◌≡◌, ℕ, zero, suc, ◌+◌, ◌<◌, ◌&&◌, ◌||◌, Bool, true, false, Some, None, refl, sym, ap, ◌∙◌, inl, inr, arith, add-one}
+use Rattle.std.proofs.lemmas.Bool.{cases_eq}
+use Rattle.spec_history.specs.Refusal.{any_below}
+use Rattle.spec_history.specs.Searches.{first_below, count_below}
+
+pub all_fail : (n : ℕ) (test : ℕ → Bool) → ((k : ℕ) → k < n → test k ≡ false) → any_below n test ≡ false
+unfolding any_below
+all_fail zero test none = refl
+all_fail (suc n) test none = rw (none n (omega arith), all_fail n test (λ k below. none k (omega arith))) refl
+
+or_right : (a : Bool) → (a || true) ≡ true
+or_right true = refl
+or_right false = refl
+
+pub one_passes : (n : ℕ) (test : ℕ → Bool) (k : ℕ) → k < n → test k ≡ true → any_below n test ≡ true
+unfolding any_below
+one_passes zero test k below passes = absurd (omega arith)
+one_passes (suc n) test k below passes = elim (cases_eq k n) [
+  | inl e ↦ rw (sym (ap test e) ∙ passes) refl
+  | inr other ↦ rw (one_passes n test k (omega arith) passes) (or_right (test n))
+]
+
+-- ---- a search from the front
+
+pub first_none : (n : ℕ) (test : ℕ → Bool) → ((k : ℕ) → k < n → test k ≡ false) → first_below n test ≡ None
+unfolding first_below
+first_none zero test none = refl
+first_none (suc n) test none = rw (first_none n test (λ k below. none k (omega arith)), none n (omega arith)) refl
+
+pub first_at : (n : ℕ) (test : ℕ → Bool) (k : ℕ) → k < n → test k ≡ true → ((j : ℕ) → j < k → test j ≡ false) → first_below n test ≡ Some k
+unfolding first_below
+first_at zero test k below passes none = absurd (omega arith)
+first_at (suc n) test k below passes none = elim (cases_eq k n) [
+  | inl e ↦ rw (first_none n test (λ j before. none j (omega (arith, e))), sym (ap test e) ∙ passes) (ap Some (sym e))
+  | inr other ↦ rw (first_at n test k (omega arith) passes none) refl
+]
+
+pub and_no : (b : Bool) → (b && false) ≡ false
+and_no true = refl
+and_no false = refl
+
+-- ---- a count that goes on
+
+counted : (n : ℕ) (test : ℕ → Bool) → test n ≡ true → count_below (suc n) test ≡ count_below n test + 1
+unfolding count_below
+counted n test passes = rw passes refl
+
+passed_over : (n : ℕ) (test : ℕ → Bool) → test n ≡ false → count_below (suc n) test ≡ count_below n test + 0
+unfolding count_below
+passed_over n test fails = rw fails refl
+
+pub count_none : (test : ℕ → Bool) → 0 ≡ count_below 0 test
+unfolding count_below
+count_none test = refl
+
+pub count_one : (n count : ℕ) (test : ℕ → Bool) → count ≡ count_below n test → test n ≡ true → count + 1 ≡ count_below (n + 1) test
+count_one n count test is passes = ap (λ k. k + 1) is ∙ sym (ap (λ k. count_below k test) (add-one n) ∙ counted n test passes)
+
+pub count_other : (n count : ℕ) (test : ℕ → Bool) → count ≡ count_below n test → test n ≡ false → count ≡ count_below (n + 1) test
+count_other n count test is fails = is ∙ sym (ap (λ k. count_below k test) (add-one n) ∙ (passed_over n test fails ∙ (omega arith)))
