@@ -4,13 +4,13 @@ use Rattle.memory_bytes.specs.Shadow.{ShadowView, byte_in}
 use Rattle.rv32_image.specs.Image.{LoadedImage}
 use Rattle.rv32_exec.specs.NextEvent.{next_event}
 use Rattle.rv32_exec.specs.Arrival.{Arrival}
-use Rattle.spec_history.specs.declared.cores.Attempt.{Attempt}
+use Rattle.spec_history.specs.declared.cores.FlatAttempt.{FlatAttempt}
 use Rattle.spec_history.specs.declared.cores.Core.{Core}
 use Rattle.spec_history.specs.declared.entry.What.{What}
 use Rattle.spec_history.specs.declared.entry.What.TheVariants.{Load, Store}
 use Rattle.spec_history.specs.FlatState.{CoreState}
 
-abbrev pub core_with : List (Option ℕ) → List (Option ℕ) → Attempt → CoreState
+abbrev pub core_with : List (Option ℕ) → List (Option ℕ) → FlatAttempt → CoreState
 core_with own outside t = record {
   epoch = t.epoch;
   hart = t.next.base;
@@ -32,7 +32,7 @@ pub record IsNext (image : LoadedImage) (a : Arrival) : Type 0 where
 pub record IsCoreOf (image : LoadedImage) (core : Core) : Type 0 where
   pub own : length core.own.cells ≤ image.size
   pub outside : length core.outside.cells ≤ image.size
-  pub next : (t : Attempt) → core.attempt ≡ Some t → IsNext image t.next
+  pub next : (t : FlatAttempt) → core.attempt ≡ Some t → IsNext image t.next
 
 -- the bytes of an access can be noted without taking memory
 pub record HasRoomFor (address width : ℕ) (bytes : ShadowView) : Type 0 where

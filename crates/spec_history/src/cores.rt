@@ -18,7 +18,7 @@ use std::alloc::Global;
 /// What a core runs: an epoch, its next event with the hart at its last one, whether it has published, and whether it was
 /// violated.
 #[derive(Clone, Copy)]
-pub(crate) struct Attempt {
+pub(crate) struct FlatAttempt {
     pub epoch: u32,
     pub next: Arrived,
     pub straight: bool,
@@ -28,7 +28,7 @@ pub(crate) struct Attempt {
 /// A core: what it runs, the bytes that it has stored and not committed, and those that it has read from outside.
 #[derive(Drop)]
 pub(crate) struct Core {
-    pub attempt: Option<Attempt>,
+    pub attempt: Option<FlatAttempt>,
     pub own: ShadowBytes,
     pub outside: ShadowBytes,
 }
@@ -47,7 +47,7 @@ impl Core {
     }
 
     /// What it runs.
-    pub(crate) fn attempt(&self) -> &Attempt
+    pub(crate) fn attempt(&self) -> &FlatAttempt
         requires { IsSome self.now.attempt }
         ensures { self.now.attempt ≡ Some result.now }
     {
@@ -276,7 +276,7 @@ impl Core {
         ensures fit { spec.IsCoreOf image.now self.old → spec.IsCoreOf image.now self.new }
     {
         self.forget();
-        self.attempt = Some(Attempt {
+        self.attempt = Some(FlatAttempt {
             epoch,
             next: advance(image, start(image, epoch)),
             straight: false,
@@ -293,11 +293,11 @@ impl Core {
         width: u32,
         value: u32,
     )
-        requires at { (t : Attempt) → self.old.attempt ≡ Some t → IsAtLoad t.next.at value }
+        requires at { (t : FlatAttempt) → self.old.attempt ≡ Some t → IsAtLoad t.next.at value }
         requires small { addr + width < 2 ^ 32 }
         requires committed { addr + width ≤ length committed.now }
         requires room { spec.HasRoomFor addr width self.old.outside }
-        ensures core { (t : Attempt) → self.old.attempt ≡ Some t
+        ensures core { (t : FlatAttempt) → self.old.attempt ≡ Some t
             → spec.core_of self.new ≡ option_map (effect.after_load (λ a. slice_index committed.now a) addr width (after_loading t.next value)) (spec.core_of self.old) }
         ensures fit { spec.IsCoreOf image.now self.old → spec.IsCoreOf image.now self.new }
     {
@@ -311,10 +311,10 @@ impl Core {
 
     /// Makes the store at which its epoch stopped, and goes on.
     pub(crate) fn store(&mut self, image: &Image, addr: u32, width: u32, value: u32)
-        requires at { (t : Attempt) → self.old.attempt ≡ Some t → IsAtStore t.next.at }
+        requires at { (t : FlatAttempt) → self.old.attempt ≡ Some t → IsAtStore t.next.at }
         requires small { addr + width < 2 ^ 32 }
         requires room { spec.HasRoomFor addr width self.old.own }
-        ensures core { (t : Attempt) → self.old.attempt ≡ Some t
+        ensures core { (t : FlatAttempt) → self.old.attempt ≡ Some t
             → spec.core_of self.new ≡ option_map (effect.after_store addr width value (stepped t.next.now)) (spec.core_of self.old) }
         ensures fit { spec.IsCoreOf image.now self.old → spec.IsCoreOf image.now self.new }
     {

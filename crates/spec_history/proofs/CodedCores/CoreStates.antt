@@ -3,7 +3,7 @@ use Rattle.std.proofs.Common.{◌≡◌, ℕ, ◌+◌, ◌<◌, Bool, true, fals
 use Rattle.std.proofs.lemmas.Bool.{cases_eq}
 use Rattle.std.proofs.lemmas.Option.{slice_get_read}
 use Rattle.memory_bytes.specs.Shadow.{byte_in}
-use Rattle.spec_history.specs.declared.cores.Attempt.{Attempt}
+use Rattle.spec_history.specs.declared.cores.FlatAttempt.{FlatAttempt}
 use Rattle.spec_history.specs.declared.cores.Core.{Core}
 use Rattle.spec_history.specs.FlatState.{CoreState}
 use Rattle.spec_history.specs.Cores.{core_of, core_with}
@@ -34,14 +34,14 @@ running_state (Some c) is = (c, refl)
 same_value : (c d : CoreState) → Some c ≡ Some d → c ≡ d
 same_value c d is = cc
 
-by_attempt : (own outside : List (Option ℕ)) (attempt : Option Attempt) (c : CoreState) → option_map (core_with own outside) attempt ≡ Some c
-    → (t : Attempt) × (attempt ≡ Some t) × (core_with own outside t ≡ c)
+by_attempt : (own outside : List (Option ℕ)) (attempt : Option FlatAttempt) (c : CoreState) → option_map (core_with own outside) attempt ≡ Some c
+    → (t : FlatAttempt) × (attempt ≡ Some t) × (core_with own outside t ≡ c)
 by_attempt own outside None c is = absurd cc
 by_attempt own outside (Some t) c is = (t, refl, same_value (core_with own outside t) c is)
 
 -- a core that runs has an attempt
 pub attempt_of : (core : Core) (c : CoreState) → core_of core ≡ Some c
-    → (t : Attempt) × (core.attempt ≡ Some t) × (core_with core.own.cells core.outside.cells t ≡ c)
+    → (t : FlatAttempt) × (core.attempt ≡ Some t) × (core_with core.own.cells core.outside.cells t ≡ c)
 attempt_of core c is = by_attempt core.own.cells core.outside.cells core.attempt c is
 
 -- the own bytes of a core state are those that its core keeps

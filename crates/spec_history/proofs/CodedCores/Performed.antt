@@ -11,7 +11,7 @@ use Rattle.rv32_exec.specs.Arrival.{after_number}
 use Rattle.memory_bytes.specs.Maps.{over, stored}
 use Rattle.spec_history.specs.declared.entry.What.{What}
 use Rattle.spec_history.specs.declared.entry.What.TheVariants.{Start, Load, Store, Hurt, Cancel, Restart, Publish, Commit, Fault}
-use Rattle.spec_history.specs.declared.cores.Attempt.{Attempt}
+use Rattle.spec_history.specs.declared.cores.FlatAttempt.{FlatAttempt}
 use Rattle.spec_history.specs.declared.cores.Core.{Core}
 use Rattle.spec_history.specs.declared.machine.Machine.{Machine}
 use Rattle.spec_history.specs.FlatState.{CoreState, FlatState, end_at}
@@ -74,7 +74,7 @@ pub record FindsCore (m : Machine) (by : ℕ) (what : What) (core : Core) : Type
   pub there : slice_get m.cores.items by ≡ Some core
   pub runs : core_of core ≡ Some found.state
   pub fit : IsCoreOf m.image core
-  pub attempt : Attempt
+  pub attempt : FlatAttempt
   pub attempted : core.attempt ≡ Some attempt
   pub stands : core_with core.own.cells core.outside.cells attempt ≡ found.state
   pub next : IsNext m.image attempt.next
@@ -98,25 +98,25 @@ finds_core m by what core of fit is at =
     }
 
 -- the attempt that the code reads is the one that was found
-same_attempt : (attempt : Option Attempt) (t u : Attempt) → attempt ≡ Some t → attempt ≡ Some u → t ≡ u
+same_attempt : (attempt : Option FlatAttempt) (t u : FlatAttempt) → attempt ≡ Some t → attempt ≡ Some u → t ≡ u
 same_attempt attempt t u first second = cc
 
-pub event_now : (m : Machine) (by : ℕ) (what : What) (core : Core) (f : FindsCore m by what core) (t : Attempt) → core.attempt ≡ Some t
+pub event_now : (m : Machine) (by : ℕ) (what : What) (core : Core) (f : FindsCore m by what core) (t : FlatAttempt) → core.attempt ≡ Some t
     → t.next.now ≡ (next_event m.image f.found.state.hart).now
 event_now m by what core f t is =
     let same = same_attempt core.attempt f.attempt t f.attempted is in
-    sym (ap (λ (x : Attempt). x.next.now) same) ∙ (f.next.now ∙ ap (λ (x : CoreState). (next_event m.image x.hart).now) f.stands)
+    sym (ap (λ (x : FlatAttempt). x.next.now) same) ∙ (f.next.now ∙ ap (λ (x : CoreState). (next_event m.image x.hart).now) f.stands)
 
-pub event_at : (m : Machine) (by : ℕ) (what : What) (core : Core) (f : FindsCore m by what core) (t : Attempt) → core.attempt ≡ Some t
+pub event_at : (m : Machine) (by : ℕ) (what : What) (core : Core) (f : FindsCore m by what core) (t : FlatAttempt) → core.attempt ≡ Some t
     → t.next.at ≡ (next_event m.image f.found.state.hart).at
 event_at m by what core f t is =
     let same = same_attempt core.attempt f.attempt t f.attempted is in
-    sym (ap (λ (x : Attempt). x.next.at) same) ∙ (f.next.at ∙ ap (λ (x : CoreState). (next_event m.image x.hart).at) f.stands)
+    sym (ap (λ (x : FlatAttempt). x.next.at) same) ∙ (f.next.at ∙ ap (λ (x : CoreState). (next_event m.image x.hart).at) f.stands)
 
-pub epoch_is : (m : Machine) (by : ℕ) (what : What) (core : Core) (f : FindsCore m by what core) (t : Attempt) → core.attempt ≡ Some t → t.epoch ≡ f.found.state.epoch
+pub epoch_is : (m : Machine) (by : ℕ) (what : What) (core : Core) (f : FindsCore m by what core) (t : FlatAttempt) → core.attempt ≡ Some t → t.epoch ≡ f.found.state.epoch
 epoch_is m by what core f t is =
     let same = same_attempt core.attempt f.attempt t f.attempted is in
-    sym (ap (λ (x : Attempt). x.epoch) same) ∙ ap (λ (x : CoreState). x.epoch) f.stands
+    sym (ap (λ (x : FlatAttempt). x.epoch) same) ∙ ap (λ (x : CoreState). x.epoch) f.stands
 
 -- ---- what is published
 
