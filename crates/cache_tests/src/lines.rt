@@ -48,7 +48,7 @@ fn counted(from: u8, length: usize) -> [u8; 32]
 }
 
 /// A line that counts its cells.
-fn line_of(rt: &impl Abort, length: usize, addr: u32, state: LineState, marks: Marks) -> Line
+fn counting_line(rt: &impl Abort, length: usize, addr: u32, state: LineState, marks: Marks) -> Line
     requires { IsTrue (is_line_length length) }
     ensures addr { result.addr ≡ addr }
     ensures fits { FitsLength length result }
@@ -72,7 +72,7 @@ fn put(rt: &impl Abort, cache: &mut Cache, way: usize, line: (u32, LineState, Ma
     } else {
         assert!(rt; !cache.line(addr, 0).is_copy_of(addr));
     }
-    let line = line_of(rt, length, addr, state, marks);
+    let line = counting_line(rt, length, addr, state, marks);
     cache.fill(way, line);
 }
 
@@ -292,7 +292,7 @@ fn is_number(rt: &impl Abort, row: &str) -> Option<bool> {
     assert!(rt;
         offset < 29 && width == 4 || offset < 31 && width == 2 || offset < 32 && width == 1
     );
-    let line = line_of(rt, 32, 64, S, NONE);
+    let line = counting_line(rt, 32, 64, S, NONE);
     Some(line.number_at(offset, width) == want)
 }
 

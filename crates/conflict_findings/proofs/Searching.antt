@@ -13,7 +13,7 @@ use Rattle.rv32_image.specs.declared.version.Version.{Version}
 use Rattle.rv32_image.specs.declared.version.Version.TheVariants.{One, Two}
 use Rattle.rv32_image.specs.Version.{limits_of}
 use Rattle.spec_history.proofs.OneEntry.Legal.{and_true, some_below}
-use Rattle.spec_history.specs.Conflict.{Meeting, is_shared, line_has, line_of}
+use Rattle.spec_history.specs.Conflict.{Meeting, is_shared, line_has, line_number}
 use Rattle.conflicts.proofs.Blaming.{either_way}
 use Rattle.conflict_findings.specs.Runs.{AreRead, is_falsely_shared}
 
@@ -36,7 +36,7 @@ in_line Two j x below = omega (arith, below)
 
 -- a falsely shared line is that of one of them
 pub line_listed : (image : LoadedImage) (m : Meeting) (addresses : List ℕ) (j : ℕ) → ((a byte : ℕ) → m.reads a ≡ Some byte → IsAmong a addresses) → is_falsely_shared image m j ≡ true
-    → (k : ℕ) × (k < length addresses) × (line_of image (slice_index addresses k) ≡ j)
+    → (k : ℕ) × (k < length addresses) × (line_number image (slice_index addresses k) ≡ j)
 line_listed image m addresses j listed is =
     let read = (and_true (line_has image j (λ a. is_some (m.reads a))) _ is).0 in
     let at = some_below (limits_of image.version).line_length (λ x. is_some (m.reads (j * (limits_of image.version).line_length + x))) read in
@@ -91,8 +91,8 @@ line_up Two a b up = omega (arith, up)
 
 -- and so is a line
 pub no_line_between : (image : LoadedImage) (reads : ℕ → Option ℕ) (addresses : List ℕ) (index from j k : ℕ) → AreRead image.size reads addresses → index < length addresses
-    → ((k : ℕ) → k < index → line_of image (slice_index addresses k) < from) → from ≤ j → j < line_of image (slice_index addresses index) → k < length addresses
-    → line_of image (slice_index addresses k) ≡ j → ⊥
+    → ((k : ℕ) → k < index → line_number image (slice_index addresses k) < from) → from ≤ j → j < line_number image (slice_index addresses index) → k < length addresses
+    → line_number image (slice_index addresses k) ≡ j → ⊥
 no_line_between image reads addresses index from j k are inside passed after before within is = either_way (nat_lt k index) ⊥
     (λ early. let less = passed k (ltb-true k index early) in omega (arith, less, is, after))
     (λ late.

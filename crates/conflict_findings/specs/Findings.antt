@@ -12,7 +12,7 @@ use Rattle.spec_history.specs.declared.kind.Kind.TheVariants.{FullBuffer}
 use Rattle.conflicts.specs.declared.standing.Site.{Site}
 use Rattle.conflicts.specs.Attempts.{attempt_number, state_before}
 use Rattle.conflicts.specs.Blame.{accessed_line}
-use Rattle.spec_history.specs.Conflict.{line_of, what_at}
+use Rattle.spec_history.specs.Conflict.{line_number, what_at}
 use Rattle.conflicts.specs.Fates.{held_at, is_stale_pair, moot_at, since, undone_at}
 use Rattle.conflict_findings.specs.declared.finding.Access.{Access}
 use Rattle.conflict_findings.specs.declared.finding.Finding.{Finding}
@@ -61,7 +61,7 @@ abbrev pub asked_line : LoadedImage → List Entry → Explanation → Option �
 asked_line image entries e = option_and_then (accessed_line image) (what_at entries (asked_at e))
 
 abbrev pub line_by : LoadedImage → Option Blame → Option ℕ → Option ℕ
-line_by image (Some blame) asked = Some (line_of image blame.byte)
+line_by image (Some blame) asked = Some (line_number image blame.byte)
 line_by image None asked = asked
 
 abbrev pub line_at : LoadedImage → List Entry → Explanation → Option ℕ

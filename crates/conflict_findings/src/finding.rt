@@ -203,9 +203,9 @@ fn load_at(image: &Image, entries: &[Entry], e: &Explanation) -> Option<usize>
     }
 }
 
-/// The line of the caches in which an address lies.
-fn line_of(image: &Image, addr: u32) -> u32
-    ensures { result ≡ conflict.line_of image.now addr }
+/// The number of the line of the caches in which an address lies.
+fn line_number(image: &Image, addr: u32) -> u32
+    ensures { result ≡ conflict.line_number image.now addr }
 {
     addr / image.version().limits().line_length
 }
@@ -216,7 +216,7 @@ fn asked_line(image: &Image, entries: &[Entry], e: &Explanation) -> Option<u32>
 {
     let entry = entries.get(asked_at(e)?)?;
     match entry.what {
-        What::Load { addr, .. } | What::Store { addr, .. } => Some(line_of(image, addr)),
+        What::Load { addr, .. } | What::Store { addr, .. } => Some(line_number(image, addr)),
         _ => None,
     }
 }
@@ -226,14 +226,14 @@ fn line_at(image: &Image, entries: &[Entry], e: &Explanation) -> Option<u32>
     ensures { result ≡ spec.line_at image.now entries.now e.now }
 {
     match e.blame {
-        Some(blame) => Some(line_of(image, blame.byte)),
+        Some(blame) => Some(line_number(image, blame.byte)),
         None => asked_line(image, entries, e),
     }
 }
 
 /// The bytes of the line of the caches in which an address lies.
 fn line_bytes(image: &Image, addr: u32) -> ByteRange
-    ensures { result ≡ spec.bytes_of_line image.now (conflict.line_of image.now addr) }
+    ensures { result ≡ spec.bytes_of_line image.now (conflict.line_number image.now addr) }
 {
     let length = image.version().limits().line_length;
     ByteRange {

@@ -9,7 +9,7 @@ ghost use Rattle.conflicts.specs.Violated.{violation_in};
 ghost use Rattle.conflict_findings.specs.Runs as spec;
 
 use crate::run::{Run, Told, keep};
-use conflicts::{Behind, Violated, line_of};
+use conflicts::{Behind, Violated, line_number};
 use rv32_exec::Image;
 use spec_history::{Entry, Flat};
 use std::alloc::AllocError;
@@ -124,7 +124,7 @@ impl Told {
     {
         let mut from = 0;
         for addr in read {
-            let line = line_of(image, *addr);
+            let line = line_number(image, *addr);
             if line >= from {
                 keep(runs, self.line_run(image, flat, entries, behind, line))?;
                 from = line + 1;

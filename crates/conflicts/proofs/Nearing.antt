@@ -8,7 +8,7 @@ use Rattle.rv32_image.specs.declared.version.Version.TheVariants.{One, Two}
 use Rattle.rv32_image.specs.Version.{limits_of}
 use Rattle.spec_history.proofs.OneEntry.Legal.{and_true, some_below}
 use Rattle.spec_history.specs.Searches.{IsNext, count_below}
-use Rattle.spec_history.specs.Conflict.{Meeting, holds_line, line_of}
+use Rattle.spec_history.specs.Conflict.{Meeting, holds_line, line_number}
 use Rattle.conflicts.specs.Parties.{holds_other}
 use Rattle.spec_history.proofs.Searches.Tests.{count_none, count_one}
 use Rattle.conflicts.proofs.Blaming.{either_way, not_so}
@@ -89,7 +89,7 @@ in_line One j x below = omega (arith, below)
 in_line Two j x below = omega (arith, below)
 
 pub held_line : (image : LoadedImage) (m : Meeting) (addresses : List ℕ) (line j : ℕ) → ((a byte : ℕ) → m.stores a ≡ Some byte → IsAmong a addresses)
-    → holds_other image m line j ≡ true → (k : ℕ) × (k < length addresses) × (line_of image (slice_index addresses k) ≡ j)
+    → holds_other image m line j ≡ true → (k : ℕ) × (k < length addresses) × (line_number image (slice_index addresses k) ≡ j)
 held_line image m addresses line j listed holds =
     let both = and_true (not (j == line)) (holds_line image m j) holds in
     let at = some_below (limits_of image.version).line_length (λ x. is_some (m.stores (j * (limits_of image.version).line_length + x))) both.1 in

@@ -11,7 +11,7 @@ use Rattle.spec_history.specs.declared.kind.Kind.{Kind}
 use Rattle.spec_history.specs.declared.kind.Kind.TheVariants.{TrueSharing, SilentStore, FalseSharing}
 use Rattle.spec_history.specs.Searches.{first_below, last_below}
 use Rattle.conflicts.specs.Attempts.{attempt_does, last_store, first_read, reads_outside}
-use Rattle.spec_history.specs.Conflict.{Meeting, is_shared, is_changed, is_beside, line_of}
+use Rattle.spec_history.specs.Conflict.{Meeting, is_shared, is_changed, is_beside, line_number}
 
 -- a violation with its cause: where both stand in the history, who made it, who was violated, and the bytes that meet
 pub record Violation : Type 0 where
@@ -69,7 +69,7 @@ written_in image m line =
 
 -- the store to blame for a byte: that to the byte itself, or, where only the line is shared, to the lowest byte of the line that is written
 abbrev pub store_beside : LoadedImage → List Entry → Violation → Kind → ℕ → Option ℕ
-store_beside image entries v FalseSharing a = option_and_then (store_to entries v) (written_in image v.bytes (line_of image a))
+store_beside image entries v FalseSharing a = option_and_then (store_to entries v) (written_in image v.bytes (line_number image a))
 store_beside image entries v kind a = store_to entries v a
 
 abbrev pub blamed_store : LoadedImage → List Entry → Violation → ℕ → Option ℕ
@@ -77,7 +77,7 @@ blamed_store image entries v a = store_beside image entries v v.kind a
 
 -- the bytes that go with a blamed one: of all that are written and were read, or, where only the line is shared, of those that were read in its line
 abbrev pub goes_with : LoadedImage → Kind → Meeting → ℕ → ℕ → Bool
-goes_with image FalseSharing m byte a = is_beside image m a && (line_of image a == line_of image byte)
+goes_with image FalseSharing m byte a = is_beside image m a && (line_number image a == line_number image byte)
 goes_with image kind m byte a = is_shared m a
 
 -- a byte met at the same two accesses as the blamed one: the same load read it first, and the same store is to blame for it
@@ -115,12 +115,12 @@ blame_of image entries v = option_and_then (blame_at image entries v) (blamed_lo
 
 -- the line of an access
 abbrev pub accessed_line : LoadedImage → What → Option ℕ
-accessed_line image (Load address width value) = Some (line_of image address)
-accessed_line image (Store address width value) = Some (line_of image address)
+accessed_line image (Load address width value) = Some (line_number image address)
+accessed_line image (Store address width value) = Some (line_number image address)
 accessed_line image what = None
 
 abbrev pub stores_in : LoadedImage → ℕ → What → Bool
-stores_in image line (Store address width value) = line_of image address == line
+stores_in image line (Store address width value) = line_number image address == line
 stores_in image line what = false
 
 -- the first store of the attempt that a core runs before a place in a line

@@ -10,7 +10,7 @@ ghost use Rattle.conflicts.specs.Violated as spec;
 use crate::behind::Behind;
 use crate::blame::Violated;
 use crate::explanation::ByteRange;
-use crate::meeting::line_of;
+use crate::meeting::line_number;
 use rv32_exec::Image;
 use spec_history::{Entry, Flat, Kind, What};
 
@@ -45,7 +45,7 @@ impl Violated {
         match self.kind {
             Kind::FalseSharing => {
                 self.parties.is_beside(image, flat, addr)
-                    && line_of(image, addr) == line_of(image, byte)
+                    && line_number(image, addr) == line_number(image, byte)
             }
             _ => self.parties.is_shared(flat, addr),
         }

@@ -12,7 +12,7 @@ use crate::accesses::{attempt_place, loaded_at, reads_outside};
 use crate::alike::BlamedByte;
 use crate::behind::Behind;
 use crate::explanation::Blame;
-use crate::meeting::{Parties, line_of};
+use crate::meeting::{Parties, line_number};
 use rv32_exec::Image;
 use spec_history::{Entry, Flat, Kind, What};
 
@@ -114,7 +114,9 @@ impl Violated {
     {
         match self.kind {
             Kind::FalseSharing => {
-                let beside = self.parties.written_in(image, flat, line_of(image, addr))?;
+                let beside = self
+                    .parties
+                    .written_in(image, flat, line_number(image, addr))?;
                 self.store_to(entries, behind, flat, beside)
             }
             _ => self.store_to(entries, behind, flat, addr),

@@ -14,7 +14,7 @@ use spec_history::{Entry, Kind, What};
 
 /// The line of the caches in which an address lies, in memory or not.
 fn line_at(image: &Image, addr: u32) -> u32
-    ensures { result ≡ conflict.line_of image.now addr }
+    ensures { result ≡ conflict.line_number image.now addr }
 {
     addr / image.version().limits().line_length
 }

@@ -24,6 +24,6 @@ pub use blame::Violated;
 pub use explanation::{Blame, ByteRange, Explanation, Runner};
 pub use history::{explain, explanation_at};
 pub use known::Known;
-pub use meeting::{Parties, line_of};
+pub use meeting::{Parties, line_number};
 pub use spec_history::Kind;
 pub use standing::{Site, site_of, sites};

@@ -138,7 +138,7 @@ impl Parties {
         ensures { result ≡ conflict.is_beside image.now (spec.meeting_in flat.now self.now) addr }
     {
         flat.outside(self.victim, addr).is_some()
-            && self.line_has(image, flat, LineTest::Written, line_of(image, addr))
+            && self.line_has(image, flat, LineTest::Written, line_number(image, addr))
     }
 
     /// The byte passes the test.
@@ -200,7 +200,7 @@ impl Parties {
     {
         let mut next = lines_of(image);
         for addr in flat.own_addresses(self.victim) {
-            let other = line_of(image, *addr);
+            let other = line_number(image, *addr);
             if self.is_nearer(image, flat, line, from, next, other) {
                 next = other;
             }
@@ -243,7 +243,7 @@ impl Parties {
     {
         match self.cause {
             What::Load { addr, .. } | What::Store { addr, .. } => {
-                addr < image.size() && self.is_full_at(image, flat, line_of(image, addr))
+                addr < image.size() && self.is_full_at(image, flat, line_number(image, addr))
             }
             _ => false,
         }
@@ -275,10 +275,10 @@ fn lines_of(image: &Image) -> u32
     image.size() / image.version().limits().line_length
 }
 
-/// The line of the caches in which a byte of memory lies.
-pub fn line_of(image: &Image, addr: u32) -> u32
+/// The number of the line of the caches in which a byte of memory lies.
+pub fn line_number(image: &Image, addr: u32) -> u32
     requires { addr < image.now.size }
-    ensures line { result ≡ conflict.line_of image.now addr }
+    ensures line { result ≡ conflict.line_number image.now addr }
     ensures inside { result < image.now.size / (limits_of image.now.version).line_length }
     ensures within { result * (limits_of image.now.version).line_length + (limits_of image.now.version).line_length < 2 ^ 32 }
 {

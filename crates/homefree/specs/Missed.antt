@@ -7,7 +7,7 @@ use Rattle.spec_history.specs.declared.entry.Entry.{Entry}
 use Rattle.spec_history.specs.declared.entry.What.TheVariants.{Store}
 use Rattle.spec_history.specs.FlatState.{CoreState, FlatState}
 use Rattle.spec_history.specs.Replay.{replay}
-use Rattle.spec_history.specs.Conflict.{meeting, is_beside, line_of, line_has}
+use Rattle.spec_history.specs.Conflict.{meeting, is_beside, line_number, line_has}
 use Rattle.violations.specs.View.{StoreView}
 
 -- core k isn't hurt, runs a later epoch than the core of this entry, and has read a byte of a line that the entry writes
@@ -30,7 +30,7 @@ pub record IsFurtherStore (image : LoadedImage) (s : FlatState) (e : Entry) : Ty
   pub width : ℕ
   pub value : ℕ
   pub stores : e.what ≡ Store address width value
-  pub before : line_has image (line_of image address) (λ a. is_some (core.own a)) ≡ true
+  pub before : line_has image (line_number image address) (λ a. is_some (core.own a)) ≡ true
 
 -- an entry that writes passes over nobody, unless it is a further store
 abbrev pub PassesOverNone : LoadedImage → ℕ → List Entry → Type 0

@@ -96,9 +96,9 @@ is_shared m a = is_some (m.writes a) && is_some (m.reads a)
 abbrev pub is_changed : Meeting → ℕ → Bool
 is_changed m a = not (over m.writes m.committed a == m.committed a) && is_some (m.reads a)
 
--- the line of the caches in which a byte lies
-abbrev pub line_of : LoadedImage → ℕ → ℕ
-line_of image a = a / (limits_of image.version).line_length
+-- the number of the line of the caches in which a byte lies
+abbrev pub line_number : LoadedImage → ℕ → ℕ
+line_number image a = a / (limits_of image.version).line_length
 
 -- some byte of the line passes the test
 abbrev pub line_has : LoadedImage → ℕ → (ℕ → Bool) → Bool
@@ -108,7 +108,7 @@ line_has image line test =
 
 -- a byte that the victim has read, in a line that the cause writes
 abbrev pub is_beside : LoadedImage → Meeting → ℕ → Bool
-is_beside image m a = is_some (m.reads a) && line_has image (line_of image a) (λ b. is_some (m.writes b))
+is_beside image m a = is_some (m.reads a) && line_has image (line_number image a) (λ b. is_some (m.writes b))
 
 -- the victim has stored in this line
 abbrev pub holds_line : LoadedImage → Meeting → ℕ → Bool
@@ -123,8 +123,8 @@ is_full_at image m line =
 
 -- the cause is an access, in memory as all that are legal, to a line for which the victim's full buffer has no place
 abbrev pub is_crowded : LoadedImage → Meeting → What → Bool
-is_crowded image m (Load address width value) = nat_lt address image.size && is_full_at image m (line_of image address)
-is_crowded image m (Store address width value) = nat_lt address image.size && is_full_at image m (line_of image address)
+is_crowded image m (Load address width value) = nat_lt address image.size && is_full_at image m (line_number image address)
+is_crowded image m (Store address width value) = nat_lt address image.size && is_full_at image m (line_number image address)
 is_crowded image m what = false
 
 -- the first of these that the violation is

@@ -14,7 +14,7 @@ use Rattle.spec_history.specs.declared.entry.What.TheVariants.{Start, Load, Stor
 use Rattle.spec_history.specs.Effect.{by_core, effect, effect_on, effect_idle, idle_at}
 use Rattle.spec_history.specs.FlatState.{CoreState, FlatState}
 use Rattle.spec_history.specs.Laws.{IsKept}
-use Rattle.spec_history.specs.Conflict.{is_beside, line_of, line_has, read_bytes, meeting, written}
+use Rattle.spec_history.specs.Conflict.{is_beside, line_number, line_has, read_bytes, meeting, written}
 use Rattle.violations.specs.View.{StoreView, IsSettled}
 use Rattle.violations.specs.Rule.{shape_of}
 use Rattle.homefree.specs.declared.answer.Answer.{Answer}
@@ -90,8 +90,8 @@ cancelled C image t by these epochs n tail what later rest =
 beside_same : (image : LoadedImage) (t u : FlatState) (by k at : ℕ) (what : What) → u.cores by ≡ t.cores by → u.cores k ≡ t.cores k
     → is_beside image (meeting u by what k) at ≡ is_beside image (meeting t by what k) at
 beside_same image t u by k at what mine other =
-    ap (λ o. is_some (read_bytes o at) && line_has image (line_of image at) (λ b. is_some (written (u.cores by) what b))) other
-    ∙ ap (λ o. is_some (read_bytes (t.cores k) at) && line_has image (line_of image at) (λ b. is_some (written o what b))) mine
+    ap (λ o. is_some (read_bytes o at) && line_has image (line_number image at) (λ b. is_some (written (u.cores by) what b))) other
+    ∙ ap (λ o. is_some (read_bytes (t.cores k) at) && line_has image (line_number image at) (λ b. is_some (written o what b))) mine
 
 commit_within : (C : Type 0) (image : LoadedImage) (t u : FlatState) (by : ℕ) → IsWithin t u → PassedHere C image t (record { by = by; what = Commit })
     → PassedHere C image u (record { by = by; what = Commit })

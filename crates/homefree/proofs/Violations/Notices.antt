@@ -13,7 +13,7 @@ use Rattle.spec_history.specs.FlatState.{CoreState, FlatState}
 use Rattle.spec_history.specs.Refusal.{any_below}
 use Rattle.spec_history.proofs.Replay.Replays.{effect-on}
 use Rattle.spec_history.proofs.Searches.Tests.{all_fail}
-use Rattle.spec_history.specs.Conflict.{is_notice, can_cause, line_of, read_bytes, written}
+use Rattle.spec_history.specs.Conflict.{is_notice, can_cause, line_number, read_bytes, written}
 use Rattle.homefree.specs.Caused.{IsKnown}
 use Rattle.homefree.specs.Hurts.{entry, entry_for_each}
 use Rattle.homefree.proofs.Violations.Knowing.{next_what, PassedHere, AllKnown}
@@ -35,8 +35,8 @@ and_no false c is = refl
 pub writes_none : (C : Type 0) (image : LoadedImage) (s : FlatState) (e : Entry) → ((a : ℕ) → written (s.cores e.by) e.what a ≡ None) → PassedHere C image s e
 writes_none C image s e none holds k missed =
     absurd (true≢false (sym missed.reads ∙ and_no (is_some (read_bytes (s.cores k) missed.at)) _
-    (no_line (limits_of image.version).line_length (λ x. is_some (written (s.cores e.by) e.what (line_of image missed.at * (limits_of image.version).line_length + x)))
-    (λ x. ap (λ o. is_some o) (none (line_of image missed.at * (limits_of image.version).line_length + x))))))
+    (no_line (limits_of image.version).line_length (λ x. is_some (written (s.cores e.by) e.what (line_number image missed.at * (limits_of image.version).line_length + x)))
+    (λ x. ap (λ o. is_some o) (none (line_number image missed.at * (limits_of image.version).line_length + x))))))
 
 notice_writes : (core : Option CoreState) (what : What) (a : ℕ) → is_notice what ≡ true → written core what a ≡ None
 notice_writes core (Hurt epoch) a is = refl

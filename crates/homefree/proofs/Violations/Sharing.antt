@@ -93,7 +93,7 @@ is_met image count shape m cause c a is reads within written read =
     kind_is image m cause (or_first _ (is_crowded image m cause)
     (one_passes image.size (is_beside image m) read.at (within read.at read.read)
     (and_both (is_some (m.reads read.at)) _ (ap (λ o. is_some o) (reads read.at) ∙ read.read)
-    (has_byte image (conflict.line_of image read.at) a (λ b. is_some (m.writes b)) (line_in image count shape read.at a is read.in_line) written))))
+    (has_byte image (conflict.line_number image read.at) a (λ b. is_some (m.writes b)) (line_in image count shape read.at a is read.in_line) written))))
 
 -- ---- numbers that pass, counted
 
@@ -185,7 +185,7 @@ module _ (image : LoadedImage) (count : ℕ) (v : StoreView) (m : Meeting) (c : 
   below_size a below = subst (λ n. a < n) (ap (λ (s : Shape). s.size) shape) below
 
   abbrev holds_other : ℕ → Bool
-  holds_other other = not (other == conflict.line_of image address) && holds_line image m other
+  holds_other other = not (other == conflict.line_number image address) && holds_line image m other
 
   is_other : (line : ℕ) → (line ≢ view.line_of v.shape address) × OwnsIn v k line → IsOf (line_length image) (image.size / line_length image) holds_other line
   is_other line two =
@@ -193,13 +193,13 @@ module _ (image : LoadedImage) (count : ℕ) (v : StoreView) (m : Meeting) (c : 
         number = o.at / line_length image;
         is = first_byte line o.at o.in_line;
         below = number_below image.version o.at image.size (below_size o.at o.within) whole;
-        passes = and_both (not (o.at / line_length image == conflict.line_of image address)) _
-            (ap not (ne_eqb (o.at / line_length image) (conflict.line_of image address) (λ same. two.0
+        passes = and_both (not (o.at / line_length image == conflict.line_number image address)) _
+            (ap not (ne_eqb (o.at / line_length image) (conflict.line_number image address) (λ same. two.0
             (first_byte line o.at o.in_line ∙ (ap (λ n. line_length image * n) same ∙ sym (ap (λ (s : Shape). view.line_of s address) shape))))))
             (holds_at o.at o.owned);
       }
 
-  is_full : IsCrowded v k address → is_full_at image m (conflict.line_of image address) ≡ true
+  is_full : IsCrowded v k address → is_full_at image m (conflict.line_number image address) ≡ true
   is_full crowded =
       let here = crowded.here in
       let same = line_in image count v.shape here.at address shape here.in_line in
@@ -207,7 +207,7 @@ module _ (image : LoadedImage) (count : ℕ) (v : StoreView) (m : Meeting) (c : 
       let many = at_most (line_length image) (image.size / line_length image) crowded.others holds_other crowded.apart all in
       let full = crowded.full in
       let limit : v.shape.limits.buffer_lines ≡ (limits_of image.version).buffer_lines = ap (λ (s : Shape). s.limits.buffer_lines) shape in
-      and_both (holds_line image m (conflict.line_of image address)) _ (ap (holds_line image m) (sym same) ∙ holds_at here.at here.owned)
+      and_both (holds_line image m (conflict.line_number image address)) _ (ap (holds_line image m) (sym same) ∙ holds_at here.at here.owned)
       (le-leb (limits_of image.version).buffer_lines (count_below (image.size / line_length image) holds_other) (omega (arith, many, full, limit)))
 
   -- it lies in memory, as the byte that is owned there

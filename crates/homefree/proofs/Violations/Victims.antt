@@ -16,7 +16,7 @@ use Rattle.spec_history.proofs.OneEntry.Keeping.{with_core_other, with_core_same
 use Rattle.spec_history.proofs.OneEntry.Legal.{some_below, none_below}
 use Rattle.spec_history.proofs.Replay.Replays.{effect-on}
 use Rattle.spec_history.specs.declared.kind.Kind.TheVariants.{Unexplained}
-use Rattle.spec_history.specs.Conflict.{line_of, line_has, own_bytes, read_bytes, meeting, written, kind_of}
+use Rattle.spec_history.specs.Conflict.{line_number, line_has, own_bytes, read_bytes, meeting, written, kind_of}
 use Rattle.violations.specs.declared.attempt.Attempt.{Attempt}
 use Rattle.violations.specs.View.{Shape, StoreView, IsSettled, epoch_of, is_accessed}
 use Rattle.violations.specs.View as view
@@ -305,11 +305,11 @@ module _ (C : Type 0) (image : LoadedImage) (count : ℕ) (s : FlatState) (v : S
   some_store what other is = cc
 
   -- a byte of the line is the caller's own
-  has_stored : (t : FlatState) (address : ℕ) (d : CoreState) → address < image.size → bytes_of d ≡ bytes_of c → line_has image (line_of image address) (λ a. is_some (d.own a)) ≡ true
+  has_stored : (t : FlatState) (address : ℕ) (d : CoreState) → address < image.size → bytes_of d ≡ bytes_of c → line_has image (line_number image address) (λ a. is_some (d.own a)) ≡ true
       → OwnsIn v by (view.line_of v.shape address)
   has_stored t address d within bytes before =
-      let found = some_below long (λ x. is_some (d.own (line_of image address * long + x))) before in
-      let place : ℕ = line_of image address * long + found.0 in
+      let found = some_below long (λ x. is_some (d.own (line_number image address * long + x))) before in
+      let place : ℕ = line_number image address * long + found.0 in
       record {
         at = place;
         within = subst (λ n. place < n) (sym (ap (λ (y : Shape). y.size) shape)) (line_inside image.version address found.0 image.size found.1 within whole);
@@ -325,7 +325,7 @@ module _ (C : Type 0) (image : LoadedImage) (count : ℕ) (s : FlatState) (v : S
         let me = caller hurt n t p in
         let which : address ≡ further.address = store_address address width value further.address further.width further.value (some_store (Store address width value) what same ∙ further.stores) in
         let bytes = ap bytes_of (one_core (t.cores by) further.core me.core further.runs me.at) ∙ me.bytes in
-        let own = has_stored t address further.core within bytes (ap (λ a. line_has image (line_of image a) (λ b. is_some (further.core.own b))) which ∙ further.before) in
+        let own = has_stored t address further.core within bytes (ap (λ a. line_has image (line_number image a) (λ b. is_some (further.core.own b))) which ∙ further.before) in
         true≢false (sym is ∙ l.told own j);
   }
 
@@ -374,8 +374,8 @@ module _ (C : Type 0) (image : LoadedImage) (count : ℕ) (s : FlatState) (v : S
       let free = no_less k other d missed.core was.at missed.runs missed.unhurt in
       let g = (agrees.core going k).runs d was.at free in
       let two = and_two (is_some (read_bytes (t.cores k) missed.at)) _ missed.reads in
-      let found = some_below long (λ x. is_some (written (t.cores by) what (line_of image missed.at * long + x))) two.1 in
-      let place : ℕ = line_of image missed.at * long + found.0 in
+      let found = some_below long (λ x. is_some (written (t.cores by) what (line_number image missed.at * long + x))) two.1 in
+      let place : ℕ = line_number image missed.at * long + found.0 in
       let read : is_some (d.outside missed.at) ≡ true =
       ap (λ o. is_some o) (sym (ap (λ (b : Bytes). b.outside missed.at) was.bytes) ∙ sym (ap (λ o. option_and_then (λ (y : CoreState). y.outside missed.at) o) missed.runs)) ∙ two.0 in
       let some = some_of (d.outside missed.at) read in record {
@@ -415,7 +415,7 @@ module _ (C : Type 0) (image : LoadedImage) (count : ℕ) (s : FlatState) (v : S
       let me = caller hurt count t p in
       let g : Guards v k (is_accessed address width) =
       record { at = r.byte; is_one = sym (stored_accessed address width value r.byte) ∙ r.writes; guarded = r.guarded holds } in
-      elim (cases_Bool (line_has image (line_of image address) (λ a. is_some (me.core.own a)))) [
+      elim (cases_Bool (line_has image (line_number image address) (λ a. is_some (me.core.own a)))) [
         | inl before ↦ record {
           core = me.core;
           runs = me.at;
@@ -430,7 +430,7 @@ module _ (C : Type 0) (image : LoadedImage) (count : ℕ) (s : FlatState) (v : S
             (l.tells (cached holds)
             (λ a same. mine.own a ∙ (ap (λ (b : Bytes). is_some (b.own a)) (sym me.bytes)
             ∙ (ap (λ n. is_some (me.core.own n)) (sym (own_place image.version a address (sym (ap (λ (y : Shape). view.line_of y a) shape) ∙ (same ∙ ap (λ (y : Shape). view.line_of y address) shape))))
-            ∙ none_below long (λ x. is_some (me.core.own (line_of image address * long + x))) none (a % long) (place_in image.version a))))
+            ∙ none_below long (λ x. is_some (me.core.own (line_number image address * long + x))) none (a % long) (place_in image.version a))))
             k r.away
             (subst (λ n. n < epoch_of (v.attempt k)) (sym (epoch_seen by c at unhurt)) (subst (λ n. c.epoch < n) (sym (epoch_seen k r.core r.runs r.unharmed)) r.later)) g))
       ]

@@ -2,7 +2,7 @@ use Rattle.std.proofs.Common.{◌≡◌, ◌<◌, ◌≤◌, ◌/◌, ◌++◌, 
 use Rattle.std.proofs.lemmas.Bool.{cases_eq}
 use Rattle.std.proofs.lemmas.List.{append-nil}
 use Rattle.rv32_image.specs.Version.{limits_of}
-use Rattle.spec_history.specs.Conflict.{line_of}
+use Rattle.spec_history.specs.Conflict.{line_number}
 use Rattle.conflicts.specs.Parties.{meeting_in}
 use Rattle.conflicts.specs.Violated.{violation_in}
 use Rattle.conflicts.proofs.Blaming.{either_way}
@@ -31,8 +31,8 @@ loop-addr-preserved c =
     let runs : ℕ → Option Run = line_run image c.args.entries.now c.args.self.now.blame v in
     let addresses = c.args.read.now in
     let index = c.loop-addr.addr-index in
-    let line = c.line_of-line.result in
-    let is : line ≡ line_of image (slice_index addresses index) = c.line_of-line.ensures.line in
+    let line = c.line_number-line.result in
+    let is : line ≡ line_number image (slice_index addresses index) = c.line_number-line.ensures.line in
     let inside : index < length addresses = omega (arith, c.loop-addr-test.true) in
     let from = c.loop-addr.from in
     let was = c.loop-addr.invariant in
@@ -43,12 +43,12 @@ loop-addr-preserved c =
           let at = line_listed image m addresses j c.requires.read.each shared in
           absurd (no_line_between image m.reads addresses index from j at.0 c.requires.read inside was.passed after (omega (arith, before, is)) at.1 at.2))
           (λ isnt. no_line image c.args.entries.now c.args.self.now.blame v j isnt) in record {
-            within = rw w.from-is (omega (arith, c.line_of-line.ensures.inside));
+            within = rw w.from-is (omega (arith, c.line_number-line.ensures.inside));
             told = rw (w.runs-is, w.from-is)
                 (told_past from line _ runs c.args.runs.now.items c.loop-addr.runs.items _ w.if-line-from.true none was.told
                 (w.in_ok-keep.ensures ∙ ap (λ (o : Option Run). c.loop-addr.runs.items ++ option_to_list o) w.line_run.ensures) (omega arith) (λ j above below. absurd (omega (arith, above, below))));
             passed = rw w.from-is (λ k below. elim (cases_eq k index) [
-              | inl e ↦ omega (arith, ap (λ n. line_of image (slice_index addresses n)) e, is)
+              | inl e ↦ omega (arith, ap (λ n. line_number image (slice_index addresses n)) e, is)
               | inr other ↦ let less = was.passed k (omega (arith, below, other)) in omega (arith, less, w.if-line-from.true)
             ]);
           }
@@ -56,7 +56,7 @@ loop-addr-preserved c =
         within = rw w.from-is was.within;
         told = rw (w.runs-is, w.from-is) was.told;
         passed = rw w.from-is (λ k below. elim (cases_eq k index) [
-          | inl e ↦ omega (arith, ap (λ n. line_of image (slice_index addresses n)) e, is, w.if-line-from.false)
+          | inl e ↦ omega (arith, ap (λ n. line_number image (slice_index addresses n)) e, is, w.if-line-from.false)
           | inr other ↦ was.passed k (omega (arith, below, other))
         ]);
       }

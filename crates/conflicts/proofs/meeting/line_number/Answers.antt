@@ -3,7 +3,7 @@ use Rattle.rv32_image.specs.declared.version.Limits.{Limits}
 use Rattle.rv32_image.specs.declared.version.Version.{Version}
 use Rattle.rv32_image.specs.declared.version.Version.TheVariants.{One, Two}
 use Rattle.rv32_image.specs.Version.{limits_of}
-use Rattle.conflicts.proofs.meeting.line_of.Goals as goal
+use Rattle.conflicts.proofs.meeting.line_number.Goals as goal
 
 room : (v : Version) (addr : ℕ) → addr < 1048576 → addr / (limits_of v).line_length * (limits_of v).line_length + (limits_of v).line_length < 4294967296
 room One addr small = omega arith
