@@ -7,7 +7,7 @@ use Rattle.violations.specs.declared.attempt.Attempt.{Attempt}
 use Rattle.violations.specs.View.{IsClear, IsSettled, StoreView}
 use Rattle.turn_steps.specs.declared.kept_row.KeptRow.{KeptRow}
 use Rattle.turn_steps.specs.Kept.{IsKeptBut, ShowsKept, is_speculative, kept_change, owns_in, row_at}
-use Rattle.turn_steps.specs.KeptRow.{kept_of, line_of, nothing}
+use Rattle.turn_steps.specs.KeptRow.{kept_of, kept_row_text, nothing}
 use Rattle.turn_steps.specs.Passes.{IsAllShown, IsRestShown}
 use Rattle.turn_steps.specs.Places.{changed}
 use Rattle.turn_steps.specs.Rows.{kept_changes, kept_line, row_count, text_below}
@@ -67,7 +67,7 @@ text_of_kept old new core count shown now whole same shows is =
     ap (text_below (λ row. kept_change core now row (row_at shown row))) (counts old new count whole same)
     ∙ below_same (λ row. kept_change core now row (row_at shown row)) (λ row. changed (kept_line core old row) (kept_line core new row)) (row_count old)
     (λ row less. ap (kept_change core now row) (shows.row row less)
-    ∙ ap (λ kept. changed (line_of core row (kept_of old core row)) (line_of core row kept)) (is row))
+    ∙ ap (λ kept. changed (kept_row_text core row (kept_of old core row)) (kept_row_text core row kept)) (is row))
 
 pub shows_kept : (v : StoreView) (core count : ℕ) (shown : List (ℕ × KeptRow)) → count ≡ row_count v → IsAllShown count (row_at shown) (kept_of v core) → ShowsKept v core shown
 shows_kept v core count shown whole all = record { row = λ r less. all r (subst (λ n. r < n) (sym whole) less) }

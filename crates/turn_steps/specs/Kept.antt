@@ -8,7 +8,7 @@ use Rattle.std.specs.Ordering.{nat_cmp}
 use Rattle.violations.specs.declared.attempt.Attempt.{Attempt}
 use Rattle.violations.specs.View.{StoreView}
 use Rattle.turn_steps.specs.declared.kept_row.KeptRow.{KeptRow}
-use Rattle.turn_steps.specs.KeptRow.{kept_of, line_of, nothing}
+use Rattle.turn_steps.specs.KeptRow.{kept_of, kept_row_text, nothing}
 use Rattle.turn_steps.specs.Places.{changed}
 use Rattle.turn_steps.specs.Rows.{IsSameRow, mask_from, row_count}
 
@@ -37,4 +37,4 @@ owns_in v core row = not (mask_from (v.own core) (16 * row) 16 == 0)
 
 -- the line of a row that was shown, where it is otherwise now
 abbrev pub kept_change : ℕ → (ℕ → KeptRow) → ℕ → KeptRow → List ℕ
-kept_change core now row shown = changed (line_of core row shown) (line_of core row (now row))
+kept_change core now row shown = changed (kept_row_text core row shown) (kept_row_text core row (now row))

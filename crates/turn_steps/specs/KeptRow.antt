@@ -17,5 +17,5 @@ kept_of v core row = record {
 }
 
 -- its line of text
-abbrev pub line_of : ℕ → ℕ → KeptRow → List ℕ
-line_of core row kept = kept_text core row kept.read kept.own kept.bytes
+abbrev pub kept_row_text : ℕ → ℕ → KeptRow → List ℕ
+kept_row_text core row kept = kept_text core row kept.read kept.own kept.bytes

@@ -108,7 +108,7 @@ pub(crate) fn push_kept_change(
     now: &KeptRow,
 ) -> Result<(), AllocError>
     requires { row < 2 ^ 28 }
-    ensures { OnOk result (text.new.items ≡ text.old.items ++ changed (kept.line_of core row old.now) (kept.line_of core row now.now)) }
+    ensures { OnOk result (text.new.items ≡ text.old.items ++ changed (kept.kept_row_text core row old.now) (kept.kept_row_text core row now.now)) }
 {
     if is_same(old, now) {
         return Ok(());
@@ -128,7 +128,7 @@ fn is_same(old: &KeptRow, now: &KeptRow) -> bool
 #[tactic(auto, unfolding(crate::specs::Rows::kept_text))]
 fn kept_line(alloc: Global, core: u32, row: u32, keeps: &KeptRow) -> Result<Vec<u8>, AllocError>
     requires { row < 2 ^ 28 }
-    ensures { IfOk result (λ text. text.items ≡ kept.line_of core row keeps.now) }
+    ensures { IfOk result (λ text. text.items ≡ kept.kept_row_text core row keeps.now) }
 {
     let mut text = Vec::from_slice(alloc, b"kept ")?;
     push_number(&mut text, core)?;

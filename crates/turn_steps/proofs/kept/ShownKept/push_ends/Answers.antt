@@ -5,7 +5,7 @@ use Rattle.std.specs.BTreeMap.{keys}
 use Rattle.std.specs.List.{flat_map}
 use Rattle.std.specs.Map.Iter.{deref}
 use Rattle.turn_steps.specs.Kept.{kept_change, row_at}
-use Rattle.turn_steps.specs.KeptRow.{line_of, nothing}
+use Rattle.turn_steps.specs.KeptRow.{kept_row_text, nothing}
 use Rattle.turn_steps.specs.Passes.{inside}
 use Rattle.turn_steps.proofs.Changes.{no_change}
 use Rattle.turn_steps.proofs.Keeping.{outside_keys}
@@ -29,4 +29,4 @@ returns c =
     ∙ ap (λ t. c.args.text.now.items ++ t) (text_of_all change c.args.count (keys c.self.inside.rows) c.keys-row-items.ensures.ordered
     (λ row less outside. ap (kept_change c.args.core (λ _. nothing) row)
     (outside_keys c.self.inside.rows c.args.self.now c.keys-row-items.result c.self.view_is c.keys-row-items.ensures.rest c.keys-row-items.ensures.has row outside)
-    ∙ no_change (line_of c.args.core row nothing)))
+    ∙ no_change (kept_row_text c.args.core row nothing)))

@@ -6,7 +6,7 @@ use Rattle.std.specs.Map.Iter.{deref}
 use Rattle.violations.specs.Plain.{store_view}
 use Rattle.turn_steps.specs.declared.kept_row.KeptRow.{KeptRow}
 use Rattle.turn_steps.specs.Kept.{kept_change, row_at}
-use Rattle.turn_steps.specs.KeptRow.{kept_of, line_of}
+use Rattle.turn_steps.specs.KeptRow.{kept_of, kept_row_text}
 use Rattle.turn_steps.specs.Passes.{inside}
 use Rattle.turn_steps.proofs.Changes.{no_change}
 use Rattle.turn_steps.proofs.Passes.{all_shown, among, is_next, more_shown, more_text, passed, text_of_all}
@@ -49,7 +49,7 @@ returns-clause-text c rest =
     c.loop-row.invariant.text
     ∙ ap (λ l. c.args.text.now.items ++ flat_map (inside count change) l) whole
     ∙ ap (λ t. c.args.text.now.items ++ t) (text_of_all change count c.args.rows.now.keys c.into_iter-row-iterator.ensures.into_iter_gives.4
-    (λ row less outside. ap (kept_change c.args.core now row) (rest row less outside) ∙ no_change (line_of c.args.core row (now row))))
+    (λ row less outside. ap (kept_change c.args.core now row) (rest row less outside) ∙ no_change (kept_row_text c.args.core row (now row))))
 
 pub returns-clause-shown : goal.returns-clause-shown
 returns-clause-shown c rest =
