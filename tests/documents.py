@@ -6,8 +6,8 @@ Usage: tests/documents.py [--list]
 `docs/reading.md` has to be what `tools/definitions` writes. The README has to say how many definitions the sentence stands on, and
 none of them may be of the caches or their bus. A definition is cited where a clause (`requires` or `ensures`) of an exported function
 names it, from a file of `specs/` that the source imports by `ghost use`; each has to be in its file. `--list` prints all of them. The
-drawing of docs/architecture.md and the README's list have the crates of crates.txt, by its floors. Needs Python 3 alone. Exits with 1
-where a check failed.
+drawing of docs/architecture.md and the README's list have the crates of crates.txt, by its floors, and each crate names
+there no crate that nothing of it names. Needs Python 3 alone. Exits with 1 where a check failed.
 """
 
 import re
@@ -176,6 +176,19 @@ def architecture():
         yield f"crates/{name}/README.md", None if (ROOT / "crates" / name / "README.md").is_file() else "isn't there"
 
 
+def named_in(name):
+    """The words before `::` or a dot, and behind `use`, of a crate's sources, definitions and proofs: the crates that they name, and more."""
+    files = (path for part in ("src", "specs", "proofs") for path in (ROOT / "crates" / name / part).rglob("*") if path.suffix in (".rt", ".antt"))
+    return {word for path in files for word in re.findall(r"\b\w+(?=::)|(?<=Rattle\.)\w+|(?<=use )\w+", path.read_text())}
+
+
+def dependencies():
+    """Each crate names in crates.txt no crate that nothing of it names. (One that is missing there, the checker refuses.)"""
+    for name, uses in re.findall(r"(?m)^(\w+)[^:#\n]*:(.*)", (ROOT / "crates.txt").read_text()):
+        unnamed = sorted(set(uses.split()) - named_in(name))
+        yield f"{name} in crates.txt", f"stands on {', '.join(unnamed)}, which nothing of it names" if unnamed else None
+
+
 # --- Links and lengths ------------------------------------------------------
 
 def pages():
@@ -264,7 +277,7 @@ def main():
         for name, wrong in definitions():
             print(name, wrong or "")
         return 0
-    checks = [*definitions(), *reading(), *architecture(), *links(), *lengths(), *counts()]
+    checks = [*definitions(), *reading(), *architecture(), *dependencies(), *links(), *lengths(), *counts()]
     failed = [(name, wrong) for name, wrong in checks if wrong]
     for name, wrong in failed:
         print(f"FAILED {name} {wrong}")
