@@ -6,6 +6,7 @@ ghost use Rattle.ticket_lock.specs.Past.{GrowsBy};
 
 use crate::kept::Kept;
 use crate::pass::Pass;
+use crate::places::Places;
 use crate::plays::HandBack;
 use crate::rule::{HOME, NEXT, Place, SERVING, Words};
 use std::marker::Model;
@@ -24,6 +25,7 @@ const BETWEEN_LOOKS: u64 = 50;
 /// The value stays in its place in the lock, and is lent from there.
 pub struct Held<'a, T: Kept> {
     pub(crate) words: &'a Words<T>,
+    pub(crate) places: Places<'a>,
     pub(crate) lo: u64,
     pub(crate) seat: Place<T>,
     /// The value as it was taken. It has no bytes.
@@ -31,6 +33,7 @@ pub struct Held<'a, T: Kept> {
 }
 
 impl<'a, T: Kept> Model for Held<'a, T> {
+    ghost use Rattle.std.specs.Prelude.{◌≡◌};
     ghost use Rattle.ticket_lock.specs.Known.{Hold, known_of, value_in, IsServed};
 
     ghost Value = { Hold T.Fixed T.What T };
@@ -58,14 +61,11 @@ impl<'a, T: Kept> Held<'a, T> {
     /// Waits until so many other threads have drawn tickets, but not for long: it may return before. No clause speaks of it.
     pub fn wait_for_others<R: Wait>(&self, rt: &R, others: u64) {
         for _ in 0..MOST_LOOKS {
-            let served = self.words.peek(SERVING);
-            if self.words.peek(NEXT).wrapping_sub(served) > others {
+            let drawn = self.words.peek(NEXT).wrapping_sub(self.words.peek(SERVING));
+            if drawn > others {
                 return;
             }
-            // while the value is held this word doesn't change, so nobody wakes who sleeps here
-            let pause = Duration::from_micros(BETWEEN_LOOKS);
-            self.words
-                .park_timeout(rt, SERVING, (served % (1 << 32)) as u32, pause);
+            self.places.rest(rt, Duration::from_micros(BETWEEN_LOOKS));
         }
     }
 
@@ -78,15 +78,17 @@ impl<'a, T: Kept> Held<'a, T> {
     {
         let Held {
             words,
+            places,
             lo,
             mut seat,
             taken: _,
         } = self;
         let served = words.fetch_add::<HandBack>(&mut seat, SERVING, 1);
-        // Somebody waits who may sleep. One wake alone could reach another than the next, and then all would sleep.
         let expected = words.peek(NEXT);
-        if expected != served.wrapping_add(1) {
-            words.wake_all(SERVING);
+        let now = served.wrapping_add(1);
+        // where nobody has the next ticket, nobody sleeps
+        if expected != now {
+            places.wake_next(now, expected);
         }
         Pass { lo, seat, expected }
     }

@@ -10,6 +10,7 @@ mod held;
 mod kept;
 mod lock;
 mod pass;
+mod places;
 mod plays;
 mod rule;
 #[cfg(test)]

@@ -7,6 +7,7 @@ use crate::errors::{NoMemory, Spent};
 use crate::held::Held;
 use crate::kept::Kept;
 use crate::pass::Pass;
+use crate::places::Rooms;
 use crate::plays::{Both, Cut, Halves, Last, Recall};
 use crate::rule::{Board, HOME, SERVING, Slot, Start};
 use crate::ticket::{draw, wait};
@@ -20,6 +21,8 @@ use std::sync::Wait;
 #[derive(Drop)]
 pub struct TicketLock<T: Kept, A: Allocator = Global> {
     pub(crate) table: Board<T, A>,
+    /// Where threads sleep while they wait.
+    pub(crate) rooms: Rooms<A>,
 }
 
 impl<T: Kept, A: Allocator> Model for TicketLock<T, A> {
@@ -63,6 +66,7 @@ impl<T: Kept, A: Allocator> TicketLock<T, A> {
         ensures fixed { IfOk result (λ r. r.0.fixed ≡ T.fixed value) }
         ensures pass { IfOk result (λ r. r.1 ≡ first_pass r.0 (T.past value)) }
     {
+        let rooms = Rooms::open(alloc.clone().map_err(|_| NoMemory)?).map_err(|_| NoMemory)?;
         let start = Start {
             numbers: n,
             value: Snapshot::of(&value),
@@ -71,7 +75,7 @@ impl<T: Kept, A: Allocator> TicketLock<T, A> {
         slots.push(Slot { value }).map_err(|_| NoMemory)?;
         match Table::new(alloc, &[first, first], slots, &start) {
             Ok((table, seat)) => Ok((
-                TicketLock { table },
+                TicketLock { table, rooms },
                 Pass {
                     lo: 0,
                     seat,
@@ -158,11 +162,13 @@ impl<T: Kept, A: Allocator> TicketLock<T, A> {
         let Some(ticket) = draw(rt, words, &mut seat, expected) else {
             return Err((Spent, Pass { lo, seat, expected }));
         };
-        wait(rt, words, &mut seat, ticket);
+        let places = self.rooms.places();
+        wait(rt, words, places, &mut seat, ticket);
         let slot = seat.slot_mut(words, HOME);
         let taken = Snapshot::of(&slot.value);
         Ok(Held {
             words,
+            places,
             lo,
             seat,
             taken,
@@ -179,7 +185,7 @@ impl<T: Kept, A: Allocator> TicketLock<T, A> {
         ensures own { entries_of pass.lo pass.hi (T.past result.0) ≡ mine pass }
         ensures past { All (λ e. e.0 < self.numbers) (T.past result.0) → T.past result.0 ≡ pass.seen }
     {
-        let TicketLock { table } = self;
+        let TicketLock { table, rooms: _ } = self;
         let Pass {
             lo,
             mut seat,

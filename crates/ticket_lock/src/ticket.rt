@@ -4,16 +4,11 @@ ghost use Rattle.ticket_lock.specs.declared.rule.Turn.TheVariants.{Waiting};
 ghost use Rattle.ticket_lock.specs.Steps.{IsHanded, Becomes, IsIdle, IsWaiting};
 
 use crate::kept::Kept;
+use crate::places::{Places, Waiter};
 use crate::plays::{Draw, LookNext, Serve};
 use crate::rule::{END, NEXT, Place, SERVING, Words};
 use crossbeam_utils::Backoff;
 use std::sync::Wait;
-
-/// How often a thread looks, with pauses between, before it sleeps between two looks.
-const LOOKS: u32 = 100;
-
-/// A thread with more tickets than these before its own sleeps at once.
-const NEAR: u64 = 3;
 
 /// The ticket to try: the expected one, or, where there is none of that number, the one that a look at the word finds. None: the look finds
 /// that they are all drawn, which only a look at the word tells the pass.
@@ -115,14 +110,20 @@ fn try_take<T: Kept>(words: &Words<T>, seat: &mut Place<T>, ticket: u64) -> Resu
 }
 
 /// Waits until the ticket is served, and takes the value, which is then in the slot that the seat has.
-pub(crate) fn wait<T: Kept, R: Wait>(rt: &R, words: &Words<T>, seat: &mut Place<T>, ticket: u64)
+pub(crate) fn wait<T: Kept, R: Wait>(
+    rt: &R,
+    words: &Words<T>,
+    places: Places<'_>,
+    seat: &mut Place<T>,
+    ticket: u64,
+)
     requires table { (seat.old.table_id ≡ words.now.table_id) × (words.now.table_id.words ≡ 2) }
     requires waiting { IsWaiting seat.old ticket }
     ensures same { (seat.new.table_id ≡ seat.old.table_id) × (seat.new.id ≡ seat.old.id) }
     ensures handed { (x : T) × IsHanded T.fixed T.past seat.old.me.0 ticket x seat.new.me }
 {
     if try_take(words, seat, ticket).is_err() {
-        wait_on(rt, words, seat, ticket);
+        wait_on(rt, words, places, seat, ticket);
     }
 }
 
@@ -130,25 +131,24 @@ pub(crate) fn wait<T: Kept, R: Wait>(rt: &R, words: &Words<T>, seat: &mut Place<
 ///
 /// It looks at first, and then sleeps. A thread that only looked, or that gave up its processor between two looks, would hold up the
 /// queue where more threads run than there are processors: each hand-over would wait until the scheduler comes round to the next.
-fn wait_on<T: Kept, R: Wait>(rt: &R, words: &Words<T>, seat: &mut Place<T>, ticket: u64)
+fn wait_on<T: Kept, R: Wait>(
+    rt: &R,
+    words: &Words<T>,
+    places: Places<'_>,
+    seat: &mut Place<T>,
+    ticket: u64,
+)
     requires table { (seat.old.table_id ≡ words.now.table_id) × (words.now.table_id.words ≡ 2) }
     requires waiting { IsWaiting seat.old ticket }
     ensures same { (seat.new.table_id ≡ seat.old.table_id) × (seat.new.id ≡ seat.old.id) }
     ensures handed { (x : T) × IsHanded T.fixed T.past seat.old.me.0 ticket x seat.new.me }
 {
-    let backoff = Backoff::new();
-    let mut looks = 0u32;
+    let mut waiter = Waiter::new(places, ticket);
     for _ in rt.forever() {
         let Err(served) = try_take(words, seat, ticket) else {
             return;
         };
-        if looks < LOOKS && ticket.saturating_sub(served) <= NEAR {
-            looks += 1;
-            backoff.spin();
-        } else {
-            // returns at once where the word has moved since the look, so no wake is lost
-            words.park(rt, SERVING, (served % (1 << 32)) as u32);
-        }
+        waiter.pause(rt, served);
     }
     unreachable!()
 }
