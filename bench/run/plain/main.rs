@@ -1,8 +1,8 @@
 //! The peer of `run`: the same machine in plain Rust, as a good Rust programmer writes it for this measurement.
-//! `plain (fifo | mutex) (caches | store) CORES` runs the image on standard input speculatively, one thread per core, and prints
+//! `plain (slots | fifo | mutex) (caches | store) CORES` runs the image on standard input speculatively, one thread per core, and prints
 //! the report of `trace_cli run` and the number of entries of its history. The book, its turns, its caches or plain store, and the
-//! waiting of its cores are those of the proved machine; the lock is a ticket lock with the same waiting, or the standard
-//! library's mutex.
+//! waiting of its cores are those of the proved machine; the lock is a ticket lock with the same waiting, one that wakes all who
+//! sleep at each hand-over, or the standard library's mutex.
 mod backoff;
 mod book;
 mod caches;
@@ -11,6 +11,8 @@ mod image;
 #[path = "../../lock/lock.rs"]
 mod lock;
 mod plain_store;
+#[path = "../../lock/slots_lock.rs"]
+mod slots_lock;
 mod store;
 
 use std::io::Read;
@@ -38,6 +40,16 @@ trait Lock<T>: Sync {
 impl<T: Send> Lock<T> for TicketLock<T> {
     fn with<R>(&self, turn: impl FnOnce(&mut T) -> R) -> R {
         turn(&mut self.lock())
+    }
+
+    fn into_value(self) -> T {
+        self.into_inner()
+    }
+}
+
+impl<T: Send> Lock<T> for slots_lock::TicketLock<T> {
+    fn with<R>(&self, turn: impl FnOnce(&mut T) -> R) -> R {
+        turn(&mut self.lock().unwrap())
     }
 
     fn into_value(self) -> T {
@@ -86,6 +98,7 @@ fn run<'a, S: Store>(lock: impl Lock<Book<'a, S>>, image: &'a Image, cores: usiz
 fn print_run<S: Store>(image: &Image, kind: &str, cores: usize) -> ExitCode {
     let book = Book::<S>::new(image, cores, ROOM);
     let book = match kind {
+        "slots" => run(slots_lock::TicketLock::new(book), image, cores),
         "fifo" => run(TicketLock::new(book), image, cores),
         "mutex" => run(Mutex::new(book), image, cores),
         _ => return ExitCode::from(2),
