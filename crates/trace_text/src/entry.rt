@@ -165,10 +165,13 @@ fn digit_value(digit: u8) -> Option<u32>
     ensures value { result ≡ hex_digit_value digit }
     ensures small { IfSome result (λ v. v < 16) }
 {
+    // most digits of a trace are decimal ones
+    if b'0' <= digit && digit <= b'9' {
+        return Some(u32::from(digit - b'0'));
+    }
     match digit {
-        b'A'..=b'F' => Some(u32::from(digit - b'A') + 10),
         b'a'..=b'f' => Some(u32::from(digit - b'a') + 10),
-        b'0'..=b'9' => Some(u32::from(digit - b'0')),
+        b'A'..=b'F' => Some(u32::from(digit - b'A') + 10),
         _ => None,
     }
 }
