@@ -9,7 +9,7 @@ use Rattle.rv32_image.specs.Reading.{IsReadFaultOf}
 use Rattle.violations.specs.View.{StoreView, Waits}
 use Rattle.trace_commands.specs.declared.outcome.Outcome.{Outcome}
 use Rattle.trace_commands.specs.declared.outcome.Outcome.TheVariants.{BadImage, Stopped}
-use Rattle.trace_commands.specs.declared.outcome.StopCause.TheVariants.{NoMemory}
+use Rattle.trace_commands.specs.declared.outcome.CommandStop.TheVariants.{NoMemory}
 use Rattle.trace_commands.specs.Outcome.{AppendsPrefix, error_line, outcome_of_fault, status_of}
 use Rattle.all_schedules.specs.Made.{loop_on}
 use Rattle.all_schedules.specs.AllSchedules.{AllAnswers, IsUnwritten, IsUnwrittenOf, IsWritten, IsWrittenOf}

@@ -20,8 +20,8 @@ use Rattle.trace_text.specs.Reading.{IsFaultOf, input_fault}
 use Rattle.trace_text.specs.TraceText.{longest_trace_text}
 use Rattle.trace_commands.specs.declared.outcome.Outcome.{Outcome}
 use Rattle.trace_commands.specs.declared.outcome.Outcome.TheVariants.{Reported, Open, BadTurns, Stopped}
-use Rattle.trace_commands.specs.declared.outcome.StopCause.{StopCause}
-use Rattle.trace_commands.specs.declared.outcome.StopCause.TheVariants as cause
+use Rattle.trace_commands.specs.declared.outcome.CommandStop.{CommandStop}
+use Rattle.trace_commands.specs.declared.outcome.CommandStop.TheVariants as cause
 use Rattle.trace_commands.specs.Outcome.{outcome_of_turns_fault}
 use Rattle.all_schedules.specs.Made.{IsFull, loop_on}
 use Rattle.all_schedules.specs.Replay.{IsNoReplay, IsPrinted, IsReplay, IsReplayOutcome, IsStop, IsUnprinted, OfText}
@@ -43,7 +43,7 @@ by_text cores room text image schedule P said allowed turns is =
 
 module _ {S : Type 0} (view : S → StoreView) (waits : S → Waits) (cores room : ℕ) (text : List ℕ) where
   -- the turns stop
-  pub stops : (image : LoadedImage) (schedule : List ℕ) (why : StopCause) → image_text (image_part text) ≡ Ok image → IsCoreCount image cores
+  pub stops : (image : LoadedImage) (schedule : List ℕ) (why : CommandStop) → image_text (image_part text) ≡ Ok image → IsCoreCount image cores
       → schedule_text cores text ≡ Ok schedule → IsStop view waits (loop_on image cores room) schedule why → IsNoReplay view waits cores room text (Stopped why)
   stops image schedule cause.HistoryFull said allowed turns is = by_text cores room text image schedule (IsFull view waits) said allowed turns is
   stops image schedule cause.NoMemory said allowed turns is = tt

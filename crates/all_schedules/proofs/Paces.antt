@@ -13,8 +13,8 @@ use Rattle.violations.specs.Rule.{IsCoreCount}
 use Rattle.homefree.specs.declared.book.Loop.{Loop}
 use Rattle.trace_commands.specs.declared.outcome.Outcome.{Outcome}
 use Rattle.trace_commands.specs.declared.outcome.Outcome.TheVariants.{BadImage, Stopped}
-use Rattle.trace_commands.specs.declared.outcome.StopCause.{StopCause}
-use Rattle.trace_commands.specs.declared.outcome.StopCause.TheVariants as cause
+use Rattle.trace_commands.specs.declared.outcome.CommandStop.{CommandStop}
+use Rattle.trace_commands.specs.declared.outcome.CommandStop.TheVariants as cause
 use Rattle.trace_commands.specs.Outcome.{outcome_of_fault}
 use Rattle.all_schedules.specs.Made.{loop_on}
 use Rattle.all_schedules.specs.Paced.{IsPacedOf, IsPacedOutcome, IsPacedStop, IsPacedText}
@@ -36,7 +36,7 @@ module _ {S : Type 0} (view : S → StoreView) (waits : S → Waits) (pace : Pac
       subst (λ (o : Outcome). IsPacedOf view waits pace l old new o) (sym at)
       (printed_at is.shown.state.end is.shown.state.homefree text allowed (subst (λ (o : Outcome). IsPacedText view waits pace l o text) at is) grows)
 
-  pub paced_stops : (why : StopCause) → IsPacedStop view waits pace l why → Keeps old new → IsPacedOf view waits pace l old new (Stopped why)
+  pub paced_stops : (why : CommandStop) → IsPacedStop view waits pace l why → Keeps old new → IsPacedOf view waits pace l old new (Stopped why)
   paced_stops cause.HistoryFull is keeps = (is, keeps)
   paced_stops cause.NoMemory is keeps = (is, keeps)
   paced_stops cause.Write is keeps = absurd is

@@ -9,8 +9,8 @@ use Rattle.violations.specs.Rule.{IsCoreCount}
 use Rattle.homefree.specs.declared.book.Loop.{Loop}
 use Rattle.trace_commands.specs.declared.outcome.Outcome.{Outcome}
 use Rattle.trace_commands.specs.declared.outcome.Outcome.TheVariants.{Usage, BadImage, Stopped}
-use Rattle.trace_commands.specs.declared.outcome.StopCause.{StopCause}
-use Rattle.trace_commands.specs.declared.outcome.StopCause.TheVariants.{Write, NoMemory, HistoryFull}
+use Rattle.trace_commands.specs.declared.outcome.CommandStop.{CommandStop}
+use Rattle.trace_commands.specs.declared.outcome.CommandStop.TheVariants.{Write, NoMemory, HistoryFull}
 use Rattle.trace_commands.specs.Outcome.{AppendsPrefix, Conclusion, IsRefusal}
 use Rattle.all_schedules.specs.declared.survey.Survey.{Survey}
 use Rattle.all_schedules.specs.Made.{IsFull, loop_on}
@@ -36,7 +36,7 @@ pub record IsOneFull {S : Type 0} (view : S → StoreView) (waits : S → Waits)
   pub full : IsFull view waits l schedule
 
 -- driving them may stop so
-abbrev pub IsAllStop : {S : Type 0} → (S → StoreView) → (S → Waits) → Loop → ℕ → StopCause → Type 0
+abbrev pub IsAllStop : {S : Type 0} → (S → StoreView) → (S → Waits) → Loop → ℕ → CommandStop → Type 0
 IsAllStop view waits l turns HistoryFull = IsOneFull view waits l turns
 IsAllStop view waits l turns NoMemory = Unit {0}
 IsAllStop view waits l turns other = ⊥

@@ -11,8 +11,8 @@ use Rattle.homefree.specs.declared.book.Loop.{Loop}
 use Rattle.homefree.specs.declared.fault.TurnFault.TheVariants as fault
 use Rattle.trace_commands.specs.declared.outcome.Outcome.{Outcome}
 use Rattle.trace_commands.specs.declared.outcome.Outcome.TheVariants.{Reported, Open, Usage, BadImage, Stopped}
-use Rattle.trace_commands.specs.declared.outcome.StopCause.{StopCause}
-use Rattle.trace_commands.specs.declared.outcome.StopCause.TheVariants.{Write, NoMemory, HistoryFull}
+use Rattle.trace_commands.specs.declared.outcome.CommandStop.{CommandStop}
+use Rattle.trace_commands.specs.declared.outcome.CommandStop.TheVariants.{Write, NoMemory, HistoryFull}
 use Rattle.trace_commands.specs.Outcome.{AppendsPrefix, IsRefusal}
 use Rattle.homefree.specs.declared.fault.TurnFault.{TurnFault}
 use Rattle.rv32_exec.specs.declared.sequential.End.{End}
@@ -45,7 +45,7 @@ pub record IsPacedText {S : Type 0} (view : S → StoreView) (waits : S → Wait
   pub text_is : text ≡ turns_line schedule ++ below
 
 -- the run may stop so
-abbrev pub IsPacedStop : {S : Type 0} → (S → StoreView) → (S → Waits) → Pace → Loop → StopCause → Type 0
+abbrev pub IsPacedStop : {S : Type 0} → (S → StoreView) → (S → Waits) → Pace → Loop → CommandStop → Type 0
 IsPacedStop view waits pace l HistoryFull = IsFaultAt view waits pace l fault.HistoryFull
 IsPacedStop view waits pace l NoMemory = Unit {0}
 IsPacedStop view waits pace l other = ⊥

@@ -17,8 +17,8 @@ use Rattle.trace_text.specs.declared.fault.TraceFaultKind.TheVariants as kind
 use Rattle.trace_text.specs.TraceText.{longest_trace_text}
 use Rattle.trace_commands.specs.declared.outcome.Outcome.{Outcome}
 use Rattle.trace_commands.specs.declared.outcome.Outcome.TheVariants.{Reported, Open, Usage, BadImage, BadTurns, Stopped}
-use Rattle.trace_commands.specs.declared.outcome.StopCause.{StopCause}
-use Rattle.trace_commands.specs.declared.outcome.StopCause.TheVariants.{Write, NoMemory, HistoryFull}
+use Rattle.trace_commands.specs.declared.outcome.CommandStop.{CommandStop}
+use Rattle.trace_commands.specs.declared.outcome.CommandStop.TheVariants.{Write, NoMemory, HistoryFull}
 use Rattle.trace_commands.specs.Outcome.{AppendsPrefix}
 use Rattle.all_schedules.specs.Made.{IsFull, Makes, loop_on}
 use Rattle.all_schedules.specs.Shown.{IsShown}
@@ -40,12 +40,12 @@ pub record IsReplay {S : Type 0} (view : S → StoreView) (waits : S → Waits) 
   pub text_is : text ≡ head ++ below
 
 -- the cause of a turn's fault
-abbrev pub cause_of : TurnFault → StopCause
+abbrev pub cause_of : TurnFault → CommandStop
 cause_of fault.HistoryFull = HistoryFull
 cause_of fault.NoMemory = NoMemory
 
 -- turns may stop so
-abbrev pub IsStop : {S : Type 0} → (S → StoreView) → (S → Waits) → Loop → List ℕ → StopCause → Type 0
+abbrev pub IsStop : {S : Type 0} → (S → StoreView) → (S → Waits) → Loop → List ℕ → CommandStop → Type 0
 IsStop view waits l schedule HistoryFull = IsFull view waits l schedule
 IsStop view waits l schedule NoMemory = Unit {0}
 IsStop view waits l schedule other = ⊥

@@ -12,7 +12,7 @@ use Rattle.homefree.specs.declared.book.Loop.{Loop}
 use Rattle.trace_text.specs.TraceText.{image_part}
 use Rattle.trace_commands.specs.declared.outcome.Outcome.{Outcome}
 use Rattle.trace_commands.specs.declared.outcome.Outcome.TheVariants.{Differs, Stopped, Usage}
-use Rattle.trace_commands.specs.declared.outcome.StopCause.TheVariants.{NoMemory, HistoryFull}
+use Rattle.trace_commands.specs.declared.outcome.CommandStop.TheVariants.{NoMemory, HistoryFull}
 use Rattle.trace_commands.specs.Audit.{IsNoVerdict, IsTracedBy}
 use Rattle.all_schedules.specs.Made.{IsFull, Makes, loop_on}
 use Rattle.all_schedules.specs.Shown.{IsShown}

@@ -14,7 +14,7 @@ use crate::text::print_survey;
 use rv32_image::{Image, read_image};
 use std::alloc::{AllocError, Global};
 use std::io::{Read, Write};
-use trace_commands::{Outcome, StopCause, write_whole};
+use trace_commands::{CommandStop, Outcome, write_whole};
 use violations::EpochStore;
 
 /// Drives every schedule of so many turns of the image that the reader gives, and writes what they come to together. The cores are at
@@ -93,7 +93,7 @@ fn all_of_image<S: EpochStore, W: Write>(
     if write_whole(writer, printed.as_slice()) {
         Ok(())
     } else {
-        Err(Outcome::Stopped(StopCause::Write))
+        Err(Outcome::Stopped(CommandStop::Write))
     }
 }
 
@@ -104,7 +104,7 @@ fn print_all<S: EpochStore>(
     cores: u32,
     room: u32,
     turns: u32,
-) -> Result<Vec<u8>, StopCause>
+) -> Result<Vec<u8>, CommandStop>
     requires cores { IsCoreCount image.now cores }
     requires least { 16 ≤ room }
     requires most { room ≤ 1048576 }
@@ -112,12 +112,12 @@ fn print_all<S: EpochStore>(
         (spec.IsAllStop S.view S.waits (loop_on image.now cores room) turns) }
 {
     let Ok(all) = every_schedule(alloc, cores, turns) else {
-        return Err(StopCause::NoMemory);
+        return Err(CommandStop::NoMemory);
     };
     match survey_schedules::<S>(alloc, image, cores, room, all.as_slice()) {
         Ok(survey) => match print_survey(alloc, image, all.as_slice(), &survey) {
             Ok(text) => Ok(text),
-            Err(AllocError) => Err(StopCause::NoMemory),
+            Err(AllocError) => Err(CommandStop::NoMemory),
         },
         Err(fault) => Err(cause_of(fault)),
     }

@@ -18,7 +18,7 @@ use homefree::{Book, TurnFault};
 use rv32_image::{Image, read_image};
 use std::alloc::{AllocError, Global};
 use std::io::{Read, Write};
-use trace_commands::{Outcome, StopCause, write_whole};
+use trace_commands::{CommandStop, Outcome, write_whole};
 use violations::EpochStore;
 
 /// What says whose turn is next.
@@ -100,7 +100,7 @@ fn paced_image<S: EpochStore, W: Write>(
     if write_whole(writer, printed.as_slice()) {
         outcome
     } else {
-        Outcome::Stopped(StopCause::Write)
+        Outcome::Stopped(CommandStop::Write)
     }
 }
 
@@ -111,7 +111,7 @@ fn show_paced<S: EpochStore>(
     image: &Image,
     cores: u32,
     room: u32,
-) -> Result<(Outcome, Vec<u8>), StopCause>
+) -> Result<(Outcome, Vec<u8>), CommandStop>
     requires cores { IsCoreCount image.now cores }
     requires least { 16 ≤ room }
     requires most { room ≤ 1048576 }
@@ -130,7 +130,7 @@ fn show_even<S: EpochStore>(
     image: &Image,
     cores: u32,
     room: u32,
-) -> Result<(Outcome, Vec<u8>), StopCause>
+) -> Result<(Outcome, Vec<u8>), CommandStop>
     requires cores { IsCoreCount image.now cores }
     requires least { 16 ≤ room }
     requires most { room ≤ 1048576 }
@@ -140,10 +140,10 @@ fn show_even<S: EpochStore>(
     match run_evenly::<S>(alloc, image, cores, room) {
         Ok(made) => match print_turns(alloc, image, cores, made.schedule.as_slice(), &made.book) {
             Ok(shown) => Ok(shown),
-            Err(AllocError) => Err(StopCause::NoMemory),
+            Err(AllocError) => Err(CommandStop::NoMemory),
         },
-        Err(TurnFault::HistoryFull) => Err(StopCause::HistoryFull),
-        Err(TurnFault::NoMemory) => Err(StopCause::NoMemory),
+        Err(TurnFault::HistoryFull) => Err(CommandStop::HistoryFull),
+        Err(TurnFault::NoMemory) => Err(CommandStop::NoMemory),
     }
 }
 
@@ -154,7 +154,7 @@ fn show_seeded<S: EpochStore>(
     image: &Image,
     cores: u32,
     room: u32,
-) -> Result<(Outcome, Vec<u8>), StopCause>
+) -> Result<(Outcome, Vec<u8>), CommandStop>
     requires cores { IsCoreCount image.now cores }
     requires least { 16 ≤ room }
     requires most { room ≤ 1048576 }
@@ -164,10 +164,10 @@ fn show_seeded<S: EpochStore>(
     match run_seeded::<S>(alloc, image, cores, room, seed) {
         Ok(made) => match print_turns(alloc, image, cores, made.schedule.as_slice(), &made.book) {
             Ok(shown) => Ok(shown),
-            Err(AllocError) => Err(StopCause::NoMemory),
+            Err(AllocError) => Err(CommandStop::NoMemory),
         },
-        Err(TurnFault::HistoryFull) => Err(StopCause::HistoryFull),
-        Err(TurnFault::NoMemory) => Err(StopCause::NoMemory),
+        Err(TurnFault::HistoryFull) => Err(CommandStop::HistoryFull),
+        Err(TurnFault::NoMemory) => Err(CommandStop::NoMemory),
     }
 }
 

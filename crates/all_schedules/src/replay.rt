@@ -18,7 +18,7 @@ use homefree::TurnFault;
 use rv32_image::{Image, image_of, read_input};
 use std::alloc::{AllocError, Global};
 use std::io::{Read, Write};
-use trace_commands::{Outcome, StopCause, write_whole};
+use trace_commands::{CommandStop, Outcome, write_whole};
 use trace_text::{LONGEST_TRACE_TEXT, TraceFault};
 use turn_steps::ShownStore;
 use violations::EpochStore;
@@ -93,7 +93,7 @@ fn replay_text<S: ShownStore, W: Write>(
     if write_whole(writer, printed.as_slice()) {
         outcome
     } else {
-        Outcome::Stopped(StopCause::Write)
+        Outcome::Stopped(CommandStop::Write)
     }
 }
 
@@ -161,7 +161,7 @@ fn replay_turns<S: ShownStore>(
     cores: u32,
     room: u32,
     schedule: &[u32],
-) -> Result<(Outcome, Vec<u8>), StopCause>
+) -> Result<(Outcome, Vec<u8>), CommandStop>
     requires cores { IsCoreCount image.now cores }
     requires least { 16 ≤ room }
     requires most { room ≤ 1048576 }
@@ -172,18 +172,18 @@ fn replay_turns<S: ShownStore>(
     match drive_told::<S>(alloc, detail, image, cores, room, schedule) {
         Ok((book, head)) => match print_told(alloc, image, cores, &book, head) {
             Ok(shown) => Ok(shown),
-            Err(AllocError) => Err(StopCause::NoMemory),
+            Err(AllocError) => Err(CommandStop::NoMemory),
         },
         Err(fault) => Err(cause_of(fault)),
     }
 }
 
 /// The cause that has the fault's name.
-pub fn cause_of(fault: TurnFault) -> StopCause
+pub fn cause_of(fault: TurnFault) -> CommandStop
     ensures { result ≡ spec.cause_of fault }
 {
     match fault {
-        TurnFault::HistoryFull => StopCause::HistoryFull,
-        TurnFault::NoMemory => StopCause::NoMemory,
+        TurnFault::HistoryFull => CommandStop::HistoryFull,
+        TurnFault::NoMemory => CommandStop::NoMemory,
     }
 }

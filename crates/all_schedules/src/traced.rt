@@ -14,7 +14,7 @@ use homefree::Book;
 use rv32_image::Image;
 use spec_history::{Entry, What};
 use std::alloc::{AllocError, Global};
-use trace_commands::{Outcome, StopCause, traced_in};
+use trace_commands::{CommandStop, Outcome, traced_in};
 use trace_text::image_part;
 use turn_steps::ShownStore;
 use violations::EpochStore;
@@ -81,7 +81,7 @@ fn drive_trace<S: ShownStore>(
         (spec.IsNotRetraced S.view S.waits (loop_on image.now cores room) entries.now) }
 {
     let Ok(schedule) = turns_of(alloc, cores, entries) else {
-        return Err(Outcome::Stopped(StopCause::NoMemory));
+        return Err(Outcome::Stopped(CommandStop::NoMemory));
     };
     match drive_told::<S>(alloc, detail, image, cores, room, schedule.as_slice()) {
         Ok((book, head)) => show_same(alloc, image, cores, &book, entries, head),
@@ -140,7 +140,7 @@ fn show_same<S: EpochStore>(
     }
     match print_told(alloc, image, cores, book, head) {
         Ok(shown) => Ok(shown),
-        Err(AllocError) => Err(Outcome::Stopped(StopCause::NoMemory)),
+        Err(AllocError) => Err(Outcome::Stopped(CommandStop::NoMemory)),
     }
 }
 

@@ -9,7 +9,7 @@ use Rattle.rv32_image.specs.Image.{LoadedImage, IsImage}
 use Rattle.spec_history.specs.declared.entry.Entry.{Entry}
 use Rattle.trace_commands.specs.declared.outcome.Outcome.{Outcome}
 use Rattle.trace_commands.specs.declared.outcome.Outcome.TheVariants.{Audited, Stopped}
-use Rattle.trace_commands.specs.declared.outcome.StopCause.TheVariants.{Write}
+use Rattle.trace_commands.specs.declared.outcome.CommandStop.TheVariants.{Write}
 use Rattle.trace_commands.specs.declared.outcome.Verdict.{Verdict}
 use Rattle.trace_commands.specs.declared.outcome.Verdict.TheVariants as verdict
 use Rattle.trace_commands.specs.Audit.{IsNoVerdict, IsTracedBy, IsVerdict}

@@ -9,7 +9,7 @@ use spec_history::Illegal;
 use std::alloc::Global;
 use std::io::{Read, Write};
 use trace_commands::{
-    Outcome, StopCause, Traced, Verdict, read_traced, verdict_line, write_bytes, write_whole,
+    CommandStop, Outcome, Traced, Verdict, read_traced, verdict_line, write_bytes, write_whole,
 };
 
 /// `why`: replays the trace that the reader gives below its image on the flat machine, and writes the report of which conflicts
@@ -58,7 +58,7 @@ fn explain_traced<W: Write>(alloc: Global, traced: &Traced, writer: &mut W) -> O
                 writer,
             )
         }
-        Err((_, Illegal::NoMemory)) => Outcome::Stopped(StopCause::NoMemory),
+        Err((_, Illegal::NoMemory)) => Outcome::Stopped(CommandStop::NoMemory),
         Err((place, refusal)) => {
             let verdict = Verdict::Illegal { place, refusal };
             tell(verdict, verdict_line(verdict).as_bytes(), b"", writer)
@@ -71,10 +71,10 @@ fn tell<W: Write>(verdict: Verdict, told: &[u8], rest: &[u8], writer: &mut W) ->
     ensures { spec.IsToldBy verdict (told.now ++ rest.now) (W.contents writer.old) (W.contents writer.new) result }
 {
     if !write_bytes(writer, told) {
-        return Outcome::Stopped(StopCause::Write);
+        return Outcome::Stopped(CommandStop::Write);
     }
     if !write_whole(writer, rest) {
-        return Outcome::Stopped(StopCause::Write);
+        return Outcome::Stopped(CommandStop::Write);
     }
     Outcome::Audited(verdict)
 }

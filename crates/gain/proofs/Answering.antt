@@ -9,7 +9,7 @@ use Rattle.rv32_image.specs.Input.{TakesAtMost}
 use Rattle.rv32_image.specs.Reading.{ForText, IsReadFaultOf}
 use Rattle.trace_commands.specs.declared.outcome.Outcome.{Outcome}
 use Rattle.trace_commands.specs.declared.outcome.Outcome.TheVariants.{BadImage, Stopped, Usage}
-use Rattle.trace_commands.specs.declared.outcome.StopCause.TheVariants.{NoMemory}
+use Rattle.trace_commands.specs.declared.outcome.CommandStop.TheVariants.{NoMemory}
 use Rattle.trace_commands.specs.Outcome.{AppendsPrefix, error_line, outcome_of_fault, status_of}
 use Rattle.trace_commands.proofs.Audits.{for_each, keeps_itself}
 use Rattle.gain.specs.Gains.{GainAnswers, IsUnwritten, IsUnwrittenOf, IsWritten, IsWrittenOf, Stream}

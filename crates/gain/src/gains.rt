@@ -11,7 +11,7 @@ use rv32_image::{Image, read_image};
 use spec_bus::CachedBus;
 use std::alloc::{AllocError, Global};
 use std::io::{Read, Write};
-use trace_commands::{Outcome, StopCause, write_whole};
+use trace_commands::{CommandStop, Outcome, write_whole};
 use violations::PlainStore;
 
 /// Runs the image that the reader gives at even speed on 1, 2, 4, 8 cores, as far as these are fewer than the cores, and on the cores,
@@ -81,12 +81,12 @@ fn gains_of_image<W: Write>(
         return Err(Outcome::Usage);
     }
     let Ok(text) = print_gains(alloc, image, cores, room) else {
-        return Err(Outcome::Stopped(StopCause::NoMemory));
+        return Err(Outcome::Stopped(CommandStop::NoMemory));
     };
     if write_whole(writer, text.as_slice()) {
         Ok(())
     } else {
-        Err(Outcome::Stopped(StopCause::Write))
+        Err(Outcome::Stopped(CommandStop::Write))
     }
 }
 

@@ -6,7 +6,7 @@ use Rattle.rv32_image.specs.ImageText.{image_text}
 use Rattle.rv32_image.specs.Reading.{ForText}
 use Rattle.trace_commands.specs.declared.outcome.Outcome.{Outcome}
 use Rattle.trace_commands.specs.declared.outcome.Outcome.TheVariants.{BadImage, Stopped}
-use Rattle.trace_commands.specs.declared.outcome.StopCause.TheVariants.{NoMemory}
+use Rattle.trace_commands.specs.declared.outcome.CommandStop.TheVariants.{NoMemory}
 use Rattle.run_command.specs.declared.options.RunOptions.{RunOptions}
 use Rattle.run_command.specs.Run.{IsImageOutcome, IsRunOutcome}
 

@@ -23,8 +23,8 @@ use Rattle.trace_text.specs.Laws.{AreEntries}
 use Rattle.trace_text.specs.Printing.{printed_trace}
 use Rattle.trace_commands.specs.declared.outcome.Outcome.{Outcome}
 use Rattle.trace_commands.specs.declared.outcome.Outcome.TheVariants.{Reported, Usage, BadImage, Stopped}
-use Rattle.trace_commands.specs.declared.outcome.StopCause.{StopCause}
-use Rattle.trace_commands.specs.declared.outcome.StopCause.TheVariants.{Write, NoMemory, HistoryFull, NoThread, Spent, Shut}
+use Rattle.trace_commands.specs.declared.outcome.CommandStop.{CommandStop}
+use Rattle.trace_commands.specs.declared.outcome.CommandStop.TheVariants.{Write, NoMemory, HistoryFull, NoThread, Spent, Shut}
 use Rattle.trace_commands.specs.Outcome.{Conclusion, AppendsPrefix, IsRefusal}
 use Rattle.trace_commands.specs.Report.{report_of}
 use Rattle.run_command.specs.declared.options.RunOptions.{RunOptions}
@@ -72,7 +72,7 @@ IsPrinted image options text = (below : List ℕ) × IsBelow options.trace (loop
 -- ---- why a run stops
 
 -- the cause that has the fault's name
-abbrev pub cause_of : RunFault → StopCause
+abbrev pub cause_of : RunFault → CommandStop
 cause_of fault.HistoryFull = HistoryFull
 cause_of fault.NoMemory = NoMemory
 cause_of fault.NoThread = NoThread
@@ -88,7 +88,7 @@ pub record IsFullHistory (l : Loop) (history : List Entry) : Type 0 where
   pub full : l.room < length history + (limits_of l.image.version).free_entries
 
 -- a run may stop so before its loop is over
-abbrev pub IsStop : RunOptions → LoadedImage → StopCause → Type 0
+abbrev pub IsStop : RunOptions → LoadedImage → CommandStop → Type 0
 IsStop options image Write = ⊥
 IsStop options image HistoryFull = (history : List Entry) × IsFullHistory (loop_asked image options) history
 IsStop options image other = Unit {0}

@@ -15,7 +15,7 @@ use std::alloc::{AllocError, Global};
 use std::io::{Read, Write};
 use std::sync::Wait;
 use std::thread::Threads;
-use trace_commands::{Outcome, StopCause, write_whole};
+use trace_commands::{CommandStop, Outcome, write_whole};
 
 /// `run`: runs the image that the reader gives, its epochs speculatively on a thread for each core, over caches on a coherent bus, and writes the report; with a
 /// trace, below it `counts LOADS STORES RESTARTS COMMITS` and the trace of the history. Each core passes the gate before each of its
@@ -86,7 +86,7 @@ fn run_image<G: Gate, T: Threads + Wait + Sync, W: Write>(
             if write_whole(writer, text.as_slice()) {
                 Outcome::Reported(end)
             } else {
-                Outcome::Stopped(StopCause::Write)
+                Outcome::Stopped(CommandStop::Write)
             }
         }
         Err(cause) => Outcome::Stopped(cause),
@@ -100,7 +100,7 @@ fn run_and_print<G: Gate, T: Threads + Wait + Sync>(
     options: RunOptions,
     gate: &G,
     image: &Image,
-) -> Result<(End, Vec<u8>), StopCause>
+) -> Result<(End, Vec<u8>), CommandStop>
     requires cores { IsCoreCount image.now options.cores }
     requires least { 16 ≤ options.room }
     requires most { options.room ≤ 1048576 }
@@ -119,21 +119,21 @@ fn run_and_print<G: Gate, T: Threads + Wait + Sync>(
     match run {
         Ok(run) => match printed(alloc, image, options, &run) {
             Ok(text) => Ok((run.end, text)),
-            Err(AllocError) => Err(StopCause::NoMemory),
+            Err(AllocError) => Err(CommandStop::NoMemory),
         },
         Err(run) => Err(cause_of(run.fault)),
     }
 }
 
 /// The cause that has the fault's name.
-fn cause_of(fault: RunFault) -> StopCause
+fn cause_of(fault: RunFault) -> CommandStop
     ensures { result ≡ spec.cause_of fault }
 {
     match fault {
-        RunFault::HistoryFull => StopCause::HistoryFull,
-        RunFault::NoMemory => StopCause::NoMemory,
-        RunFault::NoThread => StopCause::NoThread,
-        RunFault::Spent => StopCause::Spent,
-        RunFault::Shut => StopCause::Shut,
+        RunFault::HistoryFull => CommandStop::HistoryFull,
+        RunFault::NoMemory => CommandStop::NoMemory,
+        RunFault::NoThread => CommandStop::NoThread,
+        RunFault::Spent => CommandStop::Spent,
+        RunFault::Shut => CommandStop::Shut,
     }
 }

@@ -6,7 +6,7 @@ use Rattle.rv32_image.specs.Input.{TakesAtMost}
 use Rattle.trace_text.specs.TraceText.{longest_trace_text}
 use Rattle.trace_commands.specs.declared.outcome.Outcome.{Outcome}
 use Rattle.trace_commands.specs.declared.outcome.Outcome.TheVariants.{Usage, Stopped}
-use Rattle.trace_commands.specs.declared.outcome.StopCause.TheVariants.{NoMemory}
+use Rattle.trace_commands.specs.declared.outcome.CommandStop.TheVariants.{NoMemory}
 use Rattle.trace_commands.specs.Audit.{IsAuditOutcome}
 use Rattle.trace_commands.specs.Outcome.{Conclusion, IsSeqOutcome}
 use Rattle.run_command.specs.Run.{IsRunOutcome}

@@ -10,7 +10,7 @@ use std::convert::AsStr;
 use std::io::{Read, Write};
 use std::sync::Wait;
 use std::thread::Threads;
-use trace_commands::{Outcome, StopCause, do_audit, do_seq};
+use trace_commands::{CommandStop, Outcome, do_audit, do_seq};
 
 /// The whole program: does what the words ask for, the first of which is the program's name, and answers its status.
 ///
@@ -41,6 +41,6 @@ pub fn work<'a, S: AsStr, G: Gate, T: Threads + Wait + Sync, R: Read, W: Write, 
         }
         Ok(Request::Audit) => do_audit(alloc, reader, writer, errors),
         Err(WordsFault::Usage) => Outcome::Usage.conclude(errors),
-        Err(WordsFault::NoMemory) => Outcome::Stopped(StopCause::NoMemory).conclude(errors),
+        Err(WordsFault::NoMemory) => Outcome::Stopped(CommandStop::NoMemory).conclude(errors),
     }
 }

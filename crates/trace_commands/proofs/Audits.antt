@@ -15,7 +15,7 @@ use Rattle.trace_text.proofs.FaultKinds.{never_too_long}
 use Rattle.spec_history.specs.declared.entry.Entry.{Entry}
 use Rattle.trace_commands.specs.declared.outcome.Outcome.{Outcome}
 use Rattle.trace_commands.specs.declared.outcome.Outcome.TheVariants.{Audited, BadImage, BadTrace, Stopped}
-use Rattle.trace_commands.specs.declared.outcome.StopCause.TheVariants.{Write, NoMemory}
+use Rattle.trace_commands.specs.declared.outcome.CommandStop.TheVariants.{Write, NoMemory}
 use Rattle.trace_commands.specs.declared.outcome.Verdict.{Verdict}
 use Rattle.trace_commands.specs.Outcome.{outcome_of_trace_fault}
 use Rattle.trace_commands.specs.Audit.{IsAuditOutcome, IsNoVerdict, IsTracedBy, IsTracedOutcome, IsVerdict, IsVerdictOn}

@@ -17,7 +17,7 @@ use Rattle.trace_text.specs.TraceText.{Trace, image_part, longest_trace_text, tr
 use Rattle.trace_text.proofs.Above.{reads_back}
 use Rattle.trace_commands.specs.declared.outcome.Outcome.{Outcome}
 use Rattle.trace_commands.specs.declared.outcome.Outcome.TheVariants.{Reported, Audited, Usage, BadImage, BadTrace, Open, BadTurns, Differs, Stopped}
-use Rattle.trace_commands.specs.declared.outcome.StopCause.TheVariants as cause
+use Rattle.trace_commands.specs.declared.outcome.CommandStop.TheVariants as cause
 use Rattle.trace_commands.specs.declared.outcome.Verdict.{Verdict}
 use Rattle.trace_commands.specs.declared.outcome.Verdict.TheVariants.{Legal, Illegal as Refused}
 use Rattle.trace_commands.specs.Audit.{IsAuditOutcome, IsTraceRefusal, IsVerdict, IsVerdictOn}

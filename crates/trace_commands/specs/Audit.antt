@@ -16,7 +16,7 @@ use Rattle.trace_text.specs.declared.fault.TraceFaultKind.TheVariants as kind
 use Rattle.trace_text.specs.TraceText.{image_part, longest_trace_text, trace_text}
 use Rattle.trace_commands.specs.declared.outcome.Outcome.{Outcome}
 use Rattle.trace_commands.specs.declared.outcome.Outcome.TheVariants.{Audited, BadImage, BadTrace, Stopped}
-use Rattle.trace_commands.specs.declared.outcome.StopCause.TheVariants.{Write, NoMemory}
+use Rattle.trace_commands.specs.declared.outcome.CommandStop.TheVariants.{Write, NoMemory}
 use Rattle.trace_commands.specs.declared.outcome.Verdict.{Verdict}
 use Rattle.trace_commands.specs.declared.outcome.Verdict.TheVariants.{Legal, Illegal}
 use Rattle.trace_commands.specs.Outcome.{Conclusion, AppendsPrefix}

@@ -11,7 +11,7 @@ use Rattle.trace_text.specs.Printing.{printed_trace}
 use Rattle.trace_text.specs.TraceText.{is_core_count, longest_trace_text}
 use Rattle.trace_commands.specs.declared.outcome.Outcome.{Outcome}
 use Rattle.trace_commands.specs.declared.outcome.Outcome.TheVariants.{Audited, BadTrace, Stopped}
-use Rattle.trace_commands.specs.declared.outcome.StopCause.TheVariants.{Write, NoMemory}
+use Rattle.trace_commands.specs.declared.outcome.CommandStop.TheVariants.{Write, NoMemory}
 use Rattle.trace_commands.specs.declared.outcome.Verdict.TheVariants.{Legal}
 use Rattle.trace_commands.specs.Audit.{IsAuditOutcome}
 

@@ -19,11 +19,11 @@ use Rattle.trace_commands.specs.declared.outcome.Outcome.{Outcome}
 use Rattle.trace_commands.specs.declared.outcome.Outcome.TheVariants.{Reported, Audited, Usage, BadImage, BadTrace, Open, BadTurns, Differs, Stopped}
 use Rattle.trace_commands.specs.declared.outcome.Verdict.{Verdict}
 use Rattle.trace_commands.specs.declared.outcome.Verdict.TheVariants.{Legal, Illegal}
-use Rattle.trace_commands.specs.declared.outcome.StopCause.{StopCause}
-use Rattle.trace_commands.specs.declared.outcome.StopCause.TheVariants.{Write, NoMemory, HistoryFull, NoThread, Spent, Shut}
+use Rattle.trace_commands.specs.declared.outcome.CommandStop.{CommandStop}
+use Rattle.trace_commands.specs.declared.outcome.CommandStop.TheVariants.{Write, NoMemory, HistoryFull, NoThread, Spent, Shut}
 use Rattle.trace_commands.specs.Report.{report_of}
 
-abbrev pub cause_name : StopCause → List ℕ
+abbrev pub cause_name : CommandStop → List ℕ
 cause_name Write = codes "Write"
 cause_name NoMemory = codes "NoMemory"
 cause_name HistoryFull = codes "HistoryFull"
@@ -63,7 +63,7 @@ turns_line fault = codes "turns " ++ decimal fault.line ++ codes " " ++ trace_na
 abbrev pub differs_line : ℕ → List ℕ
 differs_line place = codes "differs " ++ decimal place ++ codes "\n"
 
-abbrev pub stopped_line : StopCause → List ℕ
+abbrev pub stopped_line : CommandStop → List ℕ
 stopped_line cause = codes "stopped " ++ cause_name cause ++ codes "\n"
 
 -- the line on the error stream, or nothing

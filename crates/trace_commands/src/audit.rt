@@ -4,7 +4,7 @@ ghost use Rattle.rv32_image.specs.Reading.{ForText};
 ghost use Rattle.trace_text.specs.TraceText.{longest_trace_text};
 ghost use Rattle.trace_commands.specs.Audit as spec;
 
-use crate::outcome::{Outcome, StopCause, Verdict};
+use crate::outcome::{CommandStop, Outcome, Verdict};
 use crate::traced::{Traced, read_traced};
 use crate::write::write_whole;
 use arrayvec::ArrayString;
@@ -54,12 +54,12 @@ fn audit_traced<W: Write>(alloc: Global, traced: &Traced, writer: &mut W) -> Out
         traced.cores,
         traced.entries.as_slice(),
     ) else {
-        return Outcome::Stopped(StopCause::NoMemory);
+        return Outcome::Stopped(CommandStop::NoMemory);
     };
     if write_whole(writer, verdict_line(verdict).as_bytes()) {
         Outcome::Audited(verdict)
     } else {
-        Outcome::Stopped(StopCause::Write)
+        Outcome::Stopped(CommandStop::Write)
     }
 }
 

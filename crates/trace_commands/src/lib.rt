@@ -11,7 +11,7 @@ mod traced;
 mod write;
 
 pub use audit::{do_audit, verdict_line, verdict_of};
-pub use outcome::{Outcome, StopCause, Verdict};
+pub use outcome::{CommandStop, Outcome, Verdict};
 pub use program::{ROOM, words_given};
 pub use report::{print_open_report, print_report};
 pub use seq::do_seq;

@@ -11,7 +11,7 @@ use trace_text::{TraceFault, TraceFaultKind};
 
 /// Why a command stopped before its end.
 #[derive(Clone, Copy, Debug, PartialEq, Eq)]
-pub enum StopCause {
+pub enum CommandStop {
     /// A write or a flush of standard output failed.
     Write,
     /// Memory ran out.
@@ -26,19 +26,19 @@ pub enum StopCause {
     Shut,
 }
 
-impl StopCause {
+impl CommandStop {
     /// The printed name, which is the variant's.
     pub fn name(self) -> &'static str
         ensures name { result.now ≡ spec.cause_name self }
         ensures short { length result.now ≤ 16 }
     {
         match self {
-            StopCause::Write => "Write",
-            StopCause::NoMemory => "NoMemory",
-            StopCause::HistoryFull => "HistoryFull",
-            StopCause::NoThread => "NoThread",
-            StopCause::Spent => "Spent",
-            StopCause::Shut => "Shut",
+            CommandStop::Write => "Write",
+            CommandStop::NoMemory => "NoMemory",
+            CommandStop::HistoryFull => "HistoryFull",
+            CommandStop::NoThread => "NoThread",
+            CommandStop::Spent => "Spent",
+            CommandStop::Shut => "Shut",
         }
     }
 }
@@ -72,7 +72,7 @@ pub enum Outcome {
     /// The schedule of a trace made another history: the first place, counted from 0, at which they differ.
     Differs(usize),
     /// The command stopped.
-    Stopped(StopCause),
+    Stopped(CommandStop),
 }
 
 impl Outcome {
@@ -81,7 +81,7 @@ impl Outcome {
         ensures { result ≡ spec.outcome_of_fault fault.kind fault }
     {
         match fault.kind {
-            ImageFaultKind::NoMemory => Outcome::Stopped(StopCause::NoMemory),
+            ImageFaultKind::NoMemory => Outcome::Stopped(CommandStop::NoMemory),
             _ => Outcome::BadImage(fault),
         }
     }
@@ -91,7 +91,7 @@ impl Outcome {
         ensures { result ≡ spec.outcome_of_trace_fault fault.kind fault }
     {
         match fault.kind {
-            TraceFaultKind::NoMemory => Outcome::Stopped(StopCause::NoMemory),
+            TraceFaultKind::NoMemory => Outcome::Stopped(CommandStop::NoMemory),
             _ => Outcome::BadTrace(fault),
         }
     }
@@ -101,7 +101,7 @@ impl Outcome {
         ensures { result ≡ spec.outcome_of_turns_fault fault.kind fault }
     {
         if let TraceFaultKind::NoMemory = fault.kind {
-            return Outcome::Stopped(StopCause::NoMemory);
+            return Outcome::Stopped(CommandStop::NoMemory);
         }
         Outcome::BadTurns(fault)
     }
@@ -185,7 +185,7 @@ fn differs_line(place: usize) -> ArrayString<64>
     line
 }
 
-fn stopped_line(cause: StopCause) -> ArrayString<64>
+fn stopped_line(cause: CommandStop) -> ArrayString<64>
     ensures { result.bytes ≡ spec.stopped_line cause }
 {
     let mut line = ArrayString::new();

@@ -2,7 +2,7 @@
 ghost use Rattle.std.specs.Prelude.{IfErr};
 ghost use Rattle.trace_commands.specs.Outcome as spec;
 
-use crate::outcome::{Outcome, StopCause};
+use crate::outcome::{CommandStop, Outcome};
 use std::env::Env;
 use std::{env, io};
 
@@ -16,14 +16,14 @@ pub fn words_given<R: Env + Alloc>(rt: &R) -> Result<Vec<String<R::A>, R::A>, Ou
     ensures { IfErr result spec.IsNoWords }
 {
     let args = env::args(rt).map_err(|error| match error.kind() {
-        io::ErrorKind::OutOfMemory => Outcome::Stopped(StopCause::NoMemory),
+        io::ErrorKind::OutOfMemory => Outcome::Stopped(CommandStop::NoMemory),
         _ => Outcome::Usage,
     })?;
     let mut words = Vec::new(rt.alloc());
     for word in args {
         words
             .push(word)
-            .map_err(|_| Outcome::Stopped(StopCause::NoMemory))?;
+            .map_err(|_| Outcome::Stopped(CommandStop::NoMemory))?;
     }
     Ok(words)
 }

@@ -6,7 +6,7 @@ ghost use Rattle.rv32_exec.specs.Sequential.{sequential_result};
 ghost use Rattle.trace_commands.specs.Report.{report_of};
 ghost use Rattle.trace_commands.specs.Outcome as spec;
 
-use crate::outcome::{Outcome, StopCause};
+use crate::outcome::{CommandStop, Outcome};
 use crate::report::print_report;
 use crate::write::write_whole;
 use rv32_exec::{End, Image, NoMemory, read_image, run_in_order};
@@ -50,10 +50,10 @@ fn run_image<W: Write>(alloc: Global, image: &Image, writer: &mut W) -> Outcome
             if write_whole(writer, text.as_slice()) {
                 Outcome::Reported(end)
             } else {
-                Outcome::Stopped(StopCause::Write)
+                Outcome::Stopped(CommandStop::Write)
             }
         }
-        Err(NoMemory) => Outcome::Stopped(StopCause::NoMemory),
+        Err(NoMemory) => Outcome::Stopped(CommandStop::NoMemory),
     }
 }
 
