@@ -17,7 +17,6 @@ use Rattle.spec_history.specs.Conflict.{is_notice, can_cause, line_number, read_
 use Rattle.homefree.specs.Caused.{IsKnown}
 use Rattle.homefree.specs.Hurts.{entry, entry_for_each}
 use Rattle.homefree.proofs.Violations.Knowing.{next_what, PassedHere, AllKnown}
-use Rattle.homefree.proofs.Violations.Sharing.{line_length}
 
 -- ---- notices, and what comes after them
 
