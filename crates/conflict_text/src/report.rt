@@ -4,7 +4,6 @@ ghost use Rattle.rv32_image.specs.Image.{IsImage};
 ghost use Rattle.conflict_findings.specs.declared.ended.Ended.{Ended};
 ghost use Rattle.conflict_findings.specs.declared.ended.Running.{Running};
 ghost use Rattle.conflict_findings.specs.declared.rollback.Rollback.{Rollback};
-ghost use Rattle.conflict_text.specs.Report as spec;
 ghost use Rattle.conflict_text.specs.Totals as totals;
 
 use crate::parts::{push_instructions, push_lines, push_pairs};
