@@ -1,6 +1,6 @@
 //! The violations of each pair of instructions, side by side.
 
-ghost use Rattle.std.specs.Prelude.{◌≡◌, ◌<◌, ◌≤◌, ◌^◌, IfOk, List, false, length, nat_lt, true};
+ghost use Rattle.std.specs.Prelude.{◌≡◌, ◌≤◌, ◌^◌, IfOk, List, false, length, nat_lt, true};
 ghost use Rattle.std.specs.List.Sorted.{IsPartitionPoint};
 ghost use Rattle.conflict_findings.specs.declared.rollback.Rollback.{Rollback};
 ghost use Rattle.conflict_findings.specs.Grouped as spec;
