@@ -1,4 +1,6 @@
--- What is found of a violation: all that is told and summed of it. Its explanation has whom to blame; here stand the two accesses with their instructions, where they met, what it cost, and what became of it.
+-- What is found of a violation: all that is told and summed of it. Its explanation has whom to blame; here stand the two accesses
+-- with their instructions, where they met, what it cost, and what became of it.
+-- Source: this project.
 use Rattle.std.specs.Prelude.{ℕ, ◌*◌, List, Option, Some, None, is_some, map, slice_get, option_and_then, option_map}
 use Rattle.rv32_image.specs.Image.{LoadedImage}
 use Rattle.rv32_image.specs.Version.{limits_of}
@@ -56,10 +58,11 @@ load_at image entries e = load_by e.blame (held_at image entries e)
 
 -- ---- where they met
 
--- the line of the blamed byte, or the one that was asked for
+-- the line that the cause asked for where a buffer was full
 abbrev pub asked_line : LoadedImage → List Entry → Explanation → Option ℕ
 asked_line image entries e = option_and_then (accessed_line image) (what_at entries (asked_at e))
 
+-- the line of the blamed byte, or the one that was asked for
 abbrev pub line_by : LoadedImage → Option Blame → Option ℕ → Option ℕ
 line_by image (Some blame) asked = Some (line_number image blame.byte)
 line_by image None asked = asked

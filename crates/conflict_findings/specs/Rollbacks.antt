@@ -1,4 +1,5 @@
--- What of a finding is summed: the kind, the violated epoch, the two instructions that met, the line and the bytes in which they met, what was lost, what became of it, and how far apart the epochs stood.
+-- What of a finding is summed: the kind, the violated epoch, the two instructions that met, the line and the bytes in which they
+-- met, what was lost, what became of it, and how far apart the epochs stood.
 use Rattle.std.specs.Prelude.{ℕ, ◌-◌, List, Option, Some, None, is_some, option_and_then, option_map}
 use Rattle.rv32_image.specs.Image.{LoadedImage}
 use Rattle.spec_history.specs.declared.entry.Entry.{Entry}
@@ -19,7 +20,8 @@ pc_of access = option_and_then (λ (a : Access). a.pc) access
 abbrev pub pair_of : Option Access → Option Access → Option Pair
 pair_of store load = option_and_then (λ s. option_map (λ l. record { store = s; load = l }) (pc_of load)) (pc_of store)
 
--- by how many epochs the victim stands after the causer; 0 where it does not, which is so of no violation that the flat machine accepts (`sum_laws::violated_epochs_come_after`)
+-- by how many epochs the victim stands after the causer; 0 where it does not, which is so of no violation that the flat machine
+-- accepts (`sum_laws::violated_epochs_come_after`)
 abbrev pub distance_of : Runner → Runner → ℕ
 distance_of victim causer = victim.epoch - causer.epoch
 

@@ -82,6 +82,7 @@ causer_text f =
     codes " by " ++ decimal f.causer.epoch ++ codes " core " ++ decimal f.causer.core
     ++ codes " cause " ++ number_or_dash f.cause ++ codes " " ++ cause_name f.act
 
+-- hurt 4 true epoch 1 try 1 core 1 lost 3 entered 2 since 2 by 0 core 0 cause 5 commit load 3 00000004 store 2 00000014 at 00000040 4
 unfoldable pub hurt_line : Finding → List ℕ
 hurt_line f =
     codes "hurt " ++ decimal f.place ++ codes " " ++ kind_name f.kind
