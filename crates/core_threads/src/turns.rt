@@ -80,13 +80,15 @@ pub fn core_loop<S: EpochStore, G: Gate, R: Wait>(
             return (later, shares, end);
         }
         turn = turn.saturating_add(1);
-        let (later, counted, after) = one_turn(rt, lock, pass, shares, next.as_ref(), &mut hart);
+        let (later, after) = one_turn(rt, lock, pass, &mut shares, next.as_ref(), &mut hart);
         pass = later;
-        shares = counted;
         match after {
             After::Goes => {
                 backoff.reset();
-                next = Some(advance(image, hart));
+                match &mut next {
+                    Some(arrived) => arrived.advance_from(image, &hart),
+                    None => next = Some(advance(image, hart)),
+                }
             }
             After::Waits => backoff.snooze(),
             After::Leaves => next = None,
@@ -101,28 +103,27 @@ fn one_turn<S: EpochStore, R: Wait>(
     rt: &R,
     lock: &TicketLock<Book<S>>,
     pass: Pass<Book<S>>,
-    shares: Shares,
+    shares: &mut Shares,
     next: Option<&Arrived>,
     hart: &mut Hart,
-) -> (Pass<Book<S>>, Shares, After)
+) -> (Pass<Book<S>>, After)
     requires own { pass.lock ≡ Some lock.now }
     requires core { (pass.lo < lock.now.fixed.cores) × (lock.now.fixed.cores ≤ 16) }
     requires next { IfArrived lock.now.fixed.image (option_copied next) }
-    requires counted { IsCounted pass shares }
+    requires counted { IsCounted pass shares.old }
     ensures later { IsLater pass result.0 }
-    ensures counted { IsCounted result.0 result.1 }
-    ensures over { result.2 ≡ After.Ends LoopEnd.Over → IsOver lock.now.fixed result.0.seen }
-    ensures stopped { result.2 ≡ After.Ends LoopEnd.Stopped → IsGoing lock.now.fixed result.0.seen }
-    ensures spent { result.2 ≡ After.Ends LoopEnd.Spent → result.0.out ≡ true }
+    ensures counted { IsCounted result.0 shares.new }
+    ensures over { result.1 ≡ After.Ends LoopEnd.Over → IsOver lock.now.fixed result.0.seen }
+    ensures stopped { result.1 ≡ After.Ends LoopEnd.Stopped → IsGoing lock.now.fixed result.0.seen }
+    ensures spent { result.1 ≡ After.Ends LoopEnd.Spent → result.0.out ≡ true }
 {
     let core = pass.who() as u32;
-    let mut shares = shares;
     match lock.lock(rt, pass) {
         Ok(mut held) => {
-            let after = take_turn(held.value(), core, next, &mut shares, hart);
-            (held.release(), shares, after)
+            let after = take_turn(held.value(), core, next, shares, hart);
+            (held.release(), after)
         }
-        Err((_, pass)) => (pass, shares, After::Ends(LoopEnd::Spent)),
+        Err((_, pass)) => (pass, After::Ends(LoopEnd::Spent)),
     }
 }
 

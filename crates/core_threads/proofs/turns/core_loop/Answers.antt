@@ -50,8 +50,15 @@ loop-preserved-in-Waits g c = (later_trans c.args.pass c.loop.pass c.one_turn-la
 pub loop-preserved : goal.loop-preserved
 loop-preserved g c = (later_trans c.args.pass c.loop.pass c.one_turn-later.result.0 c.loop.invariant.0 c.one_turn-later.ensures.later, c.one_turn-later.ensures.counted, tt)
 
-pub loop-preserved-in-Goes : goal.loop-preserved-in-Goes
-loop-preserved-in-Goes g c = (
+pub loop-preserved-in-Some-next : goal.loop-preserved-in-Some-next
+loop-preserved-in-Some-next g c = (
+  later_trans c.args.pass c.loop.pass c.one_turn-later.result.0 c.loop.invariant.0 c.one_turn-later.ensures.later,
+  c.one_turn-later.ensures.counted,
+  arrived_at c.args.lock.now.fixed.image c.args.image.now c.one_turn-later.new.hart c.advance_from.new.self c.requires.image c.advance_from.ensures.base c.advance_from.ensures.now c.advance_from.ensures.at,
+)
+
+pub loop-preserved-in-None-next : goal.loop-preserved-in-None-next
+loop-preserved-in-None-next g c = (
   later_trans c.args.pass c.loop.pass c.one_turn-later.result.0 c.loop.invariant.0 c.one_turn-later.ensures.later,
   c.one_turn-later.ensures.counted,
   arrived_at c.args.lock.now.fixed.image c.args.image.now c.one_turn-later.new.hart c.advance.result c.requires.image c.advance.ensures.base c.advance.ensures.now c.advance.ensures.at,
