@@ -1,5 +1,5 @@
 //! Gates, which each core passes before each of its turns.
-ghost use Rattle.std.specs.Prelude.{◌≡◌, codes};
+ghost use Rattle.std.specs.Prelude.{◌≡◌, IsOk, codes};
 
 use rv32_exec::Arrived;
 use thiserror::Error;
@@ -32,7 +32,9 @@ pub trait Gate: Sync {
 pub struct Open;
 
 impl Gate for Open {
-    fn pass(&self, _core: u32, _turn: u64, _next: Option<&Arrived>) -> Result<(), Shut> {
+    fn pass(&self, _core: u32, _turn: u64, _next: Option<&Arrived>) -> Result<(), Shut>
+        ensures { IsOk result }
+    {
         Ok(())
     }
 }
