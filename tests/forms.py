@@ -36,6 +36,10 @@ HURT = ("hurt 4 true epoch 1 try 1 core 1 lost 3 entered 2 since 2 by 0 core 0 c
 TOTAL = "total epochs 2 committed 2 useful 8 rollbacks 1 lost 3 cancelled 0 dropped 0 open 0 unsettled 0\n"
 GAIN = ("store plain cores 4 steps 108 gain 4.00 useful 432 lost 0 dropped 0 waiting 0 idle 0 restarts 0 true 0 silent 0 false 0 buffer 0 "
         "nothomefree 0 noway 0 orbfull 0 orbbusy 0\n")
+STEPS = ("turn 0 0 go\nentry 0 start 0\nattempt 0 0 homefree\nhart 0 00000000 0\nturn 1 1 again NoWay\nturn 2 0 over done 1\n"
+         "entry 0 store 00000040 4 00000001\nentry 0 commit\nattempt 0 -\nhart 0 -\norb 0\nline 0 0 0 00000040 M - 00000000 01000000\n"
+         "kept 0 00000040 0000 000f 01\nat 00000040 01000000\nend\nend done 1\nat 00000040 01000000000000000000000000000000\n"
+         "counts 0 1 0 1\ntrace 2\n0 start 0\n0 store 00000040 4 00000001\n0 commit\n")
 # (form, a text of that form)
 TEXTS = [
     ("image", "# One.\n#> end done 3\nversion 2\nexit\nsize 64\nepochs 3\nlimit 9\ncode 6780000013000000\nreg 2 0000ff00\nat 00000020 01ff\n"),
@@ -56,11 +60,14 @@ TEXTS = [
                   "kind buffer rollbacks 1 lost 3\n" + TOTAL),
     ("gains", GAIN + "store caches cores 1 full\n" + GAIN.replace("gain 4.00", "gain -")),
     ("output", "turns 0 1 0\nend done 1\ncounts 0 0 0 1\ntrace 2\n0 start 0\n0 commit\n"),
+    ("steps", STEPS),
+    ("steps", "end\nopen 0\ncounts 0 0 0 0\ntrace 1\n"),
 ]
 # (form, what isn't of it)
 REFUSED = [
     ("image", "size 64\nspeed 3\n"), ("image", "size x\n"), ("traced", "size 64\n"), ("traced", "size 64\ntrace 2\n0 begin 0\n"), ("output", "end soon 3\n"),
     ("conflicts", "hurt 4 true epoch 1\n"), ("conflicts", "vain 4 hurt\n"), ("conflicts", HURT.replace("vain 4", "vain 5")), ("gains", "store caches cores 2 fast\n"),
+    ("steps", STEPS.partition("end\n")[0]), ("steps", STEPS.replace("hart 0 -", "heart 0 -")), ("steps", STEPS.replace("end done 1", "end soon 1")),
 ]
 
 
@@ -109,6 +116,9 @@ def by_hand():
     violation = read_conflicts(TEXTS[9][1]).violations[0]
     facts = (violation.cause_what, violation.victims.pc, violation.also[0].kind, violation.later.entry, violation.vain, violation.moot)
     yield "what a violation says", None if facts == ("commit", 4, "silent", 7, True, True) else f"got {facts}"
+    steps = FORMS["steps"][1](STEPS)
+    facts = (len(steps.steps), steps.steps[1].answer, steps.steps[2].entries[1].place, steps.steps[2].changes["orb 0"], steps.output.counts.stores)
+    yield "what steps say", None if facts == (3, "again NoWay", 2, "", 1) else f"got {facts}"
     for name in TOOLS:
         out, errors, status = tool(name, "", "--help")
         yield f"tools/{name} --help", None if (errors, status) == ("", 0) and out.startswith("usage: ") and len(out.split()) > 20 else f"got {out!r}, {errors!r}"
@@ -123,10 +133,14 @@ def by_hand():
 
 
 def packages():
-    """`pip install .` installs each package of tools/."""
-    told = json.loads(re.search(r"(?m)^packages = (.*)$", (ROOT / "pyproject.toml").read_text())[1])
+    """`pip install .` installs each package of tools/, in the version that the changelog released last."""
+    project = (ROOT / "pyproject.toml").read_text()
+    told = json.loads(re.search(r"(?m)^packages = (.*)$", project)[1])
     there = sorted(path.parent.name for path in (ROOT / "tools").glob("*/__init__.py"))
     yield "the packages that are installed", None if sorted(told) == there else f"{told}, there are {there}"
+    version = re.search(r'(?m)^version = "(.*)"$', project)[1]
+    released = re.search(r"(?m)^## \[(\d.*?)\]", (ROOT / "CHANGELOG.md").read_text())[1]
+    yield "the version", None if version == released else f"{version} of the packages, {released} released last"
 
 
 def schema():
@@ -183,6 +197,7 @@ def examples(command):
             yield f"{path.name}: every schedule", wrong_with("survey", printed(programs["replay"], ["all", "plain", "2", "6"], text))
             again = Programs(programs["replay"].parent).retrace(traced, "caches")
             yield f"{path.name}: its trace taken again", None if again == read_output(run) else "is another"
+            yield f"{path.name}: its turns", wrong_with("steps", printed(programs["replay"], ["steps", "caches"], traced))
             yield f"{path.name}: a run at even speed", wrong_with("output", printed(programs["replay"], ["even", "caches", "4"], text))
         if "gain" in programs:
             yield f"{path.name}: its gains", wrong_with("gains", printed(programs["gain"], ["4"], text))

@@ -14,17 +14,18 @@ from .conflicts import Conflicts, read_conflicts
 from .gains import Gains, read_gains
 from .images import Image, Unreadable, read_image
 from .runs import Output, Survey, Traced, Verdict, read_output, read_survey, read_traced, read_verdict
+from .steps import Steps, read_steps
 
 VERSION = 1
 SCHEMA = Path(__file__).with_name("schema.json")
 FORMS: dict[str, tuple[type, Callable[[str], Any]]] = {
     "image": (Image, read_image), "traced": (Traced, read_traced), "output": (Output, read_output), "survey": (Survey, read_survey),
-    "verdict": (Verdict, read_verdict), "conflicts": (Conflicts, read_conflicts), "gains": (Gains, read_gains),
+    "verdict": (Verdict, read_verdict), "conflicts": (Conflicts, read_conflicts), "gains": (Gains, read_gains), "steps": (Steps, read_steps),
 }
 # The words that begin a text, and their forms; a text of another beginning is an image.
 BEGINNINGS = {
     "end": "output", "open": "output", "turns": "output", "schedules": "survey", "legal": "verdict", "illegal": "verdict", "store": "gains",
-    "hurt": "conflicts", "cancel": "conflicts", "epoch": "conflicts", "total": "conflicts",
+    "turn": "steps", "hurt": "conflicts", "cancel": "conflicts", "epoch": "conflicts", "total": "conflicts",
 }
 
 
@@ -33,6 +34,8 @@ def form_of(text: str) -> str:
     first = next((line for line in text.split("\n") if line and not line.startswith("#")), "").split(" ")
     if first[:2] == ["open", "epoch"]:
         return "conflicts"
+    if first == ["end"]:
+        return "steps"
     if first[0] in BEGINNINGS:
         return BEGINNINGS[first[0]]
     if first == [""]:
@@ -58,7 +61,7 @@ def made(kind: Any, value: Any) -> Any:
     if get_origin(kind) is list:
         return [made(get_args(kind)[0], one) for one in value]
     if get_origin(kind) is dict:
-        return {int(key): one for key, one in value.items()}
+        return {get_args(kind)[0](key): one for key, one in value.items()}
     if is_dataclass(kind):
         return kind(**{name: made(one, value[name]) for name, one in get_type_hints(kind).items()})
     return bytes.fromhex(value) if kind is bytes else value

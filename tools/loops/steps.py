@@ -4,7 +4,7 @@ from collections.abc import Iterator
 from dataclasses import dataclass, field
 
 from .images import Unreadable
-from .runs import Entry, entry_of
+from .runs import Entry, Output, entry_of, read_output
 
 # How many words of each line of a change name its place. Those behind them are what stands there now.
 PLACE_WORDS = {"attempt": 2, "hart": 2, "line": 4, "orb": 2, "kept": 3, "at": 2}
@@ -27,8 +27,8 @@ class Step:
 @dataclass
 class Steps:
     """The turns in order, and what stands below the line `end`: report, counts and trace of the whole run."""
-    steps: list[Step] = field(default_factory=list)
-    rest: str = ""
+    steps: list[Step]
+    output: Output
 
     def states(self) -> Iterator[dict[str, str]]:
         """After each turn, what was last said of each place. It is one dictionary, which goes on: copy what is to be kept."""
@@ -38,7 +38,7 @@ class Steps:
             yield state
 
     def text(self) -> str:
-        return "".join(step.text() for step in self.steps) + "end\n" + self.rest
+        return "".join(step.text() for step in self.steps) + "end\n" + self.output.text()
 
 
 def take_line(steps: list[Step], place: int, line: str) -> int:
@@ -57,13 +57,14 @@ def take_line(steps: list[Step], place: int, line: str) -> int:
 
 def read_steps(text: str) -> Steps:
     """The turns that `replay steps` printed."""
-    told, place = Steps(), 0
-    head, end, told.rest = ("\n" + text).partition("\nend\n")
+    steps: list[Step] = []
+    head, end, below = ("\n" + text).partition("\nend\n")
+    place = 0
     for number, line in enumerate(head[1:].splitlines(), 1):
         try:
-            place = take_line(told.steps, place, line)
+            place = take_line(steps, place, line)
         except (ValueError, IndexError, KeyError):
             raise Unreadable(f"line {number} of the steps: {line!r}") from None
     if not end:
         raise Unreadable("the steps have no line `end`")
-    return told
+    return Steps(steps, read_output(below))
