@@ -23,7 +23,7 @@ TRACE = ("trace 2\n0 start 0\n1 start 1\n0 store 00000040 4 00000001\n1 load 000
          "1 load 00000040 4 00000001\n1 commit\n")
 REPORT = ("hurt 4 true epoch 1 try 1 core 1 lost 3 entered 2 since 2 by 0 core 0 cause 5 commit load 3 00000004 store 2 00000014 at 00000040 4\n"
           "kind true rollbacks 1 lost 3\ntotal epochs 2 committed 2 useful 8 rollbacks 1 lost 3 cancelled 0 dropped 0 open 0 unsettled 0\n")
-SENTENCE = "epoch 1's load at 00000004 at waits.c:7 of flag, 4 bytes was hit by epoch 0's store at 00000014, committed; 3 instructions lost; true sharing"
+SENTENCE = "epoch 1's load at 00000004 at waits.c:7 of 4 bytes at flag was hit by epoch 0's store at 00000014, committed; 3 instructions lost; true sharing"
 BESIDE = REPORT.replace("true", "false")
 FULL = REPORT.replace("true", "buffer").replace("since 2", "since -").replace("load 3 00000004 store 2 00000014", "held 3 00000004 asked 2 00000014")
 SUMS = ("pair store 00000014 load 00000004 rollbacks 1 lost 3 true 1 silent 0 false 0 buffer 0 stale 1 vain 0 later 0 distance 1 1 at 00000040 4\n"

@@ -18,9 +18,8 @@ def heading(run):
 
 
 def bytes_of(run, violation):
-    """`bins+4`, with how many bytes where there are more than one."""
-    name = run.image.name_of(violation.first)
-    return name if violation.length == 1 else f"{name}, {violation.length} bytes"
+    """`4 bytes at bins+4`."""
+    return f"{plural(violation.length, 'byte')} at {run.image.name_of(violation.first)}"
 
 
 def stored_at(run, violation):
