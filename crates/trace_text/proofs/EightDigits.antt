@@ -45,7 +45,7 @@ one_more false b text is rest =
     ∙ (ap (λ l. (b ∷ first_word text) ++ l) (after_word-cons b text ∙ ap (λ e. cond e (b ∷ text) (after_word text)) is)
     ∙ ap (λ l. b ∷ l) rest)
 
-parts : (text : List ℕ) → first_word text ++ after_word text ≡ text
+pub parts : (text : List ℕ) → first_word text ++ after_word text ≡ text
 unfolding first_word after_word
 parts [] = refl
 parts (b ∷ text) = one_more (ends_word b) b text refl (parts text)

@@ -124,9 +124,6 @@ under_word text left after = same_below text ∙ ap below (sym after)
 pub under_words : (text left next : List ℕ) → left ≡ after_word text → HasNext left next → below text ≡ below next
 under_words text left next after has = under_word text left after ∙ has.under
 
-pub word_words : (text word left : List ℕ) → IsFront text word left → words_in text ≡ word ∷ words_after left
-word_words text word left is = first_words text left is.after ∙ ap (λ w. w ∷ words_after left) (sym is.first)
-
 -- what one says, the other says too
 pub same_says : {A : Type 0} (said other : Option A) (under lines : List (List ℕ)) (r : Option (A × Option (Bor (List ℕ)))) → said ≡ other → under ≡ lines
     → MatchOption r (other ≡ None) (λ x. Says other lines x.0 x.1) → MatchOption r (said ≡ None) (λ x. Says said under x.0 x.1)

@@ -225,12 +225,6 @@ unfolding what_in
 access-no_value keyword a b c [] none = no_value_words keyword a b c none
 access-no_value keyword a b c (d ∷ words) none = refl
 
-pub access-no_what : (keyword a b c : List ℕ) (words : List (List ℕ)) (address width value : ℕ) → digits a ≡ Some address → number b ≡ Some width
-    → digits c ≡ Some value → access keyword address width value ≡ None → what_in keyword (a ∷ b ∷ c ∷ words) ≡ None
-unfolding what_in
-access-no_what keyword a b c [] address width value first second third none = access_words keyword a b c address width value first second third ∙ none
-access-no_what keyword a b c (d ∷ words) address width value first second third none = refl
-
 pub access-some : (keyword a b c : List ℕ) (words : List (List ℕ)) (address width value : ℕ) (what : What) → digits a ≡ Some address → number b ≡ Some width
     → digits c ≡ Some value → access keyword address width value ≡ Some what → what_in keyword (a ∷ b ∷ c ∷ words) ≡ only what words
 unfolding what_in only

@@ -7,6 +7,8 @@ pub mod FaultKinds
 pub mod Words
 pub mod EightDigits
 pub mod Spelled
+pub mod OneDigit
+pub mod Accesses
 pub mod HexFold
 pub mod ReadsBack
 pub mod Above

@@ -1,7 +1,8 @@
 -- The front of a text that is read on: its first word, the words of its first line, and the lines below that.
 -- Source: this project.
-use Rattle.std.specs.Prelude.{◌≡◌, ℕ, Bool, true, ◌==◌, ◌||◌, Option, Some, None, List, [], ◌∷◌, if◌then◌else◌}
+use Rattle.std.specs.Prelude.{◌≡◌, ℕ, Bool, true, nat_lt, ◌==◌, ◌&&◌, ◌||◌, length, slice_index, Option, Some, None, List, [], ◌∷◌, if◌then◌else◌}
 use Rattle.std.specs.Borrow.{Bor}
+use Rattle.std.specs.Char.{is_ascii_digit}
 use Rattle.rv32_image.specs.ImageText.{pieces}
 use Rattle.rv32_image.specs.Cutting.{pieces_after}
 use Rattle.spec_history.specs.declared.entry.What.{What}
@@ -9,6 +10,10 @@ use Rattle.spec_history.specs.declared.entry.What.{What}
 -- a word ends before a space, before a line feed and with the text
 abbrev pub ends_word : ℕ → Bool
 ends_word b = b == 32 || b == 10
+
+-- the first word is one decimal digit, and something follows it
+abbrev pub is_one_digit : List ℕ → Bool
+is_one_digit text = nat_lt 1 (length text) && is_ascii_digit (slice_index text 0) && ends_word (slice_index text 1)
 
 unfoldable pub first_word : List ℕ → List ℕ
 first_word [] = []

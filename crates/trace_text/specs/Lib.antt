@@ -7,5 +7,6 @@ pub mod Reading
 pub mod Starts
 pub mod Front
 pub mod Keywords
+pub mod Accesses
 -- What the laws say.
 pub mod Laws

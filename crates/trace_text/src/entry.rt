@@ -1,61 +1,92 @@
-ghost use Rattle.std.specs.Prelude.{◌≡◌, ◌∷◌, [], ◌<◌, IfSome, MatchOption, None, false, codes, true};
+ghost use Rattle.std.specs.Prelude.{◌≡◌, ◌<◌, IfSome, MatchOption, None, codes};
 ghost use Rattle.hex.specs.Hex.{hex_digit_value};
-ghost use Rattle.std.specs.Str.{bytes_eq};
 ghost use Rattle.trace_text.specs.TraceText as spec;
-ghost use Rattle.trace_text.specs.Front.{Says, below, words_after, words_in};
+ghost use Rattle.trace_text.specs.Front.{Says, below, words_in};
+ghost use Rattle.trace_text.specs.Accesses.{BeginsAccess, BeginsNoAccess, keyword_of, said};
 ghost use Rattle.trace_text.specs.Keywords as keywords;
 ghost use Rattle.trace_text.specs.Keywords.{IsOther};
 
 use crate::front::{digits_at, next_word, number_at, only_at, word_at};
 use spec_history::{Entry, What};
 
+/// A load or a store.
+#[derive(Clone, Copy)]
+pub(crate) enum Access {
+    Load,
+    Store,
+}
+
 /// The entry that the first line of a text says, and the text below that line, if there is one.
-#[inline(never)]
 pub(crate) fn entry_at(text: &[u8]) -> Option<(Entry, Option<&[u8]>)>
     ensures { MatchOption result (spec.entry_in (words_in text.now) ≡ None) (λ r. Says (spec.entry_in (words_in text.now)) (below text.now) r.0 r.1) }
 {
     let (by, left) = number_at(text)?;
     let words = next_word(left)?;
-    let (keyword, left) = word_at(words);
-    let (what, rest) = what_at(keyword, left)?;
+    let (what, rest) = what_at(words)?;
     Some((Entry { by, what }, rest))
 }
 
-/// What an entry says whose keyword is this, with what follows that.
-fn what_at<'a>(keyword: &[u8], left: &'a [u8]) -> Option<(What, Option<&'a [u8]>)>
-    ensures { MatchOption result (spec.what_in keyword.now (words_after left.now) ≡ None) (λ r. Says (spec.what_in keyword.now (words_after left.now)) (below left.now) r.0 r.1) }
+/// What an entry says that goes on with its keyword here, and the text below its line.
+fn what_at(text: &[u8]) -> Option<(What, Option<&[u8]>)>
+    ensures { MatchOption result (said text.now ≡ None) (λ r. Says (said text.now) (below text.now) r.0 r.1) }
 {
-    let Some(text) = next_word(left) else {
-        let what = one_word(keyword)?;
-        return only_at(what, left);
-    };
-    if is_access(keyword) {
-        access_at(keyword, text)
-    } else if keyword == b"fault".as_slice() {
-        fault_at(text)
-    } else {
-        epoch_at(keyword, text)
+    match access_in(text) {
+        Some((access, parts)) => access_at(access, parts),
+        None => other_at(text),
     }
 }
 
-fn is_access(keyword: &[u8]) -> bool
-    ensures { result ≡ keywords.is_access keyword.now }
+/// Whether a text begins with the keyword of an access and a space, and what follows these.
+fn access_in(text: &[u8]) -> Option<(Access, &[u8])>
+    ensures { MatchOption result (BeginsNoAccess text.now) (λ r. BeginsAccess text.now r.0 r.1.now) }
 {
-    keyword == b"load".as_slice() || keyword == b"store".as_slice()
+    if text.starts_with(b"load ") {
+        Some((Access::Load, &text[5..]))
+    } else if text.starts_with(b"store ") {
+        Some((Access::Store, &text[6..]))
+    } else {
+        None
+    }
 }
 
 /// An access: its address, its width and its value.
-fn access_at<'a>(keyword: &[u8], text: &'a [u8]) -> Option<(What, Option<&'a [u8]>)>
-    requires { keywords.is_access keyword.now ≡ true }
-    ensures { MatchOption result (spec.what_in keyword.now (words_in text.now) ≡ None) (λ r. Says (spec.what_in keyword.now (words_in text.now)) (below text.now) r.0 r.1) }
+fn access_at(access: Access, text: &[u8]) -> Option<(What, Option<&[u8]>)>
+    ensures { MatchOption result (spec.what_in (keyword_of access) (words_in text.now) ≡ None)
+        (λ r. Says (spec.what_in (keyword_of access) (words_in text.now)) (below text.now) r.0 r.1) }
 {
     let (addr, left) = digits_at(text)?;
     let second = next_word(left)?;
     let (width, left) = number_at(second)?;
     let third = next_word(left)?;
     let (value, left) = digits_at(third)?;
-    let what = access(keyword, addr, width, value)?;
-    only_at(what, left)
+    only_at(access_of(access, addr, width, value), left)
+}
+
+fn access_of(access: Access, addr: u32, width: u32, value: u32) -> What
+    ensures { spec.access (keyword_of access) addr width value ≡ Some result }
+{
+    match access {
+        Access::Load => What::Load { addr, width, value },
+        Access::Store => What::Store { addr, width, value },
+    }
+}
+
+/// What an entry says that is no access.
+#[inline(never)]
+fn other_at(text: &[u8]) -> Option<(What, Option<&[u8]>)>
+    requires { BeginsNoAccess text.now }
+    ensures { MatchOption result (said text.now ≡ None) (λ r. Says (said text.now) (below text.now) r.0 r.1) }
+{
+    let (keyword, left) = word_at(text);
+    let Some(words) = next_word(left) else {
+        let what = one_word(keyword)?;
+        return only_at(what, left);
+    };
+    if keyword == b"fault".as_slice() {
+        fault_at(words)
+    } else {
+        epoch_at(keyword, words)
+    }
 }
 
 /// A fault: its cause and its program counter.
@@ -102,18 +133,6 @@ fn of_epoch(keyword: &[u8], epoch: u32) -> Option<What>
         Some(What::Hurt(epoch))
     } else if keyword == b"cancel".as_slice() {
         Some(What::Cancel(epoch))
-    } else {
-        None
-    }
-}
-
-fn access(keyword: &[u8], addr: u32, width: u32, value: u32) -> Option<What>
-    ensures { result ≡ spec.access keyword.now addr width value }
-{
-    if keyword == b"load".as_slice() {
-        Some(What::Load { addr, width, value })
-    } else if keyword == b"store".as_slice() {
-        Some(What::Store { addr, width, value })
     } else {
         None
     }

@@ -29,11 +29,31 @@ fn ends_word(b: u8) -> bool
 pub(crate) fn number_at(text: &[u8]) -> Option<(u32, &[u8])>
     ensures { MatchOption result (spec.number (first_word text.now) ≡ None) (λ r. IsRead spec.number text.now r.0 r.1.now) }
 {
+    // most numbers of a trace have one digit
+    if is_one_digit(text) {
+        return Some((u32::from(text[0] - b'0'), &text[1..]));
+    }
+    any_number_at(text)
+}
+
+/// Whether the first word of a text is one decimal digit, and something follows it.
+fn is_one_digit(text: &[u8]) -> bool
+    ensures { result ≡ front.is_one_digit text.now }
+{
+    text.len() > 1 && text[0].is_ascii_digit() && ends_word(text[1])
+}
+
+/// The decimal number of 32 bits that the first word of a text writes, however many digits it has, and what follows it.
+#[inline(never)]
+fn any_number_at(text: &[u8]) -> Option<(u32, &[u8])>
+    ensures { MatchOption result (spec.number (first_word text.now) ≡ None) (λ r. IsRead spec.number text.now r.0 r.1.now) }
+{
     let (word, left) = word_at(text);
     Some((number(word)?, left))
 }
 
 /// The number that the first word of a text writes in eight hexadecimal digits, and what follows it.
+#[inline(always)]
 pub(crate) fn digits_at(text: &[u8]) -> Option<(u32, &[u8])>
     ensures { MatchOption result (spec.digits (first_word text.now) ≡ None) (λ r. IsRead spec.digits text.now r.0 r.1.now) }
 {

@@ -1,5 +1,4 @@
 ghost use Rattle.std.specs.Prelude.{◌≡◌, ◌<◌, ◌^◌, ◌++◌, IfOk, OnOk, decimal};
-ghost use Rattle.std.specs.List.{flat_map};
 ghost use Rattle.trace_text.specs.Laws.{AreEntries, IsWhat};
 ghost use Rattle.trace_text.specs.Printing as spec;
 

@@ -109,6 +109,7 @@ fn cores_in(version: Version, head: &[u8]) -> Option<u32>
 }
 
 /// The entries of the lines from this one on.
+#[inline(never)]
 fn read_lines(alloc: Global, lines: Option<&[u8]>, first: u32) -> Result<Vec<Entry>, TraceFault>
     requires { first + length (pieces_after 10 lines) < 2 ^ 32 }
     ensures { Answers (λ entries. entries.items) result (spec.lines_read first (pieces_after 10 lines.entry)) }

@@ -1,7 +1,7 @@
 use Rattle.std.proofs.Common.{◌∷◌, ap, sym, ◌∙◌}
 use Rattle.trace_text.specs.TraceText.{entry_in}
 use Rattle.trace_text.specs.Front.{first_word}
-use Rattle.trace_text.proofs.FirstWords.{more_words, one_word, under_word, under_words, word_words, words}
+use Rattle.trace_text.proofs.FirstWords.{more_words, one_word, under_words, words}
 use Rattle.trace_text.proofs.Keywords.{entry_in-no_core, entry_in-no_what, entry_in-one, entry_in-some}
 use Rattle.trace_text.proofs.entry.entry_at.Goals as goal
 
@@ -18,7 +18,7 @@ returns-in_err-what c =
     let text = c.args.text.now in
     let others = c.in_ok-words.words.now in
     let line = more_words text c.in_ok-by.left.now others c.in_ok-by.ensures.after c.in_ok-words.ensures
-    ∙ ap (λ l. first_word text ∷ l) (word_words others c.word_at.result.0.now c.word_at.result.1.now c.word_at.ensures) in
+    ∙ ap (λ l. first_word text ∷ l) (words others) in
     rw c.from_residual-in_err-what.ensures (ap entry_in line ∙ entry_in-no_what _ _ _ c.in_ok-by.by c.in_ok-by.ensures.is c.in_err-what.ensures)
 
 pub returns : goal.returns
@@ -26,9 +26,8 @@ returns c =
     let text = c.args.text.now in
     let others = c.in_ok-words.words.now in
     let line = more_words text c.in_ok-by.left.now others c.in_ok-by.ensures.after c.in_ok-words.ensures
-    ∙ ap (λ l. first_word text ∷ l) (word_words others c.word_at.result.0.now c.word_at.result.1.now c.word_at.ensures) in
-    let under = under_words text c.in_ok-by.left.now others c.in_ok-by.ensures.after c.in_ok-words.ensures
-    ∙ under_word others c.word_at.result.1.now c.word_at.ensures.after in record {
+    ∙ ap (λ l. first_word text ∷ l) (words others) in
+    let under = under_words text c.in_ok-by.left.now others c.in_ok-by.ensures.after c.in_ok-words.ensures in record {
       is = ap entry_in line ∙ entry_in-some _ _ _ c.in_ok-by.by c.in_ok-what.what c.in_ok-by.ensures.is c.in_ok-what.ensures.is;
       under = c.in_ok-what.ensures.under ∙ sym under;
     }
