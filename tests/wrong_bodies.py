@@ -55,6 +55,23 @@ pub fn two_after(n: u32) -> u32
     n + 2
 }
 
+/// The number four after `n`.
+pub fn four_after(n: u32) -> u32
+    requires { n < 97 }
+    ensures { result ≡ n + 4 }
+{
+    // by three
+    next(three_after(n))
+}
+
+/// The number three after `n`, in a body that no edit changes.
+fn three_after(n: u32) -> u32
+    requires { n < 98 }
+    ensures { result ≡ n + 3 }
+{
+    n + 3
+}
+
 /// The same, by steps with longer names.
 pub fn number_that_comes_two_steps_after_another_number(n: u32) -> u32
     requires { n < 99 }
@@ -140,6 +157,11 @@ EDITS = {
     "next_but_two_beside_a_change_that_is_taken_back": (
         [("    n + 1", "    (n) + 1"), ("    next_but_one(after)", "    next(after)"), ("    (n) + 1", "    n + 1")], "refused: "),
     "two_after_has_the_text_that_next_is_given": ([("    n + 2", "    n + 3")], "refused: "),
+    "four_after_is_five_after": ([("    next(three_after(n))", "    next(three_after(n)) + 1")], "refused: "),
+    "four_after_over_one_that_is_not_proved_changes_a_comment": (
+        [("// by three", "// by 3")], "FAILED, NOT REFUSED by a message at four_after: proved"),
+    "four_after_in_a_twin_is_right": (
+        [("    next(three_after(n))", "    next((three_after(n)))")], "FAILED, NOT REFUSED by a message at four_after: proved"),
     "after_is_two_more": ([("        1 + n", "        2 + n")], "refused: "),
     "after_is_three_more": ([("        1 + n", "        3 + n")], "refused: "),
     "after_in_a_twin_changes_a_comment": ([("// the one after", "// 1 after")], "FAILED, NOT REFUSED by a message at OnesCount::after: proved"),

@@ -33,10 +33,11 @@ class Said:
     seconds: float = 0.0
 
 
-def check(kit, crates, name, texts, functions, kept, twins=(), offers=False):
+def check(kit, crates, name, texts, functions, others, kept, twins=(), offers=False):
     """Checks these functions of a crate with these texts of its files, over what earlier checks left in the folder `kept`. A twin
     of a function, a pair of both paths, has its proof files. Without offers of such files no function is told as proved: each
-    has a mistake in its answers."""
+    has a mistake in its answers. The others of the crate have none but a mistake for a proof: what calls them rests on what they
+    promise."""
     with tempfile.TemporaryDirectory(prefix="wrong-bodies-", ignore_cleanup_errors=True) as room:
         for part in PARTS:
             if os.path.isdir(f"{crates.folder(name)}/{part}"):
@@ -46,6 +47,7 @@ def check(kit, crates, name, texts, functions, kept, twins=(), offers=False):
                 it.write(text)
         for twin, of in twins:
             copy_proofs(room, twin, of)
+        take_proofs(room, others)
         if not offers:
             add_mistakes(room, functions)
         words = [kit.checker, "check", *crates.words(name, kit), kit.logic(), "--jobs=1", f"--incremental={kept}"]
@@ -61,6 +63,18 @@ def copy_proofs(room, twin, of):
         os.makedirs(here, exist_ok=True)
         with open(f"{here}/{name}", "w", encoding="utf-8") as it:
             it.write(re.sub(rf"\.{re.escape(of.replace('::', '.'))}(?=[.\s])", f".{twin.replace('::', '.')}", text))
+
+
+def take_proofs(room, functions):
+    """Gives each function, and the cycle of one that calls itself, a mistake for a proof by hand, so that it is refused at once."""
+    for function in functions:
+        *above, own = function.split("::")
+        cycle = "/".join([room, "proofs", *above, f"+{own}"])
+        folder = cycle if os.path.isdir(cycle) else "/".join([room, "proofs", *above, own])
+        shutil.rmtree(folder, ignore_errors=True)
+        os.makedirs(folder)
+        with open(f"{folder}/Proof.antt", "w", encoding="utf-8") as it:
+            it.write(MISTAKE)
 
 
 def add_mistakes(room, functions):

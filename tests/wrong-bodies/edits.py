@@ -7,6 +7,7 @@ from sources import functions_of, module_of, types_of
 
 IMPORTS = ("use ", "ghost use ")
 CLAUSE = re.compile(r"(?m)^ *(?:requires|ensures)\b")
+MUCH = 8  # lines
 ARM = re.compile(r" *\w+::(\w+)(?: \{[^{}]*\})? => .*")
 
 
@@ -25,11 +26,12 @@ class Change:
 
 @dataclass(frozen=True)
 class Twin:
-    """A copy of a function with an edit's body and another name: its text, and the path of the function below which it stands. That
-    of a function of a trait stands below its impl, as a function of the type itself."""
+    """A copy of a function with an edit's body and another name: its text, the path of the function below which it stands, and how
+    many lines of the body it leaves out. That of a function of a trait stands below its impl, as a function of the type itself."""
 
     text: str
     of: str
+    saved: int = 0
 
 
 @dataclass(frozen=True)
@@ -66,10 +68,19 @@ class Sources:
         """The functions of a file with this text, by what the checker calls them."""
         return {self.path_of(file, it): it for it in functions_of(text)}
 
+    def with_bodies(self):
+        """The functions of the crate that have a body."""
+        return {path for file, text in self.texts.items() for path, it in self.functions(file, text).items() if has_body(it, text)}
+
     def is_in_cycle(self, path):
         """Whether a function calls itself, or others that call it: it has a proof of its cycle."""
         above, _, own = path.replace("::", "/").rpartition("/")
         return os.path.isdir(f"{self.folder}/proofs/{above}/+{own}")
+
+
+def has_body(function, text):
+    """Whether a function has a body: one of a trait may have none."""
+    return text.split("\n")[function.last - 1].rstrip().endswith("}")
 
 
 def changes_of(text):
@@ -128,12 +139,13 @@ def in_twin(edit, sources, number):
         return None
     twin = replace(function, name=f"{function.name}_twin{number}")
     text = re.sub(rf"\bfn {function.name}\b", f"fn {twin.name}", head, count=1)
-    text = "\n".join([text, *(one_arm(function, head, parts_of(was, right)[1], body) or body)])
+    kept = one_arm(function, head, parts_of(was, right)[1], body) or body
+    text, saved = "\n".join([text, *kept]), len(body) - len(kept)
     if function.holder and function.holder not in sources.holders:
         if function.type not in sources.holders or not CLAUSE.search(head):
             return None
         twin, text = replace(twin, holder=function.type), f"impl {function.type} {{\n{text}\n}}"
-    return replace(edit, functions=frozenset({sources.path_of(file, twin)}), twin=Twin(text, path))
+    return replace(edit, functions=frozenset({sources.path_of(file, twin)}), twin=Twin(text, path, saved))
 
 
 def one_arm(function, head, right, wrong):
@@ -221,11 +233,11 @@ def batches_of(edits, sources):
 
 def beside(edit, sources, texts, used, number):
     """The edit in its function's place or in a twin, beside others that changed the functions `used`, with the texts that they make
-    together; or None, where it can't stand beside them."""
-    if not used & edit.functions:
+    together; or None, where it can't stand beside them. A twin that is much shorter than the function comes first."""
+    twin = in_twin(edit, sources, number)
+    if not used & edit.functions and not (twin and twin.twin.saved >= MUCH):
         try:
             return edit, applied(sources, edit, texts)
         except BadEdit:
             pass  # a text of it doesn't stand once in what others made of the file
-    twin = in_twin(edit, sources, number)
     return twin, applied(sources, twin, texts) if twin else texts
