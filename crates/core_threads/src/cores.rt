@@ -7,7 +7,7 @@ ghost use Rattle.core_threads.specs.Passes.{IsLater, IsCounted};
 ghost use Rattle.core_threads.specs.Starting.{Covers, HasBookAs, IsNew, IsNewOf};
 
 use crate::gate::Gate;
-use crate::turns::{LoopEnd, core_loop, stop};
+use crate::turns::{core_loop, stop};
 use homefree::{Book, StopCause};
 use run_ledger::{Shares, gather};
 use rv32_exec::Image;
@@ -21,7 +21,7 @@ use violations::EpochStore;
 #[derive(Drop)]
 struct Counted<S: EpochStore>(Snapshot<Pass<Book<S>>>);
 
-impl<S: EpochStore> Promise<(Pass<Book<S>>, Shares, LoopEnd)> for Counted<S> {
+impl<S: EpochStore> Promise<(Pass<Book<S>>, Shares)> for Counted<S> {
     ghost use Rattle.core_threads.specs.Passes.{IsLater, IsCounted};
 
     ghost kept_by = { λ p r. IsLater p.0.value r.0 × IsCounted r.0 r.1 };
@@ -82,8 +82,8 @@ pub(crate) fn run_threads<'x, S: EpochStore, G: Gate, R: Threads + Wait + Sync>(
 
 /// Starts the threads of the cores from this one on, and joins them. Where a thread is refused, the book is stopped, and what the
 /// thread was to run is run here, so that its pass and its shares come back.
-fn start<'s, E, S: EpochStore + 's, G: Gate + 's, R: Threads + Wait + Sync>(
-    scope: &Scope<'s, E>,
+fn start<'s, 'e, S: EpochStore + 's, G: Gate + 's, R: Threads + Wait + Sync>(
+    scope: &Scope<'s, &'e ()>,
     run: &'s Run<'s, S, G, R>,
     core: u64,
     rest: Option<Pass<Book<S>>>,
@@ -100,21 +100,37 @@ fn start<'s, E, S: EpochStore + 's, G: Gate + 's, R: Threads + Wait + Sync>(
     };
     let (first, ours, rest, theirs) = split_first(run, core, pass, shares);
     let promise = Counted(Snapshot::of(&first));
-    let job = move || -> (Pass<Book<S>>, Shares, LoopEnd)
+    let job = move || -> (Pass<Book<S>>, Shares)
         requires { (first.lock ≡ Some run.now.lock.now) × (first.lo < run.now.cores) × IsCounted first ours }
         ensures { IsLater first result.0 × IsCounted result.0 result.1 }
-    { core_loop(run.rt, run.lock, first, ours, run.image, run.gate) };
-    let started = scope.spawn_with(promise, job);
-    let starter = match &started {
-        Ok(_) => starter,
-        Err(_) => Err(stop_all(run, starter)),
+    {
+        let (first, ours, _) = core_loop(run.rt, run.lock, first, ours, run.image, run.gate);
+        (first, ours)
     };
-    let (rest, theirs) = start(scope, run, core + 1, rest, theirs, starter);
-    let (first, ours, _) = match started {
+    let started = scope.spawn_with(promise, job);
+    let starter = unless_refused(run, starter, started.is_err());
+    let others = start(scope, run, core + 1, rest, theirs, starter);
+    let own = match started {
         Ok(thread) => thread.join(run.rt),
         Err(refused) => (refused.value)(),
     };
-    rejoin(run.lock, (first, ours), (rest, theirs))
+    rejoin(run.lock, own, others)
+}
+
+/// The starting thread once a thread is started or refused: where it is refused, the book is stopped.
+fn unless_refused<'s, S: EpochStore, G, R>(
+    run: &Run<'_, S, G, R>,
+    starter: Starter<'s, S>,
+    is_refused: bool,
+) -> Starter<'s, S>
+    requires { MatchResult starter (HasBookAs run.now.lock.now run.now.cores) (IsNewOf run.now.lock.now run.now.cores (run.now.cores + 1)) }
+    ensures { MatchResult result (HasBookAs run.now.lock.now run.now.cores) (IsNewOf run.now.lock.now run.now.cores (run.now.cores + 1)) }
+{
+    if is_refused {
+        Err(stop_all(run, starter))
+    } else {
+        starter
+    }
 }
 
 /// Takes the book with the last number. Err: no ticket is left.
