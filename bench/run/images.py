@@ -19,9 +19,9 @@ def addi(rd, rs1, value):
     return word_of_i(MATCH["addi"], rd, rs1, value)
 
 
-def text(words, epochs):
+def text(words, epochs, version=1):
     code = b"".join(word.to_bytes(4, "little") for word in words).hex()
-    return f"size 65536\nepochs {epochs}\nlimit 1000000\ncode {code}\n".encode("ascii")
+    return f"version {version}\nsize 65536\nepochs {epochs}\nlimit 1000000\ncode {code}\n".encode("ascii")
 
 
 def own_region():
@@ -42,9 +42,9 @@ def computing(epochs):
                 + own_region() + [word_of_s(MATCH["sw"], BASE, NUMBER, OWN - 1024), RETURN], epochs)
 
 
-def accessing(epochs, rounds, conflict):
+def accessing(epochs, rounds, conflict, version=1):
     """Epochs of so many rounds, each of a load and a store with BETWEEN instructions from access to access. With a conflict each
-    even epoch stores the shared word last, and each odd one loads it first."""
+    even epoch stores the shared word last, and each odd one loads it first. More than 8 cores need version 2."""
     body = own_region()
     if conflict:
         body += [word_of_i(MATCH["andi"], COUNT, NUMBER, 1), word_of_b(MATCH["beq"], COUNT, 0, 8),
@@ -56,7 +56,7 @@ def accessing(epochs, rounds, conflict):
     if conflict:
         body += [word_of_i(MATCH["andi"], COUNT, NUMBER, 1), word_of_b(MATCH["bne"], COUNT, 0, 8),
                  word_of_s(MATCH["sw"], 0, NUMBER, SHARED)]
-    return text(body + [RETURN], epochs)
+    return text(body + [RETURN], epochs, version)
 
 
 def committed_entries(epochs, rounds, conflict):
