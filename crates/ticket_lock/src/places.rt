@@ -4,6 +4,7 @@
 //! Who waits sets the word of its ticket, looks once more, and sleeps while the word is set. Who serves a ticket looks at its word
 //! then, clears it where it is set, and wakes all that sleep on it. Nobody else clears it, so none of those who share it is missed.
 ghost use Rattle.std.specs.Prelude.{◌≡◌, ◌<◌};
+ghost use Rattle.ticket_lock.specs.declared.places.TheConstants.{WORDS};
 
 use atomic_table::{Play, Shared, Table, TableRule};
 use crossbeam_utils::Backoff;
@@ -61,7 +62,7 @@ type Words = Shared<(), (), (), Anything>;
 #[derive(Drop)]
 pub(crate) struct Rooms<A: Allocator> {
     table: Table<(), (), (), Anything, A>,
-    ghost size: { table.shared.table_id.words ≡ 520 },
+    ghost size: { table.shared.table_id.words ≡ WORDS },
 }
 
 impl<A: Allocator> Rooms<A> {
@@ -82,11 +83,11 @@ impl<A: Allocator> Rooms<A> {
 #[derive(Clone, Copy)]
 pub(crate) struct Places<'a> {
     words: &'a Words,
-    ghost size: { words.now.table_id.words ≡ 520 },
+    ghost size: { words.now.table_id.words ≡ WORDS },
 }
 
 fn place_of(ticket: u64) -> usize
-    ensures { result < 520 }
+    ensures { result < WORDS }
 {
     ((1 + ticket % PLACES) * STRIDE) as usize
 }
