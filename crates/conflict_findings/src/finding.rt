@@ -1,13 +1,14 @@
 //! What is found of a violation: all that is told and summed of it.
 
-ghost use Rattle.std.specs.Prelude.{◌≡◌, IfOk, map, option_map};
+ghost use Rattle.std.specs.Prelude.{◌≡◌, ◌<◌, ◌*◌, ◌^◌, IfOk, IfSome, map, option_map};
+ghost use Rattle.rv32_image.specs.Version.{limits_of};
 ghost use Rattle.spec_history.specs.Conflict as conflict;
 ghost use Rattle.conflict_findings.specs.Findings as spec;
 ghost use Rattle.conflict_findings.specs.Followed.{IsFollowed};
 
 use crate::followed::Followed;
 use crate::run::Run;
-use conflicts::{ByteRange, Explanation, Kind, Runner, Site};
+use conflicts::{ByteRange, Explanation, Kind, Runner, Site, accessed_line, line_number};
 use rv32_exec::Image;
 use spec_history::{Entry, What};
 use std::alloc::{AllocError, Global};
@@ -203,22 +204,12 @@ fn load_at(image: &Image, entries: &[Entry], e: &Explanation) -> Option<usize>
     }
 }
 
-/// The number of the line of the caches in which an address lies.
-fn line_number(image: &Image, addr: u32) -> u32
-    ensures { result ≡ conflict.line_number image.now addr }
-{
-    addr / image.version().limits().line_length
-}
-
 /// The line that was asked for of a full buffer.
 fn asked_line(image: &Image, entries: &[Entry], e: &Explanation) -> Option<u32>
-    ensures { result ≡ spec.asked_line image.now entries.now e.now }
+    ensures line { result ≡ spec.asked_line image.now entries.now e.now }
+    ensures first { IfSome result (λ line. line * (limits_of image.now.version).line_length < 2 ^ 32) }
 {
-    let entry = entries.get(asked_at(e)?)?;
-    match entry.what {
-        What::Load { addr, .. } | What::Store { addr, .. } => Some(line_number(image, addr)),
-        _ => None,
-    }
+    accessed_line(image, what_at(entries, asked_at(e))?)
 }
 
 /// The line of the blamed byte, or the one that was asked for of a full buffer.
@@ -231,13 +222,14 @@ fn line_at(image: &Image, entries: &[Entry], e: &Explanation) -> Option<u32>
     }
 }
 
-/// The bytes of the line of the caches in which an address lies.
-fn line_bytes(image: &Image, addr: u32) -> ByteRange
-    ensures { result ≡ spec.bytes_of_line image.now (conflict.line_number image.now addr) }
+/// The bytes of the line of the caches that has this number.
+fn bytes_of_line(image: &Image, line: u32) -> ByteRange
+    requires { line * (limits_of image.now.version).line_length < 2 ^ 32 }
+    ensures { result ≡ spec.bytes_of_line image.now line }
 {
     let length = image.version().limits().line_length;
     ByteRange {
-        first: addr / length * length,
+        first: line * length,
         length,
     }
 }
@@ -246,11 +238,8 @@ fn line_bytes(image: &Image, addr: u32) -> ByteRange
 fn asked_bytes(image: &Image, entries: &[Entry], e: &Explanation) -> Option<ByteRange>
     ensures { result ≡ spec.asked_bytes image.now entries.now e.now }
 {
-    let entry = entries.get(asked_at(e)?)?;
-    match entry.what {
-        What::Load { addr, .. } | What::Store { addr, .. } => Some(line_bytes(image, addr)),
-        _ => None,
-    }
+    let line = asked_line(image, entries, e)?;
+    Some(bytes_of_line(image, line))
 }
 
 /// The bytes around the blamed one, or those of the line that was asked for of a full buffer.

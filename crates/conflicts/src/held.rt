@@ -1,30 +1,25 @@
 //! Which store held the line of a full buffer.
 
-ghost use Rattle.std.specs.Prelude.{◌≡◌, ◌<◌, ℕ, Some};
+ghost use Rattle.std.specs.Prelude.{◌≡◌, ◌<◌, ◌*◌, ◌^◌, ℕ, IfSome, Some};
+ghost use Rattle.rv32_image.specs.Version.{limits_of};
 ghost use Rattle.spec_history.specs.declared.kind.Kind.TheVariants.{FullBuffer};
 ghost use Rattle.conflicts.specs.Attempts as attempts;
 ghost use Rattle.conflicts.specs.Blame as blame;
-ghost use Rattle.spec_history.specs.Conflict as conflict;
 ghost use Rattle.conflicts.specs.Fates as spec;
 
 use crate::accesses::attempt_place;
 use crate::explanation::Explanation;
+use crate::meeting::line_number;
 use rv32_exec::Image;
 use spec_history::{Entry, Kind, What};
 
-/// The line of the caches in which an address lies, in memory or not.
-fn line_at(image: &Image, addr: u32) -> u32
-    ensures { result ≡ conflict.line_number image.now addr }
-{
-    addr / image.version().limits().line_length
-}
-
-/// The line of an access.
-fn accessed_line(image: &Image, what: What) -> Option<u32>
-    ensures { result ≡ blame.accessed_line image.now what }
+/// The number of the line of the caches that an access is to. None: it is no access.
+pub fn accessed_line(image: &Image, what: What) -> Option<u32>
+    ensures line { result ≡ blame.accessed_line image.now what }
+    ensures first { IfSome result (λ line. line * (limits_of image.now.version).line_length < 2 ^ 32) }
 {
     match what {
-        What::Load { addr, .. } | What::Store { addr, .. } => Some(line_at(image, addr)),
+        What::Load { addr, .. } | What::Store { addr, .. } => Some(line_number(image, addr)),
         _ => None,
     }
 }
@@ -34,7 +29,7 @@ fn stores_in(image: &Image, line: u32, what: What) -> bool
     ensures { result ≡ blame.stores_in image.now line what }
 {
     match what {
-        What::Store { addr, .. } => line_at(image, addr) == line,
+        What::Store { addr, .. } => line_number(image, addr) == line,
         _ => false,
     }
 }

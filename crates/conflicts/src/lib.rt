@@ -22,6 +22,7 @@ pub use alike::BlamedByte;
 pub use behind::Behind;
 pub use blame::Violated;
 pub use explanation::{Blame, ByteRange, Explanation, Runner};
+pub use held::accessed_line;
 pub use history::{explain, explanation_at};
 pub use known::Known;
 pub use meeting::{Parties, line_number};

@@ -1,6 +1,6 @@
 //! The bytes that meet in a violation, and its kind.
 
-ghost use Rattle.std.specs.Prelude.{◌≡◌, ◌<◌, ◌+◌, ◌*◌, ◌/◌, ◌^◌, ◌&&◌, nat_le, nat_lt};
+ghost use Rattle.std.specs.Prelude.{◌≡◌, ◌<◌, ◌≤◌, ◌+◌, ◌*◌, ◌/◌, ◌^◌, ◌&&◌, nat_le, nat_lt};
 ghost use Rattle.memory_bytes.specs.Maps.{stored};
 ghost use Rattle.rv32_image.specs.Version.{limits_of};
 ghost use Rattle.spec_history.specs.Refusal.{any_below};
@@ -275,12 +275,12 @@ fn lines_of(image: &Image) -> u32
     image.size() / image.version().limits().line_length
 }
 
-/// The number of the line of the caches in which a byte of memory lies.
+/// The number of the line of the caches in which a byte lies, in memory or not.
 pub fn line_number(image: &Image, addr: u32) -> u32
-    requires { addr < image.now.size }
     ensures line { result ≡ conflict.line_number image.now addr }
-    ensures inside { result < image.now.size / (limits_of image.now.version).line_length }
-    ensures within { result * (limits_of image.now.version).line_length + (limits_of image.now.version).line_length < 2 ^ 32 }
+    ensures first { result * (limits_of image.now.version).line_length ≤ addr }
+    ensures inside { addr < image.now.size → result < image.now.size / (limits_of image.now.version).line_length }
+    ensures within { addr < image.now.size → result * (limits_of image.now.version).line_length + (limits_of image.now.version).line_length < 2 ^ 32 }
 {
     addr / image.version().limits().line_length
 }

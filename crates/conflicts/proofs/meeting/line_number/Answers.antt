@@ -1,19 +1,29 @@
-use Rattle.std.proofs.Common.{◌≡◌, ◌<◌, ◌+◌, ◌*◌, ◌/◌, ◌%◌, ◌∙◌, ℕ, sym, ap, subst, arith}
+use Rattle.std.proofs.Common.{◌≡◌, ◌<◌, ◌≤◌, ◌+◌, ◌*◌, ◌/◌, ◌%◌, ◌∙◌, ℕ, sym, ap, subst, arith}
 use Rattle.rv32_image.specs.declared.version.Limits.{Limits}
 use Rattle.rv32_image.specs.declared.version.Version.{Version}
 use Rattle.rv32_image.specs.declared.version.Version.TheVariants.{One, Two}
 use Rattle.rv32_image.specs.Version.{limits_of}
 use Rattle.conflicts.proofs.meeting.line_number.Goals as goal
 
+first : (v : Version) (addr : ℕ) → addr / (limits_of v).line_length * (limits_of v).line_length ≤ addr
+first One addr = omega arith
+first Two addr = omega arith
+
+pub returns-clause-first : goal.returns-clause-first
+returns-clause-first c =
+    let long = (limits_of c.args.image.now.version).line_length in
+    let same : c.limits.result.line_length ≡ long = ap (λ (l : Limits). l.line_length) (c.limits.ensures ∙ ap limits_of c.version.ensures.version) in
+    subst (λ n. c.args.addr / n * long ≤ c.args.addr) (sym same) (first c.args.image.now.version c.args.addr)
+
 room : (v : Version) (addr : ℕ) → addr < 1048576 → addr / (limits_of v).line_length * (limits_of v).line_length + (limits_of v).line_length < 4294967296
 room One addr small = omega arith
 room Two addr small = omega arith
 
 pub returns-clause-within : goal.returns-clause-within
-returns-clause-within c =
+returns-clause-within c below =
     let long = (limits_of c.args.image.now.version).line_length in
     let same : c.limits.result.line_length ≡ long = ap (λ (l : Limits). l.line_length) (c.limits.ensures ∙ ap limits_of c.version.ensures.version) in
-    let small : c.args.addr < 1048576 = omega (arith, c.requires, c.version.ensures.limits.size_most) in
+    let small : c.args.addr < 1048576 = omega (arith, below, c.version.ensures.limits.size_most) in
     subst (λ n. c.args.addr / n * long + long < 4294967296) (sym same) (room c.args.image.now.version c.args.addr small)
 
 inside : (v : Version) (addr size : ℕ) → addr < size → size % (limits_of v).line_length ≡ 0 → addr / (limits_of v).line_length < size / (limits_of v).line_length
@@ -21,7 +31,7 @@ inside One addr size below whole = omega (arith, below, whole)
 inside Two addr size below whole = omega (arith, below, whole)
 
 pub returns-clause-inside : goal.returns-clause-inside
-returns-clause-inside c =
+returns-clause-inside c below =
     let long = (limits_of c.args.image.now.version).line_length in
     let same : c.limits.result.line_length ≡ long = ap (λ (l : Limits). l.line_length) (c.limits.ensures ∙ ap limits_of c.version.ensures.version) in
-    subst (λ n. c.args.addr / n < c.args.image.now.size / long) (sym same) (inside c.args.image.now.version c.args.addr c.args.image.now.size c.requires c.version.ensures.limits.size_allowed.lines)
+    subst (λ n. c.args.addr / n < c.args.image.now.size / long) (sym same) (inside c.args.image.now.version c.args.addr c.args.image.now.size below c.version.ensures.limits.size_allowed.lines)

@@ -43,7 +43,7 @@ loop-addr-preserved c =
           let at = line_listed image m addresses j c.requires.read.each shared in
           absurd (no_line_between image m.reads addresses index from j at.0 c.requires.read inside was.passed after (omega (arith, before, is)) at.1 at.2))
           (λ isnt. no_line image c.args.entries.now c.args.self.now.blame v j isnt) in record {
-            within = rw w.from-is (omega (arith, c.line_number-line.ensures.inside));
+            within = rw w.from-is (omega (arith, c.line_number-line.ensures.inside (c.requires.read.within index inside)));
             told = rw (w.runs-is, w.from-is)
                 (told_past from line _ runs c.args.runs.now.items c.loop-addr.runs.items _ w.if-line-from.true none was.told
                 (w.in_ok-keep.ensures ∙ ap (λ (o : Option Run). c.loop-addr.runs.items ++ option_to_list o) w.line_run.ensures) (omega arith) (λ j above below. absurd (omega (arith, above, below))));
