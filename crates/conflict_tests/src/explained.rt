@@ -13,7 +13,7 @@ use conflict_findings::{
 };
 use conflicts::{Blame, ByteRange, Explanation, Kind, Runner, Site, explain, sites};
 use rv32_exec::{Image, image_of};
-use spec_history::Entry;
+use spec_history::{Entry, What};
 use std::alloc::{AllocError, Global};
 use std::process::Abort;
 use std::test::Fail;
@@ -223,12 +223,18 @@ fn finds_the_instructions_of_a_pair(rt: HostRuntime) -> Result<(), Fail> {
     Ok(())
 }
 
+/// Whether the causer's attempt was over at the place that a row names, if it was undone.
+fn is_over_there(explanation: &Explanation, entries: &[Entry], row: &str) -> bool {
+    let undone = place_in(row, 4);
+    undone.is_none() || explanation.over_at(entries) == undone
+}
+
 /// Whether a row tells the place and the attempt of a violation, and at which places the causer's attempt was undone and the victim's epoch was
 /// cancelled.
 fn has_ends(explanation: &Explanation, entries: &[Entry], row: &str) -> bool {
     explanation.place == index(row, 0)
         && explanation.attempt(entries) == index(row, 2)
-        && explanation.undone_at(entries) == place_in(row, 4)
+        && is_over_there(explanation, entries, row)
         && explanation.moot_at(entries) == place_in(row, 6)
 }
 
@@ -239,8 +245,14 @@ fn has_fate(explanation: &Explanation, image: &Image, entries: &[Entry], row: &s
         && explanation.held_at(image, entries) == place_in(row, 10)
 }
 
+/// What the entry at a place says, if there is one.
+fn said_at(entries: &[Entry], place: Option<usize>) -> Option<What> {
+    let entry = entries.get(place?)?;
+    Some(entry.what)
+}
+
 /// Whether what is found says so too. A row names the store that held the line of a full buffer alone.
-fn is_fate_found(found: &Finding, row: &str) -> bool {
+fn is_fate_found(found: &Finding, entries: &[Entry], row: &str) -> bool {
     let is_held = match (place_in(row, 10), found.load) {
         (Some(held), Some(load)) => load.place == held,
         (Some(_), None) => false,
@@ -248,7 +260,7 @@ fn is_fate_found(found: &Finding, row: &str) -> bool {
     };
     found.place == index(row, 0)
         && found.attempt == index(row, 2)
-        && found.undoing.is_some() == place_in(row, 4).is_some()
+        && found.undoing == said_at(entries, place_in(row, 4))
         && found.moot == place_in(row, 6).is_some()
         && found.stale == (word(row, 8) == "yes")
         && is_held
@@ -267,7 +279,10 @@ fn has_fates(rt: &impl Abort, alloc: Global, text: &str, rows: &str) -> Result<(
         );
     }
     for (finding, row) in found.iter().zip(rows.split('\n')) {
-        assert!(rt; is_fate_found(finding, row), "{row}");
+        assert!(rt;
+            is_fate_found(finding, worked.entries.as_slice(), row),
+            "{row}"
+        );
     }
     Ok(())
 }

@@ -1,28 +1,12 @@
 //! The two accesses of a violation, and where they met.
 ghost use Rattle.std.specs.Prelude.{◌≡◌, ◌++◌, OnOk};
-ghost use Rattle.conflict_findings.specs.Rollbacks.{pc_of};
 ghost use Rattle.conflict_text.specs.Lines as spec;
 
-use crate::words::{push_address, push_named, push_place};
+use crate::words::{push_address, push_named, push_number};
 use conflict_findings::{Access, Finding};
 use conflicts::{ByteRange, Kind};
 use std::alloc::AllocError;
 use trace_text::push_hex;
-
-/// The place of the entry of an access.
-fn place_of(access: Option<Access>) -> Option<usize>
-    ensures { result ≡ spec.place_of access }
-{
-    let access = access?;
-    Some(access.place)
-}
-
-/// The address of its instruction, where both are known.
-fn pc_of(access: Option<Access>) -> Option<u32>
-    ensures { result ≡ pc_of access }
-{
-    access?.pc
-}
 
 /// What the report calls an access, its entry, and its instruction.
 pub(crate) fn push_access(
@@ -33,9 +17,12 @@ pub(crate) fn push_access(
     ensures { OnOk result (text.new.items ≡ text.old.items ++ spec.access_text name.now access) }
 {
     text.extend_from_slice(name)?;
-    push_place(text, place_of(access))?;
+    let Some(access) = access else {
+        return text.extend_from_slice(b"- -");
+    };
+    push_number(text, access.place as u128)?;
     text.extend_from_slice(b" ")?;
-    push_address(text, pc_of(access))
+    push_address(text, access.pc)
 }
 
 /// Where two accesses met: the address of the first byte, and how many they are.

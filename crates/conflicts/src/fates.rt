@@ -95,21 +95,6 @@ impl Explanation {
         first_after(entries, self.place, Sign::Over, self.causer)
     }
 
-    /// In vain: the place of the entry that violates or cancels the causer's attempt, if it does not commit.
-    ///
-    /// It looks no further than the end of that attempt.
-    pub fn undone_at(&self, entries: &[Entry]) -> Option<usize>
-        ensures { result ≡ spec.undone_at entries.now self.now }
-    {
-        let j = self.over_at(entries)?;
-        let entry = entries.get(j)?;
-        if undoes(self.causer.epoch, entry.what) {
-            Some(j)
-        } else {
-            None
-        }
-    }
-
     /// Moot: the place of the entry that cancels the victim's epoch, if its core does not begin it again before that.
     ///
     /// It looks no further than that or the new beginning.
