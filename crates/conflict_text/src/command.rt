@@ -1,4 +1,4 @@
-ghost use Rattle.std.specs.Prelude.{◌≡◌, ◌+◌, ◌++◌};
+ghost use Rattle.std.specs.Prelude.{◌+◌, ◌++◌};
 ghost use Rattle.rv32_image.specs.Input.{TakesAtMost};
 ghost use Rattle.rv32_image.specs.Reading.{ForText};
 ghost use Rattle.trace_text.specs.TraceText.{longest_trace_text};

@@ -1,5 +1,5 @@
 //! The sums over the violations of a history.
-ghost use Rattle.std.specs.Prelude.{◌≡◌, ◌++◌, IfOk, List, OnOk, ℕ};
+ghost use Rattle.std.specs.Prelude.{◌≡◌, IfOk, List, OnOk, ℕ};
 ghost use Rattle.rv32_image.specs.Image.{IsImage};
 ghost use Rattle.conflict_findings.specs.declared.ended.Ended.{Ended};
 ghost use Rattle.conflict_findings.specs.declared.ended.Running.{Running};

@@ -1,5 +1,5 @@
 //! Words and numbers at the end of a text. Where memory runs out some of their bytes may be there.
-ghost use Rattle.std.specs.Prelude.{◌≡◌, ◌++◌, ◌≤◌, OnOk, decimal, length};
+ghost use Rattle.std.specs.Prelude.{◌≡◌, ◌++◌, OnOk, decimal};
 ghost use Rattle.conflict_text.specs.Lines as spec;
 
 use conflicts::Kind;

@@ -1,6 +1,6 @@
 //! What became of a violation.
 
-ghost use Rattle.std.specs.Prelude.{◌≡◌, ◌<◌, ◌&&◌, nat_lt, length};
+ghost use Rattle.std.specs.Prelude.{◌≡◌, ◌&&◌, nat_lt};
 ghost use Rattle.conflicts.specs.Attempts as attempts;
 ghost use Rattle.spec_history.specs.Conflict.{entry_is};
 ghost use Rattle.conflicts.specs.Fates as spec;
