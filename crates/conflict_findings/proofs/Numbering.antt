@@ -74,7 +74,7 @@ one p = record {
   lost = 0;
   stale = false;
   vain = false;
-  later = false;
+  came_true = false;
   distance = 0;
   bytes = None;
 }

@@ -32,7 +32,7 @@ pc_at sites place = option_and_then (λ (there : Option Site). option_map (λ (s
 abbrev pub access_at : List (Option Site) → ℕ → Access
 access_at sites place = record { place = place; pc = pc_at sites place }
 
--- the access that asked for the line of a full buffer: its cause
+-- the place of the access that asked for the line of a full buffer: its cause
 abbrev pub asked_by : Kind → Option ℕ → Option ℕ
 asked_by FullBuffer cause = cause
 asked_by kind cause = None
@@ -40,21 +40,21 @@ asked_by kind cause = None
 abbrev pub asked_at : Explanation → Option ℕ
 asked_at e = asked_by e.kind e.cause
 
--- the store that is blamed, or the access that asked
-abbrev pub store_by : Option Blame → Option ℕ → Option ℕ
-store_by (Some blame) asked = Some blame.store
-store_by None asked = asked
+-- the place of the causer's access: the store that is blamed, or the access that asked
+abbrev pub causer_place_by : Option Blame → Option ℕ → Option ℕ
+causer_place_by (Some blame) asked = Some blame.store
+causer_place_by None asked = asked
 
-abbrev pub store_at : Explanation → Option ℕ
-store_at e = store_by e.blame (asked_at e)
+abbrev pub causer_place : Explanation → Option ℕ
+causer_place e = causer_place_by e.blame (asked_at e)
 
--- the load that is blamed, or the store that held the line
-abbrev pub load_by : Option Blame → Option ℕ → Option ℕ
-load_by (Some blame) held = Some blame.load
-load_by None held = held
+-- the place of the victim's access: the load that is blamed, or the store that held the line
+abbrev pub victim_place_by : Option Blame → Option ℕ → Option ℕ
+victim_place_by (Some blame) held = Some blame.load
+victim_place_by None held = held
 
-abbrev pub load_at : LoadedImage → List Entry → Explanation → Option ℕ
-load_at image entries e = load_by e.blame (held_at image entries e)
+abbrev pub victim_place : LoadedImage → List Entry → Explanation → Option ℕ
+victim_place image entries e = victim_place_by e.blame (held_at image entries e)
 
 -- ---- where they met
 
@@ -63,12 +63,12 @@ abbrev pub asked_line : LoadedImage → List Entry → Explanation → Option �
 asked_line image entries e = option_and_then (accessed_line image) (what_at entries (asked_at e))
 
 -- the line of the blamed byte, or the one that was asked for
-abbrev pub line_by : LoadedImage → Option Blame → Option ℕ → Option ℕ
-line_by image (Some blame) asked = Some (line_number image blame.byte)
-line_by image None asked = asked
+abbrev pub met_line_by : LoadedImage → Option Blame → Option ℕ → Option ℕ
+met_line_by image (Some blame) asked = Some (line_number image blame.byte)
+met_line_by image None asked = asked
 
-abbrev pub line_at : LoadedImage → List Entry → Explanation → Option ℕ
-line_at image entries e = line_by image e.blame (asked_line image entries e)
+abbrev pub met_line : LoadedImage → List Entry → Explanation → Option ℕ
+met_line image entries e = met_line_by image e.blame (asked_line image entries e)
 
 -- the bytes of the line of the caches that has this number
 abbrev pub bytes_of_line : LoadedImage → ℕ → ByteRange
@@ -79,12 +79,12 @@ abbrev pub asked_bytes : LoadedImage → List Entry → Explanation → Option B
 asked_bytes image entries e = option_map (bytes_of_line image) (asked_line image entries e)
 
 -- the bytes around the blamed one that met alike, or the line that was asked for
-abbrev pub bytes_by : Option Blame → Option ByteRange → Option ByteRange
-bytes_by (Some blame) asked = Some blame.bytes
-bytes_by None asked = asked
+abbrev pub met_bytes_by : Option Blame → Option ByteRange → Option ByteRange
+met_bytes_by (Some blame) asked = Some blame.bytes
+met_bytes_by None asked = asked
 
-abbrev pub bytes_at : LoadedImage → List Entry → Explanation → Option ByteRange
-bytes_at image entries e = bytes_by e.blame (asked_bytes image entries e)
+abbrev pub met_bytes : LoadedImage → List Entry → Explanation → Option ByteRange
+met_bytes image entries e = met_bytes_by e.blame (asked_bytes image entries e)
 
 -- ---- findings
 
@@ -100,10 +100,10 @@ finding_of image entries sites e = record {
   causer = e.causer;
   cause = e.cause;
   act = what_at entries e.cause;
-  load = option_map (access_at sites) (load_at image entries e);
-  store = option_map (access_at sites) (store_at e);
-  line = line_at image entries e;
-  bytes = bytes_at image entries e;
+  victim_access = option_map (access_at sites) (victim_place image entries e);
+  causer_access = option_map (access_at sites) (causer_place e);
+  line = met_line image entries e;
+  bytes = met_bytes image entries e;
   stale = is_stale_pair e.blame;
   later = option_map (access_at sites) e.later;
   undoing = what_at entries (undone_at entries e);

@@ -20,7 +20,7 @@ abbrev pub fates_in : List Rollback → Fates
 fates_in rollbacks = record {
   stale = count_by (λ (r : Rollback). r.stale) rollbacks;
   vain = count_by (λ (r : Rollback). r.vain) rollbacks;
-  later = count_by (λ (r : Rollback). r.later) rollbacks;
+  came_true = count_by (λ (r : Rollback). r.came_true) rollbacks;
 }
 
 -- the bounds of what lies within either

@@ -13,7 +13,7 @@ swapped r = record {
   lost = r.lost;
   stale = r.stale;
   vain = r.vain;
-  later = r.later;
+  came_true = r.came_true;
   distance = r.distance;
   bytes = r.bytes;
 }

@@ -18,7 +18,7 @@ pc_of access = option_and_then (λ (a : Access). a.pc) access
 
 -- the instructions that met, where both are known
 abbrev pub pair_of : Option Access → Option Access → Option Pair
-pair_of store load = option_and_then (λ s. option_map (λ l. record { store = s; load = l }) (pc_of load)) (pc_of store)
+pair_of causer victim = option_and_then (λ s. option_map (λ l. record { store = s; load = l }) (pc_of victim)) (pc_of causer)
 
 -- by how many epochs the victim stands after the causer; 0 where it does not, which is so of no violation that the flat machine
 -- accepts (`sum_laws::violated_epochs_come_after`)
@@ -29,12 +29,12 @@ abbrev pub rollback_of : Finding → Rollback
 rollback_of f = record {
   kind = f.kind;
   epoch = f.victim.epoch;
-  pair = pair_of f.store f.load;
+  pair = pair_of f.causer_access f.victim_access;
   line = f.line;
   lost = f.lost;
   stale = f.stale;
   vain = is_some f.undoing;
-  later = is_some f.later;
+  came_true = is_some f.later;
   distance = distance_of f.victim f.causer;
   bytes = f.bytes;
 }

@@ -45,10 +45,10 @@ pub struct Finding {
     pub cause: Option<usize>,
     /// What that entry says.
     pub act: Option<What>,
-    /// The load that is blamed. For a full buffer: the store that held the line.
-    pub load: Option<Access>,
-    /// The store that is blamed. For a full buffer: the access that asked for the line.
-    pub store: Option<Access>,
+    /// The victim's access: the load that is blamed. For a full buffer: the store that held the line.
+    pub victim_access: Option<Access>,
+    /// The causer's access: the store that is blamed. For a full buffer: the access that asked for the line.
+    pub causer_access: Option<Access>,
     /// The number of the line of the caches in which they met, if it is known: its address over the length of a line.
     pub line: Option<u32>,
     /// The bytes at which they met, if these are known; for a full buffer the line that was asked for.
@@ -103,10 +103,10 @@ pub fn finding_of(
         causer: e.causer,
         cause: e.cause,
         act: what_at(entries, e.cause),
-        load: accessed(sites, load_at(image, entries, e)),
-        store: accessed(sites, store_at(e)),
-        line: line_at(image, entries, e),
-        bytes: bytes_at(image, entries, e),
+        victim_access: accessed(sites, victim_place(image, entries, e)),
+        causer_access: accessed(sites, causer_place(e)),
+        line: met_line(image, entries, e),
+        bytes: met_bytes(image, entries, e),
         stale: e.is_stale(),
         later: accessed(sites, e.later),
         undoing: what_at(entries, undone),
@@ -174,7 +174,7 @@ fn accessed(sites: &[Option<Site>], place: Option<usize>) -> Option<Access>
     Some(access_at(sites, place))
 }
 
-/// The access that asked for the line of a full buffer.
+/// The place of the access that asked for the line of a full buffer.
 fn asked_at(e: &Explanation) -> Option<usize>
     ensures { result ≡ spec.asked_at e.now }
 {
@@ -184,9 +184,9 @@ fn asked_at(e: &Explanation) -> Option<usize>
     }
 }
 
-/// The store that is blamed, or the access that asked for the line of a full buffer.
-fn store_at(e: &Explanation) -> Option<usize>
-    ensures { result ≡ spec.store_at e.now }
+/// The place of the store that is blamed, or of the access that asked for the line of a full buffer.
+fn causer_place(e: &Explanation) -> Option<usize>
+    ensures { result ≡ spec.causer_place e.now }
 {
     match e.blame {
         Some(blame) => Some(blame.store),
@@ -194,9 +194,9 @@ fn store_at(e: &Explanation) -> Option<usize>
     }
 }
 
-/// The load that is blamed, or the store that held the line of a full buffer.
-fn load_at(image: &Image, entries: &[Entry], e: &Explanation) -> Option<usize>
-    ensures { result ≡ spec.load_at image.now entries.now e.now }
+/// The place of the load that is blamed, or of the store that held the line of a full buffer.
+fn victim_place(image: &Image, entries: &[Entry], e: &Explanation) -> Option<usize>
+    ensures { result ≡ spec.victim_place image.now entries.now e.now }
 {
     match e.blame {
         Some(blame) => Some(blame.load),
@@ -213,8 +213,8 @@ fn asked_line(image: &Image, entries: &[Entry], e: &Explanation) -> Option<u32>
 }
 
 /// The line of the blamed byte, or the one that was asked for of a full buffer.
-fn line_at(image: &Image, entries: &[Entry], e: &Explanation) -> Option<u32>
-    ensures { result ≡ spec.line_at image.now entries.now e.now }
+fn met_line(image: &Image, entries: &[Entry], e: &Explanation) -> Option<u32>
+    ensures { result ≡ spec.met_line image.now entries.now e.now }
 {
     match e.blame {
         Some(blame) => Some(line_number(image, blame.byte)),
@@ -243,8 +243,8 @@ fn asked_bytes(image: &Image, entries: &[Entry], e: &Explanation) -> Option<Byte
 }
 
 /// The bytes around the blamed one, or those of the line that was asked for of a full buffer.
-fn bytes_at(image: &Image, entries: &[Entry], e: &Explanation) -> Option<ByteRange>
-    ensures { result ≡ spec.bytes_at image.now entries.now e.now }
+fn met_bytes(image: &Image, entries: &[Entry], e: &Explanation) -> Option<ByteRange>
+    ensures { result ≡ spec.met_bytes image.now entries.now e.now }
 {
     match e.blame {
         Some(blame) => Some(blame.bytes),

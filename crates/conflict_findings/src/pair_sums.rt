@@ -18,7 +18,7 @@ pub struct Fates {
     /// The causer's attempt was itself violated or cancelled.
     pub vain: usize,
     /// False sharing by an attempt that afterwards stored to a byte that the victim had read.
-    pub later: usize,
+    pub came_true: usize,
 }
 
 /// The least and the greatest of some numbers.
@@ -108,13 +108,17 @@ fn fates_of(rollbacks: &[Rollback]) -> Fates
 {
     let mut stale = 0;
     let mut vain = 0;
-    let mut later = 0;
+    let mut came_true = 0;
     for rollback in rollbacks {
         stale += rollback.stale as usize;
         vain += rollback.vain as usize;
-        later += rollback.later as usize;
+        came_true += rollback.came_true as usize;
     }
-    Fates { stale, vain, later }
+    Fates {
+        stale,
+        vain,
+        came_true,
+    }
 }
 
 /// How many violations are of each kind.

@@ -36,8 +36,8 @@ pub struct Rollback {
     pub stale: bool,
     /// The causer's attempt was itself violated or cancelled.
     pub vain: bool,
-    /// False sharing by an attempt that afterwards stores to a byte that the victim had read.
-    pub later: bool,
+    /// False sharing that came true: by an attempt that afterwards stores to a byte that the victim had read.
+    pub came_true: bool,
 }
 
 /// The address of the instruction of an access, where both are known.
@@ -48,11 +48,11 @@ fn pc_of(access: Option<Access>) -> Option<u32>
 }
 
 /// The instructions that met, where both are known.
-fn pair_of(store: Option<Access>, load: Option<Access>) -> Option<Pair>
-    ensures { result ≡ spec.pair_of store load }
+fn pair_of(causer: Option<Access>, victim: Option<Access>) -> Option<Pair>
+    ensures { result ≡ spec.pair_of causer victim }
 {
-    let store = pc_of(store)?;
-    let load = pc_of(load)?;
+    let store = pc_of(causer)?;
+    let load = pc_of(victim)?;
     Some(Pair { store, load })
 }
 
@@ -64,12 +64,12 @@ impl Finding {
         Rollback {
             kind: self.kind,
             epoch: self.victim.epoch,
-            pair: pair_of(self.store, self.load),
+            pair: pair_of(self.causer_access, self.victim_access),
             line: self.line,
             lost: self.lost,
             stale: self.stale,
             vain: self.undoing.is_some(),
-            later: self.later.is_some(),
+            came_true: self.later.is_some(),
             distance: self.victim.epoch.saturating_sub(self.causer.epoch),
             bytes: self.bytes,
         }

@@ -180,8 +180,8 @@ fn is_met(found: &Finding, row: &str) -> bool {
         first: number(row, 25),
         length: number(row, 26),
     };
-    is_access(found.load, row, 14, 20)
-        && is_access(found.store, row, 16, 21)
+    is_access(found.victim_access, row, 14, 20)
+        && is_access(found.causer_access, row, 16, 21)
         && found.bytes == Some(bytes)
         && found.since == Some(u64::from(number(row, 23)))
 }
@@ -253,8 +253,8 @@ fn said_at(entries: &[Entry], place: Option<usize>) -> Option<What> {
 
 /// Whether what is found says so too. A row names the store that held the line of a full buffer alone.
 fn is_fate_found(found: &Finding, entries: &[Entry], row: &str) -> bool {
-    let is_held = match (place_in(row, 10), found.load) {
-        (Some(held), Some(load)) => load.place == held,
+    let is_held = match (place_in(row, 10), found.victim_access) {
+        (Some(held), Some(access)) => access.place == held,
         (Some(_), None) => false,
         (None, _) => true,
     };
@@ -360,7 +360,7 @@ fn is_pair_of(sum: &PairSum, row: &str) -> bool {
     let fates = Fates {
         stale: index(row, 2),
         vain: index(row, 3),
-        later: index(row, 4),
+        came_true: index(row, 4),
     };
     sum.pair == pair && sum.fates == fates && has_bounds(sum, row)
 }

@@ -61,10 +61,11 @@ abbrev pub bytes_text : Option ByteRange → List ℕ
 bytes_text None = codes " at - -"
 bytes_text (Some bytes) = codes " at " ++ hex_word bytes.first ++ codes " " ++ decimal bytes.length
 
--- the blamed load and store; of a full buffer the store that held the line, and the access that asked for it
+-- the accesses of the victim and of the causer: the blamed load and store; of a full buffer the store that held the line, and the
+-- access that asked for it
 abbrev pub met_by : Kind → Option Access → Option Access → List ℕ
-met_by FullBuffer load store = access_text (codes " held ") load ++ access_text (codes " asked ") store
-met_by kind load store = access_text (codes " load ") load ++ access_text (codes " store ") store
+met_by FullBuffer victim causer = access_text (codes " held ") victim ++ access_text (codes " asked ") causer
+met_by kind victim causer = access_text (codes " load ") victim ++ access_text (codes " store ") causer
 
 -- ---- lines
 
@@ -86,7 +87,7 @@ causer_text f =
 unfoldable pub hurt_line : Finding → List ℕ
 hurt_line f =
     codes "hurt " ++ decimal f.place ++ codes " " ++ kind_name f.kind
-    ++ victim_text f ++ cost_text f ++ causer_text f ++ met_by f.kind f.load f.store ++ bytes_text f.bytes ++ codes "\n"
+    ++ victim_text f ++ cost_text f ++ causer_text f ++ met_by f.kind f.victim_access f.causer_access ++ bytes_text f.bytes ++ codes "\n"
 
 -- a further run of bytes at which the epochs of the violation at a place met
 unfoldable pub also_line : ℕ → FurtherRun → List ℕ

@@ -51,7 +51,7 @@ epoch_line e = codes "epoch " ++ decimal e.0 ++ sum_text e.1.count e.1.lost ++ c
 
 -- how many were stale, in vain, and came true later
 abbrev pub fates_text : Fates → List ℕ
-fates_text f = codes " stale " ++ decimal f.stale ++ codes " vain " ++ decimal f.vain ++ codes " later " ++ decimal f.later
+fates_text f = codes " stale " ++ decimal f.stale ++ codes " vain " ++ decimal f.vain ++ codes " later " ++ decimal f.came_true
 
 -- by how many epochs the victims stood after the causers: the least, and the greatest
 abbrev pub distance_text : Option Bounds → List ℕ

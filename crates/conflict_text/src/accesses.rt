@@ -37,16 +37,16 @@ pub(crate) fn push_bytes(text: &mut Vec<u8>, bytes: Option<ByteRange>) -> Result
     push_named(text, b" ", bytes.length as u128)
 }
 
-/// The two accesses of a violation. Of a full buffer they are the store that held the line, and the access that asked for it.
+/// The two accesses of a violation, the victim's and the causer's. Of a full buffer they are the store that held the line, and the access that asked for it.
 pub(crate) fn push_met(text: &mut Vec<u8>, found: &Finding) -> Result<(), AllocError>
-    ensures { OnOk result (text.new.items ≡ text.old.items ++ spec.met_by found.now.kind found.now.load found.now.store) }
+    ensures { OnOk result (text.new.items ≡ text.old.items ++ spec.met_by found.now.kind found.now.victim_access found.now.causer_access) }
 {
-    let (load, store) = match found.kind {
+    let (victim, causer) = match found.kind {
         Kind::FullBuffer => (b" held ".as_slice(), b" asked ".as_slice()),
         Kind::TrueSharing | Kind::SilentStore | Kind::FalseSharing | Kind::Unexplained => {
             (b" load ".as_slice(), b" store ".as_slice())
         }
     };
-    push_access(text, load, found.load)?;
-    push_access(text, store, found.store)
+    push_access(text, victim, found.victim_access)?;
+    push_access(text, causer, found.causer_access)
 }

@@ -38,7 +38,7 @@ fn push_fates(text: &mut Vec<u8>, fates: Fates) -> Result<(), AllocError>
 {
     push_named(text, b" stale ", fates.stale as u128)?;
     push_named(text, b" vain ", fates.vain as u128)?;
-    push_named(text, b" later ", fates.later as u128)
+    push_named(text, b" later ", fates.came_true as u128)
 }
 
 /// By how many epochs the victims stood after the causers.

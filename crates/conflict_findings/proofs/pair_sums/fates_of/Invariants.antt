@@ -7,8 +7,8 @@ abbrev pub invariant-loop-rollback : goal.invariant-loop-rollback
 invariant-loop-rollback l = record {
   few_stale : l.stale ≤ l.rollback-index;
   few_vain : l.vain ≤ l.rollback-index;
-  few_later : l.later ≤ l.rollback-index;
+  few_came_true : l.came_true ≤ l.rollback-index;
   stale : l.stale ≡ count_by (λ (r : Rollback). r.stale) (take l.rollback-index l.rollbacks);
   vain : l.vain ≡ count_by (λ (r : Rollback). r.vain) (take l.rollback-index l.rollbacks);
-  later : l.later ≡ count_by (λ (r : Rollback). r.later) (take l.rollback-index l.rollbacks);
+  came_true : l.came_true ≡ count_by (λ (r : Rollback). r.came_true) (take l.rollback-index l.rollbacks);
 }
