@@ -7,7 +7,7 @@ use Rattle.spec_history.specs.Laws.{IsPublished}
 use Rattle.spec_history.specs.Replay.{replay}
 use Rattle.spec_history.proofs.Replay.Replays.{replayed}
 use Rattle.violations.specs.View.{StoreView, IsCommitted}
-use Rattle.homefree.specs.BookView.{BookView}
+use Rattle.homefree.specs.BookView.{BookView, ReplaysTo}
 use Rattle.homefree.specs.Driven.{IsInOrder}
 use Rattle.homefree.specs.InStep.{InStep}
 use Rattle.homefree.proofs.Books.Drives.{in_order}
@@ -24,7 +24,7 @@ one_state : (o : Option FlatState) (s t : FlatState) → o ≡ Some s → o ≡ 
 one_state o s t p q = let e : Some s ≡ Some t = sym p ∙ q in cc
 
 module _ {S : Type 0} (view : S → StoreView) (image : LoadedImage) (b : BookView S) (i : InStep view b) (image_is : b.image ≡ image)
-    (bytes : List ℕ) (so : IsCommitted (view b.store) bytes) (size : (view b.store).shape.size ≡ image.size) (s : FlatState) (replays : replay b.image b.cores b.history ≡ Some s) where
+    (bytes : List ℕ) (so : IsCommitted (view b.store) bytes) (size : (view b.store).shape.size ≡ image.size) (s : FlatState) (replays : ReplaysTo b s) where
   state_is : i.state ≡ s
   state_is = one_state (replay b.image b.cores b.history) i.state s i.replays replays
 
@@ -49,8 +49,8 @@ module _ {S : Type 0} (view : S → StoreView) (image : LoadedImage) (b : BookVi
 -- with the counts and the trace below the report
 pub shown : {S : Type 0} (view : S → StoreView) (image : LoadedImage) (cores : ℕ) (b : BookView S) (outcome : Outcome) (report text : List ℕ) → InStep view b
     → b.image ≡ image → b.cores ≡ cores → AreEntries b.history
-    → ((s : FlatState) → replay b.image b.cores b.history ≡ Some s → outcome ≡ outcome_at s.end s.homefree)
-    → ((s : FlatState) → replay b.image b.cores b.history ≡ Some s → IsReport image s s.end report)
+    → ((s : FlatState) → ReplaysTo b s → outcome ≡ outcome_at s.end s.homefree)
+    → ((s : FlatState) → ReplaysTo b s → IsReport image s s.end report)
     → text ≡ report ++ counts_line b.totals ++ printed_trace cores b.history → IsShown image cores b.history outcome text
 shown view image cores b outcome report text i image_is cores_are numbers outcome_is reports text_is = record {
   state = i.state;

@@ -1,8 +1,7 @@
 //! What is printed of the history that a schedule makes.
-ghost use Rattle.std.specs.Prelude.{◌≡◌, Some, IfOk};
+ghost use Rattle.std.specs.Prelude.{◌≡◌, IfOk};
 ghost use Rattle.spec_history.specs.FlatState.{FlatState};
-ghost use Rattle.spec_history.specs.Replay.{replay};
-ghost use Rattle.homefree.specs.InStep.{InStep};
+ghost use Rattle.homefree.specs.BookView.{ReplaysTo};
 ghost use Rattle.all_schedules.specs.Shown as spec;
 
 use homefree::Book;
@@ -38,10 +37,8 @@ fn report_of<S: EpochStore>(
     book: &Book<S>,
 ) -> Result<(Outcome, Vec<u8>), AllocError>
     requires image { book.now.image ≡ image.now }
-    ensures outcome { (s : FlatState) → replay book.now.image book.now.cores book.now.history ≡ Some s
-        → IfOk result (λ shown. shown.0 ≡ spec.outcome_at s.end s.homefree) }
-    ensures report { (s : FlatState) → replay book.now.image book.now.cores book.now.history ≡ Some s
-        → IfOk result (λ shown. spec.IsReport image.now s s.end shown.1.items) }
+    ensures outcome { (s : FlatState) → ReplaysTo book.now s → IfOk result (λ shown. shown.0 ≡ spec.outcome_at s.end s.homefree) }
+    ensures report { (s : FlatState) → ReplaysTo book.now s → IfOk result (λ shown. spec.IsReport image.now s s.end shown.1.items) }
 {
     let bytes = book.committed_memory(alloc)?;
     match book.ended() {
