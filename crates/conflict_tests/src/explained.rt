@@ -55,13 +55,20 @@ impl Worked {
         }
     }
 
-    /// What is found of each violation, in order.
+    /// What is found of each violation, in order, with what is kept of those before.
     fn found(&self, alloc: Global) -> Result<Vec<Finding>, Fail> {
         let explained = self.explained(alloc)?;
         let stood = self.sites(alloc)?;
+        let mut followed = Followed::new();
         let mut found = Vec::new(alloc);
         for e in explained {
-            found.push(self.found_alone(stood.as_slice(), &e))?;
+            found.push(finding_of(
+                &self.image,
+                self.entries.as_slice(),
+                stood.as_slice(),
+                &mut followed,
+                &e,
+            ))?;
         }
         Ok(found)
     }
@@ -227,6 +234,30 @@ fn finds_the_instructions_of_a_pair(rt: HostRuntime) -> Result<(), Fail> {
 fn is_over_there(explanation: &Explanation, entries: &[Entry], row: &str) -> bool {
     let undone = place_in(row, 4);
     undone.is_none() || explanation.over_at(entries) == undone
+}
+
+/// Each violation of a worked history is found alone as it is found after those before.
+fn are_found_alone(rt: &impl Abort, alloc: Global, text: &str) -> Result<(), Fail> {
+    let worked = Worked::of(alloc, text)?;
+    let explained = worked.explained(alloc)?;
+    let stood = worked.sites(alloc)?;
+    let found = worked.found(alloc)?;
+    assert!(rt; !found.is_empty() && found.len() == explained.len());
+    for (explanation, finding) in explained.iter().zip(found.iter()) {
+        let alone = worked.found_alone(stood.as_slice(), explanation);
+        assert!(rt; alone == *finding, "{}", finding.place);
+    }
+    Ok(())
+}
+
+#[test]
+fn finds_in_order_what_it_finds_alone(rt: HostRuntime) -> Result<(), Fail> {
+    let alloc = rt.alloc();
+    are_found_alone(&rt, alloc, HISTOGRAM)?;
+    are_found_alone(&rt, alloc, BUFFER_FULL)?;
+    are_found_alone(&rt, alloc, STORED_BYTES)?;
+    are_found_alone(&rt, alloc, COMMITTED_BYTES)?;
+    are_found_alone(&rt, alloc, LATER_BYTES)
 }
 
 /// Whether a row tells the place and the attempt of a violation, and at which places the causer's attempt was undone and the victim's epoch was
