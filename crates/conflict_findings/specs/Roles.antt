@@ -5,18 +5,7 @@ use Rattle.conflict_findings.specs.declared.rollback.Rollback.{Rollback}
 
 -- the two instructions in each other's role
 abbrev pub swapped : Rollback → Rollback
-swapped r = record {
-  kind = r.kind;
-  epoch = r.epoch;
-  pair = option_map (λ (p : Pair). record { store = p.load; load = p.store }) r.pair;
-  line = r.line;
-  lost = r.lost;
-  stale = r.stale;
-  vain = r.vain;
-  came_true = r.came_true;
-  distance = r.distance;
-  bytes = r.bytes;
-}
+swapped r = record r { pair = option_map (λ (p : Pair). record { store = p.load; load = p.store }) r.pair }
 
 -- the violations, and the same with their instructions in each other's role: the loads are now all instructions of pairs
 abbrev pub in_both_roles : List Rollback → List Rollback
