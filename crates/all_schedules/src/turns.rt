@@ -6,7 +6,7 @@ ghost use Rattle.trace_text.specs.Reading.{Answers};
 ghost use Rattle.all_schedules.specs.Turns as spec;
 ghost use Rattle.all_schedules.specs.Parts.{AreParts};
 
-use rv32_image::{cut, number_in};
+use rv32_image::{NumberedLines, cut, is_remark, number_in};
 use std::alloc::Global;
 use trace_text::{TraceFault, TraceFaultKind};
 
@@ -67,13 +67,12 @@ pub fn read_turns(
     ensures { Answers (λ schedule. schedule.items) result (spec.lines_read cores first (pieces_after 10 lines.entry)) }
 {
     let mut schedule = Vec::new(alloc);
-    let mut number = first;
-    let mut rest = lines;
-    while let Some(text) = rest {
-        let (line, next) = cut(text, b'\n');
+    let mut numbered = NumberedLines {
+        number: first,
+        rest: lines,
+    };
+    while let Some((number, line)) = numbered.next() {
         push_line(&mut schedule, cores, number, line)?;
-        number += 1;
-        rest = next;
     }
     Ok(schedule)
 }
@@ -88,7 +87,7 @@ fn push_line(
 ) -> Result<(), TraceFault>
     ensures { Answers (λ _. schedule.new.items) result (spec.joined (Ok schedule.old.items) (spec.line_read cores number line.now)) }
 {
-    if line.is_empty() || line[0] == b'#' {
+    if is_remark(line) {
         return Ok(());
     }
     if !line.starts_with(b"turns ") {

@@ -5,6 +5,7 @@ ghost use Rattle.rv32_image.specs.Version.{IsSize};
 
 use crate::fault::{ImageFault, ImageFaultKind};
 use crate::image::{Header, Image};
+use crate::numbered::is_remark;
 use crate::version::Version;
 use crate::words::{Words, bytes_in, number_in, word_in, words_of};
 use std::alloc::Global;
@@ -59,7 +60,7 @@ impl Draft {
     pub fn read_line(&mut self, alloc: Global, line: &[u8]) -> Result<(), ImageFaultKind>
         ensures { Gives (λ _. self.new) result (spec.line_read self.old line.now) }
     {
-        if line.is_empty() || line[0] == b'#' {
+        if is_remark(line) {
             return Ok(());
         }
         match words_of(line) {

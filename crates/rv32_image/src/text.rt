@@ -7,7 +7,7 @@ use crate::draft::Draft;
 use crate::fault::{ImageFault, ImageFaultKind, LONGEST_IMAGE_TEXT};
 use crate::image::{Image, NoMemory};
 use crate::input::read_input;
-use crate::words::cut;
+use crate::numbered::NumberedLines;
 use std::alloc::Global;
 use std::io::Read;
 
@@ -47,13 +47,12 @@ fn read_lines(alloc: Global, text: &[u8]) -> Result<Draft, ImageFault>
     ensures { Answers (λ draft. draft) result (spec.lines_read 1 spec.blank (spec.pieces 10 text.now)) }
 {
     let mut draft = Draft::blank(alloc);
-    let mut line_number = 1;
-    let mut rest = Some(text);
-    while let Some(text) = rest {
-        let (line, next) = cut(text, b'\n');
-        read_numbered(alloc, &mut draft, line_number, line)?;
-        line_number += 1;
-        rest = next;
+    let mut lines = NumberedLines {
+        number: 1,
+        rest: Some(text),
+    };
+    while let Some((number, line)) = lines.next() {
+        read_numbered(alloc, &mut draft, number, line)?;
     }
     Ok(draft)
 }

@@ -4,11 +4,11 @@ use Rattle.rv32_image.specs.Cutting.{pieces_after}
 use Rattle.rv32_image.proofs.text.read_lines.Given as goal
 
 -- the lines that are left, over the draft so far, say what the whole text says
-abbrev pub invariant-loop-rest : goal.invariant-loop-rest
-invariant-loop-rest l = record {
-  same : lines_read l.line_number l.draft (pieces_after 10 l.rest) ≡ lines_read 1 blank (pieces 10 l.fn.text);
-  few : l.line_number + length (pieces_after 10 l.rest) ≤ 1048578;
+abbrev pub invariant-loop-number : goal.invariant-loop-number
+invariant-loop-number l = record {
+  same : lines_read l.lines.number l.draft (pieces_after 10 l.lines.rest) ≡ lines_read 1 blank (pieces 10 l.fn.text);
+  few : l.lines.number + length (pieces_after 10 l.lines.rest) ≤ 1048578;
 }
 
-abbrev pub decreases-loop-rest : goal.decreases-loop-rest
-decreases-loop-rest l = length (pieces_after 10 l.rest)
+abbrev pub decreases-loop-number : goal.decreases-loop-number
+decreases-loop-number l = length (pieces_after 10 l.lines.rest)
