@@ -1,5 +1,5 @@
 -- A text is noted in a set, and every text so far still stands there once.
-use Rattle.std.proofs.Common.{◌≡◌, ◌≢◌, inl, inr, ℕ, ◌+◌, ◌<◌, Bool, true, false, List, [], ◌∷◌, ◌++◌, ◌⊎◌, All, AllPairs, length, get_or, Some, Result, Ok, Err, OnOk, Vec, refl, sym, ap, subst, ◌∙◌, arith, add-zero}
+use Rattle.std.proofs.Common.{◌≡◌, ◌≢◌, inl, inr, ℕ, ◌+◌, ◌<◌, Bool, true, false, List, [], ◌∷◌, ◌++◌, ◌⊎◌, All, AllPairs, length, get_or, Some, Vec, refl, sym, ap, subst, ◌∙◌, arith, add-zero}
 use Rattle.std.specs.declared.alloc.Global.{Global}
 use Rattle.std.specs.List.{Contains}
 use Rattle.std.specs.BTreeSet.{BTreeSet, insert_key}
@@ -10,7 +10,7 @@ use Rattle.std.specs.List.Sorted.{IsStrictlySortedBy}
 use Rattle.std.specs.Ordering.{match_ordering, nat_cmp}
 use Rattle.std.proofs.lemmas.Cmp.{nat_list_cmp_total, tied_itself}
 use Rattle.std.proofs.lemmas.List.{get_or-map, length-map}
-use Rattle.std.proofs.lemmas.List.Elements.{All-cons, All-map, All-nil, All-push, All-weaker, Contains-append_left, Contains-append_right, Contains-get_or, Contains-push}
+use Rattle.std.proofs.lemmas.List.Elements.{All-cons, All-map, All-nil, All-push, All-weaker, Contains-append_left, Contains-append_right, Contains-get_or, Contains-push, All-contains, All-contains_itself}
 use Rattle.std.proofs.lemmas.Map.Keys.{Less-from_sorted}
 use Rattle.std.proofs.lemmas.Map.Lookups.{exact_bytes}
 use Rattle.std.proofs.lemmas.Map.Views.{All-insert_key}
@@ -28,13 +28,10 @@ none_noted = record {
   every = All-nil (Contains []);
 }
 
-of_all : {X : Type 0} (P : X → Type 0) (xs : List X) (x : X) → All P xs → Contains xs x → P x
-of_all P xs x all there = subst P there.2 (all there.0 x there.1)
-
 -- a text more
 pub noted : (all old new : List (List ℕ)) (text : List ℕ) → AreEachOnce all old → IsNoted old new text → AreEachOnce (all ++ text ∷ []) new
 noted all old new text so is =
-    let known : (x : List ℕ) → Contains old x → Contains all x = λ x there. of_all (Contains all) old x so.there there in record {
+    let known : (x : List ℕ) → Contains old x → Contains all x = λ x there. All-contains (Contains all) old x so.there there in record {
       different = is.different;
       there = All-weaker (λ x. Contains old x ⊎ (x ≡ text)) (Contains (all ++ text ∷ []))
           (λ x one. elim one [
@@ -42,7 +39,7 @@ noted all old new text so is =
             | inr same ↦ subst (Contains (all ++ text ∷ [])) (sym same) (Contains-push all text)
           ]) new is.no_other;
       every = All-push (Contains new) all text
-          (All-weaker (Contains old) (Contains new) (λ x there. of_all (Contains new) old x is.kept there) all so.every) is.there;
+          (All-weaker (Contains old) (Contains new) (λ x there. All-contains (Contains new) old x is.kept there) all so.every) is.there;
     }
 
 -- ---- in vectors
@@ -53,9 +50,6 @@ items_of v = v.items
 -- vectors are in the order of their bytes
 abbrev pub by_bytes : Vec ℕ Global → Vec ℕ Global → Ordering
 by_bytes v w = slice_cmp nat_cmp v.items w.items
-
-each_there : (xs : List (List ℕ)) → All (Contains xs) xs
-each_there xs = λ i d below. Contains-get_or xs i d below
 
 head_there : (x : List ℕ) (xs : List (List ℕ)) → Contains (x ∷ xs) x
 head_there x xs = Contains-append_left (x ∷ []) xs x (Contains-push [] x)
@@ -81,8 +75,8 @@ module _ (k : Vec ℕ Global) where
       → All (Contains (lists_of (match_ordering o (k ∷ v ∷ vs) (v ∷ vs) (v ∷ more)))) (lists_of (v ∷ vs))
   keep_by v vs more Less kept =
       All-weaker (Contains (lists_of (v ∷ vs))) (Contains (lists_of (k ∷ v ∷ vs))) (λ x there. tail_there k.items x (lists_of (v ∷ vs)) there)
-      (lists_of (v ∷ vs)) (each_there (lists_of (v ∷ vs)))
-  keep_by v vs more Equal kept = each_there (lists_of (v ∷ vs))
+      (lists_of (v ∷ vs)) (All-contains_itself (lists_of (v ∷ vs)))
+  keep_by v vs more Equal kept = All-contains_itself (lists_of (v ∷ vs))
   keep_by v vs more Greater kept =
       let new = lists_of (v ∷ more) in
       All-cons (Contains new) v.items (lists_of vs) (head_there v.items (lists_of more))
@@ -119,10 +113,6 @@ is_noted old new k is sorted =
     (λ s. record { there = put_there k old; kept = all_kept k old; no_other = no_other k old; different = apart (insert_key by_bytes old k) s }) sorted
 
 -- ---- a survey
-
-pub on_ok : {A E : Type 0} (r : Result A E) {P Q : Type 0} → (P → Q) → OnOk r P → OnOk r Q
-on_ok (Ok x) then is = then is
-on_ok (Err e) then is = tt
 
 module _ (place restarts : ℕ) (trace : List ℕ) (old mid new : Survey) where
   abbrev found : Extreme

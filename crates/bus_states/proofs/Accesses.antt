@@ -1,6 +1,7 @@
 -- Speculative loads and stores keep the bus coherent, and what is committed.
 use Rattle.std.proofs.Common.{◌≡◌, ◌≢◌, ℕ, ◌+◌, ◌%◌, ◌<◌, ◌≤◌, ◌==◌, ◌&&◌, ◌||◌, not, Bool, true, false, cond, Option, Some, None, refl, sym, ap, subst, ◌∙◌, arith}
 use Rattle.std.proofs.Math.Path.{fun_ext}
+use Rattle.std.proofs.lemmas.Bool.{and_left, both_ways}
 use Rattle.std.proofs.lemmas.Bool.Decides.{nat_tests}
 use Rattle.memory_bytes.specs.Bytes.{IsWidth}
 use Rattle.spec_states.specs.declared.next.Next.{Next}
@@ -23,7 +24,7 @@ use Rattle.bus_states.specs.Coherent.{IsCoherent, speculates}
 use Rattle.bus_states.specs.Messages.{Room, IsRoom, Message, message_of, is_busy, is_alone, changed_core, with_copy, without_line, leaves, after_message}
 use Rattle.bus_states.specs.Speculative.{own, holds_line, room_for, no_room, kept_line, load_next, after_load, load_wait, store_next, owns, after_claim, with_bytes, after_store, store_wait}
 use Rattle.bus_states.proofs.Coherence.{IsCoherentWith, committed-with, coherent-with, with-same, sees-past, sees-held, sees-unmodified}
-use Rattle.bus_states.proofs.Copies.{clash, itself, made, made-state, made-up_to_date, made-in_place}
+use Rattle.bus_states.proofs.Copies.{itself, made, made-state, made-up_to_date, made-in_place}
 use Rattle.bus_states.proofs.Cores.{entry-limit, changed-coherent, without_line-coherent}
 use Rattle.bus_states.proofs.QuietCalls.{Keeps, kept-with, Writes, written-with, same-lines}
 use Rattle.bus_states.proofs.Sending.{leaves-held, Sends, sent_lines, sent-with, at_sender}
@@ -120,7 +121,7 @@ pub not_leaving : (core : CoreState) (room : Option Room) (addr : ℕ) → IsRoo
     → leaves room addr ≡ false
 not_leaving core room addr h absent =
     elim (leaves room addr) as (λ b. leaves room addr ≡ b → b ≡ false) [
-      | true ↦ λ e. absurd (clash (is_valid (core.copy addr).state) (leaves-held core room h addr e).0 absent)
+      | true ↦ λ e. absurd (both_ways (is_valid (core.copy addr).state) absent (leaves-held core room h addr e).0)
       | false ↦ λ e. refl
     ] refl
 
@@ -153,7 +154,7 @@ fetches-takes bus notice core addr room room2 next access h may free t =
       victim = t.victim;
       apart = t.apart;
       valid = speculative-valid next.state t.takes.marked;
-      unmarked = λ s. absurd (clash (speculates (bus.core core).attempt) may.runs s);
+      unmarked = λ s. absurd (both_ways (speculates (bus.core core).attempt) s may.runs);
       within = t.within;
       up_to_date = subst (λ (line : ℕ → ℕ). IsUpToDate (copy_of next.state next.marks line) line) (sym same) t.up_to_date;
       exclusive = t.takes.exclusive;
@@ -161,9 +162,6 @@ fetches-takes bus notice core addr room room2 next access h may free t =
       stays_required = t.takes.stays_required;
       has_room = t.has_room;
     }
-
-no-entry : (enters full : Bool) → enters ≡ false → (enters && full) ≡ false
-no-entry enters full e = rw e refl
 
 pub invalid-unmarked : (s : LineState) → is_valid s ≡ false → is_speculative s ≡ false
 invalid-unmarked I e = refl
@@ -223,7 +221,7 @@ load-miss bus core addr offset width room h may widths absent free =
       takes = own_load-takes_hold mine.state mine.marks offset width alone;
       within = load-within bus core addr offset width h;
       up_to_date = own_load-filled mine.state mine.marks offset width alone widths absent (committed bus addr);
-      has_room = no-entry _ (is_full (bus.core core).buffer) (own_load-enters_none mine.state mine.marks offset width alone);
+      has_room = and_left _ (is_full (bus.core core).buffer) (own_load-enters_none mine.state mine.marks offset width alone);
     })
 
 -- the causes of a wait that did not come

@@ -90,9 +90,6 @@ with-same bus c d same h =
 
 -- ---- the cores
 
-pub apart_test : (a b : ℕ) → a ≢ b → (a == b) ≡ false
-apart_test a b h = grind (arith, nat_tests)
-
 pub by_core : (P : ℕ → Type 0) (core k : ℕ) → P core → (k ≢ core → P k) → P k
 by_core P core k here there =
     elim (k == core) as (λ b. (k == core) ≡ b → P k) [

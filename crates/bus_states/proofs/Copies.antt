@@ -1,5 +1,6 @@
 -- One copy: what a change of its state, its marks and its bytes keeps.
-use Rattle.std.proofs.Common.{◌≡◌, ℕ, ◌%◌, ◌≤◌, ◌==◌, ◌||◌, Bool, true, false, cond, refl, ap, ◌∙◌, arith}
+use Rattle.std.proofs.Common.{◌≡◌, ℕ, ◌%◌, ◌≤◌, ◌==◌, Bool, true, false, cond, refl, ap, ◌∙◌, arith}
+use Rattle.std.proofs.lemmas.Bool.{both_ways}
 use Rattle.std.proofs.lemmas.Bool.Decides.{nat_tests}
 use Rattle.std.proofs.lemmas.Nat.{pow_pos}
 use Rattle.spec_states.specs.declared.line.LineState.{LineState}
@@ -15,20 +16,12 @@ use Rattle.spec_states.proofs.RowLaws.{violation-rolls_back}
 use Rattle.cache_lines.specs.Protocol.{IsInPlace, rolled_back_copy}
 use Rattle.cache_lines.proofs.CopyLaws.{IsUpToDate-rolled_back}
 
--- no test is both
-pub clash : (b : Bool) → b ≡ true → b ≡ false → ⊥
-clash b e f = cc
-
 pub itself : (n : ℕ) → (n == n) ≡ true
 itself n = grind (arith, nat_tests)
 
 pub not_so : (a b : Bool) → (a ≡ true → b ≡ true) → b ≡ false → a ≡ false
 not_so true b up e = let x : b ≡ true = up refl in cc
 not_so false b up e = refl
-
-pub or_true : (b d : Bool) → d ≡ true → (b || d) ≡ true
-or_true true d e = refl
-or_true false d e = e
 
 -- the copy of these, which is none where the state is not valid
 abbrev pub made : LineState → Marks → (ℕ → ℕ) → LineCopy
@@ -148,5 +141,5 @@ up_to_date-invalid copy c d h e =
       not_loaded = h.not_loaded;
       not_modified = h.not_modified;
       marked = h.marked;
-      agrees = λ x v out. absurd (clash (is_valid copy.state) v e);
+      agrees = λ x v out. absurd (both_ways (is_valid copy.state) e v);
     }

@@ -1,5 +1,6 @@
 -- Which bytes a core owns and guards, by the marks of its copies.
 use Rattle.std.proofs.Common.{◌≡◌, ◌≢◌, ℕ, zero, suc, ◌+◌, ◌*◌, ◌/◌, ◌%◌, ◌<◌, ◌≤◌, ◌==◌, ◌⊎◌, inl, inr, not, true, false, refl, sym, ap, ◌∙◌, arith}
+use Rattle.std.proofs.lemmas.Bool.{both_ways}
 use Rattle.std.proofs.lemmas.Bool.Decides.{nat_tests}
 use Rattle.std.proofs.lemmas.Nat.{pow_pos}
 use Rattle.std.proofs.lemmas.Nat.Bits.{bit_at-zero, bit_at-lt, same_from_bits_below}
@@ -19,7 +20,6 @@ use Rattle.bus_states.specs.Bus.{Bus, committed, line_of, offset_of}
 use Rattle.bus_states.specs.Coherent.{IsCoherent}
 use Rattle.bus_states.specs.Views.{view_of}
 use Rattle.bus_states.proofs.Addresses.{line-of, offset-of}
-use Rattle.bus_states.proofs.Copies.{clash}
 use Rattle.bus_states.proofs.Hurting.{loaded-marked}
 
 -- ---- lines
@@ -169,8 +169,7 @@ loaded-shared bus j k addr h aligned apart loaded =
     elim (is_exclusive ((bus.core j).copy addr).state) as (λ b. is_exclusive ((bus.core j).copy addr).state ≡ b → b ≡ false) [
       | true ↦ λ e.
           let marked = loaded-marked ((bus.core k).copy addr) (committed bus addr) ((h.lines addr aligned).up_to_date k) loaded in
-          absurd (clash (is_valid ((bus.core k).copy addr).state) (speculative-valid ((bus.core k).copy addr).state marked)
-          ((h.lines addr aligned).exclusive j k apart e))
+          absurd (both_ways (is_valid ((bus.core k).copy addr).state) ((h.lines addr aligned).exclusive j k apart e) (speculative-valid ((bus.core k).copy addr).state marked))
       | false ↦ λ e. refl
     ] refl
 

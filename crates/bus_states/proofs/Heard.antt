@@ -1,5 +1,5 @@
 -- A core that hears a message.
-use Rattle.std.proofs.Common.{◌≡◌, ◌≢◌, ℕ, ◌%◌, ◌<◌, ◌≤◌, ◌==◌, ◌||◌, ◌&&◌, not, nat_lt, Bool, true, false, cond, refl, sym, ap, subst, ◌∙◌, arith}
+use Rattle.std.proofs.Common.{◌≡◌, ◌≢◌, ℕ, ◌%◌, ◌<◌, ◌≤◌, ◌==◌, ◌||◌, ◌&&◌, not, nat_lt, Bool, true, false, cond, refl, sym, ap, subst, ◌∙◌, arith, ne_eqb}
 use Rattle.std.proofs.Math.Path.{fun_ext}
 use Rattle.std.proofs.lemmas.Bool.Decides.{nat_tests}
 use Rattle.spec_states.specs.declared.next.Next.{Next}
@@ -19,7 +19,7 @@ use Rattle.bus_states.specs.Coherent.{IsCoherent, IsCoherentCore}
 use Rattle.bus_states.specs.Messages.{Message, with_copies, with_copy, dropped_core, changed_core, reply, reply_to, order, bytes_after, violates, holds_up, heard_core, is_busy}
 use Rattle.bus_states.proofs.Copies.{itself, made, made-state, made-up_to_date, none-in_place, made-in_place, rolled_back-valid, rolled_back-modified, rolled_back-in_place, Fades, Fades-same, Fades-rolled_back}
 use Rattle.bus_states.proofs.Cores.{entry-limit, changed-coherent, violated-coherent}
-use Rattle.bus_states.proofs.Coherence.{apart_test, none_below}
+use Rattle.bus_states.proofs.Coherence.{none_below}
 use Rattle.bus_states.proofs.Replies.{reply-gives_way, reply-within}
 
 -- a core that hears of the line at `addr`, and is violated or changes its copy so
@@ -171,8 +171,8 @@ message-coherent bus message k h aligned free away =
       | true ↦ λ e.
           let inside : k < bus.shape.cores = grind (arith, nat_tests) in
           heard-coherent (bus.core k) message.addr (violates bus message k) (reply bus message k) _ (h.cores k) (message-gives_way bus message k h aligned)
-          (λ v. unviolated (k == message.sender) _ _ (is_later bus message.sender k) (apart_test k message.sender away) v)
-          (λ v. roomy (k == message.sender) (reply bus message k).violated _ (is_later bus message.sender k) (apart_test k message.sender away) v
+          (λ v. unviolated (k == message.sender) _ _ (is_later bus message.sender k) (ne_eqb k message.sender away) v)
+          (λ v. roomy (k == message.sender) (reply bus message k).violated _ (is_later bus message.sender k) (ne_eqb k message.sender away) v
           (none_below bus.shape.cores (holds_up bus message) free k inside))
       | false ↦ λ e.
           let past : bus.shape.cores ≤ k = grind (arith, nat_tests) in

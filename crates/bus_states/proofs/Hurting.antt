@@ -1,6 +1,7 @@
 -- Whom a call violates and whom it spares, as the store's rule asks: what a message does, what a core does that tells nobody,
 -- and two such steps after one another.
-use Rattle.std.proofs.Common.{◌≡◌, ◌≢◌, ℕ, ◌%◌, ◌<◌, ◌==◌, ◌||◌, ◌&&◌, ◌⊎◌, inl, inr, not, nat_lt, Bool, true, false, cond, Option, Some, None, refl, sym, ap, subst, ◌∙◌, arith}
+use Rattle.std.proofs.Common.{◌≡◌, ◌≢◌, ℕ, ◌%◌, ◌<◌, ◌==◌, ◌||◌, ◌&&◌, ◌⊎◌, inl, inr, not, nat_lt, Bool, true, false, cond, Option, Some, None, refl, sym, ap, subst, ◌∙◌, arith, ne_eqb}
+use Rattle.std.proofs.lemmas.Bool.{and_parts, both_ways}
 use Rattle.std.proofs.lemmas.Bool.Decides.{nat_tests}
 use Rattle.spec_states.specs.declared.line.LineState.{LineState}
 use Rattle.spec_states.specs.declared.line.Marks.{Marks}
@@ -20,8 +21,8 @@ use Rattle.bus_states.specs.Bus.{CoreState, Bus, committed, is_later}
 use Rattle.bus_states.specs.Coherent.{IsCoherent, speculates}
 use Rattle.bus_states.specs.Messages.{Room, Message, reply, reply_to, order, bytes_after, overflows, violates, changed_core}
 use Rattle.bus_states.specs.Views.{view_of}
-use Rattle.bus_states.proofs.Coherence.{apart_test, committed-with}
-use Rattle.bus_states.proofs.Copies.{clash, itself, made}
+use Rattle.bus_states.proofs.Coherence.{committed-with}
+use Rattle.bus_states.proofs.Copies.{itself, made}
 use Rattle.bus_states.proofs.Heard.{message-gives_way, unviolated}
 use Rattle.bus_states.proofs.Quiet
 use Rattle.bus_states.proofs.Quiet.{ChangesQuietly, quietly, quiet-with}
@@ -66,7 +67,7 @@ pub none_some : (o : Option Attempt) (x : Attempt) → o ≡ None → o ≡ Some
 none_some o x none some = cc
 
 pub not_core : (hurt : ℕ → Bool) (core k : ℕ) → hurt core ≡ false → hurt k ≡ true → k ≢ core
-not_core hurt core k spared hit same = clash (hurt k) hit (ap hurt same ∙ spared)
+not_core hurt core k spared hit same = both_ways (hurt k) (ap hurt same ∙ spared) hit
 
 pub spared-then : (u v w : StoreView) (k : ℕ) → IsSpared u v k → IsSpared v w k → IsSpared u w k
 spared-then u v w k p q =
@@ -126,9 +127,9 @@ hurts-then_none u v w core hurt stays f s =
 -- a copy that a message violates was speculatively loaded, and its owner is later or hears a publish
 pub reply-violates : (notice : Notice) (s : LineState) (marks : Marks) (later : Bool)
     → (reply_to notice s marks (order later)).violated ≡ true → (was_loaded s marks ≡ true) × ((notice ≡ Publish) ⊎ (later ≡ true))
-reply-violates Load s marks later e = absurd (clash _ e (other_load-violates s marks))
+reply-violates Load s marks later e = absurd (both_ways _ (other_load-violates s marks) e)
 reply-violates Store s marks true e = (sym (other_store-violates s marks (order true)) ∙ e, inr refl)
-reply-violates Store s marks false e = absurd (clash _ e (other_store-violates s marks (order false)))
+reply-violates Store s marks false e = absurd (both_ways _ (other_store-violates s marks (order false)) e)
 reply-violates Publish s marks later e = (sym (other_publish-violates s marks) ∙ e, inl refl)
 
 -- why a core is violated
@@ -140,28 +141,20 @@ cause false false true true e = (refl, inr (refl, refl))
 cause false false true false e = absurd (let x : ⊥ = cc in x)
 cause false false false later e = absurd (let x : ⊥ = cc in x)
 
-pub left : (b d : Bool) → (b && d) ≡ true → b ≡ true
-left true d e = refl
-left false d e = e
-
-pub right : (b d : Bool) → (b && d) ≡ true → d ≡ true
-right true d e = e
-right false d e = absurd (let x : ⊥ = cc in x)
-
 -- a core with a marked copy runs a speculative attempt
 pub marked-speculates : (bus : Bus) (k a : ℕ) → IsCoherent bus → is_speculative ((bus.core k).copy a).state ≡ true
     → speculates (bus.core k).attempt ≡ true
 marked-speculates bus k a h marked =
     elim (speculates (bus.core k).attempt) as (λ b. speculates (bus.core k).attempt ≡ b → b ≡ true) [
       | true ↦ λ e. refl
-      | false ↦ λ e. absurd (clash (is_speculative ((bus.core k).copy a).state) marked ((h.cores k).unmarked a e))
+      | false ↦ λ e. absurd (both_ways (is_speculative ((bus.core k).copy a).state) ((h.cores k).unmarked a e) marked)
     ] refl
 
 -- the sender is not violated
 violated-other : (bus : Bus) (message : Message) (k : ℕ) → violates bus message k ≡ true → k ≢ message.sender
 violated-other bus message k e same =
     let c = cause (k == message.sender) (reply bus message k).violated (overflows bus message k) (is_later bus message.sender k) e in
-    clash (k == message.sender) (rw same (itself message.sender)) c.0
+    both_ways (k == message.sender) c.0 (rw same (itself message.sender))
 
 -- a violated core runs a speculative attempt of a later epoch. Where the message is a publish, its sender's epoch is the first
 pub violates-later : (bus : Bus) (message : Message) (k : ℕ) → IsCoherent bus → message.addr % bus.line_length ≡ 0
@@ -182,10 +175,10 @@ violates-later bus message k h aligned first e =
     by_cause away (inl hit) =
         let copy : LineCopy = (bus.core k).copy message.addr in
         let why = reply-violates message.notice copy.state copy.marks (is_later bus message.sender k) hit in
-        let runs : speculates (bus.core k).attempt ≡ true = marked-speculates bus k message.addr h (left (is_speculative copy.state) copy.marks.loaded why.0) in
+        let runs : speculates (bus.core k).attempt ≡ true = marked-speculates bus k message.addr h (and_parts (is_speculative copy.state) copy.marks.loaded why.0).0 in
         (runs, by_notice away runs why.1)
     by_cause away (inr over) =
-        (enters-speculates bus message k h aligned (left (reply bus message k).enters (is_full (bus.core k).buffer) over.0), over.1)
+        (enters-speculates bus message k h aligned (and_parts (reply bus message k).enters (is_full (bus.core k).buffer) over.0).0, over.1)
 
 -- the attempt that a core runs
 pub running : (o : Option Attempt) → speculates o ≡ true → (x : Attempt) × (o ≡ Some x)
@@ -200,7 +193,7 @@ pub loaded-marked : (copy : LineCopy) (c : ℕ → ℕ) → IsUpToDate copy c �
 loaded-marked copy c h loaded =
     elim (is_speculative copy.state) as (λ b. is_speculative copy.state ≡ b → b ≡ true) [
       | true ↦ λ e. refl
-      | false ↦ λ e. absurd (clash copy.marks.loaded loaded (h.not_loaded e))
+      | false ↦ λ e. absurd (both_ways copy.marks.loaded (h.not_loaded e) loaded)
     ] refl
 
 -- a core whose copy changes and keeps its marks shows what it showed
@@ -227,7 +220,7 @@ heard-shows bus message room own k h aligned away spares =
     let at : (sent bus message room own).core k ≡ changed_core message.addr next cell (bus.core k) =
     Sending.at_other bus message room own k away ∙ rw spares refl in
     let unhit : next.violated ≡ false =
-    unviolated (k == message.sender) next.violated (overflows bus message k) (is_later bus message.sender k) (apart_test k message.sender away) spares in
+    unviolated (k == message.sender) next.violated (overflows bus message k) (is_later bus message.sender k) (ne_eqb k message.sender away) spares in
     record {
       length_is = h.length_is;
       length = refl;
@@ -268,8 +261,7 @@ heard-stands bus message room own mine k h t away spares a on_line loaded x =
         let is_hit : (reply bus message k).violated ≡ true =
         ap (λ (notice : Notice). (reply_to notice copy.state copy.marks (order (is_later bus message.sender k))).violated) publish
         ∙ other_publish-violates copy.state copy.marks ∙ rw (marked, loaded) refl in
-        clash (reply bus message k).violated is_hit
-        (unviolated (k == message.sender) (reply bus message k).violated (overflows bus message k) (is_later bus message.sender k) (apart_test k message.sender away) spares)
+        both_ways (reply bus message k).violated (unviolated (k == message.sender) (reply bus message k).violated (overflows bus message k) (is_later bus message.sender k) (ne_eqb k message.sender away) spares) is_hit
 
     here : (notice : Notice) → message.notice ≡ notice → ((bus.core k).copy message.addr).marks.loaded ≡ true
         → message.line x ≡ committed bus message.addr x
@@ -335,6 +327,5 @@ quiet-hurts bus core own memory c h t =
           | inl e ↦ ap (λ (line : ℕ → ℕ). line x) e
           | inr alone ↦
               let marked : is_speculative ((bus.core k).copy a).state ≡ true = loaded-marked ((bus.core k).copy a) (committed bus a) ((h.lines a aligned).up_to_date k) loaded in
-              absurd (clash (is_valid ((bus.core k).copy a).state) (speculative-valid ((bus.core k).copy a).state marked)
-              ((h.lines a aligned).exclusive core k (λ same. away (sym same)) alone))
+              absurd (both_ways (is_valid ((bus.core k).copy a).state) ((h.lines a aligned).exclusive core k (λ same. away (sym same)) alone) (speculative-valid ((bus.core k).copy a).state marked))
         ]

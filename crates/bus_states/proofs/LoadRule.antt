@@ -1,5 +1,6 @@
 -- A speculative load does what the store's rule says.
 use Rattle.std.proofs.Common.{◌≡◌, ℕ, zero, suc, ◌+◌, ◌^◌, ◌%◌, ◌<◌, ◌≤◌, ◌&&◌, ◌||◌, not, Bool, true, false, cond, Option, None, refl, sym, ap, subst, ◌∙◌, arith}
+use Rattle.std.proofs.lemmas.Bool.{both_ways}
 use Rattle.std.proofs.lemmas.Bool.Decides.{nat_tests}
 use Rattle.memory_bytes.specs.Bytes.{IsWidth, number_at}
 use Rattle.spec_states.specs.declared.line.Marks.{Marks}
@@ -22,7 +23,7 @@ use Rattle.bus_states.proofs.Accesses.{MayAccess, load-hit, load-miss, load-goes
 use Rattle.bus_states.proofs.Addresses.{line-of, offset-of}
 use Rattle.bus_states.proofs.AttemptRules.{with-committed}
 use Rattle.bus_states.proofs.Coherence.{IsCoherentWith}
-use Rattle.bus_states.proofs.Copies.{clash, itself}
+use Rattle.bus_states.proofs.Copies.{itself}
 use Rattle.bus_states.proofs.Guarding.{line-viewed, own-line}
 use Rattle.bus_states.proofs.Hurting.{hurts-same}
 use Rattle.bus_states.proofs.InLine.{LiesInLine, load-lies, accessed-line, accessed-there, number-line}
@@ -125,7 +126,7 @@ load-loaded bus core addr offset width room h may widths goes =
           by_line (λ (a : ℕ). a % bus.line_length ≡ 0 → (own new core a).marks.loaded ≡ true → (own bus core a).marks.loaded ≡ false
           → (addr ≡ a) × IsOutside (own bus core addr).marks.bytes offset width) addr a
           (λ _ now was. (refl, outside now was))
-          (λ e a_aligned now was. absurd (clash (own new core a).marks.loaded now ((t.elsewhere a a_aligned e).loaded ∙ was))) aligned now was;
+          (λ e a_aligned now was. absurd (both_ways (own new core a).marks.loaded ((t.elsewhere a a_aligned e).loaded ∙ was) now)) aligned now was;
     }
   where
     new : Bus

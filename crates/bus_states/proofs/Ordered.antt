@@ -1,5 +1,6 @@
 -- The attempts of the cores stay ordered through every call, and what every store keeps follows.
-use Rattle.std.proofs.Common.{◌≡◌, ◌≢◌, ◌⊎◌, inl, inr, ℕ, ◌%◌, ◌<◌, ◌≤◌, ◌==◌, nat_lt, not, Bool, true, false, Option, Some, refl, sym, ap, subst, ◌∙◌, arith}
+use Rattle.std.proofs.Common.{◌≡◌, ◌≢◌, inl, inr, ℕ, ◌%◌, ◌<◌, ◌≤◌, nat_lt, not, Bool, true, false, Option, Some, refl, sym, ap, subst, ◌∙◌, arith}
+use Rattle.std.proofs.lemmas.Bool.{cases_eq}
 use Rattle.std.proofs.lemmas.Bool.Decides.{nat_tests}
 use Rattle.spec_states.specs.States.{is_speculative}
 use Rattle.violations.specs.declared.attempt.Attempt.{Attempt}
@@ -86,13 +87,6 @@ ordered-stays old new h same =
 some_same : (o : Option Attempt) (x y : Attempt) → o ≡ Some x → o ≡ Some y → x ≡ y
 some_same o x y e f = cc
 
-here_or_there : (core k : ℕ) → (k ≡ core) ⊎ (k ≢ core)
-here_or_there core k =
-    elim (k == core) as (λ b. (k == core) ≡ b → (k ≡ core) ⊎ (k ≢ core)) [
-      | true ↦ λ e. inl (grind (arith, nat_tests))
-      | false ↦ λ e. inr (grind (arith, nat_tests))
-    ] refl
-
 -- an attempt of another core, after a call that violates attempts at most, is the one that it had
 hurt-had : (old new : Bus) (core : ℕ) (hurt : ℕ → Bool) → HurtsLater (view_of old) (view_of new) core hurt
     → (k : ℕ) (x : Attempt) → k ≢ core → (new.core k).attempt ≡ Some x → (old.core k).attempt ≡ Some x
@@ -107,7 +101,7 @@ pub ordered-hurts : (old new : Bus) (core : ℕ) (hurt : ℕ → Bool) → AreOr
 ordered-hurts old new core hurt h others stays = ordered-stays old new h was
   where
     was : (k : ℕ) (x : Attempt) → (new.core k).attempt ≡ Some x → (old.core k).attempt ≡ Some x
-    was k x at = elim (here_or_there core k) [
+    was k x at = elim (cases_eq k core) [
       | inl here ↦ subst (λ (k : ℕ). (new.core k).attempt ≡ Some x → (old.core k).attempt ≡ Some x) (sym here) (λ at. sym stays ∙ at) at
       | inr away ↦ hurt-had old new core hurt others k x away at
     ]
@@ -117,7 +111,7 @@ pub ordered-ends : (old new : Bus) (core : ℕ) → AreOrdered old → Ends (vie
 ordered-ends old new core h ends = ordered-stays old new h was
   where
     was : (k : ℕ) (x : Attempt) → (new.core k).attempt ≡ Some x → (old.core k).attempt ≡ Some x
-    was k x at = elim (here_or_there core k) [
+    was k x at = elim (cases_eq k core) [
       | inl here ↦ absurd (none_some (new.core k).attempt x (ap (λ (k : ℕ). (new.core k).attempt) here ∙ ends.attempt) at)
       | inr away ↦ sym (ends.others k away).attempt ∙ at
     ]
@@ -141,12 +135,12 @@ ordered-with old new core attempt h now fits = record { apart = apart; straight_
     mine k x here at = some_same (new.core core).attempt x attempt (ap (λ (k : ℕ). (new.core k).attempt) (sym here) ∙ at) now.own
 
     apart : (j k : ℕ) (x y : Attempt) → (new.core j).attempt ≡ Some x → (new.core k).attempt ≡ Some y → x.epoch ≡ y.epoch → j ≡ k
-    apart j k x y at_j at_k e = elim (here_or_there core j) [
-      | inl j_here ↦ elim (here_or_there core k) [
+    apart j k x y at_j at_k e = elim (cases_eq j core) [
+      | inl j_here ↦ elim (cases_eq k core) [
         | inl k_here ↦ j_here ∙ sym k_here
         | inr k_away ↦ absurd (fits.new k y k_away (now.others k y k_away at_k) (ap (λ (x : Attempt). x.epoch) (sym (mine j x j_here at_j)) ∙ e))
       ]
-      | inr j_away ↦ elim (here_or_there core k) [
+      | inr j_away ↦ elim (cases_eq k core) [
         | inl k_here ↦ absurd (fits.new j x j_away (now.others j x j_away at_j) (ap (λ (x : Attempt). x.epoch) (sym (mine k y k_here at_k)) ∙ sym e))
         | inr k_away ↦ h.apart j k x y (now.others j x j_away at_j) (now.others k y k_away at_k) e
       ]
@@ -154,13 +148,13 @@ ordered-with old new core attempt h now fits = record { apart = apart; straight_
 
     straight_first : (j k : ℕ) (x y : Attempt) → (new.core j).attempt ≡ Some x → x.straight ≡ true
         → (new.core k).attempt ≡ Some y → k ≢ j → x.epoch < y.epoch
-    straight_first j k x y at_j straight at_k away = elim (here_or_there core j) [
+    straight_first j k x y at_j straight at_k away = elim (cases_eq j core) [
       | inl j_here ↦
           let is : x ≡ attempt = mine j x j_here at_j in
           let k_away : k ≢ core = λ k_here. away (k_here ∙ sym j_here) in
           subst (λ (x : Attempt). x.epoch < y.epoch) (sym is)
           (fits.first (ap (λ (x : Attempt). x.straight) (sym is) ∙ straight) k y k_away (now.others k y k_away at_k))
-      | inr j_away ↦ elim (here_or_there core k) [
+      | inr j_away ↦ elim (cases_eq k core) [
         | inl k_here ↦
             subst (λ (y : Attempt). x.epoch < y.epoch) (sym (mine k y k_here at_k))
             (fits.after_straight j x j_away (now.others j x j_away at_j) straight)

@@ -1,5 +1,6 @@
 -- A publish does what the store's rule says: line by line, and then the other lines settle.
 use Rattle.std.proofs.Common.{◌≡◌, ◌≢◌, ℕ, ◌%◌, ◌<◌, ◌==◌, ◌||◌, inl, inr, nat_lt, Bool, true, false, List, [], ◌∷◌, Option, Some, None, refl, sym, ap, subst, ◌∙◌, arith}
+use Rattle.std.proofs.lemmas.Bool.{or_right, and_parts, both_ways}
 use Rattle.std.proofs.lemmas.Bool.Decides.{nat_tests}
 use Rattle.spec_states.specs.Copies.{LineCopy}
 use Rattle.spec_states.specs.States.{is_valid, is_speculative}
@@ -16,9 +17,9 @@ use Rattle.bus_states.specs.Straight.{after_publish_line, after_publish_lines, s
 use Rattle.bus_states.specs.Views.{view_of, AreOrdered}
 use Rattle.bus_states.proofs.Addresses.{line-aligned}
 use Rattle.bus_states.proofs.Coherence.{committed-with}
-use Rattle.bus_states.proofs.Copies.{clash, itself, or_true}
+use Rattle.bus_states.proofs.Copies.{itself}
 use Rattle.bus_states.proofs.Guarding.{line-viewed, guarded-line, modified-marked, modified-required, required-modified, modified-owns, own-modified, loaded-shared}
-use Rattle.bus_states.proofs.Hurting.{not_core, hurts-none, hurts-then, hurts-then_none, hurts-same, left, right, cause, reply-violates, heard-shows, message-hurts, quiet-hurts}
+use Rattle.bus_states.proofs.Hurting.{not_core, hurts-none, hurts-then, hurts-then_none, hurts-same, cause, reply-violates, heard-shows, message-hurts, quiet-hurts}
 use Rattle.bus_states.proofs.Ordered.{first-publish, runs-there}
 use Rattle.bus_states.proofs.Publishing.{IsListed, required, listed-held, listed-aligned, AreListed, publish-sends, publish_line-sent, publish_line-core, publish_line-coherent, line_published, first-listed, rest-listed, ArePublished, publish_lines-published, settle-quietly, publish-with}
 use Rattle.bus_states.proofs.Replies.{reply-enters}
@@ -89,13 +90,12 @@ publish_line-meets bus core addr k h t hit =
     let copy : LineCopy = (bus.core k).copy addr in
     let message : Message = message_of bus Publish core addr in
     let why = cause (k == core) (reply bus message k).violated (overflows bus message k) (is_later bus core k) hit in
-    let away : k ≢ core = λ same. clash (k == core) (rw same (itself core)) why.0 in
+    let away : k ≢ core = λ same. both_ways (k == core) why.0 (rw same (itself core)) in
     elim why.1 [
-      | inl violated ↦ right (is_speculative copy.state) copy.marks.loaded (reply-violates Publish copy.state copy.marks (is_later bus core k) violated).0
+      | inl violated ↦ (and_parts (is_speculative copy.state) copy.marks.loaded (reply-violates Publish copy.state copy.marks (is_later bus core k) violated).0).1
       | inr over ↦
-          absurd (clash (is_valid (own bus core addr).state) (listed-held bus core addr h t)
-          ((h.lines addr (listed-aligned bus core addr h t)).exclusive k core away
-          (reply-enters Publish copy.state copy.marks (order (is_later bus core k)) (left (reply bus message k).enters (is_full (bus.core k).buffer) over.0))))
+          absurd (both_ways (is_valid (own bus core addr).state) ((h.lines addr (listed-aligned bus core addr h t)).exclusive k core away
+          (reply-enters Publish copy.state copy.marks (order (is_later bus core k)) (and_parts (reply bus message k).enters (is_full (bus.core k).buffer) over.0).0)) (listed-held bus core addr h t))
     ]
 
 -- a core that it spares has loaded the same lines
@@ -126,7 +126,7 @@ publish_lines-meet (addr ∷ lines) bus core k h t away hit =
       | true ↦ λ e _. record { line = addr; listed = rw (itself addr) refl; loaded = publish_line-meets bus core addr k h first e }
       | false ↦ λ e rest.
           let met = publish_lines-meet lines (after_publish_line bus core addr) core k (publish_line-coherent bus core addr h first) (rest-listed bus core addr lines h t) away rest in
-          let listed : holds (addr ∷ lines) met.line ≡ true = or_true (addr == met.line) (holds lines met.line) met.listed in
+          let listed : holds (addr ∷ lines) met.line ≡ true = or_right (addr == met.line) (holds lines met.line) met.listed in
           let aligned = listed-aligned bus core met.line h (listed-line bus core met.line (addr ∷ lines) t listed) in
           record { line = met.line; listed = listed; loaded = sym (publish_line-loaded bus core addr k met.line h first away e aligned) ∙ met.loaded }
     ] refl hit
@@ -145,9 +145,8 @@ publish_lines-tell (addr ∷ lines) bus core k line h t away listed loaded =
           (other (addr == line) (holds lines line) listed
           (λ same.
           let here : addr ≡ line = grind (arith, nat_tests) in
-          clash (violates bus (message_of bus Publish core addr) k)
-          (publish-tells bus (message_of bus Publish core addr) k h (listed-aligned bus core addr h first) refl away
-          (ap (λ (a : ℕ). ((bus.core k).copy a).marks.loaded) here ∙ loaded)) e))
+          both_ways (violates bus (message_of bus Publish core addr) k) e (publish-tells bus (message_of bus Publish core addr) k h (listed-aligned bus core addr h first) refl away
+          (ap (λ (a : ℕ). ((bus.core k).copy a).marks.loaded) here ∙ loaded))))
           (publish_line-loaded bus core addr k line h first away e aligned ∙ loaded)
     ] refl
   where

@@ -1,6 +1,7 @@
 -- A publish keeps the bus coherent, and commits what the core saw.
 use Rattle.std.proofs.Common.{◌≡◌, ℕ, ◌%◌, ◌<◌, ◌==◌, ◌&&◌, ◌⊎◌, inl, inr, not, Bool, true, false, cond, List, [], ◌∷◌, None, refl, sym, ap, subst, ◌∙◌, arith}
 use Rattle.std.proofs.Math.Path.{fun_ext}
+use Rattle.std.proofs.lemmas.Bool.{both_ways}
 use Rattle.std.proofs.lemmas.Bool.Decides.{nat_tests}
 use Rattle.std.proofs.lemmas.Nat.{pow_pos}
 use Rattle.spec_states.specs.declared.next.Next.{Next}
@@ -26,7 +27,7 @@ use Rattle.bus_states.specs.Speculative.{own}
 use Rattle.bus_states.specs.Straight.{publish_next, after_publish_line, after_publish_lines, settled_core, after_settling, after_publish}
 use Rattle.bus_states.proofs.Accesses.{none-room}
 use Rattle.bus_states.proofs.Coherence.{IsCoherentWith, committed-with, coherent-with, with-same, by_core, none_at_all, sees-past, sees-held, sees-unmodified}
-use Rattle.bus_states.proofs.Copies.{clash, itself, made, made-state, made-up_to_date, made-in_place, unrequired, required-valid, exclusive-valid}
+use Rattle.bus_states.proofs.Copies.{itself, made, made-state, made-up_to_date, made-in_place, unrequired, required-valid, exclusive-valid}
 use Rattle.bus_states.proofs.Cores.{entry-limit, emptied-buffer, released-coherent}
 use Rattle.bus_states.proofs.Quiet.{ChangesQuietly, quiet-with}
 use Rattle.bus_states.proofs.Replies.{reply-enters}
@@ -59,8 +60,7 @@ publish-free bus core addr h t =
     (λ away. quiet (k == core) (reply bus (message_of bus Publish core addr) k).enters _ _
     (silent ((bus.core k).copy addr).state (reply bus (message_of bus Publish core addr) k).enters
     (reply-enters Publish ((bus.core k).copy addr).state ((bus.core k).copy addr).marks (order (is_later bus core k)))
-    (λ ex. clash (is_valid (own bus core addr).state) (listed-held bus core addr h t)
-    ((h.lines addr (listed-aligned bus core addr h t)).exclusive k core away ex)))))
+    (λ ex. both_ways (is_valid (own bus core addr).state) ((h.lines addr (listed-aligned bus core addr h t)).exclusive k core away ex) (listed-held bus core addr h t)))))
   where
     silent : (s : LineState) (enters : Bool) → (enters ≡ true → is_exclusive s ≡ true) → (is_exclusive s ≡ true → ⊥) → enters ≡ false
     silent s true up none = absurd (none (up refl))

@@ -1,5 +1,5 @@
 -- One core changes what it holds and tells nobody.
-use Rattle.std.proofs.Common.{◌≡◌, ◌≢◌, ℕ, ◌+◌, ◌%◌, ◌<◌, ◌≤◌, ◌==◌, ◌⊎◌, inl, inr, true, false, refl, sym, subst, ◌∙◌, arith}
+use Rattle.std.proofs.Common.{◌≡◌, ◌≢◌, ℕ, ◌+◌, ◌%◌, ◌<◌, ◌≤◌, ◌==◌, ◌⊎◌, inl, inr, true, false, refl, sym, subst, ◌∙◌, arith, ne_eqb}
 use Rattle.std.proofs.lemmas.Bool.Decides.{nat_tests}
 use Rattle.spec_states.specs.Copies.{IsUpToDate}
 use Rattle.spec_states.specs.States.{is_valid, is_exclusive, is_modified}
@@ -7,7 +7,7 @@ use Rattle.cache_lines.specs.Protocol.{IsInPlace}
 use Rattle.bus_states.specs.Bus.{CoreState, Bus, committed, memory_line}
 use Rattle.bus_states.specs.Coherent.{IsCoherent, IsCoherentLine, IsCoherentCore}
 use Rattle.bus_states.specs.Attempts.{with_core}
-use Rattle.bus_states.proofs.Coherence.{IsCoherentWith, apart_test, by_core}
+use Rattle.bus_states.proofs.Coherence.{IsCoherentWith, by_core}
 use Rattle.bus_states.proofs.Copies.{itself, not_so, up_to_date-invalid}
 
 -- the core is then as given, and memory too; c is what is committed then
@@ -34,7 +34,7 @@ at_own bus core own memory = rw (itself core) refl
 
 pub at_other : (bus : Bus) (core : ℕ) (own : CoreState) (memory : ℕ → ℕ) (k : ℕ) → k ≢ core
     → (quietly bus core own memory).core k ≡ bus.core k
-at_other bus core own memory k away = rw (apart_test k core away) refl
+at_other bus core own memory k away = rw (ne_eqb k core away) refl
 
 line : (bus : Bus) (core : ℕ) (own : CoreState) (memory : ℕ → ℕ) (c : ℕ → ℕ → ℕ) → IsCoherent bus
     → ChangesQuietly bus core own memory c → (a : ℕ) → a % bus.line_length ≡ 0

@@ -2,6 +2,7 @@
 -- lines that it owns.
 use Rattle.std.proofs.Common.{◌≡◌, ◌≢◌, ℕ, ◌+◌, ◌%◌, ◌<◌, ◌≤◌, ◌==◌, ◌⊎◌, inl, Bool, true, false, cond, Option, Some, None, refl, sym, ap, subst, ◌∙◌, arith}
 use Rattle.std.proofs.Math.Path.{fun_ext}
+use Rattle.std.proofs.lemmas.Bool.{both_ways}
 use Rattle.std.proofs.lemmas.Bool.Decides.{nat_tests}
 use Rattle.spec_states.specs.declared.next.Next.{Next}
 use Rattle.spec_states.specs.Copies.{LineCopy, copy_of, IsUpToDate}
@@ -20,7 +21,7 @@ use Rattle.bus_states.specs.Attempts.{after_begin, after_leave, after_cancel}
 use Rattle.bus_states.specs.Speculative.{own, kept_line, with_bytes}
 use Rattle.bus_states.proofs.Addresses.{with_line-here, with_line-elsewhere}
 use Rattle.bus_states.proofs.Coherence.{IsCoherentWith, by_core}
-use Rattle.bus_states.proofs.Copies.{clash, made, made-state, made-up_to_date, made-in_place, made-required, rolled_back-valid, rolled_back-exclusive, rolled_back-modified, rolled_back-in_place}
+use Rattle.bus_states.proofs.Copies.{made, made-state, made-up_to_date, made-in_place, made-required, rolled_back-valid, rolled_back-exclusive, rolled_back-modified, rolled_back-in_place}
 use Rattle.bus_states.proofs.Cores.{with_copy-coherent, dropped-coherent}
 use Rattle.bus_states.proofs.Quiet.{ChangesQuietly, quiet-with, Fades, fades-quietly}
 
@@ -179,7 +180,7 @@ kept-one bus core addr next h t =
       stays =
           with_copy-coherent (bus.core core) addr (made next.state next.marks mine.cell) (h.cores core)
           (made-required next.state next.marks mine.cell ∙ t.required)
-          (λ s. absurd (clash (speculates (bus.core core).attempt) t.runs s));
+          (λ s. absurd (both_ways (speculates (bus.core core).attempt) s t.runs));
       in_place = made-in_place bus.line_length addr next.state next.marks mine.cell (λ _. t.aligned) t.within (h.in_place core addr).cells;
       exclusive = λ e. t.exclusive (sym (ap is_exclusive (made-state next.state next.marks mine.cell)) ∙ e);
       up_to_date = made-up_to_date next.state next.marks mine.cell (committed bus addr) t.up_to_date;

@@ -1,5 +1,6 @@
 -- A core sends a message and takes its line: the bus stays coherent, the line is committed as sent, each other one as it was.
-use Rattle.std.proofs.Common.{◌≡◌, ◌≢◌, ℕ, ◌+◌, ◌%◌, ◌<◌, ◌≤◌, ◌==◌, ◌||◌, ◌&&◌, not, nat_lt, Bool, true, false, cond, Option, Some, None, refl, sym, ap, subst, ◌∙◌, arith}
+use Rattle.std.proofs.Common.{◌≡◌, ◌≢◌, ℕ, ◌+◌, ◌%◌, ◌<◌, ◌≤◌, ◌==◌, ◌||◌, ◌&&◌, not, nat_lt, Bool, true, false, cond, Option, Some, None, refl, sym, ap, subst, ◌∙◌, arith, ne_eqb}
+use Rattle.std.proofs.lemmas.Bool.{not-true, and_right, and_parts}
 use Rattle.std.proofs.lemmas.Bool.Decides.{nat_tests}
 use Rattle.spec_states.specs.Copies.{LineCopy, no_copy, IsUpToDate}
 use Rattle.spec_states.specs.States.{is_valid, is_exclusive, is_modified, is_speculative}
@@ -23,10 +24,6 @@ never : (b d : Bool) → d ≡ false → (b && d) ≡ true → ⊥
 never true d e f = cc
 never false d e f = cc
 
-left : (b d : Bool) → (b && d) ≡ true → b ≡ true
-left true d e = refl
-left false d e = e
-
 right : (line_addr a : ℕ) (b : Bool) → (b && (line_addr == a)) ≡ true → line_addr ≡ a
 right line_addr a true e = grind (arith, nat_tests)
 right line_addr a false e = cc
@@ -36,7 +33,7 @@ pub leaves-held : (core : CoreState) (room : Option Room) → IsRoom core room �
     → (is_valid (core.copy a).state ≡ true) × (is_speculative (core.copy a).state ≡ false)
 leaves-held core None h a e = absurd (let x : ⊥ = cc in x)
 leaves-held core (Some r) h a e =
-    let v : is_valid r.line.state ≡ true = left (is_valid r.line.state) (r.line.addr == a) e in
+    let v : is_valid r.line.state ≡ true = (and_parts (is_valid r.line.state) (r.line.addr == a) e).0 in
     let at : r.line.addr ≡ a = right r.line.addr a (is_valid r.line.state) e in
     let is : core.copy a ≡ copy_of_line r.line = subst (λ (a : ℕ). core.copy a ≡ copy_of_line r.line) at (h.held r refl v) in
     rw is (v, h.unmarked r refl)
@@ -75,20 +72,13 @@ at_sender bus message room own = rw (itself message.sender) refl
 
 pub at_other : (bus : Bus) (message : Message) (room : Option Room) (own : CoreState) (k : ℕ) → k ≢ message.sender
     → (sent bus message room own).core k ≡ heard_core bus message k
-at_other bus message room own k away = rw (Coherence.apart_test k message.sender away) refl
+at_other bus message room own k away = rw (ne_eqb k message.sender away) refl
 
 -- ---- the message's line
-
-alone-none : (b : Bool) → not b ≡ true → b ≡ false
-alone-none true e = cc
-alone-none false e = refl
 
 either : (b d : Bool) → (b || d) ≡ true → b ≡ false → d ≡ true
 either true d e f = cc
 either false d e f = e
-
-invalid-both : (v valid : Bool) → valid ≡ false → (not v && valid) ≡ false
-invalid-both v valid e = grind (arith, nat_tests)
 
 unremaining : (same v valid : Bool) → same ≡ false → (not same && (not v && valid)) ≡ false → (not v && valid) ≡ false
 unremaining same v valid e f = grind (arith, nat_tests)
@@ -100,10 +90,10 @@ others-gone bus message room own mine h t ex k away =
     elim (is_exclusive ((bus.core message.sender).copy message.addr).state) as (λ b. is_exclusive ((bus.core message.sender).copy message.addr).state ≡ b → is_valid ((heard_core bus message k).copy message.addr).state ≡ false) [
       | true ↦ λ e.
           let none : is_valid ((bus.core k).copy message.addr).state ≡ false = (h.lines message.addr t.aligned).exclusive message.sender k (λ q. away (sym q)) e in
-          gone (invalid-both (violates bus message k) (is_valid (reply bus message k).state)
+          gone (and_right (not (violates bus message k)) (is_valid (reply bus message k).state)
           (not_so (is_valid (reply bus message k).state) (is_valid ((bus.core k).copy message.addr).state)
           (Heard.message-gives_way bus message k h t.aligned).no_revival none))
-      | false ↦ λ e. by_count (nat_lt k bus.shape.cores) refl (alone-none (some_core bus.shape.cores (remains bus message)) (either (is_exclusive ((bus.core message.sender).copy message.addr).state) (is_alone bus message) (t.exclusive ex) e))
+      | false ↦ λ e. by_count (nat_lt k bus.shape.cores) refl (not-true (some_core bus.shape.cores (remains bus message)) (either (is_exclusive ((bus.core message.sender).copy message.addr).state) (is_alone bus message) (t.exclusive ex) e))
     ] refl
   where
     gone : (not (violates bus message k) && is_valid (reply bus message k).state) ≡ false
@@ -114,7 +104,7 @@ others-gone bus message room own mine h t ex k away =
         → is_valid ((heard_core bus message k).copy message.addr).state ≡ false
     by_count true e none =
         let inside : k < bus.shape.cores = grind (arith, nat_tests) in
-        gone (unremaining (k == message.sender) (violates bus message k) (is_valid (reply bus message k).state) (Coherence.apart_test k message.sender away)
+        gone (unremaining (k == message.sender) (violates bus message k) (is_valid (reply bus message k).state) (ne_eqb k message.sender away)
         (none_below bus.shape.cores (remains bus message) none k inside))
     by_count false e none =
         let past : bus.shape.cores ≤ k = grind (arith, nat_tests) in
@@ -209,7 +199,7 @@ unwritten bus message room own mine h t a aligned e none x =
     at_line line way is false m d at f =
         same (f (λ l.
         let here : line.addr ≡ a = right line.addr a (is_valid line.state) l in
-        let valid : is_valid line.state ≡ true = left (is_valid line.state) (line.addr == a) l in
+        let valid : is_valid line.state ≡ true = (and_parts (is_valid line.state) (line.addr == a) l).0 in
         rw (subst (λ (a : ℕ). (bus.core message.sender).copy a ≡ copy_of_line line) here (t.victim.held (record { way = way; line = line }) is valid)) m))
 
     by_room : (room2 : Option Room) → room ≡ room2

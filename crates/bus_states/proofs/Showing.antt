@@ -1,5 +1,6 @@
 -- What a core shows of its lines stays: the marks of each copy, and its bytes where they are the core's own.
 use Rattle.std.proofs.Common.{◌≡◌, ℕ, ◌%◌, Bool, true, false, cond, refl, sym, ap, ◌∙◌}
+use Rattle.std.proofs.lemmas.Bool.{both_ways}
 use Rattle.spec_states.specs.declared.line.Marks.{Marks}
 use Rattle.spec_states.specs.declared.next.Next.{Next}
 use Rattle.spec_states.specs.Copies.{LineCopy, copy_of, no_copy, merged_line, IsUpToDate}
@@ -18,7 +19,7 @@ use Rattle.bus_states.specs.Coherent.{IsCoherent}
 use Rattle.bus_states.specs.Messages.{bytes_after}
 use Rattle.bus_states.specs.Views.{view_of}
 use Rattle.bus_states.proofs.Addresses.{line-aligned}
-use Rattle.bus_states.proofs.Copies.{clash, made}
+use Rattle.bus_states.proofs.Copies.{made}
 
 -- ---- one copy
 
@@ -40,7 +41,7 @@ Shows-gone copy c h calm =
     record {
       loaded = sym (h.not_loaded calm);
       bytes = sym (h.not_modified calm);
-      own_cells = λ x own. absurd (clash (has copy.marks.bytes x) own (none_in copy.marks.bytes x (h.not_modified calm)));
+      own_cells = λ x own. absurd (both_ways (has copy.marks.bytes x) (none_in copy.marks.bytes x (h.not_modified calm)) own);
     }
 
 -- the copy of a core that a message reaches and does not violate
@@ -55,7 +56,7 @@ Shows-reply copy c next cell h row spared same = by_mark (is_speculative copy.st
         record {
           loaded = ap (λ (m : Marks). m.loaded) marks ∙ sym (h.not_loaded calm);
           bytes = ap (λ (m : Marks). m.bytes) marks ∙ sym (h.not_modified calm);
-          own_cells = λ x own. absurd (clash (has copy.marks.bytes x) own (none_in copy.marks.bytes x (h.not_modified calm)));
+          own_cells = λ x own. absurd (both_ways (has copy.marks.bytes x) (none_in copy.marks.bytes x (h.not_modified calm)) own);
         }
     unmarked calm marks false = Shows-gone copy c h calm
 

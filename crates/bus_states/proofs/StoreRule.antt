@@ -1,6 +1,6 @@
 -- A speculative store does what the store's rule says.
-use Rattle.std.proofs.Common.{◌≡◌, ℕ, ◌+◌, ◌-◌, ◌%◌, ◌<◌, ◌≤◌, ◌==◌, ◌≢◌, ◌⊎◌, ◌&&◌, ◌||◌, nat_lt, Bool, true, false, cond, Option, None, refl, sym, ap, subst, ◌∙◌, arith}
-use Rattle.std.proofs.lemmas.Bool.Decides.{nat_tests}
+use Rattle.std.proofs.Common.{◌≡◌, ℕ, ◌+◌, ◌-◌, ◌%◌, ◌<◌, ◌≤◌, ◌==◌, ◌≢◌, ◌⊎◌, ◌&&◌, ◌||◌, Bool, true, false, cond, Option, None, refl, sym, ap, subst, ◌∙◌, lt-ltb}
+use Rattle.std.proofs.lemmas.Bool.{or_right, both_ways}
 use Rattle.memory_bytes.specs.Bytes.{IsWidth, byte_of}
 use Rattle.spec_states.specs.declared.line.Marks.{Marks}
 use Rattle.spec_states.specs.Copies.{LineCopy, IsUpToDate}
@@ -23,7 +23,7 @@ use Rattle.bus_states.specs.Views.{view_of}
 use Rattle.bus_states.proofs.Accesses.{MayAccess, store-owned, store-claims, store-goes_on, IsClaimed, claim-with, claim-writes, store-with}
 use Rattle.bus_states.proofs.AttemptRules.{with-committed}
 use Rattle.bus_states.proofs.Coherence.{IsCoherentWith, committed-with, coherent-with}
-use Rattle.bus_states.proofs.Copies.{clash, itself, or_true}
+use Rattle.bus_states.proofs.Copies.{itself}
 use Rattle.bus_states.proofs.Guarding.{line-viewed, same-line, modified-marked, modified-owns_line, modified-owns, own-modified, owned-modified, loaded-shared}
 use Rattle.bus_states.proofs.Hurting.{quiet-hurts, hurts-same, hurts-then_none}
 use Rattle.bus_states.proofs.InLine.{load-lies, accessed-line, over-line}
@@ -192,7 +192,7 @@ store-stored bus core addr offset width value room h may widths inside goes =
         ap (λ (cell : ℕ). cond (has (own new core a).marks.bytes x) cell (committed new a x)) (written-cell mid core addr offset width value a x)
         ∙ seen-after ((addr == a) && is_within offset width x) (has (own new core a).marks.bytes x) (byte_of value (x - offset)) ((own mid core a).cell x)
         (committed new a x) (committed mid a x)
-        (λ e. masks a aligned x ∙ or_true (has (own bus core a).marks.bytes x) ((addr == a) && is_within offset width x) e) (same a aligned x)
+        (λ e. masks a aligned x ∙ or_right (has (own bus core a).marks.bytes x) ((addr == a) && is_within offset width x) e) (same a aligned x)
         ∙ ap (λ (marks : Marks). cond ((addr == a) && is_within offset width x) (byte_of value (x - offset)) (cond (has marks.bytes x) ((own mid core a).cell x) (committed mid a x)))
         (written-marks mid core addr offset width value a)
         ∙ ap (λ (byte : ℕ). cond ((addr == a) && is_within offset width x) (byte_of value (x - offset)) byte) (sees_mid a aligned x)
@@ -229,13 +229,9 @@ store-unowned bus core address k h none apart loaded =
           let mine : LineCopy = own bus core (line_at bus address) in
           let shared = loaded-shared bus core k (line_at bus address) h (aligned_at bus h address) apart loaded in
           let byte = modified-owns bus core (line_at bus address) h (owned-valid mine.state mine.marks e) (owned-modified mine.state mine.marks e shared) in
-          absurd (clash ((view_of bus).own core byte.at) byte.owned (none byte.at (byte.in_line ∙ sym (line-viewed bus h address))))
+          absurd (both_ways ((view_of bus).own core byte.at) (none byte.at (byte.in_line ∙ sym (line-viewed bus h address))) byte.owned)
       | false ↦ λ e. refl
     ] refl
-
--- a later epoch, as the bus compares them
-is-later : (m n : ℕ) → m < n → nat_lt m n ≡ true
-is-later m n lt = grind (arith, nat_tests)
 
 -- then all later cores that guard one of its bytes
 store-tells_later : (bus : Bus) (core address width k : ℕ) → IsCoherent bus → IsLoad bus.shape address width
@@ -246,7 +242,7 @@ store-tells_later bus core address width k h access none away later guards =
     let addr : ℕ = line_at bus address in
     let loaded = guards-loaded bus k address width h access guards in
     rw (store-unowned bus core address k h none (λ same. away (sym same)) loaded)
-    (store-tells bus (message_of bus Store core addr) k h (aligned_at bus h address) refl away (is-later (epoch_of (bus.core core).attempt) (epoch_of (bus.core k).attempt) later) loaded)
+    (store-tells bus (message_of bus Store core addr) k h (aligned_at bus h address) refl away (lt-ltb (epoch_of (bus.core core).attempt) (epoch_of (bus.core k).attempt) later) loaded)
 
 -- a store that is answered
 pub store-stores : (bus : Bus) (core address width value : ℕ) (room : Option Room) (hurt : ℕ → Bool) → IsCoherent bus

@@ -1,6 +1,7 @@
 -- Straight loads and stores keep the bus coherent; a straight store commits its bytes.
 use Rattle.std.proofs.Common.{◌≡◌, ◌≢◌, ℕ, ◌+◌, ◌%◌, ◌^◌, ◌<◌, ◌≤◌, ◌==◌, ◌&&◌, ◌||◌, inr, not, Bool, true, false, cond, Option, None, refl, sym, subst, ◌∙◌, arith}
 use Rattle.std.proofs.Math.Path.{fun_ext}
+use Rattle.std.proofs.lemmas.Bool.{both_ways}
 use Rattle.std.proofs.lemmas.Bool.Decides.{nat_tests}
 use Rattle.std.proofs.lemmas.Nat.{pow_pos}
 use Rattle.spec_states.specs.declared.next.Next.{Next}
@@ -22,7 +23,7 @@ use Rattle.bus_states.specs.Speculative.{own, holds_line, room_for}
 use Rattle.bus_states.specs.Straight.{unmarked_next, after_straight_load, stores_alone, straight_store_message, after_straight_store}
 use Rattle.bus_states.proofs.Accesses.{Takes, taken-with, not_leaving, none-room}
 use Rattle.bus_states.proofs.Coherence.{IsCoherentWith, with-itself, by_core, none_at_all, sees-past, sees-held, sees-unmodified}
-use Rattle.bus_states.proofs.Copies.{clash, itself, unrequired}
+use Rattle.bus_states.proofs.Copies.{itself, unrequired}
 use Rattle.bus_states.proofs.Cores.{with_copy-coherent}
 use Rattle.bus_states.proofs.Heard.{message-gives_way}
 use Rattle.bus_states.proofs.Quiet.{ChangesQuietly, quiet-with}
@@ -57,7 +58,7 @@ enters-speculates bus message k h aligned enters =
     pick : (b : Bool) → speculates (bus.core k).attempt ≡ b → is_speculative (reply bus message k).state ≡ true
         → (is_speculative ((bus.core k).copy message.addr).state ≡ false → is_speculative (reply bus message k).state ≡ false) → b ≡ true
     pick true e s f = refl
-    pick false e s f = absurd (clash (is_speculative (reply bus message k).state) s (f ((h.cores k).unmarked message.addr e)))
+    pick false e s f = absurd (both_ways (is_speculative (reply bus message k).state) (f ((h.cores k).unmarked message.addr e)) s)
 
 pub first-free : (bus : Bus) (message : Message) → IsCoherent bus → message.addr % bus.line_length ≡ 0 → IsFirst bus message.sender
     → is_busy bus message ≡ false
@@ -98,7 +99,7 @@ unmarked-fresh s line e =
     record {
       not_loaded = λ _. pick-loaded (is_speculative s);
       not_modified = λ _. pick-bytes (is_speculative s);
-      marked = λ m. absurd (clash (is_speculative s) m e);
+      marked = λ m. absurd (both_ways (is_speculative s) e m);
       agrees = λ x v out. refl;
     }
   where
@@ -136,7 +137,7 @@ straight-takes bus message room room2 s h may valid calm past same_line victim a
       up_to_date = unmarked-fresh s message.line calm;
       exclusive = λ e. or_right (is_exclusive (own bus message.sender message.addr).state) (is_alone bus message) (alone e);
       enters = sym (rw (unrequired s (unmarked_next s).marks calm) refl);
-      stays_required = λ r. absurd (clash _ r required);
+      stays_required = λ r. absurd (both_ways _ required r);
       has_room = refl;
     }
   where

@@ -1,5 +1,6 @@
 -- Whom a message violates: those that have loaded its line, and those whose full buffers have no place for it.
-use Rattle.std.proofs.Common.{◌≡◌, ◌≢◌, ℕ, zero, suc, ◌%◌, ◌<◌, ◌≤◌, ◌==◌, ◌||◌, ◌&&◌, ◌⊎◌, inl, inr, not, nat_lt, Bool, true, false, cond, List, [], ◌∷◌, length, slice_index_or, refl, sym, ap, subst, ◌∙◌, arith}
+use Rattle.std.proofs.Common.{◌≡◌, ◌≢◌, ℕ, zero, suc, ◌%◌, ◌<◌, ◌≤◌, ◌==◌, ◌||◌, ◌&&◌, ◌⊎◌, inl, inr, not, nat_lt, Bool, true, false, cond, List, [], ◌∷◌, length, slice_index_or, refl, sym, ap, subst, ◌∙◌, arith, ne_eqb}
+use Rattle.std.proofs.lemmas.Bool.{or_right, and_parts, both_ways}
 use Rattle.std.proofs.lemmas.Bool.Decides.{nat_tests}
 use Rattle.spec_states.specs.declared.line.LineState.{LineState}
 use Rattle.spec_states.specs.declared.line.Marks.{Marks}
@@ -20,11 +21,10 @@ use Rattle.bus_states.specs.Coherent.{IsCoherent}
 use Rattle.bus_states.specs.Messages.{Message, reply, reply_to, order, overflows, violates}
 use Rattle.bus_states.specs.Views.{view_of}
 use Rattle.bus_states.proofs.Addresses.{line-aligned}
-use Rattle.bus_states.proofs.Coherence.{apart_test}
-use Rattle.bus_states.proofs.Copies.{clash, itself, or_true, required-valid}
+use Rattle.bus_states.proofs.Copies.{itself, required-valid}
 use Rattle.bus_states.proofs.Guarding.{line-viewed, guarded-line, modified-marked, required-modified, modified-owns}
 use Rattle.bus_states.proofs.Heard.{message-gives_way, absent-unviolated}
-use Rattle.bus_states.proofs.Hurting.{cause, left, right, reply-violates, loaded-marked}
+use Rattle.bus_states.proofs.Hurting.{cause, reply-violates, loaded-marked}
 use Rattle.bus_states.proofs.InLine.{load-lies, accessed-there}
 use Rattle.bus_states.proofs.Taking.{carried-bytes}
 
@@ -33,7 +33,7 @@ use Rattle.bus_states.proofs.Taking.{carried-bytes}
 holds-at : (lines : List ℕ) (i d : ℕ) → i < length lines → holds lines (slice_index_or lines i d) ≡ true
 holds-at [] i d lt = absurd (omega arith)
 holds-at (line ∷ lines) zero d lt = rw (itself line) refl
-holds-at (line ∷ lines) (suc i) d lt = or_true (line == slice_index_or lines i d) _ (holds-at lines i d (omega arith))
+holds-at (line ∷ lines) (suc i) d lt = or_right (line == slice_index_or lines i d) _ (holds-at lines i d (omega arith))
 
 once-apart : (lines : List ℕ) → IsEachOnce lines → AreApart lines
 once-apart [] once = tt
@@ -51,11 +51,11 @@ enters-modified : (copy : LineCopy) (c : ℕ → ℕ) (next : Next) → IsUpToDa
     → next.enters ≡ true → (copy.marks.bytes ≢ 0) × (requires_ownership copy.state copy.marks ≡ false)
 enters-modified copy c next h row enters =
     let both = sym row.enters ∙ enters in
-    let required : requires_ownership next.state next.marks ≡ true = left (requires_ownership next.state next.marks) _ both in
-    let unviolated : next.violated ≡ false = stays next.violated (λ e. clash _ required (ap (λ (s : LineState). requires_ownership s next.marks) (row.goes e))) in
+    let required : requires_ownership next.state next.marks ≡ true = (and_parts (requires_ownership next.state next.marks) _ both).0 in
+    let unviolated : next.violated ≡ false = stays next.violated (λ e. both_ways _ (ap (λ (s : LineState). requires_ownership s next.marks) (row.goes e)) required) in
     let same : next.marks.bytes ≡ copy.marks.bytes = ap (λ (marks : Marks). marks.bytes) (row.keeps_marks unviolated) ∙ carried-bytes copy c h in (
       (λ none. required-modified next.state next.marks required (same ∙ none)),
-      unlisted (requires_ownership copy.state copy.marks) (right (requires_ownership next.state next.marks) _ both),
+      unlisted (requires_ownership copy.state copy.marks) (and_parts (requires_ownership next.state next.marks) _ both).1,
     )
   where
     stays : (b : Bool) → (b ≡ true → ⊥) → b ≡ false
@@ -73,7 +73,7 @@ violated-there bus message k h hit =
       | true ↦ λ e. grind (arith, nat_tests)
       | false ↦ λ e.
           let past : bus.shape.cores ≤ k = grind (arith, nat_tests) in
-          absurd (clash (violates bus message k) hit (absent-unviolated bus message k (h.absent k past)))
+          absurd (both_ways (violates bus message k) (absent-unviolated bus message k (h.absent k past)) hit)
     ] refl
 
 -- a core whose full buffer has to take the line of this address
@@ -84,18 +84,18 @@ overflows-crowded bus message k address h at inside over =
     let aligned : message.addr % bus.line_length ≡ 0 = subst (λ (addr : ℕ). addr % bus.line_length ≡ 0) at (line-aligned bus.line_length address h.length_is) in
     let up = (h.lines message.addr aligned).up_to_date k in
     let entering = enters-modified copy (committed bus message.addr) (reply bus message k) up (message-gives_way bus message k h aligned)
-    (left (reply bus message k).enters (is_full (bus.core k).buffer) over) in
+    (and_parts (reply bus message k).enters (is_full (bus.core k).buffer) over).0 in
     let valid = speculative-valid copy.state (modified-marked copy (committed bus message.addr) up entering.0) in
     let line : View.line_of bus.shape address ≡ message.addr = line-viewed bus h address ∙ at in
     record {
       here = subst (λ (line : ℕ). OwnsIn (view_of bus) k line) (sym line) (modified-owns bus k message.addr h valid entering.0);
       others = (bus.core k).buffer.lines;
-      full = most (length (bus.core k).buffer.lines) (bus.core k).buffer.limit bus.shape.limits.buffer_lines (right (reply bus message k).enters (is_full (bus.core k).buffer) over) (h.limits k inside);
+      full = most (length (bus.core k).buffer.lines) (bus.core k).buffer.limit bus.shape.limits.buffer_lines (and_parts (reply bus message k).enters (is_full (bus.core k).buffer) over).1 (h.limits k inside);
       apart = once-apart (bus.core k).buffer.lines (h.cores k).buffer.each_once;
       each =
           λ i d lt.
           let listed = holds-at (bus.core k).buffer.lines i d lt in (
-            (λ same. clash (holds (bus.core k).buffer.lines message.addr) (ap (λ (a : ℕ). holds (bus.core k).buffer.lines a) (sym line ∙ sym same) ∙ listed) ((h.cores k).listed message.addr ∙ entering.1)),
+            (λ same. both_ways (holds (bus.core k).buffer.lines message.addr) ((h.cores k).listed message.addr ∙ entering.1) (ap (λ (a : ℕ). holds (bus.core k).buffer.lines a) (sym line ∙ sym same) ∙ listed)),
             listed-owns bus k (slice_index_or (bus.core k).buffer.lines i d) h listed,
           );
     }
@@ -112,7 +112,7 @@ pub violates-meets : (bus : Bus) (message : Message) (k address : ℕ) → IsCoh
 violates-meets bus message k address h at hit =
     let copy : LineCopy = (bus.core k).copy message.addr in
     elim (cause (k == message.sender) (reply bus message k).violated (overflows bus message k) (is_later bus message.sender k) hit).1 [
-      | inl violated ↦ inl (right (is_speculative copy.state) copy.marks.loaded (reply-violates message.notice copy.state copy.marks (is_later bus message.sender k) violated).0)
+      | inl violated ↦ inl (and_parts (is_speculative copy.state) copy.marks.loaded (reply-violates message.notice copy.state copy.marks (is_later bus message.sender k) violated).0).1
       | inr over ↦ inr (overflows-crowded bus message k address h at (violated-there bus message k h hit) over.0)
     ]
 
@@ -123,9 +123,8 @@ load-crowds bus message k address h at load hit =
     let copy : LineCopy = (bus.core k).copy message.addr in
     elim (cause (k == message.sender) (reply bus message k).violated (overflows bus message k) (is_later bus message.sender k) hit).1 [
       | inl violated ↦
-          absurd (clash (reply bus message k).violated violated
-          (ap (λ (notice : Notice). (reply_to notice copy.state copy.marks (order (is_later bus message.sender k))).violated) load
-          ∙ other_load-violates copy.state copy.marks))
+          absurd (both_ways (reply bus message k).violated (ap (λ (notice : Notice). (reply_to notice copy.state copy.marks (order (is_later bus message.sender k))).violated) load
+          ∙ other_load-violates copy.state copy.marks) violated)
       | inr over ↦ overflows-crowded bus message k address h at (violated-there bus message k h hit) over.0
     ]
 
@@ -141,7 +140,7 @@ pub publish-tells : (bus : Bus) (message : Message) (k : ℕ) → IsCoherent bus
 publish-tells bus message k h aligned publish away loaded =
     let copy : LineCopy = (bus.core k).copy message.addr in
     let marked = loaded-marked copy (committed bus message.addr) ((h.lines message.addr aligned).up_to_date k) loaded in
-    told (k == message.sender) (reply bus message k).violated _ (apart_test k message.sender away)
+    told (k == message.sender) (reply bus message k).violated _ (ne_eqb k message.sender away)
     (ap (λ (notice : Notice). (reply_to notice copy.state copy.marks (order (is_later bus message.sender k))).violated) publish
     ∙ other_publish-violates copy.state copy.marks ∙ rw (marked, loaded) refl)
 
@@ -152,7 +151,7 @@ pub store-tells : (bus : Bus) (message : Message) (k : ℕ) → IsCoherent bus �
 store-tells bus message k h aligned store away later loaded =
     let copy : LineCopy = (bus.core k).copy message.addr in
     let marked = loaded-marked copy (committed bus message.addr) ((h.lines message.addr aligned).up_to_date k) loaded in
-    told (k == message.sender) (reply bus message k).violated _ (apart_test k message.sender away)
+    told (k == message.sender) (reply bus message k).violated _ (ne_eqb k message.sender away)
     (ap (λ (notice : Notice). (reply_to notice copy.state copy.marks (order (is_later bus message.sender k))).violated) store
     ∙ ap (λ (later : Bool). (reply_to Store copy.state copy.marks (order later)).violated) later
     ∙ other_store-violates copy.state copy.marks (order true) ∙ rw (marked, loaded) refl)

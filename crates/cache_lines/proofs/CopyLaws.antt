@@ -1,6 +1,7 @@
 -- What the calls do to the copies of a cache as the protocol sees them.
 use Rattle.std.proofs.Common.{◌≡◌, ℕ, ◌<◌, ◌==◌, ◌&&◌, Bool, true, false, cond, Option, Some, None, refl, sym, ap, subst, ◌∙◌, arith}
 use Rattle.std.proofs.Math.Path.{fun_ext}
+use Rattle.std.proofs.lemmas.Bool.{false_from_ne_true}
 use Rattle.std.proofs.lemmas.Bool.Decides.{nat_tests}
 use Rattle.std.proofs.lemmas.Nat.{pow_pos}
 use Rattle.spec_states.specs.declared.line.LineState.{LineState}
@@ -16,7 +17,7 @@ use Rattle.cache_lines.specs.Changes.{rolled_back_line, published_line, with_eac
 use Rattle.cache_lines.specs.Lines.{Contents, way_count, line_in, with_line, is_copy_of, held_line}
 use Rattle.cache_lines.specs.Placed.{IsNotElsewhere, IsPlaced, MayStand}
 use Rattle.cache_lines.specs.Protocol.{IsInPlace, copy_of_line, copy_or_none, copy_at, rolled_back_copy, published_copy, copy_with_number}
-use Rattle.cache_lines.proofs.LineLaws.{is_copy_of-true, is_copy_of-own, not_true, held_line-own, held_line-with_line}
+use Rattle.cache_lines.proofs.LineLaws.{is_copy_of-true, is_copy_of-own, held_line-own, held_line-with_line}
 use Rattle.cache_lines.proofs.WholeCache.{changed_held, held_line-each, KeepsAddresses, KeepsAddresses-rolled_back, KeepsAddresses-published}
 
 -- ---- one copy
@@ -97,7 +98,7 @@ copies-changed cache addr way line change h way_way may same no_revival is_chang
     ap copy_or_none (held_line-with_line cache addr way line h way_way may other)
     ∙ elim (is_copy_of before other) as (λ b. is_copy_of before other ≡ b → copy_or_none (cond (is_copy_of line other) (Some line) (cond b None (held_line cache other))) ≡ cond b (change (copy_at cache other)) (copy_at cache other)) [
       | true ↦ λ e. replaced e
-      | false ↦ λ e. rw (not_true (is_copy_of line other) (λ t. stays e t)) refl
+      | false ↦ λ e. rw (false_from_ne_true (is_copy_of line other) (λ t. stays e t)) refl
     ] refl
   where
     before : Line

@@ -1,6 +1,6 @@
 -- What a change of one line does to the lines of a cache and to the lines that it holds.
 use Rattle.std.proofs.Common.{slice_index_or, zero, suc, ◌≡◌, ◌≢◌, ℕ, ◌+◌, ◌*◌, ◌%◌, ◌<◌, ◌==◌, ◌&&◌, Bool, true, false, cond, length, Option, Some, None, ◌⊎◌, inl, inr, refl, sym, ap, subst, ◌∙◌, arith, get_or-set_other}
-use Rattle.std.proofs.lemmas.Bool.{cases_eq}
+use Rattle.std.proofs.lemmas.Bool.{cases_eq, false_from_ne_true}
 use Rattle.std.proofs.lemmas.Bool.Decides.{nat_tests}
 use Rattle.std.proofs.lemmas.Grind.{get_or-set_at}
 use Rattle.std.proofs.lemmas.List.{length-set}
@@ -62,10 +62,6 @@ is_copy_of-own line e = both (is_valid line.state) line.addr e
     both : (b : Bool) (m : ℕ) → b ≡ true → (b && (m == m)) ≡ true
     both b m e = grind (arith, nat_tests)
 
-pub not_true : (b : Bool) → (b ≡ true → ⊥) → b ≡ false
-not_true true h = absurd (h refl)
-not_true false h = refl
-
 -- a line has at most one copy in its set
 pub IsPlaced-once : (cache : Contents) → IsPlaced cache → (addr way other : ℕ) → way < way_count
     → other < way_count → other ≢ way → is_copy_of (line_in cache addr way) addr ≡ true
@@ -108,7 +104,7 @@ old_once cache addr way line h way_way may a w w_way valid other other_way apart
     let old : Line = line_in cache a w in
     elim (line_in-with_line cache addr way line old.addr other h.size way_way) [
       | inl q ↦ rw q.1
-          (not_true (is_copy_of line old.addr)
+          (false_from_ne_true (is_copy_of line old.addr)
           (λ t.
           let p = is_copy_of-true line old.addr t in
           let same_set : set_of n line.addr ≡ set_of n a = ap (λ x. set_of n x) p.1 ∙ h.in_set a w w_way valid in
@@ -169,7 +165,7 @@ held_after before after addr held =
 not_of_set : (n : ℕ) (line : Line) (addr x : ℕ) → (is_valid line.state ≡ true → set_of n line.addr ≡ set_of n addr)
     → set_of n x ≢ set_of n addr → is_copy_of line x ≡ false
 not_of_set n line addr x in_set other =
-    not_true (is_copy_of line x) (λ t. let p = is_copy_of-true line x t in other (ap (λ a. set_of n a) (sym p.1) ∙ in_set p.0))
+    false_from_ne_true (is_copy_of line x) (λ t. let p = is_copy_of-true line x t in other (ap (λ a. set_of n a) (sym p.1) ∙ in_set p.0))
 
 -- the choice among two ways, where the first, the second or neither is replaced
 first_replaced : (b n o : Bool) (line old other : Line) → (o ≡ true → b ≡ false)

@@ -1,12 +1,13 @@
 -- In which way a cache holds each line.
 use Rattle.std.proofs.Common.{zero, suc, ◌≡◌, ◌≢◌, ℕ, ◌<◌, ◌==◌, ◌&&◌, Bool, true, false, cond, Option, Some, None, inl, inr, refl, sym, ap, subst, ◌∙◌, arith, slice_index_or}
+use Rattle.std.proofs.lemmas.Bool.{false_from_ne_true}
 use Rattle.spec_states.specs.States.{is_valid}
 use Rattle.cache_lines.specs.declared.line.Line.{Line}
 use Rattle.cache_lines.specs.Changes.{way_at, with_each_line, StandIn}
 use Rattle.cache_lines.specs.Lines.{Contents, way_count, place, invalid_line, line_in, with_line, is_copy_of}
 use Rattle.cache_lines.specs.Placed.{IsPlaced, MayStand}
 use Rattle.cache_lines.specs.Protocol.{copy_at, copy_or_none}
-use Rattle.cache_lines.proofs.LineLaws.{line_in-with_line, is_copy_of-true, not_true, same_place, IsPlaced-once}
+use Rattle.cache_lines.proofs.LineLaws.{line_in-with_line, is_copy_of-true, same_place, IsPlaced-once}
 use Rattle.cache_lines.proofs.WholeCache.{KeepsAddresses, line_in-each}
 
 -- each copy stands where it is said to
@@ -48,7 +49,7 @@ stand-filled cache way line h lt may x =
           rw copy (ap (λ (w : ℕ). Some w) (sym (same_place cache.line_length x line.addr w way w_way lt q.0).1))
       | inr q ↦
           let copy : is_copy_of (line_in cache x w) x ≡ true = subst (λ (l : Line). is_copy_of l x ≡ true) q.1 e in
-          rw (not_true (is_copy_of line x) (λ t. apart w w_way q.0 copy t)) (way_at-own cache h x w w_way copy)
+          rw (false_from_ne_true (is_copy_of line x) (λ t. apart w w_way q.0 copy t)) (way_at-own cache h x w w_way copy)
     ])
   where
     apart : (w : ℕ) → w < way_count → place cache.line_length x w ≢ place cache.line_length line.addr way

@@ -1,5 +1,6 @@
 -- A violated epoch comes after that which violates it.
-use Rattle.std.proofs.Common.{◌≡◌, ℕ, ◌<◌, ◌&&◌, Bool, true, false, not, nat_lt, List, Option, Some, None, refl, sym, ap, ◌∙◌, arith, ltb-true}
+use Rattle.std.proofs.Common.{◌≡◌, ℕ, ◌<◌, ◌&&◌, Bool, true, not, nat_lt, List, Option, Some, None, sym, ap, ◌∙◌, arith, ltb-true}
+use Rattle.std.proofs.lemmas.Bool.{and_parts}
 use Rattle.rv32_image.specs.Image.{LoadedImage}
 use Rattle.spec_history.specs.declared.entry.Entry.{Entry}
 use Rattle.spec_history.specs.declared.entry.What.TheVariants.{Hurt}
@@ -9,13 +10,9 @@ use Rattle.spec_history.proofs.OneEntry.Legal.{legal_entry}
 use Rattle.conflicts.specs.declared.explanation.Explanation.{Explanation}
 use Rattle.conflicts.specs.Explained.{IsExplainedIn}
 
-both : (a b : Bool) → (a && b) ≡ true → (a ≡ true) × (b ≡ true)
-both true b is = (refl, is)
-both false b is = absurd cc
-
 runner : (c : CoreState) (epoch : ℕ) (rest : Bool) → (runs_and (Some c) (λ d. nat_lt d.epoch epoch) && rest) ≡ true → c.epoch < epoch
 runner c epoch rest is =
-    ltb-true c.epoch epoch (both (not c.hurt) (nat_lt c.epoch epoch) (both (not c.hurt && nat_lt c.epoch epoch) rest is).0).1
+    ltb-true c.epoch epoch (and_parts (not c.hurt) (nat_lt c.epoch epoch) (and_parts (not c.hurt && nat_lt c.epoch epoch) rest is).0).1
 
 pub comes_after : (image : LoadedImage) (count : ℕ) (s : FlatState) (entries : List Entry) (e : Explanation) → IsExplainedIn image s entries e
     → refusal_of image count s (record { by = e.causer.core; what = Hurt e.victim.epoch }) ≡ None → e.causer.epoch < e.victim.epoch

@@ -1,6 +1,6 @@
 -- Each attempt that begins ends once, or goes on: what one entry does to how many go on.
 use Rattle.std.proofs.Common.{◌≡◌, ◌≢◌, ℕ, zero, suc, ◌+◌, ◌<◌, ◌≤◌, ◌==◌, ◌&&◌, ◌||◌, not, Bool, true, false, cond, nat_lt, List, [], ◌∷◌, ◌++◌, length, take, slice_get, count_by, Option, Some, None, is_some, option_and_then, option_map, option_to_list, refl, sym, ap, ◌∙◌, inl, inr, arith, subst, true≢false, eq-eqb, ne_eqb, eqb-true, ltb-true}
-use Rattle.std.proofs.lemmas.Bool.{cases_eq}
+use Rattle.std.proofs.lemmas.Bool.{cases_eq, and_parts, not-true, or_right}
 use Rattle.std.proofs.lemmas.List.{length-append, take_all}
 use Rattle.std.proofs.lemmas.List.Sums.{sum_by-cons}
 use Rattle.rv32_image.specs.Image.{LoadedImage, IsImage}
@@ -20,7 +20,7 @@ use Rattle.spec_history.specs.Replay.{replay, replay_from, where_legal}
 use Rattle.spec_history.specs.declared.illegal.Illegal.{Illegal}
 use Rattle.spec_history.proofs.Replay.Joining.{splits}
 use Rattle.spec_history.proofs.OneEntry.Keeping.{with_core_other, with_core_same}
-use Rattle.spec_history.proofs.OneEntry.Legal.{IsLegalEntry, and_true, legal_entry, not_true, some_below}
+use Rattle.spec_history.proofs.OneEntry.Legal.{IsLegalEntry, legal_entry, some_below}
 use Rattle.spec_history.proofs.Replay.Reaching.{no_entries}
 use Rattle.spec_history.proofs.Replay.Replays.{effect-idle, effect-on, not_running, replayed}
 use Rattle.conflicts.specs.declared.explanation.Runner.{Runner}
@@ -158,18 +158,14 @@ fault_other : (epoch cause pc : ℕ) (o : Option CoreState) → OtherEpoch epoch
 fault_other epoch cause pc None other = refl
 fault_other epoch cause pc (Some d) other = ap (λ b. cond b 0 1) (ap (λ b. d.hurt || b) (ne_eqb epoch d.epoch (λ e. other d refl (sym e))) ∙ or_no d.hurt)
 
-or_yes : (b : Bool) → (b || true) ≡ true
-or_yes true = refl
-or_yes false = refl
-
 hurt_here : (epoch : ℕ) (c : CoreState) → c.epoch ≡ epoch → alive (hurt_at epoch (Some c)) ≡ 0
-hurt_here epoch c is = ap (λ b. cond b 0 1) (ap (λ b. c.hurt || b) (eq-eqb c.epoch epoch is) ∙ or_yes c.hurt)
+hurt_here epoch c is = ap (λ b. cond b 0 1) (or_right c.hurt _ (eq-eqb c.epoch epoch is))
 
 idle_here : (epoch : ℕ) (c : CoreState) → c.epoch ≡ epoch → alive (idle_at epoch (Some c)) ≡ 0
 idle_here epoch c is = ap (λ b. alive (cond b None (Some c))) (eq-eqb c.epoch epoch is)
 
 fault_here : (cause pc : ℕ) (c : CoreState) → on (Some (end.Fault c.epoch cause pc)) (Some c) ≡ 0
-fault_here cause pc c = ap (λ b. cond b 0 1) (ap (λ b. c.hurt || b) (eq-eqb c.epoch c.epoch refl) ∙ or_yes c.hurt)
+fault_here cause pc c = ap (λ b. cond b 0 1) (or_right c.hurt _ (eq-eqb c.epoch c.epoch refl))
 
 others : (image : LoadedImage) (count : ℕ) (s : FlatState) (k : ℕ) (c : CoreState) (epoch : ℕ) → IsKept image count s → s.cores k ≡ Some c → c.epoch ≡ epoch → (j : ℕ) → j ≢ k → OtherEpoch epoch (s.cores j)
 others image count s k c epoch kept runs is j other d at same = other (kept.apart j k d c at runs (same ∙ sym is))
@@ -179,15 +175,15 @@ others image count s k c epoch kept runs is j other d at same = other (kept.apar
 hurtable : (epoch : ℕ) (o : Option CoreState) → can_be_hurt epoch o ≡ true → (c : CoreState) × (o ≡ Some c) × (c.hurt ≡ false) × (c.epoch ≡ epoch)
 hurtable epoch None is = absurd cc
 hurtable epoch (Some c) is =
-    let both = and_true (not c.hurt) ((c.epoch == epoch) && not c.straight) is in
-    (c, refl, not_true c.hurt both.0, eqb-true c.epoch epoch (and_true (c.epoch == epoch) (not c.straight) both.1).0)
+    let both = and_parts (not c.hurt) ((c.epoch == epoch) && not c.straight) is in
+    (c, refl, not-true c.hurt both.0, eqb-true c.epoch epoch (and_parts (c.epoch == epoch) (not c.straight) both.1).0)
 
 runs_epoch : (epoch : ℕ) (o : Option CoreState) → is_at epoch o ≡ true → (c : CoreState) × (o ≡ Some c) × (c.epoch ≡ epoch)
 runs_epoch epoch None is = absurd cc
 runs_epoch epoch (Some c) is = (c, refl, eqb-true c.epoch epoch is)
 
 unhurt : (o : Option CoreState) (c : CoreState) (test : CoreState → Bool) → o ≡ Some c → runs_and o test ≡ true → c.hurt ≡ false
-unhurt o c test at is = not_true c.hurt (and_true (not c.hurt) (test c) (sym (ap (λ x. runs_and x test) at) ∙ is)).0
+unhurt o c test at is = not-true c.hurt (and_parts (not c.hurt) (test c) (sym (ap (λ x. runs_and x test) at) ∙ is)).0
 
 -- ---- what has ended
 
@@ -276,7 +272,7 @@ fault_balance image count s s' place by cause pc old kept runs calm one below ov
 balance_on : (image : LoadedImage) (count : ℕ) (s : FlatState) (place by : ℕ) (what : What) (old : CoreState) → s.cores by ≡ Some old → IsKept image count s
     → IsLegalEntry image count s (record { by = by; what = what }) → Balanced image count s place by what (effect image s (record { by = by; what = what }))
 balance_on image count s place by (Start epoch) old runs kept legal =
-    absurd (true≢false (sym (and_true (nat_lt by count) _ legal.there).1 ∙ ap (λ (o : Option CoreState). not (is_some o)) runs))
+    absurd (true≢false (sym (and_parts (nat_lt by count) _ legal.there).1 ∙ ap (λ (o : Option CoreState). not (is_some o)) runs))
 balance_on image count s place by (Load address width value) old runs kept legal =
     subst (Balanced image count s place by (Load address width value)) (sym (effect-on image s by (Load address width value) old runs))
     (acting image count s _ by old _ legal.going legal.going (kept.core by old runs).there runs refl refl)
@@ -284,13 +280,13 @@ balance_on image count s place by (Store address width value) old runs kept lega
     subst (Balanced image count s place by (Store address width value)) (sym (effect-on image s by (Store address width value) old runs))
     (acting image count s _ by old _ legal.going legal.going (kept.core by old runs).there runs refl refl)
 balance_on image count s place by (Hurt epoch) old runs kept legal =
-    let both = and_true (runs_and (s.cores by) (λ x. nat_lt x.epoch epoch)) (any_below count (λ k. can_be_hurt epoch (s.cores k))) legal.there in
+    let both = and_parts (runs_and (s.cores by) (λ x. nat_lt x.epoch epoch)) (any_below count (λ k. can_be_hurt epoch (s.cores k))) legal.there in
     let v = some_below count (λ k. can_be_hurt epoch (s.cores k)) both.1 in
     let c = hurtable epoch (s.cores v.0) v.2 in
     subst (Balanced image count s place by (Hurt epoch)) (sym (effect-on image s by (Hurt epoch) old runs))
     (hurt_balance image count s _ place by epoch v.0 old c.0 kept runs c.1 c.2 c.3 legal.going legal.going v.1 refl)
 balance_on image count s place by (Cancel epoch) old runs kept legal =
-    let both = and_true (runs_and (s.cores by) (λ x. nat_lt x.epoch epoch)) (any_below count (λ k. is_at epoch (s.cores k))) legal.there in
+    let both = and_parts (runs_and (s.cores by) (λ x. nat_lt x.epoch epoch)) (any_below count (λ k. is_at epoch (s.cores k))) legal.there in
     let v = some_below count (λ k. is_at epoch (s.cores k)) both.1 in
     let c = runs_epoch epoch (s.cores v.0) v.2 in
     subst (Balanced image count s place by (Cancel epoch)) (sym (effect-on image s by (Cancel epoch) old runs))
@@ -312,13 +308,13 @@ balance_on image count s place by (Fault cause pc) old runs kept legal =
 balance_idle : (image : LoadedImage) (count : ℕ) (s : FlatState) (place by : ℕ) (what : What) → s.cores by ≡ None
     → IsLegalEntry image count s (record { by = by; what = what }) → Balanced image count s place by what (effect image s (record { by = by; what = what }))
 balance_idle image count s place by (Start epoch) idle legal =
-    let there = and_true (nat_lt by count) _ legal.there in
+    let there = and_parts (nat_lt by count) _ legal.there in
     subst (Balanced image count s place by (Start epoch)) (sym (effect-idle image s by (Start epoch) idle))
     (starting image count s _ by (begun image epoch) legal.going legal.going (ltb-true by count there.0) (ap alive idle) refl refl)
 balance_idle image count s place by (Load address width value) idle legal = absurd (not_running (s.cores by) _ idle legal.there)
 balance_idle image count s place by (Store address width value) idle legal = absurd (not_running (s.cores by) _ idle legal.there)
-balance_idle image count s place by (Hurt epoch) idle legal = absurd (not_running (s.cores by) _ idle (and_true (runs_and (s.cores by) (λ x. nat_lt x.epoch epoch)) _ legal.there).0)
-balance_idle image count s place by (Cancel epoch) idle legal = absurd (not_running (s.cores by) _ idle (and_true (runs_and (s.cores by) (λ x. nat_lt x.epoch epoch)) _ legal.there).0)
+balance_idle image count s place by (Hurt epoch) idle legal = absurd (not_running (s.cores by) _ idle (and_parts (runs_and (s.cores by) (λ x. nat_lt x.epoch epoch)) _ legal.there).0)
+balance_idle image count s place by (Cancel epoch) idle legal = absurd (not_running (s.cores by) _ idle (and_parts (runs_and (s.cores by) (λ x. nat_lt x.epoch epoch)) _ legal.there).0)
 balance_idle image count s place by Restart idle legal = absurd (true≢false (sym legal.there ∙ ap (λ o. by_core o false (λ x. x.hurt)) idle))
 balance_idle image count s place by Publish idle legal = absurd (not_running (s.cores by) _ idle legal.there)
 balance_idle image count s place by Commit idle legal = absurd (not_running (s.cores by) _ idle legal.there)

@@ -1,10 +1,9 @@
 -- Within a run no other begins.
 use Rattle.std.proofs.Common.{◌≡◌, ℕ, zero, suc, ◌+◌, ◌-◌, ◌<◌, ◌≤◌, ◌==◌, ◌&&◌, not, Bool, true, false, nat_lt, List, Option, Some, None, option_and_then, option_map, unwrap_or, if◌then◌else◌, refl, sym, ap, ◌∙◌, inl, inr, arith, ne_eqb, eqb-true, ltb-true, lt-ltb}
 use Rattle.std.specs.Option.{option_or}
-use Rattle.std.proofs.lemmas.Bool.{cases_eq, eq-eqb}
+use Rattle.std.proofs.lemmas.Bool.{cases_eq, eq-eqb, and_parts, not-true}
 use Rattle.rv32_image.specs.Image.{LoadedImage}
 use Rattle.spec_history.specs.declared.entry.Entry.{Entry}
-use Rattle.spec_history.proofs.OneEntry.Legal.{and_true}
 use Rattle.spec_history.specs.declared.kind.Kind.{Kind}
 use Rattle.spec_history.specs.declared.kind.Kind.TheVariants.{SilentStore}
 use Rattle.spec_history.specs.Searches.{first_below, last_below}
@@ -81,10 +80,6 @@ all_three true true false a b c = c
 all_three true false c a b d = b
 all_three false b c a d e = a
 
-not_so : (b : Bool) → not b ≡ true → b ≡ false
-not_so true is = absurd cc
-not_so false is = refl
-
 -- a run goes on below a byte, if the byte below met alike
 goes_on : (image : LoadedImage) (entries : List Entry) (v : Violation) (load store a : ℕ) → 0 < a
     → is_alike image entries v load store a (a - 1) ≡ not ((blamed_range image entries v load store a).first == a)
@@ -111,8 +106,8 @@ within : (image : LoadedImage) (entries : List Entry) (v : Violation) (load stor
     → j < (blamed_range image entries v load store a).first + (blamed_range image entries v load store a).length → run_from image entries v j ≡ None
 within image entries v load store a j kind shared reads stores above below =
     let alike : ℕ → Bool = is_alike image entries v load store a in
-    let here = and_true (goes_with image v.kind v.bytes a j) (is_place (read_at entries v j) load && is_place (blamed_store image entries v j) store) (in_range image.size alike a j above below) in
-    let both = and_true (is_place (read_at entries v j) load) (is_place (blamed_store image entries v j) store) here.1 in
+    let here = and_parts (goes_with image v.kind v.bytes a j) (is_place (read_at entries v j) load && is_place (blamed_store image entries v j) store) (in_range image.size alike a j above below) in
+    let both = and_parts (is_place (read_at entries v j) load) (is_place (blamed_store image entries v j) store) here.1 in
     let itself : alike a ≡ true =
     ap (λ (k : Kind). goes_with image k v.bytes a a && (is_place (read_at entries v a) load && is_place (blamed_store image entries v a) store)) kind
     ∙ all_three (is_shared v.bytes a) (is_place (read_at entries v a) load) (is_place (blamed_store image entries v a) store) shared (is_so _ load reads) (is_so _ store stores) in
@@ -121,7 +116,7 @@ within image entries v load store a j kind shared reads stores above below =
       | inr other ↦ in_range image.size alike a (j - 1) (omega (arith, above, other)) (omega (arith, above, below))
     ] in
     none_from image entries v load store j (place_is _ load both.0) (place_is _ store both.1)
-    (not_so _ (sym (goes_on image entries v load store j (omega (arith, above))) ∙ (sym (same_for image entries v load store a j (j - 1) kind) ∙ lower)))
+    (not-true _ (sym (goes_on image entries v load store j (omega (arith, above))) ∙ (sym (same_for image entries v load store a j (j - 1) kind) ∙ lower)))
 
 goes_past : (image : LoadedImage) (entries : List Entry) (v : Violation) (a j : ℕ) (read stored : Option ℕ) → v.kind ≡ SilentStore → is_shared v.bytes a ≡ true → a < j
     → read_at entries v a ≡ read → blamed_store image entries v a ≡ stored

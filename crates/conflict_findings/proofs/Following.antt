@@ -1,5 +1,6 @@
 -- How the number of an attempt is followed.
 use Rattle.std.proofs.Common.{◌≡◌, ℕ, zero, suc, ◌+◌, ◌<◌, ◌≤◌, ◌==◌, ◌&&◌, Bool, true, false, cond, nat_lt, List, Option, Some, None, is_some, option_and_then, slice_get, refl, sym, ap, ◌∙◌, arith, add-one, lt-ltb, le-ltb}
+use Rattle.std.proofs.lemmas.Bool.{and_right}
 use Rattle.spec_history.specs.declared.entry.Entry.{Entry}
 use Rattle.spec_history.specs.declared.entry.What.{What}
 use Rattle.spec_history.specs.declared.entry.What.TheVariants.{Start, Restart}
@@ -8,7 +9,6 @@ use Rattle.conflicts.specs.Attempts.{core_does, is_after, is_begin, is_start}
 use Rattle.spec_history.specs.Searches.{count_below, last_below}
 use Rattle.conflicts.proofs.Backwards.{last_at}
 use Rattle.conflicts.proofs.Numbering.{no_one, one_in, other_in}
-use Rattle.spec_history.proofs.Searches.Tests.{and_no}
 use Rattle.conflict_findings.specs.declared.followed.NumberedAttempt.{NumberedAttempt}
 use Rattle.conflict_findings.specs.Followed.{IsNumbered, own_at, stepped}
 
@@ -73,7 +73,7 @@ counted_on starts begins n is = ap (λ (o : Option ℕ). count_below (n + 1) (λ
 not_begun : (starts begins : ℕ → Bool) (n : ℕ) → starts n ≡ false → begins n ≡ false → number_of starts begins (n + 1) ≡ number_of starts begins n
 not_begun starts begins n is fails =
     let after : ℕ → Bool = λ j. is_after (last_below n starts) j && begins j in
-    let here : after n ≡ false = ap (λ b. is_after (last_below n starts) n && b) fails ∙ and_no (is_after (last_below n starts) n) in
+    let here : after n ≡ false = and_right (is_after (last_below n starts) n) _ fails in
     counted_on starts begins n is ∙ ap (λ k. k + 1) (other_in n after here)
 
 by_last : (begins : ℕ → Bool) (n : ℕ) (last : Option ℕ) (started : Bool) → ((s : ℕ) → last ≡ Some s → s < n) → started ≡ is_some last → begins n ≡ true

@@ -1,5 +1,6 @@
 -- Pairs that are noted in a set, and when two pairs have the same addresses.
 use Rattle.std.proofs.Common.{◌≡◌, ℕ, ◌==◌, ◌&&◌, ◌||◌, Bool, true, false, cond, List, [], ◌∷◌, ◌++◌, nat_lt, refl, sym, ap, ◌∙◌, arith, eq-eqb, eqb-true, ltb-true}
+use Rattle.std.proofs.lemmas.Bool.{false_from_ne_true}
 use Rattle.std.specs.List.{list_any}
 use Rattle.std.specs.Ordering.{is_eq, nat_cmp, ordering_then}
 use Rattle.std.specs.declared.cmp.Ordering.{Ordering}
@@ -23,12 +24,8 @@ second_so true false no_both = refl
 second_so false true no_both = refl
 second_so false false no_both = refl
 
-not_equal : (e : Bool) → (e ≡ true → ⊥) → e ≡ false
-not_equal true no_way = absurd (no_way refl)
-not_equal false no_way = refl
-
 apart : (a b : ℕ) → nat_lt a b ≡ true → (a == b) ≡ false
-apart a b less = not_equal (a == b) (λ same. omega (arith, ltb-true a b less, eqb-true a b same))
+apart a b less = false_from_ne_true (a == b) (λ same. omega (arith, ltb-true a b less, eqb-true a b same))
 
 at_pair : (p q : Pair) → is_eq (by_addresses (p.store, p.load) (q.store, q.load)) ≡ is_pair p q
 at_pair p q =
@@ -37,7 +34,7 @@ at_pair p q =
 
 flip_eq : (a b : ℕ) (t : Bool) → (a == b) ≡ t → (b == a) ≡ t
 flip_eq a b true is = eq-eqb b a (sym (eqb-true a b is))
-flip_eq a b false is = not_equal (b == a) (λ same. let so : (a == b) ≡ true = eq-eqb a b (sym (eqb-true b a same)) in absurd cc)
+flip_eq a b false is = false_from_ne_true (b == a) (λ same. let so : (a == b) ≡ true = eq-eqb a b (sym (eqb-true b a same)) in absurd cc)
 
 flip_pair : (p q : Pair) → is_pair p q ≡ is_pair q p
 flip_pair p q =

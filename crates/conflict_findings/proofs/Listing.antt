@@ -1,5 +1,6 @@
 -- The pairs of some violations stand once each in the list of their pairs.
 use Rattle.std.proofs.Common.{◌≡◌, ℕ, ◌+◌, ◌≤◌, ◌==◌, ◌&&◌, ◌||◌, Bool, true, false, cond, List, [], ◌∷◌, ◌++◌, Option, Some, None, count_by, refl, ap, ◌∙◌, arith, eqb-true, eq-eqb}
+use Rattle.std.proofs.lemmas.Bool.{and_parts}
 use Rattle.std.specs.List.{fold, list_any}
 use Rattle.std.proofs.lemmas.List.Sums.{sum_by-cons, sum_by_push}
 use Rattle.conflict_findings.specs.declared.rollback.Pair.{Pair}
@@ -28,10 +29,6 @@ some_any test (x ∷ xs) is = omega (arith, sum_by-cons (λ y. cond (test y) 1 0
 
 -- ---- pairs that pass the test are the same
 
-both : (a b : Bool) → (a && b) ≡ true → (a ≡ true) × (b ≡ true)
-both true b is = (refl, is)
-both false b is = absurd cc
-
 abbrev pair : ℕ → ℕ → Pair
 pair s l = record { store = s; load = l }
 
@@ -40,7 +37,7 @@ same_fields s t l m first second = ap (λ x. pair x l) first ∙ ap (λ x. pair 
 
 same_pair : (a b : Pair) → is_pair a b ≡ true → a ≡ b
 same_pair a b is =
-    let e = both (a.store == b.store) (a.load == b.load) is in
+    let e = and_parts (a.store == b.store) (a.load == b.load) is in
     same_fields a.store b.store a.load b.load (eqb-true a.store b.store e.0) (eqb-true a.load b.load e.1)
 
 own_pair : (p : Pair) → is_pair p p ≡ true

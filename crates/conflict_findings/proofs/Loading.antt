@@ -1,14 +1,14 @@
 -- The first load that read a byte of a line, by the first of each byte.
 use Rattle.std.proofs.Common.{◌≡◌, ℕ, zero, suc, ◌+◌, ◌*◌, ◌<◌, ◌≤◌, Bool, true, false, is_some, nat_lt, IfNone, IfSome, List, Option, Some, None, option_map, unwrap_or, if◌then◌else◌, refl, sym, ap, subst, ◌∙◌, inl, inr, arith, ltb-true, ltb-false}
 use Rattle.std.specs.Option.{option_or}
-use Rattle.std.proofs.lemmas.Bool.{cases_eq}
+use Rattle.std.proofs.lemmas.Bool.{cases_eq, false_from_ne_true, both_ways}
 use Rattle.rv32_image.specs.Image.{LoadedImage}
 use Rattle.rv32_image.specs.Version.{limits_of}
 use Rattle.spec_history.specs.declared.entry.Entry.{Entry}
 use Rattle.spec_history.specs.Searches.{first_below}
 use Rattle.spec_history.proofs.Searches.Tests.{first_at, first_none}
 use Rattle.conflicts.specs.Attempts.{first_read, reads_outside}
-use Rattle.conflicts.proofs.Blaming.{either_way, not_so}
+use Rattle.conflicts.proofs.Blaming.{either_way}
 use Rattle.conflict_findings.specs.Runs.{byte_in, earlier, load_in}
 use Rattle.conflict_findings.proofs.Beginning.{IsLeast, is_least}
 
@@ -95,22 +95,18 @@ found_at (suc n) test k is = by_step (first_below n test) (test n) n k ((k < suc
     (λ rest. let at = found_at n test k rest in (omega (arith, at.0), at.1))
     (λ passes e. (omega (arith, e), ap test (sym e) ∙ passes))
 
-no_clash : (b : Bool) (P : Type 0) → b ≡ true → b ≡ false → P
-no_clash true P is isnt = absurd cc
-no_clash false P is isnt = absurd cc
-
 -- no later than any that passes
 most_by : (n : ℕ) (test : ℕ → Bool) (k : ℕ) (found : Option ℕ) → first_below n test ≡ found → k < n → test k ≡ true → (o : ℕ) × (first_below n test ≡ Some o) × (o ≤ k)
 most_by n test k None is below passes =
     let fails : test k ≡ false = subst (IsLeast n test) is (is_least n test) k below in
-    no_clash (test k) _ passes fails
+    absurd (both_ways (test k) fails passes)
 most_by n test k (Some o) is below passes = (
   o,
   is,
   either_way (nat_lt k o) (o ≤ k)
       (λ less.
       let fails : test k ≡ false = subst (IsLeast n test) is (is_least n test) k (ltb-true k o less) in
-      no_clash (test k) (o ≤ k) passes fails)
+      absurd (both_ways (test k) fails passes))
       (λ no. ltb-false k o no),
 )
 
@@ -124,7 +120,7 @@ Reads image entries core before line x = first_read entries core before (At imag
 
 unread_by : (image : LoadedImage) (entries : List Entry) (core before line j y : ℕ) → ((o : ℕ) → Reads image entries core before line y ≡ Some o → o ≤ j → ⊥) → j < before
     → reads_outside entries core before (At image line y) j ≡ false
-unread_by image entries core before line j y never below = not_so (reads_outside entries core before (At image line y) j) (λ is.
+unread_by image entries core before line j y never below = false_from_ne_true (reads_outside entries core before (At image line y) j) (λ is.
     let at = most_by before (reads_outside entries core before (At image line y)) j _ refl below is in never at.0 at.1 at.2)
 
 pub byte_found : (image : LoadedImage) (entries : List Entry) (core before line load a : ℕ) → IsFirst (At image line) (Reads image entries core before line) (limits_of image.version).line_length load a

@@ -1,5 +1,6 @@
 -- A core that runs is hurt where its attempt has been violated, by the entries so far.
 use Rattle.std.proofs.Common.{◌≡◌, ◌≢◌, ◌⊎◌, ℕ, suc, ◌+◌, ◌==◌, ◌&&◌, ◌||◌, not, Bool, true, false, nat_lt, List, slice_get, Option, Some, None, is_some, if◌then◌else◌, refl, sym, ap, ◌∙◌, inl, inr, add-one, true≢false, eq-eqb, ne_eqb}
+use Rattle.std.proofs.lemmas.Bool.{and_left, and_from, and_parts, and_right}
 use Rattle.rv32_image.specs.Image.{LoadedImage}
 use Rattle.spec_history.specs.declared.entry.Entry.{Entry}
 use Rattle.spec_history.specs.declared.entry.What.{What}
@@ -9,7 +10,7 @@ use Rattle.spec_history.specs.Effect.{by_core, effect, hurt_at, idle_at}
 use Rattle.spec_history.specs.Refusal.{is_there, refusal_of, runs_and}
 use Rattle.spec_history.specs.View.{FlatView, IsApplied, cores_in, state_in}
 use Rattle.spec_history.proofs.OneEntry.Keeping.{at_core}
-use Rattle.spec_history.proofs.OneEntry.Legal.{and_true, legal_entry}
+use Rattle.spec_history.proofs.OneEntry.Legal.{legal_entry}
 use Rattle.spec_history.proofs.Replay.Replays.{effect-idle, effect-on, not_running}
 use Rattle.spec_history.specs.Conflict.{passes}
 use Rattle.conflicts.specs.Attempts.{is_begin}
@@ -38,14 +39,6 @@ or_no : (b : Bool) → b ≡ (b || false)
 or_no true = refl
 or_no false = refl
 
-and_no : (b : Bool) → (b && false) ≡ false
-and_no true = refl
-and_no false = refl
-
-first_no : (a b : Bool) → a ≡ false → (a && b) ≡ false
-first_no true b is = absurd cc
-first_no false b is = refl
-
 -- another core than that of the entry
 other_core : (cores : ℕ → Option CoreState) (by k : ℕ) (what : What) (c : CoreState) → k ≢ by → cores k ≡ Some c → hurts c.epoch what ≡ false → IsAfter cores by k what c
 other_core cores by k what c other at quiet = inr (record {
@@ -53,7 +46,7 @@ other_core cores by k what c other at quiet = inr (record {
   runs = at;
   epoch = refl;
   hurt_is = or_no c.hurt ∙ ap (λ b. c.hurt || b) (sym quiet);
-  begins_not = first_no (by == k) (is_begin what) (ne_eqb by k (λ e. other (sym e)));
+  begins_not = and_left (by == k) (is_begin what) (ne_eqb by k (λ e. other (sym e)));
 })
 
 begins_by : (cores : ℕ → Option CoreState) (by k : ℕ) (what : What) (new c : CoreState) → is_begin what ≡ true → new.hurt ≡ false → ((e : ℕ) → hurts e what ≡ false)
@@ -71,7 +64,7 @@ acts cores by k what old new c runs epoch hurt begins quiet (inl at) =
       runs = ap cores at.0 ∙ runs;
       epoch = sym (ap (λ (x : CoreState). x.epoch) same) ∙ epoch;
       hurt_is = sym (ap (λ (x : CoreState). x.hurt) same) ∙ (hurt ∙ (or_no old.hurt ∙ ap (λ b. old.hurt || b) (sym (quiet old.epoch))));
-      begins_not = ap (λ b. (by == k) && b) begins ∙ and_no (by == k);
+      begins_not = and_right (by == k) _ begins;
     })
 acts cores by k what old new c runs epoch hurt begins quiet (inr at) = other_core cores by k what c at.0 at.1 (quiet c.epoch)
 
@@ -89,7 +82,7 @@ is_hurt cores by k epoch (Some old) c runs at =
       runs = runs;
       epoch = sym (ap (λ (x : CoreState). x.epoch) same);
       hurt_is = sym (ap (λ (x : CoreState). x.hurt) same);
-      begins_not = and_no (by == k);
+      begins_not = and_right (by == k) false refl;
     })
 
 idle_by : (cores : ℕ → Option CoreState) (by k epoch : ℕ) (b : Bool) (old c : CoreState) → cores k ≡ Some old → (if b then None else Some old) ≡ Some c → IsAfter cores by k (Cancel epoch) c
@@ -99,7 +92,7 @@ idle_by cores by k epoch false old c runs at = inr (record {
   runs = runs ∙ at;
   epoch = refl;
   hurt_is = or_no c.hurt;
-  begins_not = and_no (by == k);
+  begins_not = and_right (by == k) false refl;
 })
 
 is_idle : (cores : ℕ → Option CoreState) (by k epoch : ℕ) (core : Option CoreState) (c : CoreState) → cores k ≡ core → idle_at epoch core ≡ Some c → IsAfter cores by k (Cancel epoch) c
@@ -113,7 +106,7 @@ stays cores by k what c begins quiet runs = inr (record {
   runs = runs;
   epoch = refl;
   hurt_is = or_no c.hurt ∙ ap (λ b. c.hurt || b) (sym (quiet c.epoch));
-  begins_not = ap (λ b. (by == k) && b) begins ∙ and_no (by == k);
+  begins_not = and_right (by == k) _ begins;
 })
 
 abbrev cores_after : LoadedImage → FlatState → ℕ → What → ℕ → Option CoreState
@@ -121,7 +114,7 @@ cores_after image s by what = (effect image s (record { by = by; what = what }))
 
 on_running : (image : LoadedImage) (count : ℕ) (s : FlatState) (by k : ℕ) (what : What) (old c : CoreState) → s.cores by ≡ Some old
     → is_there count s by what ≡ true → cores_after image s by what k ≡ Some c → IsAfter s.cores by k what c
-on_running image count s by k (Start epoch) old c runs there at = absurd (true≢false (sym (and_true (nat_lt by count) _ there).1 ∙ ap (λ (o : Option CoreState). not (is_some o)) runs))
+on_running image count s by k (Start epoch) old c runs there at = absurd (true≢false (sym (and_parts (nat_lt by count) _ there).1 ∙ ap (λ (o : Option CoreState). not (is_some o)) runs))
 on_running image count s by k (Load address width value) old c runs there at =
     acts s.cores by k (Load address width value) old _ c runs refl refl refl (λ e. refl) (at_core s.cores by (Some _) k c (sym (ap (λ (t : FlatState). t.cores k) (effect-on image s by (Load address width value) old runs)) ∙ at))
 on_running image count s by k (Store address width value) old c runs there at =
@@ -148,8 +141,8 @@ on_idle image count s by k (Start epoch) c idle there at =
     begins_by s.cores by k (Start epoch) _ c refl refl (λ e. refl) (at_core s.cores by (Some _) k c (sym (ap (λ (t : FlatState). t.cores k) (effect-idle image s by (Start epoch) idle)) ∙ at))
 on_idle image count s by k (Load address width value) c idle there at = absurd (not_running (s.cores by) _ idle there)
 on_idle image count s by k (Store address width value) c idle there at = absurd (not_running (s.cores by) _ idle there)
-on_idle image count s by k (Hurt epoch) c idle there at = absurd (not_running (s.cores by) _ idle (and_true (runs_and (s.cores by) (λ x. nat_lt x.epoch epoch)) _ there).0)
-on_idle image count s by k (Cancel epoch) c idle there at = absurd (not_running (s.cores by) _ idle (and_true (runs_and (s.cores by) (λ x. nat_lt x.epoch epoch)) _ there).0)
+on_idle image count s by k (Hurt epoch) c idle there at = absurd (not_running (s.cores by) _ idle (and_parts (runs_and (s.cores by) (λ x. nat_lt x.epoch epoch)) _ there).0)
+on_idle image count s by k (Cancel epoch) c idle there at = absurd (not_running (s.cores by) _ idle (and_parts (runs_and (s.cores by) (λ x. nat_lt x.epoch epoch)) _ there).0)
 on_idle image count s by k Restart c idle there at = absurd (true≢false (sym there ∙ ap (λ o. by_core o false (λ x. x.hurt)) idle))
 on_idle image count s by k Publish c idle there at = absurd (not_running (s.cores by) _ idle there)
 on_idle image count s by k Commit c idle there at = absurd (not_running (s.cores by) _ idle there)
@@ -181,14 +174,10 @@ pick_second : (b v : Bool) → b ≡ false → (if b then false else v) ≡ v
 pick_second true v is = absurd cc
 pick_second false v is = refl
 
-both_true : (a b : Bool) → a ≡ true → b ≡ true → (a && b) ≡ true
-both_true true b one two = two
-both_true false b one two = absurd cc
-
 mark_by : (entries : List Entry) (place k : ℕ) (entry : Entry) (cores : ℕ → Option CoreState) (new : CoreState) → slice_get entries place ≡ Some entry → AreMarked entries place cores
     → IsAfter cores entry.by k entry.what new → new.hurt ≡ is_violated entries k new.epoch (suc place)
 mark_by entries place k entry cores new at marked (inl is) =
-    is.unhurt ∙ (sym (pick_first ((entry.by == k) && is_begin entry.what) _ (both_true (entry.by == k) (is_begin entry.what) (eq-eqb entry.by k is.same) is.begins))
+    is.unhurt ∙ (sym (pick_first ((entry.by == k) && is_begin entry.what) _ (and_from (entry.by == k) (is_begin entry.what) (eq-eqb entry.by k is.same) is.begins))
     ∙ sym (mark_now entries place k new.epoch entry at))
 mark_by entries place k entry cores new at marked (inr is) =
     is.hurt_is

@@ -1,5 +1,6 @@
 -- Violations that stand by the numbers of their pairs: those of a pair are neighbours, in the order that they had.
 use Rattle.std.proofs.Common.{◌≡◌, ℕ, ◌+◌, ◌-◌, ◌*◌, ◌^◌, ◌<◌, ◌≤◌, ◌==◌, ◌&&◌, Bool, true, false, cond, not, List, [], ◌∷◌, ◌++◌, All, filter, length, nat_lt, get_or, take, drop, Option, Some, None, is_some, refl, sym, ap, subst, ◌∙◌, arith, eqb-true, eq-eqb, ltb-true, ltb-false}
+use Rattle.std.proofs.lemmas.Bool.{false_from_ne_true}
 use Rattle.std.specs.List.{AllWithin}
 use Rattle.std.specs.List.Sorted.{IsPartitionPoint, IsStableByKey, ties}
 use Rattle.std.specs.Ordering.{is_lt, nat_cmp}
@@ -30,12 +31,8 @@ same_number s l t m low less =
     (λ is. let e = eqb-true (s * 2 ^ 32 + l + 1) (t * 2 ^ 32 + m + 1) is in (eq-eqb s t (omega (arith, e, low, less)), eq-eqb l m (omega (arith, e, low, less))))
     (λ is so. eq-eqb (s * 2 ^ 32 + l + 1) (t * 2 ^ 32 + m + 1) (omega (arith, eqb-true s t is, eqb-true l m so)))
 
-not_equal : (e : Bool) → (e ≡ true → ⊥) → e ≡ false
-not_equal true no_way = absurd (no_way refl)
-not_equal false no_way = refl
-
 at_number : (found : Option Pair) (p : Pair) → IsFit found → p.load < 2 ^ 32 → (number_of found == number_of (Some p)) ≡ has_pair found p
-at_number None p fit low = not_equal (0 == number_of (Some p)) (λ is. omega (arith, eqb-true 0 (number_of (Some p)) is))
+at_number None p fit low = false_from_ne_true (0 == number_of (Some p)) (λ is. omega (arith, eqb-true 0 (number_of (Some p)) is))
 at_number (Some q) p fit low = same_number q.store q.load p.store p.load fit low
 
 -- ---- a stable sort keeps those of a pair
@@ -60,8 +57,8 @@ tie_is a b =
     ap (λ x. not x && not (is_lt (nat_cmp b a))) (less_is (nat_lt a b) true a b refl)
     ∙ (ap (λ x. not (nat_lt a b) && not x) (less_is (nat_lt b a) true b a refl)
     ∙ tied (nat_lt a b) (b == a) (nat_lt b a)
-    (λ less. not_equal (b == a) (λ same. omega (arith, ltb-true a b less, eqb-true b a same)))
-    (λ same. not_equal (nat_lt b a) (λ less. omega (arith, ltb-true b a less, eqb-true b a same)))
+    (λ less. false_from_ne_true (b == a) (λ same. omega (arith, ltb-true a b less, eqb-true b a same)))
+    (λ same. false_from_ne_true (nat_lt b a) (λ less. omega (arith, ltb-true b a less, eqb-true b a same)))
     (λ most apart. grind (arith, most, apart)))
 
 -- a violation of a pair
@@ -159,7 +156,7 @@ passes r p fit low is = sym (at_number r.pair p fit low) ∙ eq-eqb (number_of r
 
 fails : (r : Rollback) (p : Pair) → IsFit r.pair → IsFit (Some p) → (number_of r.pair ≡ number_of (Some p) → ⊥) → belongs (OfPair p) r ≡ false
 fails r p fit low other =
-    sym (at_number r.pair p fit low) ∙ not_equal (number_of r.pair == number_of (Some p)) (λ is. other (eqb-true (number_of r.pair) (number_of (Some p)) is))
+    sym (at_number r.pair p fit low) ∙ false_from_ne_true (number_of r.pair == number_of (Some p)) (λ is. other (eqb-true (number_of r.pair) (number_of (Some p)) is))
 
 pub of_neighbours : (rs those : List Rollback) (p : Pair) (number a b : ℕ) → AreGrouped rs those → IsFit (Some p) → number ≡ number_of (Some p)
     → a ≤ b → b ≤ length those → AreBefore those number a → AreBefore those (number + 1) b → take (b - a) (drop a those) ≡ of_pair p rs

@@ -1,5 +1,6 @@
 -- Which addresses were read, and those in order.
 use Rattle.std.proofs.Common.{◌≡◌, ℕ, ◌+◌, ◌*◌, ◌/◌, ◌<◌, ◌≤◌, ◌==◌, Bool, true, false, cond, is_some, nat_lt, List, length, slice_index, Option, Some, None, refl, ap, subst, ◌∙◌, arith, ltb-true, ltb-false}
+use Rattle.std.proofs.lemmas.Bool.{and_parts}
 use Rattle.std.specs.List.Sorted.{IsPermutation, IsSorted}
 use Rattle.std.specs.Ordering.{is_lt, nat_cmp}
 use Rattle.std.specs.declared.cmp.Ordering.TheVariants.{Less, Equal, Greater}
@@ -7,12 +8,13 @@ use Rattle.std.proofs.lemmas.Cmp.{nat_cmp_total}
 use Rattle.std.proofs.lemmas.List.{get_or_default}
 use Rattle.std.proofs.lemmas.List.Elements.{Contains-get_or}
 use Rattle.std.proofs.lemmas.List.Sorted.{Contains-permutation, IsPermutation-sym, ranks_by, sorted_far}
+use Rattle.std.proofs.lemmas.Nat.{div-mul-add}
 use Rattle.memory_bytes.specs.Shadow.{IsAmong}
 use Rattle.rv32_image.specs.Image.{LoadedImage}
 use Rattle.rv32_image.specs.declared.version.Version.{Version}
 use Rattle.rv32_image.specs.declared.version.Version.TheVariants.{One, Two}
 use Rattle.rv32_image.specs.Version.{limits_of}
-use Rattle.spec_history.proofs.OneEntry.Legal.{and_true, some_below}
+use Rattle.spec_history.proofs.OneEntry.Legal.{some_below}
 use Rattle.spec_history.specs.Conflict.{Meeting, is_shared, line_has, line_number}
 use Rattle.conflicts.proofs.Blaming.{either_way}
 use Rattle.conflict_findings.specs.Runs.{AreRead, is_falsely_shared}
@@ -27,22 +29,18 @@ there (Some b) is = (b, refl)
 pub shared_listed : (m : Meeting) (addresses : List ℕ) (a : ℕ) → ((a byte : ℕ) → m.reads a ≡ Some byte → IsAmong a addresses) → is_shared m a ≡ true
     → (k : ℕ) × (k < length addresses) × (slice_index addresses k ≡ a)
 shared_listed m addresses a listed shared =
-    let byte = there (m.reads a) (and_true (is_some (m.writes a)) (is_some (m.reads a)) shared).1 in
+    let byte = there (m.reads a) (and_parts (is_some (m.writes a)) (is_some (m.reads a)) shared).1 in
     let among = listed a byte.0 byte.1 in (among.place, among.within, among.is)
-
-in_line : (v : Version) (j x : ℕ) → x < (limits_of v).line_length → (j * (limits_of v).line_length + x) / (limits_of v).line_length ≡ j
-in_line One j x below = omega (arith, below)
-in_line Two j x below = omega (arith, below)
 
 -- a falsely shared line is that of one of them
 pub line_listed : (image : LoadedImage) (m : Meeting) (addresses : List ℕ) (j : ℕ) → ((a byte : ℕ) → m.reads a ≡ Some byte → IsAmong a addresses) → is_falsely_shared image m j ≡ true
     → (k : ℕ) × (k < length addresses) × (line_number image (slice_index addresses k) ≡ j)
 line_listed image m addresses j listed is =
-    let read = (and_true (line_has image j (λ a. is_some (m.reads a))) _ is).0 in
+    let read = (and_parts (line_has image j (λ a. is_some (m.reads a))) _ is).0 in
     let at = some_below (limits_of image.version).line_length (λ x. is_some (m.reads (j * (limits_of image.version).line_length + x))) read in
     let byte = there (m.reads (j * (limits_of image.version).line_length + at.0)) at.2 in
     let among = listed (j * (limits_of image.version).line_length + at.0) byte.0 byte.1 in
-    (among.place, among.within, ap (λ a. a / (limits_of image.version).line_length) among.is ∙ in_line image.version j at.0 at.1)
+    (among.place, among.within, ap (λ a. a / (limits_of image.version).line_length) among.is ∙ div-mul-add j (limits_of image.version).line_length at.0 at.1)
 
 -- ---- lines of memory
 

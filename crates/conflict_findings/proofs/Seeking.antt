@@ -87,15 +87,3 @@ pub goes_on : (image : LoadedImage) (s : FlatState) (entries : List Entry) (plac
 goes_on image s entries place core n runner hurt faulted runs is_hurt is_over marked neither executed =
     sym (ap (λ b. if b then None else option_map (λ m. record { runner = runner; done = m }) (Some n)) neither)
     ∙ running_is image s entries place core runner hurt faulted (Some n) runs is_hurt is_over marked executed
-
-pub or_left : (a b : Bool) → a ≡ true → (a || b) ≡ true
-or_left true b is = refl
-or_left false b is = absurd cc
-
-pub or_right : (a b : Bool) → b ≡ true → (a || b) ≡ true
-or_right true b is = refl
-or_right false b is = is
-
-pub or_none : (a b : Bool) → a ≡ false → b ≡ false → (a || b) ≡ false
-or_none true b one two = absurd cc
-or_none false b one two = two

@@ -2,10 +2,6 @@
 use Rattle.std.proofs.Common.{◌≡◌, ◌++◌, ◌∙◌, ℕ, List, [], ◌∷◌, append_assoc, ap, refl, Result, Ok, Err, OnOk, is_ok, cond}
 use Rattle.std.specs.List.{flat_map}
 
-pub follows : {A B : Type 0} (r : Result A B) (P Q : Type 0) → (P → Q) → OnOk r P → OnOk r Q
-follows (Ok x) P Q f is = f is
-follows (Err e) P Q f is = tt
-
 -- the line of the total, part by part
 pub total_parts : (text first second third fourth fifth new a b c d u s r e : List ℕ) → first ≡ text ++ (a ++ b) → second ≡ first ++ (c ++ d) → third ≡ second ++ u
     → fourth ≡ third ++ s → fifth ≡ fourth ++ r → new ≡ fifth ++ e → new ≡ text ++ (a ++ b ++ c ++ d ++ u ++ s ++ r ++ e)

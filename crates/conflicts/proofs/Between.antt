@@ -1,9 +1,10 @@
 -- A violation that is left out, where others stand between it and its cause.
 use Rattle.std.specs.Prelude.{All}
 use Rattle.std.proofs.Common.{◌≡◌, ◌≢◌, ℕ, ◌<◌, ◌==◌, ◌&&◌, ◌||◌, not, Bool, true, false, nat_lt, List, [], ◌∷◌, Option, Some, None, option_map, if◌then◌else◌, refl, sym, ap, ◌∙◌, arith, eqb-true, ltb-true, ne_eqb, inl, inr}
-use Rattle.std.proofs.lemmas.Bool.{cases_eq, eq-eqb}
+use Rattle.std.proofs.lemmas.Bool.{cases_eq, eq-eqb, and_from, and_parts, not-true, or_parts, both_ways, false≢true}
 use Rattle.std.proofs.lemmas.List.Elements.{All-tail}
 use Rattle.std.proofs.Math.Path.{fun_ext}
+use Rattle.std.proofs.lemmas.Option.{same_Some}
 use Rattle.rv32_image.specs.Image.{LoadedImage, IsImage}
 use Rattle.spec_history.specs.declared.entry.Entry.{Entry}
 use Rattle.spec_history.specs.declared.entry.What.{What}
@@ -14,7 +15,7 @@ use Rattle.spec_history.specs.FlatState.{CoreState, FlatState}
 use Rattle.spec_history.specs.Effect.{effect, hurt_at, idle_at}
 use Rattle.spec_history.specs.Refusal.{any_below, runs_and, can_be_hurt, is_an_exit, is_at, is_there, next_is, refusal_of}
 use Rattle.spec_history.specs.Replay.{replay, replay_from, where_legal}
-use Rattle.spec_history.proofs.OneEntry.Legal.{legal_entry, legal_is, and_true, not_true, some_below}
+use Rattle.spec_history.proofs.OneEntry.Legal.{legal_entry, legal_is, some_below}
 use Rattle.spec_history.proofs.Searches.Missing.{quiet_misses}
 use Rattle.spec_history.proofs.Searches.Tests.{one_passes}
 use Rattle.spec_history.proofs.Replay.Replays.{Whole, all_entries, effect-on, replayed}
@@ -40,37 +41,23 @@ swapped s x y = ap (λ (cores : ℕ → Option CoreState). record s { cores = co
 
 -- ---- what is legal after the violation was so before it
 
-or_right : (a b : Bool) → (a || b) ≡ false → b ≡ false
-or_right true b is = absurd cc
-or_right false b is = is
-
-or_left : (a b : Bool) → (a || b) ≡ false → a ≡ false
-or_left true b is = absurd cc
-or_left false b is = refl
-
-no_clash : (b : Bool) → b ≡ true → b ≡ false → ⊥
-no_clash true is other = absurd cc
-no_clash false is other = absurd cc
-
-both_so : (a b : Bool) → a ≡ true → b ≡ true → (a && b) ≡ true
-both_so a b x y = rw (x, y) refl
-
 -- a core that can be violated after another violation is of another epoch, and could be before it
 apart : (epoch other : ℕ) (core : Option CoreState) → can_be_hurt other (hurt_at epoch core) ≡ true → (other ≢ epoch) × (can_be_hurt other core ≡ true)
 apart epoch other None is = absurd cc
 apart epoch other (Some c) is =
-    let both = and_true (not (c.hurt || (c.epoch == epoch))) ((c.epoch == other) && not c.straight) is in
-    let unhurt : (c.hurt || (c.epoch == epoch)) ≡ false = not_true (c.hurt || (c.epoch == epoch)) both.0 in
-    let named : c.epoch ≡ other = eqb-true c.epoch other (and_true (c.epoch == other) (not c.straight) both.1).0 in (
-      (λ e. no_clash (c.epoch == epoch) (eq-eqb c.epoch epoch (named ∙ e)) (or_right c.hurt (c.epoch == epoch) unhurt)),
-      both_so (not c.hurt) ((c.epoch == other) && not c.straight) (ap not (or_left c.hurt (c.epoch == epoch) unhurt)) both.1,
+    let both = and_parts (not (c.hurt || (c.epoch == epoch))) ((c.epoch == other) && not c.straight) is in
+    let unhurt : (c.hurt || (c.epoch == epoch)) ≡ false = not-true (c.hurt || (c.epoch == epoch)) both.0 in
+    let neither = or_parts c.hurt (c.epoch == epoch) unhurt in
+    let named : c.epoch ≡ other = eqb-true c.epoch other (and_parts (c.epoch == other) (not c.straight) both.1).0 in (
+      (λ e. both_ways (c.epoch == epoch) neither.1 (eq-eqb c.epoch epoch (named ∙ e))),
+      and_from (not c.hurt) ((c.epoch == other) && not c.straight) (ap not neither.0) both.1,
     )
 
 -- and the other way round
 still : (epoch other : ℕ) (core : Option CoreState) → other ≢ epoch → can_be_hurt epoch core ≡ true → can_be_hurt epoch (hurt_at other core) ≡ true
 still epoch other core differ is =
     let d = running core (λ c. (c.epoch == epoch) && not c.straight) is in
-    let named : d.0.epoch ≡ epoch = eqb-true d.0.epoch epoch (and_true (d.0.epoch == epoch) (not d.0.straight) d.2).0 in
+    let named : d.0.epoch ≡ epoch = eqb-true d.0.epoch epoch (and_parts (d.0.epoch == epoch) (not d.0.straight) d.2).0 in
     ap (can_be_hurt epoch) (core_other other core d.0 d.1 (λ e. differ (sym e ∙ named))) ∙ is
 
 legal_hurt : (image : LoadedImage) (count : ℕ) (s : FlatState) (by epoch : ℕ) (c : CoreState) → s.end ≡ None → s.cores by ≡ Some c → is_there count s by (Hurt epoch) ≡ true
@@ -101,8 +88,8 @@ another image count s by epoch other c at apart_from hurts goes =
     let hurt = legal_entry image count s (record { by = by; what = Hurt epoch }) hurts in
     let next = legal_entry image count (with_hurt s epoch) (record { by = by; what = Hurt other }) goes in
     let unchanged = core_other epoch (s.cores by) c at apart_from in
-    let first = and_true (runs_and (s.cores by) (λ x. nat_lt x.epoch epoch)) (any_below count (λ k. can_be_hurt epoch (s.cores k))) hurt.there in
-    let second = and_true (runs_and (hurt_at epoch (s.cores by)) (λ x. nat_lt x.epoch other)) (any_below count (λ k. can_be_hurt other (hurt_at epoch (s.cores k)))) next.there in
+    let first = and_parts (runs_and (s.cores by) (λ x. nat_lt x.epoch epoch)) (any_below count (λ k. can_be_hurt epoch (s.cores k))) hurt.there in
+    let second = and_parts (runs_and (hurt_at epoch (s.cores by)) (λ x. nat_lt x.epoch other)) (any_below count (λ k. can_be_hurt other (hurt_at epoch (s.cores k)))) next.there in
     let runs_it : runs_and (s.cores by) (λ x. nat_lt x.epoch other) ≡ true = sym (ap (λ o. runs_and o (λ (x : CoreState). nat_lt x.epoch other)) unchanged) ∙ second.0 in
     let d = running (s.cores by) (λ x. nat_lt x.epoch other) runs_it in
     let earlier : d.0.epoch < other = ltb-true d.0.epoch other d.2 in
@@ -113,11 +100,11 @@ another image count s by epoch other c at apart_from hurts goes =
     record {
       differ = two.0;
       before = legal_hurt image count s by other c hurt.going at
-          (both_so _ _ runs_it (one_passes count (λ k. can_be_hurt other (s.cores k)) found.0 found.1 two.1));
+          (and_from _ _ runs_it (one_passes count (λ k. can_be_hurt other (s.cores k)) found.0 found.1 two.1));
       same = same;
       one = effect-on image s by (Hurt other) c at;
       after = legal_hurt image count (with_hurt s other) by epoch c hurt.going (same ∙ at)
-          (both_so _ _ (ap (λ o. runs_and o (λ (x : CoreState). nat_lt x.epoch epoch)) same ∙ first.0)
+          (and_from _ _ (ap (λ o. runs_and o (λ (x : CoreState). nat_lt x.epoch epoch)) same ∙ first.0)
           (one_passes count (λ k. can_be_hurt epoch (hurt_at other (s.cores k))) victim.0 victim.1 (still epoch other (s.cores victim.0) two.0 victim.2)));
     }
 
@@ -148,7 +135,7 @@ at_same epoch other (Some c) is = is
 still_there : (epoch other : ℕ) (core : Option CoreState) → other ≢ epoch → can_be_hurt epoch core ≡ true → can_be_hurt epoch (idle_at other core) ≡ true
 still_there epoch other core differ is =
     let d = running core (λ c. (c.epoch == epoch) && not c.straight) is in
-    let named : d.0.epoch ≡ epoch = eqb-true d.0.epoch epoch (and_true (d.0.epoch == epoch) (not d.0.straight) d.2).0 in
+    let named : d.0.epoch ≡ epoch = eqb-true d.0.epoch epoch (and_parts (d.0.epoch == epoch) (not d.0.straight) d.2).0 in
     ap (can_be_hurt epoch) (idle_other other core d.0 d.1 (λ e. differ (sym e ∙ named))) ∙ is
 
 -- what is known of a cancellation by the same core, which stands after a violation
@@ -165,7 +152,7 @@ cancelled image count s by epoch other c at apart_from hurts goes =
     let hurt = legal_entry image count s (record { by = by; what = Hurt epoch }) hurts in
     let next = legal_entry image count (with_hurt s epoch) (record { by = by; what = Cancel other }) goes in
     let unchanged = core_other epoch (s.cores by) c at apart_from in
-    let second = and_true (runs_and (hurt_at epoch (s.cores by)) (λ x. nat_lt x.epoch other)) (any_below count (λ k. is_at other (hurt_at epoch (s.cores k)))) next.there in
+    let second = and_parts (runs_and (hurt_at epoch (s.cores by)) (λ x. nat_lt x.epoch other)) (any_below count (λ k. is_at other (hurt_at epoch (s.cores k)))) next.there in
     let runs_it : runs_and (s.cores by) (λ x. nat_lt x.epoch other) ≡ true = sym (ap (λ o. runs_and o (λ (x : CoreState). nat_lt x.epoch other)) unchanged) ∙ second.0 in
     let d = running (s.cores by) (λ x. nat_lt x.epoch other) runs_it in
     let earlier : d.0.epoch < other = ltb-true d.0.epoch other d.2 in
@@ -173,7 +160,7 @@ cancelled image count s by epoch other c at apart_from hurts goes =
     record {
       before = legal_is image count s (record { by = by; what = Cancel other }) (record {
         going = hurt.going;
-        there = both_so _ _ runs_it (one_passes count (λ k. is_at other (s.cores k)) found.0 found.1 (at_same epoch other (s.cores found.0) found.2));
+        there = and_from _ _ runs_it (one_passes count (λ k. is_at other (s.cores k)) found.0 found.1 (at_same epoch other (s.cores found.0) found.2));
         next = sym (ap (λ o. next_is image o (is_an_exit image)) unchanged) ∙ next.next;
         homefree = sym (ap (is_at s.homefree) unchanged) ∙ next.homefree;
         value = refl;
@@ -190,10 +177,10 @@ then_hurt : (image : LoadedImage) (count : ℕ) (s : FlatState) (by epoch other 
     → refusal_of image count (with_idle s other) (record { by = by; what = Hurt epoch }) ≡ None
 then_hurt image count s by epoch other c at differ same hurts =
     let hurt = legal_entry image count s (record { by = by; what = Hurt epoch }) hurts in
-    let first = and_true (runs_and (s.cores by) (λ x. nat_lt x.epoch epoch)) (any_below count (λ k. can_be_hurt epoch (s.cores k))) hurt.there in
+    let first = and_parts (runs_and (s.cores by) (λ x. nat_lt x.epoch epoch)) (any_below count (λ k. can_be_hurt epoch (s.cores k))) hurt.there in
     let victim = some_below count (λ k. can_be_hurt epoch (s.cores k)) first.1 in
     legal_hurt image count (with_idle s other) by epoch c hurt.going (same ∙ at)
-    (both_so _ _ (ap (λ o. runs_and o (λ (x : CoreState). nat_lt x.epoch epoch)) same ∙ first.0)
+    (and_from _ _ (ap (λ o. runs_and o (λ (x : CoreState). nat_lt x.epoch epoch)) same ∙ first.0)
     (one_passes count (λ k. can_be_hurt epoch (idle_at other (s.cores k))) victim.0 victim.1 (still_there epoch other (s.cores victim.0) differ victim.2)))
 
 -- the core of the violated epoch is idle after its cancellation, violated or not
@@ -213,10 +200,6 @@ gone : (s : FlatState) (x : ℕ) → with_idle (with_hurt s x) x ≡ with_idle s
 gone s x = ap (λ (cores : ℕ → Option CoreState). record s { cores = cores }) (fun_ext (λ k. core_gone x (s.cores k)))
 
 -- ---- the law
-
-inner : (o : Option Illegal) → Some o ≡ Some None → o ≡ None
-inner None is = refl
-inner (Some illegal) is = absurd cc
 
 legal_then : (refusal : Option Illegal) (next : Option FlatState) (f : FlatState → Option Illegal) → option_map f (where_legal refusal next) ≡ Some None
     → (refusal ≡ None) × (option_map f next ≡ Some None)
@@ -271,7 +254,7 @@ at_the_cause : (image : LoadedImage) (count : ℕ) (s : FlatState) (by victim : 
 at_the_cause image count s by victim v cause whole at hurts goes commits_it =
     let kept = (whole.going (legal_entry image count s (record { by = by; what = Hurt v.epoch }) hurts).going).kept in
     let known = before_of image count s by victim v kept at (legal_entry image count s (record { by = by; what = Hurt v.epoch }) hurts) in
-    let goes_on = inner (refusal_of image count (with_hurt s v.epoch) (record { by = by; what = cause })) (sym (at_once image count (with_hurt s v.epoch) (record { by = by; what = cause })) ∙ goes) in
+    let goes_on = same_Some (refusal_of image count (with_hurt s v.epoch) (record { by = by; what = cause })) None (sym (at_once image count (with_hurt s v.epoch) (record { by = by; what = cause })) ∙ goes) in
     at_once image count s (record { by = by; what = cause })
     ∙ ap Some (missed_from image count s by victim v cause whole at hurts
     (ap (λ t. refusal_of image count t (record { by = by; what = cause })) (effect-on image s by (Hurt v.epoch) known.0 known.1) ∙ goes_on) commits_it)
@@ -343,36 +326,29 @@ past_own_cancellation image count other notices s by victim v cause own whole at
 first_is : (what : What) (notices : List What) → All (λ x. is_notice x ≡ true) (what ∷ notices) → is_notice what ≡ true
 first_is what notices all = all 0 what (omega arith)
 
-rest_are : (what : What) (notices : List What) → All (λ x. is_notice x ≡ true) (what ∷ notices) → All (λ x. is_notice x ≡ true) notices
-rest_are what notices all = All-tail (λ x. is_notice x ≡ true) what notices all
-
--- an act is no notice
-never : (A : Type 0) → false ≡ true → A
-never A is = absurd cc
-
 missed_between : (image : LoadedImage) (count : ℕ) (notices : List What) (by victim : ℕ) (v : CoreState) (cause : What) → All (λ what. is_notice what ≡ true) notices
     → (s : FlatState) → Left image count notices s by victim v cause
 missed_between image count [] by victim v cause all s = at_the_cause image count s by victim v cause
 missed_between image count (Hurt other ∷ notices) by victim v cause all s =
-    past_violation image count other notices s by victim v cause (missed_between image count notices by victim v cause (rest_are _ _ all))
+    past_violation image count other notices s by victim v cause (missed_between image count notices by victim v cause (All-tail (λ x. is_notice x ≡ true) _ _ all))
 missed_between image count (Cancel other ∷ notices) by victim v cause all s = elim (cases_eq other v.epoch) [
   | inl own ↦ past_own_cancellation image count other notices s by victim v cause own
-  | inr differ ↦ past_cancellation image count other notices s by victim v cause differ (missed_between image count notices by victim v cause (rest_are _ _ all))
+  | inr differ ↦ past_cancellation image count other notices s by victim v cause differ (missed_between image count notices by victim v cause (All-tail (λ x. is_notice x ≡ true) _ _ all))
 ]
 missed_between image count (Start epoch ∷ notices) by victim v cause all s =
-    never (Left image count (Start epoch ∷ notices) s by victim v cause) (first_is (Start epoch) notices all)
+    absurd (false≢true (first_is (Start epoch) notices all))
 missed_between image count (Load address width value ∷ notices) by victim v cause all s =
-    never (Left image count (Load address width value ∷ notices) s by victim v cause) (first_is (Load address width value) notices all)
+    absurd (false≢true (first_is (Load address width value) notices all))
 missed_between image count (Store address width value ∷ notices) by victim v cause all s =
-    never (Left image count (Store address width value ∷ notices) s by victim v cause) (first_is (Store address width value) notices all)
+    absurd (false≢true (first_is (Store address width value) notices all))
 missed_between image count (Restart ∷ notices) by victim v cause all s =
-    never (Left image count (Restart ∷ notices) s by victim v cause) (first_is Restart notices all)
+    absurd (false≢true (first_is Restart notices all))
 missed_between image count (Publish ∷ notices) by victim v cause all s =
-    never (Left image count (Publish ∷ notices) s by victim v cause) (first_is Publish notices all)
+    absurd (false≢true (first_is Publish notices all))
 missed_between image count (Commit ∷ notices) by victim v cause all s =
-    never (Left image count (Commit ∷ notices) s by victim v cause) (first_is Commit notices all)
+    absurd (false≢true (first_is Commit notices all))
 missed_between image count (Fault why pc ∷ notices) by victim v cause all s =
-    never (Left image count (Fault why pc ∷ notices) s by victim v cause) (first_is (Fault why pc) notices all)
+    absurd (false≢true (first_is (Fault why pc) notices all))
 
 -- the whole history
 pub missed_among : (image : LoadedImage) (count : ℕ) (entries : List Entry) (notices : List What) (s : FlatState) (by victim : ℕ) (v : CoreState) (cause : What) → IsImage image

@@ -1,5 +1,6 @@
 -- Searches for what is blamed.
 use Rattle.std.proofs.Common.{◌≡◌, ℕ, ◌<◌, ◌&&◌, Bool, true, false, is_some, nat_lt, List, Option, Some, None, refl, sym, ap, ◌∙◌, arith, ltb-true, option_and_then}
+use Rattle.std.proofs.lemmas.Bool.{false_from_ne_true}
 use Rattle.rv32_image.specs.Image.{LoadedImage}
 use Rattle.spec_history.specs.declared.entry.Entry.{Entry}
 use Rattle.conflicts.specs.Attempts.{attempt_place, core_does, is_after, loads_byte}
@@ -26,10 +27,6 @@ pub unread_before : (image : LoadedImage) (entries : List Entry) (v : Violation)
     → blamed_byte image entries v load ≡ None
 unread_before image entries v load is = first_none image.size (is_read_at image entries v load) (λ a below. by_after _ _ _ _ is)
 
-pub not_so : (b : Bool) → (b ≡ true → ⊥) → b ≡ false
-not_so true no_way = absurd (no_way refl)
-not_so false no_way = refl
-
 pub either_way : (b : Bool) (P : Type 0) → (b ≡ true → P) → (b ≡ false → P) → P
 either_way true P one other = one refl
 either_way false P one other = other refl
@@ -38,7 +35,7 @@ either_way false P one other = other refl
 pub unread_until : (image : LoadedImage) (entries : List Entry) (v : Violation) (start k : ℕ) → attempt_place entries v.victim v.place ≡ Some start → k < start
     → is_some (blamed_byte image entries v k) ≡ false
 unread_until image entries v start k is before =
-    ap is_some (unread_before image entries v k (ap (λ (o : Option ℕ). is_after o k) is ∙ not_so (nat_lt start k) (λ after. omega (arith, before, ltb-true start k after))))
+    ap is_some (unread_before image entries v k (ap (λ (o : Option ℕ). is_after o k) is ∙ false_from_ne_true (nat_lt start k) (λ after. omega (arith, before, ltb-true start k after))))
 
 pub no_blame : (image : LoadedImage) (entries : List Entry) (v : Violation) → None ≡ attempt_place entries v.victim v.place → blame_of image entries v ≡ None
 no_blame image entries v is =

@@ -1,5 +1,6 @@
 -- Explanations that grow by one entry of the history.
 use Rattle.std.proofs.Common.{◌≡◌, ◌≢◌, ℕ, suc, ◌+◌, ◌==◌, ◌&&◌, not, Bool, true, false, is_some, nat_lt, slice_get, option_map, List, [], ◌∷◌, ◌++◌, take, All, IfSome, Option, Some, None, option_to_list, refl, sym, ap, ◌∙◌, add-one, eqb-true}
+use Rattle.std.proofs.lemmas.Bool.{and_parts}
 use Rattle.std.proofs.lemmas.List.{append-nil, map-append}
 use Rattle.std.proofs.lemmas.List.Elements.{All-push}
 use Rattle.rv32_image.specs.Image.{LoadedImage}
@@ -10,7 +11,7 @@ use Rattle.rv32_exec.specs.Arrival.{Arrival}
 use Rattle.spec_history.specs.FlatState.{CoreState, FlatState, arrival_of}
 use Rattle.spec_history.specs.Refusal.{any_below, can_be_hurt, is_at, runs_and, refusal_of}
 use Rattle.spec_history.specs.Replay.{replay}
-use Rattle.spec_history.proofs.OneEntry.Legal.{legal_entry, and_true, some_below}
+use Rattle.spec_history.proofs.OneEntry.Legal.{legal_entry, some_below}
 use Rattle.spec_history.proofs.Searches.Tests.{one_passes}
 use Rattle.conflicts.specs.declared.explanation.Blame.{Blame}
 use Rattle.conflicts.specs.declared.explanation.Explanation.{Explanation}
@@ -63,13 +64,13 @@ explained_more image count s entries place xs (Some e) replays is all =
 at_epoch : (epoch : ℕ) (core : Option CoreState) → can_be_hurt epoch core ≡ true → is_at epoch core ≡ true
 at_epoch epoch None is = absurd cc
 at_epoch epoch (Some c) is =
-    let rest = and_true (not c.hurt) ((c.epoch == epoch) && not c.straight) is in (and_true (c.epoch == epoch) (not c.straight) rest.1).0
+    let rest = and_parts (not c.hurt) ((c.epoch == epoch) && not c.straight) is in (and_parts (c.epoch == epoch) (not c.straight) rest.1).0
 
 pub victim_there : (image : LoadedImage) (count : ℕ) (s : FlatState) (by epoch : ℕ) → refusal_of image count s (record { by = by; what = Hurt epoch }) ≡ None
     → any_below count (λ k. is_at epoch (s.cores k)) ≡ true
 victim_there image count s by epoch legal =
     let there = (legal_entry image count s (record { by = by; what = Hurt epoch }) legal).there in
-    let both = and_true (runs_and (s.cores by) (λ c. nat_lt c.epoch epoch)) (any_below count (λ k. can_be_hurt epoch (s.cores k))) there in
+    let both = and_parts (runs_and (s.cores by) (λ c. nat_lt c.epoch epoch)) (any_below count (λ k. can_be_hurt epoch (s.cores k))) there in
     let found = some_below count (λ k. can_be_hurt epoch (s.cores k)) both.1 in
     one_passes count (λ k. is_at epoch (s.cores k)) found.0 found.1 (at_epoch epoch (s.cores found.0) found.2)
 
@@ -81,7 +82,7 @@ pub causer_there : (image : LoadedImage) (count : ℕ) (s : FlatState) (by epoch
     → is_some (s.cores by) ≡ true
 causer_there image count s by epoch legal =
     let there = (legal_entry image count s (record { by = by; what = Hurt epoch }) legal).there in
-    let both = and_true (runs_and (s.cores by) (λ c. nat_lt c.epoch epoch)) (any_below count (λ k. can_be_hurt epoch (s.cores k))) there in
+    let both = and_parts (runs_and (s.cores by) (λ c. nat_lt c.epoch epoch)) (any_below count (λ k. can_be_hurt epoch (s.cores k))) there in
     there_by (s.cores by) (λ c. nat_lt c.epoch epoch) both.0
 
 -- ---- an explanation that was made is right

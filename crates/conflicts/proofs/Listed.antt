@@ -1,9 +1,10 @@
 -- Tests of bytes, tried at a list of addresses that has all that the victim has read.
 use Rattle.std.proofs.Common.{◌≡◌, ℕ, ◌<◌, false, List, length, slice_index, Option, Some, None, refl, sym, ap, ◌∙◌}
+use Rattle.std.proofs.lemmas.Bool.{and_right}
 use Rattle.memory_bytes.specs.Shadow.{IsAmong}
 use Rattle.rv32_image.specs.Image.{LoadedImage}
 use Rattle.spec_history.specs.Refusal.{any_below}
-use Rattle.spec_history.proofs.Searches.Tests.{all_fail, and_no}
+use Rattle.spec_history.proofs.Searches.Tests.{all_fail}
 use Rattle.conflicts.specs.declared.meeting.ByteTest.{ByteTest}
 use Rattle.conflicts.specs.declared.meeting.ByteTest.TheVariants.{Changed, Shared, Beside}
 use Rattle.spec_history.specs.Conflict.{Meeting}
@@ -11,8 +12,8 @@ use Rattle.conflicts.specs.Parties.{passes}
 
 -- a byte that the victim has not read passes none of the tests
 unread : (image : LoadedImage) (m : Meeting) (test : ByteTest) (a : ℕ) → m.reads a ≡ None → passes image m test a ≡ false
-unread image m Changed a none = rw none (and_no _)
-unread image m Shared a none = rw none (and_no _)
+unread image m Changed a none = rw none (and_right _ false refl)
+unread image m Shared a none = rw none (and_right _ false refl)
 unread image m Beside a none = rw none refl
 
 fails_at : (image : LoadedImage) (m : Meeting) (test : ByteTest) (addresses : List ℕ) (a : ℕ)

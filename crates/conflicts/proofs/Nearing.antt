@@ -1,17 +1,16 @@
 -- The nearest of the lines in which the victim has stored, and how many there are.
 use Rattle.std.proofs.Common.{◌≡◌, ℕ, zero, suc, ◌+◌, ◌*◌, ◌/◌, ◌<◌, ◌≤◌, ◌==◌, ◌&&◌, not, Bool, true, false, nat_le, nat_lt, is_some, List, length, slice_index, Option, Some, None, refl, sym, ap, ◌∙◌, inl, inr, arith, le-leb, ltb-true, leb-true, ltb-false}
-use Rattle.std.proofs.lemmas.Bool.{cases_eq, lt-leb}
+use Rattle.std.proofs.lemmas.Bool.{cases_eq, lt-leb, false_from_ne_true, and_parts, both_ways}
+use Rattle.std.proofs.lemmas.Nat.{div-mul-add}
 use Rattle.memory_bytes.specs.Shadow.{IsAmong}
 use Rattle.rv32_image.specs.Image.{LoadedImage}
-use Rattle.rv32_image.specs.declared.version.Version.{Version}
-use Rattle.rv32_image.specs.declared.version.Version.TheVariants.{One, Two}
 use Rattle.rv32_image.specs.Version.{limits_of}
-use Rattle.spec_history.proofs.OneEntry.Legal.{and_true, some_below}
+use Rattle.spec_history.proofs.OneEntry.Legal.{some_below}
 use Rattle.spec_history.specs.Searches.{IsNext, count_below}
 use Rattle.spec_history.specs.Conflict.{Meeting, holds_line, line_number}
 use Rattle.conflicts.specs.Parties.{holds_other}
 use Rattle.spec_history.proofs.Searches.Tests.{count_none, count_one}
-use Rattle.conflicts.proofs.Blaming.{either_way, not_so}
+use Rattle.conflicts.proofs.Blaming.{either_way}
 
 -- ---- the nearest of so many lines
 
@@ -31,8 +30,8 @@ none_tried lines test from end = record {
 pub nearer : (lines : ℕ → ℕ) (test : ℕ → Bool) (from end count next : ℕ) → Nearest lines test from end count next
     → (nat_le from (lines count) && (nat_lt (lines count) next && test (lines count))) ≡ true → Nearest lines test from end (count + 1) (lines count)
 nearer lines test from end count next was is =
-    let first = and_true (nat_le from (lines count)) (nat_lt (lines count) next && test (lines count)) is in
-    let rest = and_true (nat_lt (lines count) next) (test (lines count)) first.1 in
+    let first = and_parts (nat_le from (lines count)) (nat_lt (lines count) next && test (lines count)) is in
+    let rest = and_parts (nat_lt (lines count) next) (test (lines count)) first.1 in
     let before : lines count < next = ltb-true (lines count) next rest.0 in
     record {
       most = omega (arith, before, was.most);
@@ -49,10 +48,6 @@ all_three true true false a b c = c
 all_three true false c a b d = b
 all_three false b c a d e = a
 
-clash : (b : Bool) (P : Type 0) → b ≡ true → b ≡ false → P
-clash true P is isnt = absurd cc
-clash false P is isnt = absurd cc
-
 pub no_nearer : (lines : ℕ → ℕ) (test : ℕ → Bool) (from end count next : ℕ) → Nearest lines test from end count next
     → (nat_le from (lines count) && (nat_lt (lines count) next && test (lines count))) ≡ false → Nearest lines test from end (count + 1) next
 no_nearer lines test from end count next was is = record {
@@ -60,8 +55,7 @@ no_nearer lines test from end count next was is = record {
   passes = was.passes;
   tried = λ k below after passes. elim (cases_eq k count) [
     | inl e ↦ either_way (nat_lt (lines count) next) (next ≤ lines k)
-        (λ before. clash (nat_le from (lines count) && (nat_lt (lines count) next && test (lines count))) (next ≤ lines k)
-        (all_three _ _ _ (le-leb from (lines count) (omega (arith, after, ap lines e))) before (sym (ap (λ j. test (lines j)) e) ∙ passes)) is)
+        (λ before. absurd (both_ways (nat_le from (lines count) && (nat_lt (lines count) next && test (lines count))) is (all_three _ _ _ (le-leb from (lines count) (omega (arith, after, ap lines e))) before (sym (ap (λ j. test (lines j)) e) ∙ passes))))
         (λ past. omega (arith, ltb-false (lines count) next past, ap lines e))
     | inr other ↦ was.tried k (omega (arith, below, other)) after passes
   ];
@@ -73,7 +67,7 @@ pub next_of : (lines : ℕ → ℕ) (test : ℕ → Bool) (from end count next :
 next_of lines test from end count next was listed = record {
   most = was.most;
   passes = was.passes;
-  first = λ j after before. not_so (test j) (λ passes.
+  first = λ j after before. false_from_ne_true (test j) (λ passes.
       let at = listed j passes in
       omega (arith, before, at.2, was.tried at.0 at.1 (omega (arith, after, at.2)) (ap test at.2 ∙ passes)));
 }
@@ -84,18 +78,14 @@ there : (byte : Option ℕ) → is_some byte ≡ true → (b : ℕ) × (byte ≡
 there None is = absurd cc
 there (Some b) is = (b, refl)
 
-in_line : (v : Version) (j x : ℕ) → x < (limits_of v).line_length → (j * (limits_of v).line_length + x) / (limits_of v).line_length ≡ j
-in_line One j x below = omega (arith, below)
-in_line Two j x below = omega (arith, below)
-
 pub held_line : (image : LoadedImage) (m : Meeting) (addresses : List ℕ) (line j : ℕ) → ((a byte : ℕ) → m.stores a ≡ Some byte → IsAmong a addresses)
     → holds_other image m line j ≡ true → (k : ℕ) × (k < length addresses) × (line_number image (slice_index addresses k) ≡ j)
 held_line image m addresses line j listed holds =
-    let both = and_true (not (j == line)) (holds_line image m j) holds in
+    let both = and_parts (not (j == line)) (holds_line image m j) holds in
     let at = some_below (limits_of image.version).line_length (λ x. is_some (m.stores (j * (limits_of image.version).line_length + x))) both.1 in
     let byte = there (m.stores (j * (limits_of image.version).line_length + at.0)) at.2 in
     let among = listed (j * (limits_of image.version).line_length + at.0) byte.0 byte.1 in
-    (among.place, among.within, ap (λ a. a / (limits_of image.version).line_length) among.is ∙ in_line image.version j at.0 at.1)
+    (among.place, among.within, ap (λ a. a / (limits_of image.version).line_length) among.is ∙ div-mul-add j (limits_of image.version).line_length at.0 at.1)
 
 -- ---- a count that goes from one to the next
 

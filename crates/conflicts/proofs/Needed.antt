@@ -1,6 +1,6 @@
 -- A violation that is left out: what its cause is then refused with.
 use Rattle.std.proofs.Common.{◌≡◌, ◌≢◌, ℕ, zero, suc, ◌<◌, ◌==◌, ◌&&◌, ◌||◌, not, Bool, true, false, cond, is_some, nat_lt, List, Option, Some, None, refl, sym, ap, ◌∙◌, inl, inr, arith, ne_eqb, eqb-true, ltb-true}
-use Rattle.std.proofs.lemmas.Bool.{cases_eq}
+use Rattle.std.proofs.lemmas.Bool.{cases_eq, and_parts, not-true, and_right}
 use Rattle.memory_bytes.specs.Maps.{over, stored}
 use Rattle.rv32_image.specs.Image.{LoadedImage, IsImage}
 use Rattle.spec_history.specs.declared.entry.Entry.{Entry}
@@ -12,7 +12,7 @@ use Rattle.spec_history.specs.Effect.{effect, effect_on, hurt_at}
 use Rattle.spec_history.specs.Refusal.{any_below, runs, runs_and, can_be_hurt, is_at, is_there, is_next, next_is, is_that_store, is_the_end, is_that_fault, is_an_exit, is_homefree, is_value, has_read, other_has_read, misses_a_hurt, misses_a_cancel, other_runs, refusal_of}
 use Rattle.spec_history.specs.Replay.{replay}
 use Rattle.spec_history.specs.Laws.{IsKept}
-use Rattle.spec_history.proofs.OneEntry.Legal.{IsLegalEntry, legal_entry, and_true, not_true, some_below, none_below}
+use Rattle.spec_history.proofs.OneEntry.Legal.{IsLegalEntry, legal_entry, some_below, none_below}
 use Rattle.spec_history.proofs.OneEntry.Keeping.{same_core}
 use Rattle.spec_history.proofs.Searches.Tests.{all_fail, one_passes}
 use Rattle.spec_history.proofs.Replay.Replays.{Whole, replayed, effect-on}
@@ -26,7 +26,7 @@ with_hurt s epoch = record s { cores = λ k. hurt_at epoch (s.cores k) }
 -- a core that runs, is not hurt, and passes a test
 running_by : (c : CoreState) (test : CoreState → Bool) → (not c.hurt && test c) ≡ true
     → (d : CoreState) × (Some c ≡ Some d) × (test d ≡ true) × (d.hurt ≡ false)
-running_by c test is = let both = and_true (not c.hurt) (test c) is in (c, refl, both.1, not_true c.hurt both.0)
+running_by c test is = let both = and_parts (not c.hurt) (test c) is in (c, refl, both.1, not-true c.hurt both.0)
 
 pub running : (core : Option CoreState) (test : CoreState → Bool) → runs_and core test ≡ true → (c : CoreState) × (core ≡ Some c) × (test c ≡ true) × (c.hurt ≡ false)
 running None test is = absurd cc
@@ -163,10 +163,6 @@ read_other : (count : ℕ) (s : FlatState) (by victim : ℕ) (v : CoreState) →
 read_other count s by victim v b k a other None is = ap (λ o. has_read o a) is ∙ sym (ap (λ o. has_read (hurt_at v.epoch o) a) is)
 read_other count s by victim v b k a other (Some c) is = ap (λ o. has_read o a) (sym (core_other v.epoch (s.cores k) c is (b.apart k c other is)))
 
-and_no : (b : Bool) → (b && false) ≡ false
-and_no true = refl
-and_no false = refl
-
 read_victim : (s : FlatState) (victim : ℕ) (v : CoreState) (a : ℕ) → s.cores victim ≡ Some v → v.hurt ≡ false → has_read (s.cores victim) a ≡ is_some (read_bytes (s.cores victim) a)
 read_victim s victim v a at unhurt = rw (at, unhurt) refl
 
@@ -180,7 +176,7 @@ readers count s by victim v b a unread false is =
     all_fail count (λ k. not (k == by) && has_read (s.cores k) a) (λ k below. elim (cases_eq k victim) [
       | inl e ↦
           ap (λ j. not (k == by) && has_read (s.cores j) a) e
-          ∙ (ap (λ t. not (k == by) && t) (read_victim s victim v a b.at b.unhurt ∙ is) ∙ and_no (not (k == by)))
+          ∙ and_right (not (k == by)) _ (read_victim s victim v a b.at b.unhurt ∙ is)
       | inr other ↦
           ap (λ t. not (k == by) && t) (read_other count s by victim v b k a other (s.cores k) refl)
           ∙ none_below count (λ j. not (j == by) && has_read (hurt_at v.epoch (s.cores j)) a) unread k below
@@ -210,10 +206,6 @@ misses_is image count s by victim v c what b at same is spares =
 
 -- ---- the refusal
 
-not_or : (b : Bool) → b ≡ true → not b ≡ false
-not_or true is = refl
-not_or false is = absurd cc
-
 only_missing : (image : LoadedImage) (count : ℕ) (s : FlatState) (entry : Entry) → s.end ≡ None → is_there count s entry.by entry.what ≡ true → is_next image s entry.by entry.what ≡ true
     → is_homefree s entry.by entry.what ≡ true → is_value s entry.by entry.what ≡ true → misses_a_cancel image count s entry.by entry.what ≡ false
     → refusal_of image count s entry ≡ cond (misses_a_hurt image count s entry) (Some HurtMissing) None
@@ -226,12 +218,12 @@ pub before_of : (image : LoadedImage) (count : ℕ) (s : FlatState) (by victim :
     → IsLegalEntry image count s (record { by = by; what = Hurt v.epoch })
     → (c : CoreState) × (s.cores by ≡ Some c) × (c.epoch ≢ v.epoch) × Before count s by victim v
 before_of image count s by victim v kept at legal =
-    let both = and_true (runs_and (s.cores by) (λ c. nat_lt c.epoch v.epoch)) (any_below count (λ k. can_be_hurt v.epoch (s.cores k))) legal.there in
+    let both = and_parts (runs_and (s.cores by) (λ c. nat_lt c.epoch v.epoch)) (any_below count (λ k. can_be_hurt v.epoch (s.cores k))) legal.there in
     let c = running (s.cores by) (λ c. nat_lt c.epoch v.epoch) both.0 in
     let earlier : c.0.epoch < v.epoch = ltb-true c.0.epoch v.epoch c.2 in
     let hurt = some_below count (λ k. can_be_hurt v.epoch (s.cores k)) both.1 in
     let d = running (s.cores hurt.0) (λ x. (x.epoch == v.epoch) && not x.straight) hurt.2 in
-    let named = eqb-true d.0.epoch v.epoch (and_true (d.0.epoch == v.epoch) (not d.0.straight) d.2).0 in
+    let named = eqb-true d.0.epoch v.epoch (and_parts (d.0.epoch == v.epoch) (not d.0.straight) d.2).0 in
     let same : hurt.0 ≡ victim = kept.apart hurt.0 victim d.0 v d.1 at named in
     let is : d.0 ≡ v = same_core (s.cores victim) d.0 v (sym (ap s.cores same) ∙ d.1) at in (
       c.0,

@@ -1,17 +1,17 @@
 -- The first store to a byte that the victim has read, and what it says of false sharing.
 use Rattle.std.proofs.Common.{◌≡◌, ℕ, ◌+◌, ◌<◌, ◌≤◌, ◌==◌, ◌&&◌, ◌||◌, Bool, true, false, is_some, nat_lt, List, length, slice_get, slice_index, Option, Some, None, min, option_and_then, if◌then◌else◌, refl, sym, ap, subst, ◌∙◌, inl, inr, arith, lt-ltb, ltb-true, ltb-false}
-use Rattle.std.proofs.lemmas.Bool.{cases_eq}
+use Rattle.std.proofs.lemmas.Bool.{cases_eq, false_from_ne_true, and_from, and_parts, or_right}
 use Rattle.memory_bytes.specs.Shadow.{IsAmong}
 use Rattle.spec_history.specs.declared.entry.Entry.{Entry}
 use Rattle.spec_history.specs.declared.entry.What.{What}
 use Rattle.spec_history.specs.declared.entry.What.TheVariants.{Start, Load, Store, Hurt, Cancel, Restart, Publish, Commit, Fault}
 use Rattle.spec_history.specs.Conflict.{entry_is, passes}
 use Rattle.spec_history.specs.Searches.{IsNext, first_below}
-use Rattle.spec_history.proofs.OneEntry.Legal.{and_true, some_below}
+use Rattle.spec_history.proofs.OneEntry.Legal.{some_below}
 use Rattle.spec_history.proofs.Searches.Tests.{first_at, first_none, one_passes}
 use Rattle.conflicts.specs.Attempts.{core_does, covers, is_begin, stores_byte}
 use Rattle.conflicts.specs.Later.{came_true_at, ends_or_stores, stores_one, stores_to}
-use Rattle.conflicts.proofs.Blaming.{either_way, not_so}
+use Rattle.conflicts.proofs.Blaming.{either_way}
 
 -- ---- stores to one of some bytes
 
@@ -20,9 +20,6 @@ Stored entries core addr j = core_does entries core j (stores_byte addr)
 
 abbrev Sign : ℕ → List Entry → ℕ → (ℕ → Bool) → ℕ → Bool
 Sign size entries core read j = entry_is entries j (stores_to size core read)
-
-both_so : (a b : Bool) → a ≡ true → b ≡ true → (a && b) ≡ true
-both_so a b x y = rw (x, y) refl
 
 -- a store to a byte of memory that was read
 what_stores : (size addr : ℕ) (read : ℕ → Bool) (what : What) → addr < size → read addr ≡ true → stores_byte addr what ≡ true → stores_one size read what ≡ true
@@ -40,8 +37,8 @@ entry_stores : (size core addr : ℕ) (read : ℕ → Bool) (o : Option Entry) �
     → passes o (λ entry. (entry.by == core) && stores_byte addr entry.what) ≡ true → passes o (stores_to size core read) ≡ true
 entry_stores size core addr read None small is does = does
 entry_stores size core addr read (Some e) small is does =
-    let both = and_true (e.by == core) (stores_byte addr e.what) does in
-    both_so (e.by == core) (stores_one size read e.what) both.0 (what_stores size addr read e.what small is both.1)
+    let both = and_parts (e.by == core) (stores_byte addr e.what) does in
+    and_from (e.by == core) (stores_one size read e.what) both.0 (what_stores size addr read e.what small is both.1)
 
 pub is_sign : (size : ℕ) (entries : List Entry) (core addr : ℕ) (read : ℕ → Bool) (j : ℕ) → addr < size → read addr ≡ true → Stored entries core addr j ≡ true → Sign size entries core read j ≡ true
 is_sign size entries core addr read j small is does = entry_stores size core addr read (slice_get entries j) small is does
@@ -55,7 +52,7 @@ record Hits (size : ℕ) (read : ℕ → Bool) (stores : ℕ → Bool) : Type 0 
 what_hits : (size : ℕ) (read : ℕ → Bool) (what : What) → stores_one size read what ≡ true → Hits size read (λ a. stores_byte a what)
 what_hits size read (Store a w v) is =
     let at = some_below size (λ b. covers a w b && read b) is in
-    let both = and_true (covers a w at.0) (read at.0) at.2 in record { addr = at.0; small = at.1; was = both.1; does = both.0 }
+    let both = and_parts (covers a w at.0) (read at.0) at.2 in record { addr = at.0; small = at.1; was = both.1; does = both.0 }
 what_hits size read (Start e) is = absurd cc
 what_hits size read (Load a w v) is = absurd cc
 what_hits size read (Hurt e) is = absurd cc
@@ -69,8 +66,8 @@ entry_hits : (size core : ℕ) (read : ℕ → Bool) (o : Option Entry) → pass
     → Hits size read (λ a. passes o (λ entry. (entry.by == core) && stores_byte a entry.what))
 entry_hits size core read None is = absurd cc
 entry_hits size core read (Some e) is =
-    let both = and_true (e.by == core) (stores_one size read e.what) is in
-    let at = what_hits size read e.what both.1 in record { addr = at.addr; small = at.small; was = at.was; does = both_so (e.by == core) (stores_byte at.addr e.what) both.0 at.does }
+    let both = and_parts (e.by == core) (stores_one size read e.what) is in
+    let at = what_hits size read e.what both.1 in record { addr = at.addr; small = at.small; was = at.was; does = and_from (e.by == core) (stores_byte at.addr e.what) both.0 at.does }
 
 -- ---- the first of them, among some addresses
 
@@ -121,7 +118,7 @@ pub soonest : (size : ℕ) (entries : List Entry) (core : ℕ) (read : ℕ → B
 soonest size entries core read addresses after end count first all listed was = record {
   most = was.most;
   passes = was.passes;
-  first = λ j from before. not_so (Sign size entries core read j) (λ is.
+  first = λ j from before. false_from_ne_true (Sign size entries core read j) (λ is.
       let at = entry_hits size core read (slice_get entries j) is in
       let among = listed at.addr at.was in
       let fails = was.tried among.place (omega (arith, among.within, all)) (ap read among.is ∙ at.was) j from before in
@@ -146,12 +143,8 @@ still_next test from after count end past room next = record {
 
 -- ---- the first sign: another attempt, or such a store
 
-or_true : (b : Bool) → (b || true) ≡ true
-or_true true = refl
-or_true false = refl
-
 either : (b a c : Bool) → (a && c) ≡ true → (a && (b || c)) ≡ true
-either b true true is = or_true b
+either b true true is = or_right b true refl
 either b true false is = absurd cc
 either b false c is = absurd cc
 
@@ -181,7 +174,7 @@ entry_neither size core read (Some e) begins stores = neither (e.by == core) (is
 -- a store of it
 entry_one : (size core : ℕ) (read : ℕ → Bool) (o : Option Entry) → passes o (stores_to size core read) ≡ true → passes o (λ entry. stores_one size read entry.what) ≡ true
 entry_one size core read None is = is
-entry_one size core read (Some e) is = (and_true (e.by == core) (stores_one size read e.what) is).1
+entry_one size core read (Some e) is = (and_parts (e.by == core) (stores_one size read e.what) is).1
 
 -- what begins an attempt stores nothing
 what_none : (size : ℕ) (read : ℕ → Bool) (what : What) → is_begin what ≡ true → stores_one size read what ≡ false
@@ -197,7 +190,7 @@ what_none size read (Fault a b) is = absurd cc
 
 entry_none : (size core : ℕ) (read : ℕ → Bool) (o : Option Entry) → passes o (λ entry. (entry.by == core) && is_begin entry.what) ≡ true → passes o (λ entry. stores_one size read entry.what) ≡ false
 entry_none size core read None is = refl
-entry_none size core read (Some e) is = what_none size read e.what (and_true (e.by == core) (is_begin e.what) is).1
+entry_none size core read (Some e) is = what_none size read e.what (and_parts (e.by == core) (is_begin e.what) is).1
 
 abbrev First : ℕ → List Entry → ℕ → ℕ → (ℕ → Bool) → ℕ → Bool
 First size entries cause core read j = nat_lt cause j && entry_is entries j (ends_or_stores size core read)

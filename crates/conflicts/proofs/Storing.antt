@@ -8,7 +8,7 @@ use Rattle.std.specs.BTreeMap.{BTreeMap, IsUnchanged, Updates, get, is_at}
 use Rattle.std.specs.Map.{lookup}
 use Rattle.std.specs.declared.cmp.Ordering.{Ordering}
 use Rattle.std.specs.declared.cmp.Ordering.TheVariants.{Less, Equal, Greater}
-use Rattle.std.proofs.lemmas.Bool.{cases_eq}
+use Rattle.std.proofs.lemmas.Bool.{cases_eq, false_from_ne_true, or_right}
 use Rattle.std.proofs.lemmas.Cmp.{nat_cmp_total, on_total, then_total}
 use Rattle.std.proofs.lemmas.List.{get_or_default}
 use Rattle.std.proofs.lemmas.Option.{slice_get_cases}
@@ -20,7 +20,7 @@ use Rattle.conflicts.specs.declared.ahead.Ahead.{Ahead}
 use Rattle.conflicts.specs.declared.ahead.Stores.{Stores}
 use Rattle.conflicts.specs.Ahead.{AreAhead, AreStored, IsAhead, IsExtended, IsFound, StoresTo, byte_order, is_before, place_in, place_of}
 use Rattle.conflicts.specs.Attempts.{core_does, stores_byte}
-use Rattle.conflicts.proofs.Blaming.{either_way, not_so}
+use Rattle.conflicts.proofs.Blaming.{either_way}
 
 -- ---- the bytes of a place
 
@@ -150,13 +150,9 @@ before addr after x is = elim (by_both (nat_lt x.0 addr) (x.0 == addr) (nat_le x
   | inr both ↦ inr (eqb-true x.0 addr both.0, leb-true x.1 after both.1)
 ]
 
-or_true : (b : Bool) → (b || true) ≡ true
-or_true true = refl
-or_true false = refl
-
 is_so : (addr after : ℕ) (x : ℕ × ℕ) → Before addr after x → is_before addr after x ≡ true
 is_so addr after x (inl less) = rw (lt-ltb x.0 addr less) refl
-is_so addr after x (inr both) = rw (eq-eqb x.0 addr both.0, le-leb x.1 after both.1) (or_true (nat_lt x.0 addr))
+is_so addr after x (inr both) = rw (eq-eqb x.0 addr both.0, le-leb x.1 after both.1) (or_right (nat_lt x.0 addr) true refl)
 
 -- after it
 not_before : (addr after : ℕ) (x : ℕ × ℕ) → is_before addr after x ≡ false → Before addr after x → ⊥
@@ -205,7 +201,7 @@ hit size entries core from after end index addr xs x stored sorted split past sm
     record {
       most = omega (arith, here.1);
       passes = λ _. (omega (arith, late), subst (λ a. Stored entries core a x.1 ≡ true) same here.2);
-      first = λ j beyond below. not_so (Stored entries core addr j) (λ is.
+      first = λ j beyond below. false_from_ne_true (Stored entries core addr j) (λ is.
           let among = stored.each addr j small (omega (arith, beyond, past)) (omega (arith, below, here.1)) is in
           either_way (nat_lt among.0 index) ⊥
           (λ before_it. not_first addr after j (omega (arith, beyond)) (subst (λ y. is_before addr after y ≡ true) among.2 (split.0 among.0 (addr, j) (omega arith) (ltb-true among.0 index before_it))))
@@ -221,7 +217,7 @@ pub miss : (size : ℕ) (entries : List Entry) (core from after end index addr :
 miss size entries core from after end index addr xs room stored sorted split past small other = record {
   most = omega arith;
   passes = λ below. absurd (omega (arith, below));
-  first = λ j beyond below. not_so (Stored entries core addr j) (λ is.
+  first = λ j beyond below. false_from_ne_true (Stored entries core addr j) (λ is.
       let among = stored.each addr j small (omega (arith, beyond, past)) below is in
       let d : ℕ × ℕ = (addr, j) in
       either_way (nat_lt among.0 index) ⊥

@@ -4,10 +4,10 @@ use Rattle.std.specs.BTreeMap.{BTreeMap, IsUnchanged, Updates, get, is_at}
 use Rattle.std.specs.Map.{lookup}
 use Rattle.std.specs.Option.{option_or}
 use Rattle.std.specs.Ordering.{nat_cmp}
-use Rattle.std.proofs.lemmas.Bool.{cases_eq}
+use Rattle.std.proofs.lemmas.Bool.{cases_eq, and_right}
 use Rattle.spec_history.specs.declared.entry.Entry.{Entry}
 use Rattle.spec_history.specs.Searches.{first_below, last_below}
-use Rattle.spec_history.proofs.Searches.Tests.{and_no, first_none}
+use Rattle.spec_history.proofs.Searches.Tests.{first_none}
 use Rattle.conflicts.specs.Attempts.{attempt_place, core_does, first_read, is_after, is_begin, last_store, loads_byte, reads_outside, stores_byte}
 use Rattle.conflicts.specs.Behind.{AreBehind, IsBehind, is_within, kept_first, kept_last}
 use Rattle.conflicts.specs.declared.behind.Accesses.{Accesses}
@@ -20,7 +20,7 @@ use Rattle.conflicts.proofs.Storing.{apart_by}
 -- ---- the bytes of one access
 
 not_yet : (first addr : ℕ) → is_within first addr addr ≡ false
-not_yet first addr = ap (λ b. nat_le first addr && b) (le-ltb addr addr (omega arith)) ∙ and_no (nat_le first addr)
+not_yet first addr = and_right (nat_le first addr) _ (le-ltb addr addr (omega arith))
 
 now_it : (first addr : ℕ) → first ≤ addr → is_within first (addr + 1) addr ≡ true
 now_it first addr from = rw (le-leb first addr from, lt-ltb addr (addr + 1) (omega arith)) refl
@@ -88,7 +88,7 @@ read_else first addr place stored old before from was known a = elim (cases_eq a
 -- no byte stands within nothing
 outside : (first end a : ℕ) → end ≤ first → is_within first end a ≡ false
 outside first end a most = either_way (nat_le first a) (is_within first end a ≡ false)
-    (λ is. ap (λ b. nat_le first a && b) (le-ltb a end (omega (arith, most, leb-true first a is))) ∙ and_no (nat_le first a))
+    (λ is. and_right (nat_le first a) _ (le-ltb a end (omega (arith, most, leb-true first a is))))
     (λ isnt. ap (λ b. b && nat_lt a end) isnt)
 
 pub none_read : (first end place : ℕ) (stored old : ℕ → Option ℕ) (a : ℕ) → end ≤ first → Noted first end place stored old old a

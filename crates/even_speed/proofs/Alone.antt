@@ -1,5 +1,7 @@
 -- On one core no epoch is violated, and none is later than the homefree one.
 use Rattle.std.proofs.Common.{◌≡◌, ◌≢◌, ℕ, zero, suc, ◌+◌, ◌<◌, ◌==◌, ◌&&◌, not, nat_lt, Bool, true, false, List, [], ◌∷◌, Option, Some, None, Result, Ok, Err, refl, sym, ap, subst, ◌∙◌, true≢false, arith, eqb-true, ltb-true}
+use Rattle.std.proofs.lemmas.Bool.{and_parts}
+use Rattle.std.proofs.lemmas.Option.{same_Some}
 use Rattle.rv32_image.specs.Image.{LoadedImage}
 use Rattle.rv32_exec.specs.declared.sequential.End.{End}
 use Rattle.spec_history.specs.declared.entry.Entry.{Entry}
@@ -10,7 +12,7 @@ use Rattle.spec_history.specs.Effect.{by_core, effect, effect_on, effect_idle, w
 use Rattle.spec_history.specs.Refusal.{refusal_of, runs_and}
 use Rattle.spec_history.specs.Replay.{replay_from, replay, count_of, counts_of}
 use Rattle.spec_history.proofs.OneEntry.Keeping.{with_core_other, with_core_same}
-use Rattle.spec_history.proofs.OneEntry.Legal.{IsLegalEntry, and_true, legal_entry, some_below}
+use Rattle.spec_history.proofs.OneEntry.Legal.{IsLegalEntry, legal_entry, some_below}
 use Rattle.spec_history.proofs.Replay.Replays.{effect-on, effect-idle, legal_by, on_core}
 use Rattle.violations.specs.View.{StoreView}
 use Rattle.homefree.specs.declared.answer.Answer.{Answer}
@@ -30,9 +32,6 @@ pub record IsAlone (s : FlatState) : Type 0 where
   pub runs : (c : CoreState) → s.cores 0 ≡ Some c → (c.epoch ≡ s.homefree) × (s.next_epoch ≡ s.homefree + 1) × (c.hurt ≡ false)
   pub others : (k : ℕ) → s.cores (suc k) ≡ None
 
-some_same : (c d : CoreState) → Some c ≡ Some d → c ≡ d
-some_same c d is = cc
-
 no_core : (core : Option CoreState) (c : CoreState) → core ≡ Some c → core ≡ None → ⊥
 no_core core c some none = cc
 
@@ -45,14 +44,14 @@ with_alone : (s : FlatState) (committed : ℕ → ℕ) (homefree published next_
 with_alone s committed homefree published next_epoch end core a epoch next unhurt = record {
   idle = λ none. absurd (no_core _ core (with_core_same s.cores 0 (Some core)) none);
   runs = λ c is. subst (λ (d : CoreState). (d.epoch ≡ homefree) × (next_epoch ≡ homefree + 1) × (d.hurt ≡ false))
-      (some_same core c (sym (with_core_same s.cores 0 (Some core)) ∙ is)) (epoch, next, unhurt);
+      (same_Some core c (sym (with_core_same s.cores 0 (Some core)) ∙ is)) (epoch, next, unhurt);
   others = λ k. with_core_other s.cores 0 (Some core) (suc k) (suc_isnt k) ∙ a.others k;
 }
 
 -- ---- what a legal entry tells
 
 passes : (core : Option CoreState) (c : CoreState) (test : CoreState → Bool) → core ≡ Some c → runs_and core test ≡ true → test c ≡ true
-passes core c test at is = (and_true (not c.hurt) (test c) (sym (ap (λ o. runs_and o test) at) ∙ is)).1
+passes core c test at is = (and_parts (not c.hurt) (test c) (sym (ap (λ o. runs_and o test) at) ∙ is)).1
 
 idle_passes : (core : Option CoreState) (test : CoreState → Bool) → core ≡ None → by_core core false test ≡ true → ⊥
 idle_passes core test at is = true≢false (sym is ∙ ap (λ o. by_core o false test) at)
@@ -65,15 +64,15 @@ earlier_and_same c epoch less is = omega (arith, less, is)
 
 no_hurt : (image : LoadedImage) (s : FlatState) (c : CoreState) (epoch : ℕ) → s.cores 0 ≡ Some c → IsLegalEntry image 1 s (record { by = 0; what = Hurt epoch }) → ⊥
 no_hurt image s c epoch at legal =
-    let both = and_true (runs_and (s.cores 0) (λ x. nat_lt x.epoch epoch)) _ legal.there in
+    let both = and_parts (runs_and (s.cores 0) (λ x. nat_lt x.epoch epoch)) _ legal.there in
     let found = some_below 1 _ both.1 in
     let here = subst (λ k. runs_and (s.cores k) (λ x. (x.epoch == epoch) && not x.straight) ≡ true) (first_below found.0 found.1) found.2 in
-    let same = and_true (c.epoch == epoch) (not c.straight) (passes (s.cores 0) c (λ x. (x.epoch == epoch) && not x.straight) at here) in
+    let same = and_parts (c.epoch == epoch) (not c.straight) (passes (s.cores 0) c (λ x. (x.epoch == epoch) && not x.straight) at here) in
     earlier_and_same c epoch (ltb-true _ _ (passes (s.cores 0) c (λ x. nat_lt x.epoch epoch) at both.0)) (eqb-true _ _ same.0)
 
 no_cancel : (image : LoadedImage) (s : FlatState) (c : CoreState) (epoch : ℕ) → s.cores 0 ≡ Some c → IsLegalEntry image 1 s (record { by = 0; what = Cancel epoch }) → ⊥
 no_cancel image s c epoch at legal =
-    let both = and_true (runs_and (s.cores 0) (λ x. nat_lt x.epoch epoch)) _ legal.there in
+    let both = and_parts (runs_and (s.cores 0) (λ x. nat_lt x.epoch epoch)) _ legal.there in
     let found = some_below 1 _ both.1 in
     let here = subst (λ k. by_core (s.cores k) false (λ x. x.epoch == epoch) ≡ true) (first_below found.0 found.1) found.2 in
     let same = on_core (s.cores 0) c (λ x. x.epoch == epoch) at here in
@@ -108,7 +107,7 @@ on_alone image s c (Fault cause pc) at legal a = record { idle = a.idle; runs = 
 start_alone : (image : LoadedImage) (s : FlatState) (epoch : ℕ) → s.cores 0 ≡ None → IsLegalEntry image 1 s (record { by = 0; what = Start epoch })
     → IsAlone s → IsAlone (effect_idle image s 0 (Start epoch))
 start_alone image s epoch at legal a =
-    let next = and_true (epoch == s.next_epoch) (nat_lt epoch image.epochs) legal.next in
+    let next = and_parts (epoch == s.next_epoch) (nat_lt epoch image.epochs) legal.next in
     let is : epoch ≡ s.homefree = eqb-true _ _ next.0 ∙ a.idle at in
     with_alone s _ _ _ _ _ (begun image epoch) a is (omega (arith, a.idle at)) refl
 
@@ -125,7 +124,7 @@ idle_alone image s Commit at legal a = a
 idle_alone image s (Fault cause pc) at legal a = a
 
 not_there : (k : ℕ) (rest : Bool) → (nat_lt (suc k) 1 && rest) ≡ true → ⊥
-not_there k rest is = let below = ltb-true (suc k) 1 (and_true (nat_lt (suc k) 1) rest is).0 in omega (arith, below)
+not_there k rest is = let below = ltb-true (suc k) 1 (and_parts (nat_lt (suc k) 1) rest is).0 in omega (arith, below)
 
 other_alone : (image : LoadedImage) (s : FlatState) (k : ℕ) (what : What) → IsLegalEntry image 1 s (record { by = suc k; what = what })
     → IsAlone s → IsAlone (effect_idle image s (suc k) what)

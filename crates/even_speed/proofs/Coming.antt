@@ -1,5 +1,6 @@
 -- What a turn of a book makes of the cores.
 use Rattle.std.proofs.Common.{◌≡◌, ℕ, ◌+◌, ◌==◌, not, Bool, true, false, cond, List, [], ◌++◌, Option, Some, None, Result, option_map, refl, sym, ap, subst, ◌∙◌, inl, inr, true≢false, arith, eq-eqb, ne_eqb, append_assoc}
+use Rattle.std.proofs.lemmas.Option.{same_Some}
 use Rattle.rv32_image.specs.Image.{LoadedImage, IsImage}
 use Rattle.rv32_exec.specs.declared.stop.Stop.TheVariants as stop
 use Rattle.rv32_exec.specs.declared.sequential.End.{End}
@@ -39,9 +40,6 @@ use Rattle.even_speed.specs.Timed.{Came, CameBy, From, GoesTo, Leads, Leaves, St
 use Rattle.even_speed.proofs.Moving.{AreCalm, CalmThen, calm_append, calm_then, hurts_calm, last_entry, moves_same, moves_then, restarts_in}
 
 -- ---- restarts
-
-some_same : (s u : FlatState) → Some s ≡ Some u → s ≡ u
-some_same s u is = cc
 
 not_more : (n more : ℕ) → more ≡ 0 → not ((n + more) == n) ≡ false
 not_more n more none = ap not (eq-eqb (n + more) n (omega (arith, none)))
@@ -199,7 +197,7 @@ module _ (t : Turn) (v w : StoreView) (out : Outcome) (u : FlatState) (held : Op
       → ((counts_of o.entries).restarts ≡ 1 → restarted ≡ true) → Came t.image t.state u t.core held restarted o.answer
 
   same : replay_from t.image t.cores t.state [] ≡ Some u → u ≡ t.state
-  same replays = sym (some_same t.state u (sym (no_entry t.image t.cores t.state) ∙ replays))
+  same replays = sym (same_Some t.state u (sym (no_entry t.image t.cores t.state) ∙ replays))
 
   stays : (c : CoreState) → t.state.cores t.core ≡ Some c → c.hurt ≡ false → replay_from t.image t.cores t.state [] ≡ Some u → StaysAt t.state u t.core
   stays c at unhurt replays = record { was = c; runs = at; unhurt = unhurt; same = same replays }

@@ -1,5 +1,6 @@
 -- Between two events a core executes no more instructions than the limit, and one.
 use Rattle.std.proofs.Common.{◌≡◌, ℕ, zero, suc, ◌+◌, ◌-◌, ◌≤◌, Option, Some, None, option_map, refl, sym, ap, ◌∙◌, arith}
+use Rattle.std.proofs.lemmas.Option.{same_Some}
 use Rattle.rv32_image.specs.Image.{LoadedImage}
 use Rattle.rv32_exec.specs.Arrival.{Arrival}
 use Rattle.rv32_exec.specs.Hart.{HartState}
@@ -48,17 +49,11 @@ pub later_event : (image : LoadedImage) (h : HartState) → h.done ≤ (next_eve
 unfolding next_event
 later_event image h = later_within image (image.limit - h.done + 1) h
 
-some_is : (a b : Arrival) → Some a ≡ Some b → a ≡ b
-some_is a b e = cc
-
-some_hart : (a b : HartState) → Some a ≡ Some b → a ≡ b
-some_hart a b e = cc
-
 -- a core has in hand where `advance` came to from its hart
 pub came_from : (image : LoadedImage) (held : Option Arrival) (a : Arrival) (hart : HartState) → IfArrived image held → held ≡ Some a
     → option_map (λ b. b.base) held ≡ Some hart → a.now.done ≡ (next_event image hart).now.done
 came_from image None a hart arrived is based = absurd cc
 came_from image (Some b) a hart arrived is based =
-    let same : b ≡ a = some_is b a is in
-    let base : b.base ≡ hart = some_hart b.base hart based in
+    let same : b ≡ a = same_Some b a is in
+    let base : b.base ≡ hart = same_Some b.base hart based in
     ap (λ (x : Arrival). x.now.done) (sym same) ∙ (ap (λ (h : HartState). h.done) arrived.0 ∙ ap (λ h. (next_event image h).now.done) base)

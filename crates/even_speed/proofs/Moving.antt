@@ -1,5 +1,7 @@
 -- What the entries of a turn make of the cores.
 use Rattle.std.proofs.Common.{◌≡◌, ◌≢◌, ℕ, zero, suc, ◌<◌, ◌==◌, ◌||◌, not, nat_lt, Bool, true, false, cond, List, [], ◌∷◌, ◌++◌, Option, Some, None, refl, sym, ap, subst, ◌∙◌, arith, ltb-true, ne_eqb}
+use Rattle.std.proofs.lemmas.Bool.{and_parts, or_parts}
+use Rattle.std.proofs.lemmas.Option.{same_Some}
 use Rattle.rv32_image.specs.Image.{LoadedImage}
 use Rattle.spec_history.specs.declared.entry.Entry.{Entry}
 use Rattle.spec_history.specs.declared.entry.What.{What}
@@ -9,7 +11,7 @@ use Rattle.spec_history.specs.Effect.{effect, effect_on, hurt_at}
 use Rattle.spec_history.specs.Refusal.{refusal_of, runs_and}
 use Rattle.spec_history.specs.Replay.{count_of, counts_of, replay_from}
 use Rattle.spec_history.proofs.OneEntry.Keeping.{with_core_other, with_core_same}
-use Rattle.spec_history.proofs.OneEntry.Legal.{IsLegalEntry, and_true, legal_entry}
+use Rattle.spec_history.proofs.OneEntry.Legal.{IsLegalEntry, legal_entry}
 use Rattle.spec_history.proofs.Replay.Replays.{effect-on, effect-idle, legal_by}
 use Rattle.homefree.specs.Hurts.{entry, entry_for_each}
 use Rattle.even_speed.specs.Timed.{Moves}
@@ -31,13 +33,6 @@ moves_then o m u first later = record {
 none_is : (c : CoreState) → Some c ≡ None → ⊥
 none_is c is = cc
 
-some_core : (c d : CoreState) → Some c ≡ Some d → c ≡ d
-some_core c d is = cc
-
-or_none : (a b : Bool) → (a || b) ≡ false → a ≡ false
-or_none true b is = absurd cc
-or_none false b is = refl
-
 hurt_is : (c d : CoreState) (b : Bool) → record c { hurt = b } ≡ d → b ≡ c.hurt → d ≡ c
 hurt_is c d b is same = sym is ∙ (λ i. record c { hurt = same i })
 
@@ -49,9 +44,9 @@ moves_hurt epoch (Some c) = record {
     c,
     refl,
     λ unhurt.
-        let is = some_core _ d at in
+        let is = same_Some _ d at in
         let b : (c.hurt || (c.epoch == epoch)) ≡ false = ap (λ (x : CoreState). x.hurt) is ∙ unhurt in
-        hurt_is c d _ is (b ∙ sym (or_none c.hurt _ b)),
+        hurt_is c d _ is (b ∙ sym (or_parts c.hurt _ b).0),
   );
 }
 
@@ -120,7 +115,7 @@ pub record Stays (c : CoreState) (o : Option CoreState) : Type 0 where
   pub unhurt : core.hurt ≡ false
 
 pub passes : (core : Option CoreState) (c : CoreState) (test : CoreState → Bool) → core ≡ Some c → runs_and core test ≡ true → test c ≡ true
-passes core c test at is = (and_true (not c.hurt) (test c) (sym (ap (λ o. runs_and o test) at) ∙ is)).1
+passes core c test at is = (and_parts (not c.hurt) (test c) (sym (ap (λ o. runs_and o test) at) ∙ is)).1
 
 earlier : (a b : ℕ) → a < b → a ≢ b
 earlier a b less is = omega (arith, less, is)
@@ -141,7 +136,7 @@ own_on image count s by c (Load address width value) calm at unhurt legal = absu
 own_on image count s by c (Store address width value) calm at unhurt legal = absurd calm
 own_on image count s by c (Hurt epoch) calm at unhurt legal =
     hurt_own epoch (s.cores by) c at unhurt
-    (ltb-true _ _ (passes (s.cores by) c (λ x. nat_lt x.epoch epoch) at (and_true (runs_and (s.cores by) (λ x. nat_lt x.epoch epoch)) _ legal.there).0))
+    (ltb-true _ _ (passes (s.cores by) c (λ x. nat_lt x.epoch epoch) at (and_parts (runs_and (s.cores by) (λ x. nat_lt x.epoch epoch)) _ legal.there).0))
 own_on image count s by c (Cancel epoch) calm at unhurt legal = absurd calm
 own_on image count s by c Restart calm at unhurt legal = absurd calm
 own_on image count s by c Publish calm at unhurt legal =
@@ -216,13 +211,10 @@ pub record CalmThen (image : LoadedImage) (count : ℕ) (s u : FlatState) (by : 
   pub legal : IsLegalEntry image count between last
   pub is : u ≡ effect image between last
 
-some_state : (s u : FlatState) → Some s ≡ Some u → s ≡ u
-some_state s u is = cc
-
 pub last_entry : (image : LoadedImage) (count : ℕ) (s u : FlatState) (last : Entry) → replay_from image count s (last ∷ []) ≡ Some u → u ≡ effect image s last
 unfolding replay_from
 last_entry image count s u last replays =
-    legal_by image count s last [] u (refusal_of image count s last) refl replays (λ legal rest. sym (some_state _ u rest))
+    legal_by image count s last [] u (refusal_of image count s last) refl replays (λ legal rest. sym (same_Some _ u rest))
 
 one_last : (image : LoadedImage) (count : ℕ) (s u : FlatState) (by : ℕ) (c : CoreState) (last : Entry) → s.cores by ≡ Some c → c.hurt ≡ false
     → replay_from image count s (last ∷ []) ≡ Some u → CalmThen image count s u by c last
@@ -233,7 +225,7 @@ one_last image count s u by c last at unhurt replays =
       between = s;
       calmed = calmed_none s by c at unhurt;
       legal = legal_entry image count s last legal;
-      is = sym (some_state _ u rest);
+      is = sym (same_Some _ u rest);
     })
 
 entry_is : (e : Entry) (by : ℕ) → e.by ≡ by → e ≡ record { by = by; what = e.what }

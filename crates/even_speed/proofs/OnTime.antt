@@ -2,6 +2,7 @@
 use Rattle.std.proofs.Common.{true≢false, ◌*◌, ◌≡◌, ◌≢◌, ◌⊎◌, ℕ, zero, suc, ◌+◌, ◌-◌, ◌<◌, ◌==◌, Bool, true, false, cond, List, [], Option, Some, None, Result, Ok, refl, sym, ap, subst, ◌∙◌, inl, inr, arith, add-one, eq-eqb, ne_eqb}
 use Rattle.std.proofs.Math.Path.{fun_ext}
 use Rattle.std.proofs.lemmas.Bool.{cases_eq, cases_Bool}
+use Rattle.std.proofs.lemmas.Option.{same_Some}
 use Rattle.rv32_image.specs.Image.{LoadedImage}
 use Rattle.rv32_exec.specs.declared.sequential.End.{End}
 use Rattle.rv32_exec.specs.declared.sequential.End.TheVariants.{Done}
@@ -34,9 +35,6 @@ use Rattle.even_speed.proofs.Events.{later_event}
 use Rattle.even_speed.specs.Account.{WastesNone, no_steps, steps_of, sum_of}
 use Rattle.even_speed.proofs.OneCore.{account_one}
 use Rattle.even_speed.proofs.Sounding.{account_of-more, account_of-none, may_wake}
-
-some_is : (a b : ℕ) → Some a ≡ Some b → a ≡ b
-some_is a b e = cc
 
 -- ---- a core that didn't take the turn
 
@@ -86,7 +84,7 @@ woken_useful at c Gone = refl
 -- ---- the core that took the turn
 
 due_is : (next : Next) (at : ℕ) → due_of next ≡ Some at → next ≡ Due at
-due_is (Due due) at is = ap Due (some_is due at is)
+due_is (Due due) at is = ap Due (same_Some due at is)
 due_is (Waits since cause) at is = absurd cc
 due_is Gone at is = absurd cc
 

@@ -1,5 +1,6 @@
 -- What a turn, a wake and the end of the run keep of a clock.
 use Rattle.std.proofs.Common.{◌≡◌, ℕ, ◌+◌, ◌-◌, ◌*◌, ◌<◌, ◌≤◌, Bool, true, false, cond, ◌==◌, List, length, Some, refl, ap, subst, sym, ◌∙◌, arith, add-one}
+use Rattle.std.proofs.lemmas.Option.{same_Some}
 use Rattle.homefree.specs.declared.answer.Answer.{Answer}
 use Rattle.homefree.specs.declared.answer.Answer.TheVariants.{Go, Again, Left, Over, Stopped}
 use Rattle.homefree.specs.declared.answer.Cause.{Cause}
@@ -30,11 +31,8 @@ sound_later now t c passes least s = record {
   next = later_next now t (told c) c.next passes least s.next;
 }
 
-some_is : (a b : ℕ) → Some a ≡ Some b → a ≡ b
-some_is a b e = cc
-
 told_by : (t told : ℕ) (n : Next) → due_of n ≡ Some t → IsSoundNext t told n → told ≤ t
-told_by t told (Due at) due s = omega (arith, some_is at t due, s.1)
+told_by t told (Due at) due s = omega (arith, same_Some at t due, s.1)
 told_by t told (Waits since cause) due s = omega (arith, s.0, s.1)
 told_by t told Gone due s = absurd cc
 
@@ -210,7 +208,7 @@ all_first cores clocks count few first = record {
 -- where a turn is due first, all are sound at its time
 module _ (taken cores : ℕ) (clocks : List Clock) (a : AreSound taken cores clocks) (t : Turn) (first : IsFirst (clock_at clocks) cores t) where
   due_by : (bound : ℕ) (n : Next) → due_of n ≡ Some t.at → IsDueBy bound n → t.at ≤ bound
-  due_by bound (Due at) due b = omega (arith, some_is at t.at due, b)
+  due_by bound (Due at) due b = omega (arith, same_Some at t.at due, b)
   due_by bound (Waits since cause) due b = absurd cc
   due_by bound Gone due b = absurd cc
 
@@ -218,7 +216,7 @@ module _ (taken cores : ℕ) (clocks : List Clock) (a : AreSound taken cores clo
   by_bound = due_by (taken * 1000003) (clock_at clocks t.core).next first.due (a.due t.core first.core)
 
   now_by : (n : Next) (told : ℕ) → due_of n ≡ Some t.at → IsSoundNext a.now told n → a.now ≤ t.at
-  now_by (Due at) told due s = omega (arith, some_is at t.at due, s.0)
+  now_by (Due at) told due s = omega (arith, same_Some at t.at due, s.0)
   now_by (Waits since cause) told due s = absurd cc
   now_by Gone told due s = absurd cc
 

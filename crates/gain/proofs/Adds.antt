@@ -1,6 +1,7 @@
 -- A line more for each number of cores.
-use Rattle.std.proofs.Common.{◌≡◌, ℕ, ◌+◌, ◌<◌, ◌≤◌, Bool, true, false, nat_lt, List, [], ◌∷◌, ◌++◌, length, get_or, drop, All, Option, Result, Ok, Err, OnOk, refl, sym, subst, arith, add-one, drop-cons}
+use Rattle.std.proofs.Common.{◌≡◌, ℕ, ◌+◌, ◌<◌, ◌≤◌, Bool, true, false, nat_lt, List, [], ◌++◌, length, get_or, drop, All, Option, Result, Ok, Err, OnOk, refl, sym, subst, arith}
 use Rattle.std.proofs.lemmas.Bool.Decides.{nat_tests}
+use Rattle.std.proofs.lemmas.List.{drop_more}
 use Rattle.std.proofs.lemmas.List.Elements.{All-nil, All-cons, All-append}
 use Rattle.rv32_image.specs.Image.{LoadedImage}
 use Rattle.violations.specs.View.{StoreView, Waits}
@@ -11,17 +12,13 @@ use Rattle.gain.specs.Measured.{IsMeasured}
 use Rattle.gain.specs.Text.{line_text}
 use Rattle.gain.specs.Lines.{AddEach, AddLines, count_if, more_counts}
 
--- the first of the rest
-rest_is : (xs : List ℕ) (i : ℕ) → i < length xs → drop i xs ≡ get_or xs i 0 ∷ drop (i + 1) xs
-rest_is xs i there = rw (add-one, drop-cons xs i 0) refl
-
 module _ {S : Type 0} (view : S → StoreView) (waits : S → Waits) (image : LoadedImage) (room : ℕ) (store : List ℕ) (first : Option Measured) (counts start : List ℕ) where
   pub adds_more : (i : ℕ) (text text' : List ℕ) (told : Option Measured) → i < length counts
       → ((new : List ℕ) → AddEach view waits image room store first (drop i counts) text new → AddEach view waits image room store first counts start new)
       → IsMeasured view waits (loop_on image (get_or counts i 0) room) told → text' ≡ text ++ line_text store (get_or counts i 0) first told
       → (new : List ℕ) → AddEach view waits image room store first (drop (i + 1) counts) text' new → AddEach view waits image room store first counts start new
   adds_more i text text' told there adds measured longer new more =
-      adds new (subst (λ ks. AddEach view waits image room store first ks text new) (sym (rest_is counts i there))
+      adds new (subst (λ ks. AddEach view waits image room store first ks text new) (sym (drop_more counts i 0 there))
       (told, measured, subst (λ t. AddEach view waits image room store first (drop (i + 1) counts) t new) longer more))
 
 -- the line of one core, and those of more

@@ -1,6 +1,6 @@
 -- Bytes over memory, and the bytes that a load or a store names.
-use Rattle.std.proofs.Common.{◌≡◌, ◌≢◌, ◌⊎◌, ℕ, zero, suc, ◌+◌, ◌-◌, ◌<◌, ◌≤◌, ◌&&◌, true, false, cond, nat_le, nat_lt, List, length, set, slice_index, Option, Some, None, unwrap_or, refl, sym, ap, ◌∙◌, inl, inr, arith, length-set, get_or-set_same, get_or-set_other}
-use Rattle.std.proofs.lemmas.Bool.{cases_eq}
+use Rattle.std.proofs.Common.{◌≡◌, ◌≢◌, ℕ, zero, suc, ◌+◌, ◌-◌, ◌<◌, ◌≤◌, ◌&&◌, true, false, cond, nat_le, nat_lt, List, length, set, slice_index, Option, Some, None, unwrap_or, refl, sym, ap, ◌∙◌, inl, inr, arith, length-set, get_or-set_same, get_or-set_other}
+use Rattle.std.proofs.lemmas.Bool.{cases_eq, cases_lt}
 use Rattle.std.proofs.lemmas.Bool.Decides.{nat_tests}
 use Rattle.memory_bytes.specs.Bytes.{byte_of, number_at, with_number}
 use Rattle.memory_bytes.specs.Maps.{first_of, joined, over, stored}
@@ -22,9 +22,6 @@ number_at_same f g address (suc width) same =
     let rest = number_at_same f g (address + 1) width (λ a low high. same a (omega arith) (omega arith)) in cc
 
 -- ---- the bytes of a store
-
-pub cases_below : (a b : ℕ) → (a < b) ⊎ (b ≤ a)
-cases_below a b = grind arith
 
 within_test : (address width a : ℕ) → address ≤ a → a < address + width → (nat_le address a && nat_lt a (address + width)) ≡ true
 within_test address width a low high = grind (arith, nat_tests)
@@ -67,7 +64,7 @@ length-with_number memory address (suc width) value =
 
 none_stored : (memory : List ℕ) (address value a : ℕ) → slice_index memory a ≡ over (stored address 0 value) (λ b. slice_index memory b) a
 none_stored memory address value a =
-    sym (ap (λ o. unwrap_or o (slice_index memory a)) (elim (cases_below a address) [
+    sym (ap (λ o. unwrap_or o (slice_index memory a)) (elim (cases_lt a address) [
       | inl below ↦ stored_below address 0 value a below
       | inr from ↦ stored_past address 0 value a (omega arith)
     ]))

@@ -2,11 +2,11 @@
 use Rattle.std.proofs.Common.{◌≡◌, ◌≢◌, ◌⊎◌, ℕ, ◌+◌, ◌*◌, ◌/◌, ◌%◌, ◌^◌, ◌<◌, ◌≤◌, ◌&&◌, Bool, true, false, cond, nat_le, nat_lt, is_none, List, length, set, slice_index, Option, Some, None, unwrap_or, refl, sym, ap, ◌∙◌, inl, inr, arith, get_or-set_same, get_or-set_other}
 use Rattle.std.proofs.Math.Nat.{div-one, div-div-eq-div-mul}
 use Rattle.std.proofs.lemmas.Nat.{pow-add}
-use Rattle.std.proofs.lemmas.Bool.{cases_eq}
+use Rattle.std.proofs.lemmas.Bool.{cases_eq, cases_lt}
 use Rattle.std.proofs.lemmas.Bool.Decides.{nat_tests}
 use Rattle.memory_bytes.specs.Maps.{first_of, joined, over, stored, read_outside}
 use Rattle.memory_bytes.specs.Shadow.{byte_in, IsAmong, Covers}
-use Rattle.memory_bytes.proofs.Bytes.{cases_below, stored_at, stored_below, stored_past}
+use Rattle.memory_bytes.proofs.Bytes.{stored_at, stored_below, stored_past}
 
 -- ---- stores
 
@@ -57,7 +57,7 @@ keeping_more before address width value i rest cells storing more within keeping
 
 pub keeping_end : (before : ℕ → Option ℕ) (address width value rest : ℕ) (cells : List (Option ℕ)) → Storing address width value width rest
     → Keeping before address width value width cells → (a : ℕ) → byte_in cells a ≡ joined (stored address width value) before a
-keeping_end before address width value rest cells storing keeping a = elim (cases_below a (address + width)) [
+keeping_end before address width value rest cells storing keeping a = elim (cases_lt a (address + width)) [
   | inl below ↦ keeping.front a below
   | inr from ↦ keeping.rest a from ∙ sym (ap (λ o. first_of o (before a)) (storing_end address width value rest storing a from))
 ]
@@ -87,7 +87,7 @@ putting_more before address width value i rest memory storing more within puttin
 
 pub putting_end : (before : ℕ → ℕ) (address width value rest : ℕ) (memory : List ℕ) → Storing address width value width rest
     → Putting before address width value width memory → (a : ℕ) → slice_index memory a ≡ over (stored address width value) before a
-putting_end before address width value rest memory storing putting a = elim (cases_below a (address + width)) [
+putting_end before address width value rest memory storing putting a = elim (cases_lt a (address + width)) [
   | inl below ↦ putting.front a below
   | inr from ↦ putting.rest a from ∙ sym (ap (λ o. unwrap_or o (before a)) (storing_end address width value rest storing a from))
 ]

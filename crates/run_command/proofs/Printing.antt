@@ -1,5 +1,5 @@
 -- What is printed of a run whose loop is over.
-use Rattle.std.proofs.Common.{◌≡◌, ℕ, List, [], ◌++◌, Bool, true, false, not, Some, Result, Ok, Err, IfOk, OnOk, refl, sym, ap, subst, ◌∙◌, append_assoc, append-nil}
+use Rattle.std.proofs.Common.{◌≡◌, ℕ, List, [], ◌++◌, Bool, true, false, Some, Result, Ok, Err, IfOk, OnOk, refl, sym, ap, subst, ◌∙◌, append_assoc, append-nil}
 use Rattle.rv32_image.specs.Image.{LoadedImage}
 use Rattle.rv32_exec.specs.declared.sequential.End.{End}
 use Rattle.rv32_exec.specs.Sequential.{sequential_result}
@@ -24,15 +24,6 @@ use Rattle.run_command.proofs.Committing.{committed_is_memory}
 pub both_ok : {A E : Type 0} (r : Result A E) (P : A → Type 0) (Q : Type 0) → IfOk r P → OnOk r Q → IfOk r (λ x. P x × Q)
 both_ok (Ok x) P Q so is = (so, is)
 both_ok (Err e) P Q so is = tt
-
--- what follows for a value
-pub if_ok : {A E : Type 0} (r : Result A E) (P Q : A → Type 0) → ((x : A) → P x → Q x) → IfOk r P → IfOk r Q
-if_ok (Ok x) P Q implies so = implies x so
-if_ok (Err e) P Q implies so = tt
-
-pub on_is : (t : Bool) → not t ≡ false → t ≡ true
-on_is true off = refl
-on_is false off = sym off
 
 -- the end and the copy of committed memory are the sequential loop's
 pub result_is : (image : LoadedImage) (end : End) (v : StoreView) (bytes : List ℕ) → IsInOrder image end v.committed → IsCommitted v bytes → v.shape.size ≡ image.size

@@ -1,5 +1,6 @@
 -- The rows of the table exclude one another.
 use Rattle.std.proofs.Common.{◌≡◌, ◌⊎◌, inl, inr, ℕ, zero, suc, Bool, true, false, not, ◌==◌, ◌&&◌, ◌||◌, Option, Some, None, List, [], ◌∷◌, slice_get, refl, sym, ap, subst, arith}
+use Rattle.std.proofs.lemmas.Bool.{and_parts}
 use Rattle.std.proofs.lemmas.Bool.Decides.{nat_tests}
 use Rattle.rv32_decode.specs.Table.{Row, fits_row, is_fixed, table}
 use Rattle.rv32_decode.specs.Word.{funct3, funct7, opcode}
@@ -58,11 +59,6 @@ table_apart : are_apart table ≡ true
 unfolding are_apart excludes_all exclude differ
 table_apart = refl
 
-both : (a b : Bool) → (a && b) ≡ true → (a ≡ true) × (b ≡ true)
-both true true is = (refl, refl)
-both true false is = cc
-both false b is = cc
-
 -- a word that fits the row fits none of those that it excludes
 fits_no_other : (rows : List Row) (row second : Row) (word j : ℕ) → excludes_all row rows ≡ true → fits_row row word ≡ true
     → slice_get rows j ≡ Some second → fits_row second word ≡ true → ⊥
@@ -71,9 +67,9 @@ fits_no_other [] row second word j apart fits is fits' = cc
 fits_no_other (other ∷ rows) row second word zero apart fits is fits' =
     let same : other ≡ second = cc in
     let P : Row → Type 0 = λ r. fits_row r word ≡ true in
-    exclude_sound row other word (both (exclude row other) (excludes_all row rows) apart).0 fits (subst P (sym same) fits')
+    exclude_sound row other word (and_parts (exclude row other) (excludes_all row rows) apart).0 fits (subst P (sym same) fits')
 fits_no_other (other ∷ rows) row second word (suc j) apart fits is fits' =
-    fits_no_other rows row second word j (both (exclude row other) (excludes_all row rows) apart).1 fits is fits'
+    fits_no_other rows row second word j (and_parts (exclude row other) (excludes_all row rows) apart).1 fits is fits'
 
 fits_one : (rows : List Row) (word i j : ℕ) (first second : Row) → are_apart rows ≡ true → slice_get rows i ≡ Some first → slice_get rows j ≡ Some second
     → fits_row first word ≡ true → fits_row second word ≡ true → i ≡ j
@@ -83,13 +79,13 @@ fits_one (row ∷ rows) word zero zero first second apart at at' fits fits' = re
 fits_one (row ∷ rows) word zero (suc j) first second apart at at' fits fits' =
     let same : row ≡ first = cc in
     let P : Row → Type 0 = λ r. fits_row r word ≡ true in
-    absurd (fits_no_other rows row second word j (both (excludes_all row rows) (are_apart rows) apart).0 (subst P (sym same) fits) at' fits')
+    absurd (fits_no_other rows row second word j (and_parts (excludes_all row rows) (are_apart rows) apart).0 (subst P (sym same) fits) at' fits')
 fits_one (row ∷ rows) word (suc i) zero first second apart at at' fits fits' =
     let same : row ≡ second = cc in
     let P : Row → Type 0 = λ r. fits_row r word ≡ true in
-    absurd (fits_no_other rows row first word i (both (excludes_all row rows) (are_apart rows) apart).0 (subst P (sym same) fits') at fits)
+    absurd (fits_no_other rows row first word i (and_parts (excludes_all row rows) (are_apart rows) apart).0 (subst P (sym same) fits') at fits)
 fits_one (row ∷ rows) word (suc i) (suc j) first second apart at at' fits fits' =
-    ap (λ n. suc n) (fits_one rows word i j first second (both (excludes_all row rows) (are_apart rows) apart).1 at at' fits fits')
+    ap (λ n. suc n) (fits_one rows word i j first second (and_parts (excludes_all row rows) (are_apart rows) apart).1 at at' fits fits')
 
 pub fits_one_row : (word i j : ℕ) (first second : Row) → slice_get table i ≡ Some first → slice_get table j ≡ Some second
     → fits_row first word ≡ true → fits_row second word ≡ true → i ≡ j

@@ -4,6 +4,7 @@ use Rattle.std.proofs.lemmas.Bool.Decides.{nat_tests}
 use Rattle.std.proofs.lemmas.List.Splits.{slice_split-cons_no, slice_split_first}
 use Rattle.std.specs.Prelude.{position}
 use Rattle.std.specs.List.{slice_split, onto_first, position_or_len}
+use Rattle.std.proofs.lemmas.Option.{cond_some}
 
 uncut_cons : (p : ℕ → Bool) (x : ℕ) (xs : List ℕ) (b : Bool) → p x ≡ b
     → (length xs ≤ position_or_len p xs → slice_split p xs ≡ xs ∷ []) → suc (length xs) ≤ position_or_len p (x ∷ xs)
@@ -23,10 +24,6 @@ none_when : (b : Bool) (i : ℕ) → cond b (Some i) None ≡ None → b ≡ fal
 none_when true i is = cc
 none_when false i is = refl
 
-some_when : (b : Bool) (i j : ℕ) → cond b (Some i) None ≡ Some j → (b ≡ true) × (i ≡ j)
-some_when true i j is = (refl, cc)
-some_when false i j is = absurd cc
-
 -- with no separator there is one piece
 pub slice_split-none : (p : ℕ → Bool) (xs : List ℕ) → position p xs ≡ None → slice_split p xs ≡ xs ∷ []
 slice_split-none p xs is =
@@ -37,7 +34,7 @@ slice_split-none p xs is =
 pub slice_split-some : (p : ℕ → Bool) (xs : List ℕ) (i : ℕ) → position p xs ≡ Some i
     → slice_split p xs ≡ take i xs ∷ slice_split p (drop (i + 1) xs)
 slice_split-some p xs i is =
-    let at = some_when (nat_lt (position_or_len p xs) (length xs)) _ i is in
+    let at = cond_some (nat_lt (position_or_len p xs) (length xs)) _ i is in
     let within : position_or_len p xs < length xs = grind (arith, nat_tests, at.0) in
     let first = slice_split_first p xs 0 within in
     first ∙ rw (at.1, add-one) refl

@@ -1,10 +1,10 @@
 -- The loops over the bytes of a line.
 use Rattle.std.proofs.Common.{◌≡◌, ◌≢◌, ℕ, nat_eq, ◌+◌, ◌<◌, inl, inr, nat_lt, true, false, List, replicate, length, slice_index, slice_set, refl, sym, ap, ◌∙◌, arith}
+use Rattle.std.proofs.lemmas.Bool.{cases_lt}
 use Rattle.std.proofs.lemmas.Bool.Decides.{nat_tests}
 use Rattle.std.proofs.lemmas.List.{length-set, get_or-replicate, get_or-set_other}
 use Rattle.std.proofs.lemmas.Grind.{get_or-set_at}
 use Rattle.std.proofs.Math.ListN.{get_or-eq_default}
-use Rattle.memory_bytes.proofs.Bytes.{cases_below}
 use Rattle.bus_states.specs.Bus.{memory_line}
 
 -- the bytes of a line that a loop makes, and how many there are
@@ -14,7 +14,7 @@ pub record AreBytes (bytes : List ℕ) (byte : ℕ → ℕ) : Type 0 where
 
 pub zeros : (x : ℕ) → slice_index (replicate 32 0) x ≡ 0
 zeros x =
-    elim (cases_below x 32) [
+    elim (cases_lt x 32) [
       | inl below ↦ get_or-replicate 32 x 0 0 below
       | inr past ↦ get_or-eq_default (replicate 32 0) 0 past
     ]

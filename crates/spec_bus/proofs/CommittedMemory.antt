@@ -1,5 +1,6 @@
 -- Memory with the lines over it that are M in a cache.
 use Rattle.std.proofs.Common.{◌≡◌, ℕ, ◌+◌, ◌-◌, ◌*◌, ◌/◌, ◌%◌, ◌<◌, ◌==◌, ◌||◌, ◌&&◌, nat_lt, Bool, true, false, cond, Some, None, length, true≢false, refl, sym, ap, ◌∙◌, arith, add-one}
+use Rattle.std.proofs.lemmas.Bool.{false_from_ne_true}
 use Rattle.std.proofs.lemmas.Bool.Decides.{nat_tests}
 use Rattle.spec_states.specs.Copies.{LineCopy}
 use Rattle.spec_states.specs.Mask.{is_within}
@@ -12,7 +13,7 @@ use Rattle.cache_lines.specs.Lines.{Contents, is_line_length, set_count, way_cou
 use Rattle.cache_lines.specs.Placed.{IsPlaced}
 use Rattle.cache_lines.specs.Protocol.{copy_at, copy_or_none}
 use Rattle.cache_lines.proofs.CopyLaws.{copy_at-line}
-use Rattle.cache_lines.proofs.LineLaws.{is_copy_of-true, line_in-same_set, not_true}
+use Rattle.cache_lines.proofs.LineLaws.{is_copy_of-true, line_in-same_set}
 use Rattle.bus_states.specs.Bus.{Bus, CoreState, line_of, offset_of, memory_line, some_core, committed_among}
 use Rattle.bus_states.specs.Coherent.{IsCoherent}
 use Rattle.bus_states.specs.Messages.{with_line}
@@ -152,7 +153,7 @@ some_modified cache a h = same (some_core (set_count * way_count) (is_modified_i
     same true true e f = refl
     same false false e f = refl
     same true false e f =
-        let none = none_at_all (set_count * way_count) (is_modified_in cache a) (λ at _. not_true (is_modified_in cache a at) (λ t. true≢false (sym (up at t) ∙ f))) in
+        let none = none_at_all (set_count * way_count) (is_modified_in cache a) (λ at _. false_from_ne_true (is_modified_in cache a at) (λ t. true≢false (sym (up at t) ∙ f))) in
         sym e ∙ none
     same false true e f =
         let found = somewhere f in

@@ -1,12 +1,12 @@
 -- The loop in which the other cores hear a message.
-use Rattle.std.proofs.Common.{◌≡◌, ◌≢◌, ℕ, ◌+◌, ◌<◌, ◌≤◌, ◌%◌, ◌==◌, ◌||◌, ◌&&◌, not, nat_lt, Bool, true, false, cond, length, slice_get, refl, sym, ap, subst, ◌∙◌, arith}
+use Rattle.std.proofs.Common.{◌≡◌, ◌≢◌, ℕ, ◌+◌, ◌<◌, ◌≤◌, ◌%◌, ◌==◌, ◌||◌, ◌&&◌, not, nat_lt, Bool, true, false, cond, length, slice_get, refl, sym, ap, subst, ◌∙◌, arith, ne_eqb}
 use Rattle.std.proofs.lemmas.Bool.Decides.{nat_tests}
 use Rattle.orb.specs.Lines.{holds}
 use Rattle.violations.specs.View.{epoch_of}
 use Rattle.bus_states.specs.Bus.{CoreState, Bus, is_later}
 use Rattle.bus_states.specs.Coherent.{IsCoherent}
 use Rattle.bus_states.specs.Messages.{Message, reply, reply_to, order, bytes_after, violates, holds_up, heard_core, is_busy}
-use Rattle.bus_states.proofs.Coherence.{none_below, apart_test}
+use Rattle.bus_states.proofs.Coherence.{none_below}
 use Rattle.bus_states.proofs.Heard.{heard-absent, message-gives_way}
 use Rattle.spec_bus.specs.declared.parts.Parts.{Parts}
 use Rattle.spec_bus.specs.CoreStates.{heard, MayHear}
@@ -42,7 +42,7 @@ hears bus message k h aligned free inside away =
           λ v e. entry-out (reply bus message k).enters _ _ (holds (bus.core k).buffer.lines message.addr)
           (message-gives_way bus message k h aligned).enters ((h.cores k).listed message.addr) e;
       room =
-          λ v. roomy (k == message.sender) (reply bus message k).violated _ (is_later bus message.sender k) (apart_test k message.sender away) v
+          λ v. roomy (k == message.sender) (reply bus message k).violated _ (is_later bus message.sender k) (ne_eqb k message.sender away) v
           (none_below bus.shape.cores (holds_up bus message) free k inside);
     }
 

@@ -1,5 +1,7 @@
 -- Each kind of step keeps the lock rule.
-use Rattle.std.proofs.Common.{◌≡◌, ℕ, ◌+◌, ◌%◌, ◌^◌, ◌<◌, ◌≤◌, ◌≢◌, Bool, true, false, cond, eqb, ◌||◌, zero, suc, List, [], ◌∷◌, ◌++◌, set, get_or, Option, Some, None, refl, sym, ap, ◌∙◌, subst, inl, inr, ⊎_elim, arith, eq-eqb, ne_eqb}
+use Rattle.std.proofs.Common.{◌≡◌, ℕ, ◌+◌, ◌%◌, ◌^◌, ◌<◌, ◌≤◌, ◌≢◌, Bool, true, false, cond, eqb, ◌||◌, zero, suc, List, [], ◌∷◌, ◌++◌, set, get_or, Option, Some, refl, sym, ap, ◌∙◌, subst, inl, inr, ⊎_elim, arith, eq-eqb, ne_eqb}
+use Rattle.std.proofs.lemmas.Bool.{false≢true}
+use Rattle.std.proofs.lemmas.Option.{none-some}
 use Rattle.std.specs.Prelude.{MatchBool, IsSome}
 use Rattle.std.proofs.lemmas.List.{append-nil, set_comm, set-get_or}
 use Rattle.std.proofs.lemmas.List.Elements.{filter-append, All-nil, All-cons}
@@ -22,12 +24,6 @@ use Rattle.ticket_lock.specs.Rule.{IsLive, Covers, IsNoted, IsSound, AreApart, I
 use Rattle.ticket_lock.specs.Steps.{noticed, numbers_below, numbers_from, noted_of, both_of, spent, closed, looked_next, recalled, drawn, IsHanded, served, handed_back}
 use Rattle.ticket_lock.proofs.Pasts.{starts_itself, starts_trans, longer_begins, first_begins, second_begins, own_between, own_of_both, own_of_part, no_entries}
 use Rattle.ticket_lock.proofs.Frames.{set_there, each_set, each_end, apart_set, apart_end, AllApart}
-
-none_is_not : false ≡ true → ⊥
-none_is_not e = cc
-
-not_some : {X : Type 0} (x : X) → None ≡ Some x → ⊥
-not_some x e = cc
 
 -- tickets and the value
 waiting_is_not : (r : Turn) (t u : ℕ) → r ≡ Waiting t → r ≡ Holding u → ⊥
@@ -423,7 +419,7 @@ module _ {T F W : Type 0} (fixed_of : T → F) (past_of : T → List (ℕ × W))
               within = was.within;
               seen = starts_itself (past_of x);
               own = refl;
-              ticket = λ u e. absurd (not_some u e);
+              ticket = λ u e. absurd (none-some u e);
               holds = λ u e. absurd (idle_is_not Idle u refl e);
               out = was.out;
               noted = All-nil (IsNoted w);
@@ -441,7 +437,7 @@ module _ {T F W : Type 0} (fixed_of : T → F) (past_of : T → List (ℕ × W))
               out = old.out;
               noted = old.noted;
             });
-        apart = apart_set s.views id w r.apart (λ j u ne su _. record { numbers = (apart j u ne su).numbers; tickets = λ k p q. not_some k p });
+        apart = apart_set s.views id w r.apart (λ j u ne su _. record { numbers = (apart j u ne su).numbers; tickets = λ k p q. none-some k p });
         value = inl record {
           value = x;
           slot = ap (λ hs. set hs 0 (some (in_slot x))) h.slot;
@@ -538,7 +534,7 @@ module _ {T F W : Type 0} (fixed_of : T → F) (past_of : T → List (ℕ × W))
       added record { words = s.words; homes = s.homes; views = set s.views id l } left w
       (λ live. part_sound r.next r.serving r.past v cut v.hi (omega arith) high (omega arith) (r.each id v (at, live)))
       (λ j u su live. each_set (λ (u : View F W). AreApart w u) s.views id l
-      (λ _. record { numbers = λ k p q. let p₀ = p.0 in let q₁ = q.1 in absurd (omega arith); tickets = λ t p q. not_some t (sym (ap ticket_of idle) ∙ p) })
+      (λ _. record { numbers = λ k p q. let p₀ = p.0 in let q₁ = q.1 in absurd (omega arith); tickets = λ t p q. none-some t (sym (ap ticket_of idle) ∙ p) })
       (λ j u ne su. let a = r.apart id j v u (λ e. ne (sym e)) (at, live) su in record {
         numbers = λ k p q. let p₀ = p.0 in let p₁ = p.1 in a.numbers k (omega arith, p₁) q;
         tickets = a.tickets;
@@ -549,7 +545,7 @@ module _ {T F W : Type 0} (fixed_of : T → F) (past_of : T → List (ℕ × W))
   pub ends : (id : ℕ) (v : View F W) → Splits (LockRule fixed_of past_of o) id v v (closed v)
   ends id v s r at =
       added record { words = s.words; homes = s.homes; views = set s.views id v } (stays s id v r at) (closed v)
-      (λ live. absurd (none_is_not live)) (λ j u su live. absurd (none_is_not live)) (λ t live e. none_is_not live)
+      (λ live. absurd (false≢true live)) (λ j u su live. absurd (false≢true live)) (λ t live e. false≢true live)
 
   both_sound : (next serving : ℕ) (past : List (ℕ × W)) (v w : View F W) → v.turn ≡ Idle → v.hi ≡ w.lo
       → IsSound o next serving past v → IsSound o next serving past w → IsSound o next serving past (both_of v w)
@@ -566,7 +562,7 @@ module _ {T F W : Type 0} (fixed_of : T → F) (past_of : T → List (ℕ × W))
         within = b.within;
         seen = begins;
         own = own_of_both v.lo v.hi w.hi begins (a.own ∙ sym own_v) (subst (λ k. entries_of k w.hi past ≡ entries_of k w.hi n.seen) (sym beside) (b.own ∙ sym own_w));
-        ticket = λ t e. absurd (not_some t (sym (ap ticket_of idle) ∙ e));
+        ticket = λ t e. absurd (none-some t (sym (ap ticket_of idle) ∙ e));
         holds = λ t e. absurd (idle_is_not v.turn t idle e);
         out = λ e. either_true v.out w.out e a.out b.out;
         noted = All-cons (IsNoted n) (noted_of v) (noted_of w ∷ []) own_v (All-cons (IsNoted n) (noted_of w) [] own_w (All-nil (IsNoted n)));
@@ -586,9 +582,9 @@ module _ {T F W : Type 0} (fixed_of : T → F) (past_of : T → List (ℕ × W))
       let last : View F W = spent in
       let rest : List (View F W) = set s.views other last in
       let swapped : set (set s.views id n) other last ≡ set rest id n = set_comm s.views id other n last (λ e. apart (sym e)) in
-      let rest_apart : AllApart rest = apart_set s.views other last r.apart (λ j u ne su live. absurd (none_is_not live)) in
+      let rest_apart : AllApart rest = apart_set s.views other last r.apart (λ j u ne su live. absurd (false≢true live)) in
       let in_rest : (j : ℕ) (u : View F W) → IsSeated rest j u → (j ≢ other) × IsSeated s.views j u = λ j u su. ⊎_elim
-      (λ p. absurd (none_is_not (subst (λ (z : View F W). IsLive z) (sym p.1) su.1)))
+      (λ p. absurd (false≢true (subst (λ (z : View F W). IsLive z) (sym p.1) su.1)))
       (λ p. (p.0, (p.1, su.1)))
       (at_set s.views other j last u su.0) in
       let not_holding : (t : ℕ) → IsLive n → n.turn ≢ Holding t = λ t _ e. idle_is_not v.turn t idle_v e in
@@ -603,10 +599,10 @@ module _ {T F W : Type 0} (fixed_of : T → F) (past_of : T → List (ℕ × W))
             (λ j u _ su. r.each j u (in_rest j u su).1);
         apart = apart_set rest id n rest_apart (λ j u ne su _. let old = in_rest j u su in let a = r.apart id j v u (λ e. ne (sym e)) (at, live_v) old.1 in let b = r.apart other j w u (λ e. old.0 (sym e)) (at_w, live_w) old.1 in record {
           numbers = λ k p q. let p₀ = p.0 in let p₁ = p.1 in dite (dec_lt k v.hi) (λ lt. a.numbers k (p₀, lt) q) (λ ge. b.numbers k (omega arith, p₁) q);
-          tickets = λ t p q. not_some t (sym (ap ticket_of idle_v) ∙ p);
+          tickets = λ t p q. none-some t (sym (ap ticket_of idle_v) ∙ p);
         });
         value = ⊎_elim
-            (λ h. inl (home_set fixed_of past_of o r.past s.words record { words = s.words; homes = s.homes; views = rest } id n (home_set fixed_of past_of o r.past s.words s other last h (λ t live. absurd (none_is_not live))) not_holding))
+            (λ h. inl (home_set fixed_of past_of o r.past s.words record { words = s.words; homes = s.homes; views = rest } id n (home_set fixed_of past_of o r.past s.words s other last h (λ t live. absurd (false≢true live))) not_holding))
             (λ h.
             let ne_w = not_holder r.serving r.past s h other w at_w (λ t. idle_is_not w.turn t idle_w) in
             let ne_v = not_holder r.serving r.past s h id v at (λ t. idle_is_not v.turn t idle_v) in
@@ -662,7 +658,7 @@ module _ {T F W : Type 0} (fixed_of : T → F) (past_of : T → List (ℕ × W))
           within = omega arith;
           seen = starts_itself (past_of x);
           own = refl;
-          ticket = λ t e. absurd (not_some t e);
+          ticket = λ t e. absurd (none-some t e);
           holds = λ t e. absurd (idle_is_not Idle t refl e);
           out = λ e. absurd (cc);
           noted = All-nil (IsNoted v);

@@ -1,5 +1,6 @@
 -- An access begins with its keyword and a space.
 use Rattle.std.proofs.Common.{◌≡◌, ℕ, ◌==◌, Bool, true, false, cond, List, [], ◌∷◌, ◌++◌, codes, drop, length, refl, ap, sym, subst, ◌∙◌, arith}
+use Rattle.std.proofs.lemmas.Bool.{false_from_ne_true}
 use Rattle.std.proofs.lemmas.Bool.Decides.{Decides-eqb, nat_tests}
 use Rattle.std.proofs.lemmas.Slice.Eq.{bytes_eq-Decides, starts_is}
 use Rattle.std.specs.List.{starts_with}
@@ -55,10 +56,6 @@ unfolding words_after
 after_space [] first has = absurd (no_words first (sym has))
 after_space (b ∷ rest) first has = (rest, of_space (b == 32) b rest first refl has)
 
-unless : (b : Bool) → (b ≡ true → ⊥) → b ≡ false
-unless true none = absurd (none refl)
-unless false none = refl
-
 -- a text whose first word this is begins with it and a space
 spaced : (text keyword left first word : List ℕ) → IsFront text keyword left → HasNext left first → bytes_eq keyword word ≡ true
     → (rest : List ℕ) × (text ≡ word ++ 32 ∷ rest)
@@ -69,7 +66,7 @@ spaced text keyword left first word front has is =
 
 no_load : (text keyword left first : List ℕ) → IsFront text keyword left → HasNext left first → BeginsNoAccess text → bytes_eq keyword (codes "load") ≡ false
 no_load text keyword left first front has never =
-    unless (bytes_eq keyword (codes "load"))
+    false_from_ne_true (bytes_eq keyword (codes "load"))
     (λ is.
     let it = spaced text keyword left first (codes "load") front has is in
     let yes = (starts_is Decides-eqb text (codes "load ") (starts_with (λ a b. a == b) text (codes "load ")) refl).1 it.0 it.1 in
@@ -77,7 +74,7 @@ no_load text keyword left first front has never =
 
 no_store : (text keyword left first : List ℕ) → IsFront text keyword left → HasNext left first → BeginsNoAccess text → bytes_eq keyword (codes "store") ≡ false
 no_store text keyword left first front has never =
-    unless (bytes_eq keyword (codes "store"))
+    false_from_ne_true (bytes_eq keyword (codes "store"))
     (λ is.
     let it = spaced text keyword left first (codes "store") front has is in
     let yes = (starts_is Decides-eqb text (codes "store ") (starts_with (λ a b. a == b) text (codes "store ")) refl).1 it.0 it.1 in

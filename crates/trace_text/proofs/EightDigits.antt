@@ -1,6 +1,7 @@
 -- A word of eight hexadecimal digits is found without looking for its end.
 use Rattle.std.proofs.Common.{◌≡◌, ℕ, ◌<◌, ◌≤◌, ◌==◌, ◌||◌, Bool, true, false, cond, List, [], ◌∷◌, ◌++◌, take, drop, length, Option, Some, None, Result, Ok, Err, slice_index_or, refl, ap, sym, ◌∙◌, arith, length-append}
 use Rattle.std.proofs.Math.Seq.{take-append_seam}
+use Rattle.std.proofs.lemmas.Bool.{not-true, and_parts}
 use Rattle.std.proofs.lemmas.List.{append-nil, take-append-drop}
 use Rattle.std.proofs.lemmas.List.Sums.{list_all-from_AllPass}
 use Rattle.std.specs.Prelude.{IsOk}
@@ -13,7 +14,7 @@ use Rattle.rv32_image.specs.ImageText.{◌>>=◌, hex_or_fault}
 use Rattle.trace_text.specs.TraceText.{digits, where_ok}
 use Rattle.trace_text.specs.Front.{IsRead, after_word, ends_word, first_word, is_end}
 use Rattle.trace_text.proofs.FirstWords.{IsWithin, after_none, after_word-cons, first_word-cons, word_none}
-use Rattle.trace_text.proofs.Words.{and_left, and_right, hex_no, not_false}
+use Rattle.trace_text.proofs.Words.{hex_no}
 
 -- ---- what is read as digits
 
@@ -54,21 +55,21 @@ parts (b ∷ text) = one_more (ends_word b) b text refl (parts text)
 
 hex_goes_on : (x : ℕ) → is_hex_digit x ≡ true → ends_word x ≡ false
 hex_goes_on x is =
-    ap (λ c. c || (x == 10)) (not_false (x == 32) (hex_no 32 x (omega arith) is)) ∙ not_false (x == 10) (hex_no 10 x (omega arith) is)
+    ap (λ c. c || (x == 10)) (not-true (x == 32) (hex_no 32 x (omega arith) is)) ∙ not-true (x == 10) (hex_no 10 x (omega arith) is)
 
 first_hex : (word rest : List ℕ) → list_all is_hex_digit word ≡ true → first_word (word ++ rest) ≡ word ++ first_word rest
 first_hex [] rest is = refl
 first_hex (x ∷ word) rest is =
+    let both = and_parts (is_hex_digit x) (list_all is_hex_digit word) is in
     first_word-cons x (word ++ rest)
-    ∙ (ap (λ e. cond e [] (x ∷ first_word (word ++ rest))) (hex_goes_on x (and_left (is_hex_digit x) (list_all is_hex_digit word) is))
-    ∙ ap (λ l. x ∷ l) (first_hex word rest (and_right (is_hex_digit x) (list_all is_hex_digit word) is)))
+    ∙ (ap (λ e. cond e [] (x ∷ first_word (word ++ rest))) (hex_goes_on x both.0) ∙ ap (λ l. x ∷ l) (first_hex word rest both.1))
 
 after_hex : (word rest : List ℕ) → list_all is_hex_digit word ≡ true → after_word (word ++ rest) ≡ after_word rest
 after_hex [] rest is = refl
 after_hex (x ∷ word) rest is =
+    let both = and_parts (is_hex_digit x) (list_all is_hex_digit word) is in
     after_word-cons x (word ++ rest)
-    ∙ (ap (λ e. cond e (x ∷ word ++ rest) (after_word (word ++ rest))) (hex_goes_on x (and_left (is_hex_digit x) (list_all is_hex_digit word) is))
-    ∙ after_hex word rest (and_right (is_hex_digit x) (list_all is_hex_digit word) is))
+    ∙ (ap (λ e. cond e (x ∷ word ++ rest) (after_word (word ++ rest))) (hex_goes_on x both.0) ∙ after_hex word rest both.1)
 
 within_eight : (text : List ℕ) (n : ℕ) → digits (take 8 text) ≡ Some n → IsWithin text 8
 within_eight text n is =

@@ -1,6 +1,6 @@
 -- A text parts into its first word and what follows, and into its first line and the lines below.
-use Rattle.std.proofs.Common.{◌≡◌, ◌≢◌, ℕ, ◌+◌, ◌-◌, ◌<◌, ◌≤◌, ◌==◌, ◌||◌, nat_eq, slice_index_or, Bool, true, false, cond, List, [], ◌∷◌, ◌++◌, get_or, take, drop, length, Option, None, MatchOption, Bor, refl, ap, sym, ◌∙◌, append_assoc, add-one, arith, take_all, length-drop, drop-cons}
-use Rattle.std.proofs.lemmas.List.{append-nil, take_more}
+use Rattle.std.proofs.Common.{◌≡◌, ◌≢◌, ℕ, ◌+◌, ◌-◌, ◌<◌, ◌≤◌, ◌==◌, ◌||◌, nat_eq, slice_index_or, Bool, true, false, cond, List, [], ◌∷◌, ◌++◌, get_or, take, drop, length, Option, None, MatchOption, Bor, refl, ap, sym, ◌∙◌, append_assoc, arith, take_all, length-drop}
+use Rattle.std.proofs.lemmas.List.{append-nil, take_more, drop_more, nil_from_length}
 use Rattle.std.proofs.lemmas.Bool.Decides.{nat_tests}
 use Rattle.std.proofs.lemmas.List.Splits.{slice_split-cons_no, slice_split-cons_yes}
 use Rattle.std.specs.List.{onto_first}
@@ -141,18 +141,11 @@ pub record IsWithin (text : List ℕ) (at : ℕ) : Type 0 where
   pub first : first_word text ≡ take at text ++ first_word (drop at text)
   pub after : after_word text ≡ after_word (drop at text)
 
-pub no_bytes : (text : List ℕ) → length text ≡ 0 → text ≡ []
-no_bytes [] is = refl
-no_bytes (b ∷ text) is = absurd (omega (arith, is))
-
-pub drop_more : (text : List ℕ) (at : ℕ) → at < length text → drop at text ≡ get_or text at 0 ∷ drop (at + 1) text
-drop_more text at within = rw add-one (drop-cons text at 0 within)
-
 pub one_more : (text : List ℕ) (at : ℕ) → at < length text → ends_word (get_or text at 0) ≡ false → IsWithin text at → IsWithin text (at + 1)
 one_more text at within other is =
     let b = get_or text at 0 in
     let rest = drop (at + 1) text in
-    let here = drop_more text at within in
+    let here = drop_more text at 0 within in
     let first : first_word (drop at text) ≡ b ∷ first_word rest = ap first_word here ∙ (first_word-cons b rest ∙ ap (λ c. cond c [] (b ∷ first_word rest)) other) in
     let after : after_word (drop at text) ≡ after_word rest = ap after_word here ∙ (after_word-cons b rest ∙ ap (λ c. cond c (b ∷ rest) (after_word rest)) other) in
     record {
@@ -165,7 +158,7 @@ pub ends_here : (text : List ℕ) (at : ℕ) → at < length text → ends_word 
 ends_here text at within ends is =
     let b = get_or text at 0 in
     let rest = drop (at + 1) text in
-    let here = drop_more text at within in
+    let here = drop_more text at 0 within in
     let whole : take (length text - at) (drop at text) ≡ drop at text = take_all _ (drop at text) (omega (arith, length-drop at text)) in
     let first : first_word (drop at text) ≡ [] = ap first_word here ∙ (first_word-cons b rest ∙ ap (λ c. cond c [] (b ∷ first_word rest)) ends) in
     let after : after_word (drop at text) ≡ drop at text = ap after_word here ∙ (after_word-cons b rest ∙ (ap (λ c. cond c (b ∷ rest) (after_word rest)) ends ∙ sym here)) in
@@ -177,7 +170,7 @@ ends_here text at within ends is =
 pub ends_last : (text : List ℕ) (at : ℕ) → length text ≤ at → IsWithin text at → IsFront text text []
 ends_last text at past is =
     let all : take at text ≡ text = take_all at text past in
-    let none : drop at text ≡ [] = no_bytes (drop at text) (omega (arith, length-drop at text)) in
+    let none : drop at text ≡ [] = nil_from_length (drop at text) (omega (arith, length-drop at text)) in
     record {
       first = sym (is.first ∙ (ap (λ l. take at text ++ first_word l) none ∙ (ap (λ l. take at text ++ l) word_none ∙ (append-nil (take at text) ∙ all))));
       after = sym (is.after ∙ (ap after_word none ∙ after_none));

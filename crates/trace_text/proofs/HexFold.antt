@@ -1,6 +1,7 @@
 -- Eight hexadecimal digits are read as they are met.
 use Rattle.std.proofs.Common.{◌≡◌, ℕ, zero, suc, ◌+◌, ◌*◌, ◌^◌, ◌<◌, List, [], ◌∷◌, drop, get_or, length, Option, Some, None, Result, Ok, refl, ap, sym, ◌∙◌, arith}
 use Rattle.std.specs.Int.{w32, from_be_bytes}
+use Rattle.std.proofs.lemmas.List.{drop_more, nil_from_length}
 use Rattle.hex.specs.Hex as hex
 use Rattle.hex.specs.Hex.{decode_pairs, digit_or_error, hex_digit_value}
 use Rattle.hex.specs.declared.error.FromHexError.{FromHexError}
@@ -8,7 +9,6 @@ use Rattle.rv32_image.specs.ImageText as image
 use Rattle.rv32_image.specs.ImageText.{hex_or_fault}
 use Rattle.trace_text.specs.TraceText.{digits, where_ok}
 use Rattle.trace_text.proofs.EightDigits.{eight_long, none_unless}
-use Rattle.trace_text.proofs.FirstWords.{drop_more, no_bytes}
 
 -- the number that the digits write when they follow those of n
 abbrev pub then_digit : Option ℕ → (ℕ → Option ℕ) → Option ℕ
@@ -72,18 +72,18 @@ after-none n = refl
 pub one_digit : (word : List ℕ) (i n v : ℕ) → i < length word → hex_digit_value (get_or word i 0) ≡ Some v → hex_after n (drop i word) ≡ hex_after 0 word
     → hex_after (n * 16 + v) (drop (i + 1) word) ≡ hex_after 0 word
 one_digit word i n v within is same =
-    sym (ap (hex_after n) (drop_more word i within) ∙ (after-cons n (get_or word i 0) (drop (i + 1) word) ∙ ap (λ d. then_digit d (λ x. hex_after (n * 16 + x) (drop (i + 1) word))) is)) ∙ same
+    sym (ap (hex_after n) (drop_more word i 0 within) ∙ (after-cons n (get_or word i 0) (drop (i + 1) word) ∙ ap (λ d. then_digit d (λ x. hex_after (n * 16 + x) (drop (i + 1) word))) is)) ∙ same
 
 -- a byte that is no digit
 pub no_digit : (word : List ℕ) (i n : ℕ) → length word ≡ 8 → i < length word → hex_digit_value (get_or word i 0) ≡ None → hex_after n (drop i word) ≡ hex_after 0 word
     → digits word ≡ None
 no_digit word i n long within is same =
-    digits_is word long ∙ (sym same ∙ (ap (hex_after n) (drop_more word i within)
+    digits_is word long ∙ (sym same ∙ (ap (hex_after n) (drop_more word i 0 within)
     ∙ (after-cons n (get_or word i 0) (drop (i + 1) word) ∙ ap (λ d. then_digit d (λ x. hex_after (n * 16 + x) (drop (i + 1) word))) is)))
 
 -- all are read
 pub all_read : (word : List ℕ) (i n : ℕ) → length word ≡ 8 → length (drop i word) ≡ 0 → hex_after n (drop i word) ≡ hex_after 0 word → digits word ≡ Some n
-all_read word i n long end same = digits_is word long ∙ (sym same ∙ (ap (hex_after n) (no_bytes (drop i word) end) ∙ after-none n))
+all_read word i n long end same = digits_is word long ∙ (sym same ∙ (ap (hex_after n) (nil_from_length (drop i word) end) ∙ after-none n))
 
 pub bounded : (i n : ℕ) → i < 8 → n < 16 ^ i → n < 268435456
 bounded zero n small is = omega (arith, is)

@@ -1,5 +1,6 @@
 -- What the words after a keyword say, one after the other.
 use Rattle.std.proofs.Common.{◌≡◌, ℕ, ◌||◌, Bool, true, false, cond, List, [], ◌∷◌, codes, Option, Some, None, refl, ap, ◌∙◌}
+use Rattle.std.proofs.lemmas.Bool.{or_parts}
 use Rattle.std.proofs.lemmas.Slice.Eq.{bytes_eq-Decides}
 use Rattle.std.specs.Str.{bytes_eq}
 use Rattle.spec_history.specs.declared.entry.What.{What}
@@ -31,15 +32,11 @@ entry_in-some core keyword words by what is some = rw (is, some) refl
 
 -- ---- steps that lead to nothing
 
-neither : (a b : Bool) → (a || b) ≡ false → (a ≡ false) × (b ≡ false)
-neither true b is = absurd cc
-neither false b is = (refl, is)
-
 no_load : (keyword : List ℕ) → is_access keyword ≡ false → bytes_eq keyword (codes "load") ≡ false
-no_load keyword is = (neither (bytes_eq keyword (codes "load")) (bytes_eq keyword (codes "store")) is).0
+no_load keyword is = (or_parts (bytes_eq keyword (codes "load")) (bytes_eq keyword (codes "store")) is).0
 
 no_store : (keyword : List ℕ) → is_access keyword ≡ false → bytes_eq keyword (codes "store") ≡ false
-no_store keyword is = (neither (bytes_eq keyword (codes "load")) (bytes_eq keyword (codes "store")) is).1
+no_store keyword is = (or_parts (bytes_eq keyword (codes "load")) (bytes_eq keyword (codes "store")) is).1
 
 no_epoch_when : (word : Option ℕ) (f : ℕ → Option What) → ((n : ℕ) → f n ≡ None) → (word >>= f) ≡ None
 no_epoch_when (Some n) f none = none n

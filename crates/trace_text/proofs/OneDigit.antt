@@ -1,5 +1,6 @@
 -- A number of one digit.
 use Rattle.std.proofs.Common.{◌≡◌, ℕ, ◌-◌, ◌^◌, ◌&&◌, nat_lt, true, false, cond, List, [], ◌∷◌, drop, length, slice_index, Some, refl, ap, sym, ◌∙◌, arith}
+use Rattle.std.proofs.lemmas.Bool.{and_parts}
 use Rattle.std.proofs.lemmas.Bool.Decides.{nat_tests}
 use Rattle.std.specs.Char.{is_ascii_digit}
 use Rattle.std.specs.List.{list_all}
@@ -8,7 +9,6 @@ use Rattle.trace_text.specs.TraceText.{number}
 use Rattle.trace_text.specs.Front.{IsRead, after_word, ends_word, first_word, is_one_digit}
 use Rattle.trace_text.proofs.FirstWords.{after_word-cons, first_word-cons}
 use Rattle.trace_text.proofs.Spelled.{number_is}
-use Rattle.trace_text.proofs.Words.{and_left, and_right}
 
 no_end : (b : ℕ) → is_ascii_digit b ≡ true → ends_word b ≡ false
 no_end b is = grind (arith, nat_tests, is)
@@ -35,5 +35,5 @@ one_digit [] left n is value rest = absurd cc
 one_digit (b ∷ []) left n is value rest = absurd cc
 one_digit (b ∷ c ∷ text) left n is value rest =
     let two = nat_lt 1 (length (b ∷ c ∷ text)) in
-    let ends = and_right (two && is_ascii_digit b) (ends_word c) is in
-    let digit = and_right two (is_ascii_digit b) (and_left (two && is_ascii_digit b) (ends_word c) is) in rw (value, rest) (of_two b c text digit ends)
+    let both = and_parts (two && is_ascii_digit b) (ends_word c) is in
+    let digit = (and_parts two (is_ascii_digit b) both.0).1 in rw (value, rest) (of_two b c text digit both.1)

@@ -3,10 +3,10 @@ use Rattle.std.proofs.Common.{◌≡◌, ℕ, ◌+◌, ◌<◌, ◌^◌, ◌==�
 use Rattle.std.specs.List.{list_all}
 use Rattle.std.specs.Char.{is_ascii_digit}
 use Rattle.std.specs.Str.Parse.{digits_value, digits_value_after}
+use Rattle.std.proofs.lemmas.List.{drop_more, nil_from_length}
 use Rattle.rv32_image.specs.ImageText.{is_number}
 use Rattle.trace_text.specs.TraceText.{number}
 use Rattle.trace_text.specs.Keywords.{is_spelled}
-use Rattle.trace_text.proofs.FirstWords.{drop_more, no_bytes}
 
 none_of : (a b c d : Bool) → (a && b && d) ≡ false → (a && b && c && d) ≡ false
 none_of true true true d is = is
@@ -45,17 +45,17 @@ number_is word n small spelled all value is =
 pub missed : (word : List ℕ) (i : ℕ) → i < length word → is_ascii_digit (get_or word i 0) ≡ false → list_all is_ascii_digit (drop i word) ≡ list_all is_ascii_digit word
     → number word ≡ None
 missed word i within is same =
-    not_digits word (sym same ∙ (ap (list_all is_ascii_digit) (drop_more word i within) ∙ ap (λ d. d && list_all is_ascii_digit (drop (i + 1) word)) is))
+    not_digits word (sym same ∙ (ap (list_all is_ascii_digit) (drop_more word i 0 within) ∙ ap (λ d. d && list_all is_ascii_digit (drop (i + 1) word)) is))
 
 -- one digit more
 pub next_digits : (word : List ℕ) (i : ℕ) → i < length word → is_ascii_digit (get_or word i 0) ≡ true → list_all is_ascii_digit (drop i word) ≡ list_all is_ascii_digit word
     → list_all is_ascii_digit (drop (i + 1) word) ≡ list_all is_ascii_digit word
 next_digits word i within is same =
-    sym (ap (list_all is_ascii_digit) (drop_more word i within) ∙ ap (λ d. d && list_all is_ascii_digit (drop (i + 1) word)) is) ∙ same
+    sym (ap (list_all is_ascii_digit) (drop_more word i 0 within) ∙ ap (λ d. d && list_all is_ascii_digit (drop (i + 1) word)) is) ∙ same
 
 -- the digits are all read
 pub ended : (word : List ℕ) (i n : ℕ) (small : Bool) → length (drop i word) ≡ 0 → is_spelled word ≡ true → list_all is_ascii_digit (drop i word) ≡ list_all is_ascii_digit word
     → digits_value_after 10 n (drop i word) ≡ digits_value 10 word → nat_lt n (2 ^ 32) ≡ small → number word ≡ cond small (Some n) None
 ended word i n small end spelled same value is =
-    let none = no_bytes (drop i word) end in
+    let none = nil_from_length (drop i word) end in
     number_is word n small spelled (sym same ∙ ap (list_all is_ascii_digit) none) (sym value ∙ ap (digits_value_after 10 n) none) is

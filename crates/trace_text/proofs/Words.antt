@@ -1,5 +1,6 @@
 -- Texts that are cut at bytes which their parts don't have.
-use Rattle.std.proofs.Common.{◌≡◌, ℕ, ◌≤◌, ◌<◌, ◌^◌, ◌==◌, ◌&&◌, Bool, true, false, not, cond, List, [], ◌∷◌, ◌++◌, length, refl, ap, ◌∙◌, arith}
+use Rattle.std.proofs.Common.{◌≡◌, ℕ, ◌≤◌, ◌<◌, ◌^◌, ◌==◌, Bool, true, false, not, cond, List, [], ◌∷◌, ◌++◌, length, refl, ap, ◌∙◌, arith}
+use Rattle.std.proofs.lemmas.Bool.{and_from, not-true, and_parts}
 use Rattle.std.proofs.lemmas.Bool.Decides.{nat_tests}
 use Rattle.std.proofs.lemmas.List.Splits.{length-slice_split, slice_split-cons_yes, slice_split-cons_no}
 use Rattle.std.proofs.lemmas.List.Sums.{list_all-from_AllPass}
@@ -31,37 +32,22 @@ split_append p c (x ∷ xs) ys is =
     let some : 1 ≤ length (slice_split p xs) = omega (arith, length-slice_split p xs) in
     either (p x) x (slice_split p (xs ++ c ∷ ys)) (slice_split p xs) (slice_split p ys) some (split_append p c xs ys is)
 
-pub and_left : (a b : Bool) → (a && b) ≡ true → a ≡ true
-and_left true b both = refl
-and_left false b both = both
-
-pub and_right : (a b : Bool) → (a && b) ≡ true → b ≡ true
-and_right true b both = both
-and_right false b both = absurd cc
-
-pub not_false : (b : Bool) → not b ≡ true → b ≡ false
-not_false true is = absurd cc
-not_false false is = refl
-
 -- a text without a separator is one piece
 pub split_none : (p : ℕ → Bool) (w : List ℕ) → list_all (λ b. not (p b)) w ≡ true → slice_split p w ≡ w ∷ []
 split_none p [] is = refl
 split_none p (x ∷ w) is =
-    slice_split-cons_no p x w (not_false (p x) (and_left (not (p x)) (list_all (λ b. not (p b)) w) is))
-    ∙ ap (onto_first x) (split_none p w (and_right (not (p x)) (list_all (λ b. not (p b)) w) is))
-
-both : (a b : Bool) → a ≡ true → b ≡ true → (a && b) ≡ true
-both a b p q = rw (p, q) refl
+    let both = and_parts (not (p x)) (list_all (λ b. not (p b)) w) is in
+    slice_split-cons_no p x w (not-true (p x) both.0) ∙ ap (onto_first x) (split_none p w both.1)
 
 weaken : (p q : ℕ → Bool) (w : List ℕ) → ((x : ℕ) → p x ≡ true → q x ≡ true) → list_all p w ≡ true → list_all q w ≡ true
 weaken p q [] more is = refl
 weaken p q (x ∷ w) more is =
-    both (q x) (list_all q w) (more x (and_left (p x) (list_all p w) is)) (weaken p q w more (and_right (p x) (list_all p w) is))
+    let both = and_parts (p x) (list_all p w) is in and_from (q x) (list_all q w) (more x both.0) (weaken p q w more both.1)
 
 pub all_append : (p : ℕ → Bool) (xs ys : List ℕ) → list_all p xs ≡ true → list_all p ys ≡ true → list_all p (xs ++ ys) ≡ true
 all_append p [] ys a b = b
 all_append p (x ∷ xs) ys a b =
-    both (p x) (list_all p (xs ++ ys)) (and_left (p x) (list_all p xs) a) (all_append p xs ys (and_right (p x) (list_all p xs) a) b)
+    let both = and_parts (p x) (list_all p xs) a in and_from (p x) (list_all p (xs ++ ys)) both.0 (all_append p xs ys both.1 b)
 
 -- ---- words
 

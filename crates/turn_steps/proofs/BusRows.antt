@@ -1,9 +1,8 @@
 -- The rows in which a core on the bus has stored bytes.
-use Rattle.std.proofs.Common.{◌≡◌, ◌⊎◌, ℕ, ◌+◌, ◌*◌, ◌/◌, ◌%◌, ◌<◌, ◌==◌, zero, suc, true, false, List, [], ◌∷◌, cond, length, slice_get, IsTrue, Option, Some, None, Result, Ok, Err, inl, inr, refl, sym, ap, subst, ◌∙◌, arith, true≢false}
+use Rattle.std.proofs.Common.{◌≡◌, ◌⊎◌, ℕ, ◌+◌, ◌*◌, ◌/◌, ◌%◌, ◌<◌, ◌==◌, zero, suc, true, false, List, [], ◌∷◌, cond, length, slice_get, IsTrue, Option, Some, None, inl, inr, refl, sym, ap, subst, ◌∙◌, arith, true≢false}
 use Rattle.std.specs.BTreeSet.{BTreeSet, contains}
 use Rattle.std.specs.List.{slice_index_or}
 use Rattle.std.specs.Ordering.{nat_cmp}
-use Rattle.std.specs.Result.{OnOk}
 use Rattle.std.proofs.lemmas.Bool.{cases_Bool, cases_eq}
 use Rattle.std.proofs.lemmas.Bool.Decides.{nat_tests}
 use Rattle.std.proofs.lemmas.Option.{slice_get_within}
@@ -122,10 +121,6 @@ module _ (v : CachedView) (size core a : ℕ) (rows : BTreeSet ℕ) (size_is : s
   has_own_row stored = of_core (slice_get v.cores core) refl stored
 
 -- ---- what was shown of a core
-
-pub on_ok : {A E : Type 0} (r : Result A E) (P Q : Type 0) → (P → Q) → OnOk r P → OnOk r Q
-on_ok (Ok x) P Q f p = f p
-on_ok (Err e) P Q f p = tt
 
 one_held : (o : Option Held) (x y : Held) → o ≡ Some x → o ≡ Some y → x ≡ y
 one_held o x y first second = cc

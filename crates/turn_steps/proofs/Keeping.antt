@@ -1,5 +1,6 @@
 -- What was shown of what a core keeps, and what is shown next.
 use Rattle.std.proofs.Common.{◌≡◌, ℕ, ◌/◌, ◌<◌, ◌==◌, ◌||◌, Bool, true, false, not, List, [], Option, Some, None, is_some, unwrap_or, refl, ap, sym, subst, ◌∙◌}
+use Rattle.std.proofs.lemmas.Bool.{or_left, not-false}
 use Rattle.std.specs.BTreeMap.{BTreeMap, get, keys}
 use Rattle.std.specs.BTreeSet.{BTreeSet, contains}
 use Rattle.std.specs.Ordering.{nat_cmp}
@@ -34,13 +35,9 @@ outside_keys rows shown found viewed are has r outside =
 
 -- ---- a core that isn't speculative
 
-is_straight : (straight : Bool) → not straight ≡ false → straight ≡ true
-is_straight true ended = refl
-is_straight false ended = sym ended
-
 has_ended : (v : StoreView) (core : ℕ) (attempt : Option Attempt) → v.attempt core ≡ attempt → is_speculative attempt ≡ false → IsSettled v → IsClear v core
 has_ended v core None runs ended settled = settled.idle core runs
-has_ended v core (Some attempt) runs ended settled = settled.straight core attempt runs (is_straight attempt.straight ended)
+has_ended v core (Some attempt) runs ended settled = settled.straight core attempt runs (not-false attempt.straight ended)
 
 -- then it keeps nothing
 pub is_clear : (v : StoreView) (core : ℕ) → is_speculative (v.attempt core) ≡ false → IsSettled v → IsClear v core
@@ -77,11 +74,8 @@ shows_nothing v core shown none clear = record { row = λ r less. none r ∙ sym
 
 -- ---- rows with own bytes
 
-or_more : (b c : Bool) → b ≡ true → (b || c) ≡ true
-or_more b c is = rw is refl
-
 pub kept_rows : (before after more : ℕ → Bool) → ((r : ℕ) → after r ≡ (before r || more r)) → (r : ℕ) → before r ≡ true → after r ≡ true
-kept_rows before after more all r is = all r ∙ or_more (before r) (more r) is
+kept_rows before after more all r is = all r ∙ or_left (before r) (more r) is
 
 pub owned_rows : (old : StoreView) (core : ℕ) (shown : List (ℕ × KeptRow)) (before after : BTreeSet ℕ) → ShowsKept old core shown
     → ((r : ℕ) → contains nat_cmp after r ≡ (contains nat_cmp before r || not ((row_at shown r).own == 0)))

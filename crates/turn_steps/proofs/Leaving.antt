@@ -1,7 +1,7 @@
 -- What a turn leaves as it was, arm by arm.
-use Rattle.std.proofs.Common.{◌≡◌, ◌≢◌, ◌⊎◌, ℕ, ◌/◌, ◌+◌, ◌*◌, ◌||◌, Bool, true, false, List, [], ◌∷◌, ◌++◌, Option, Some, None, Result, if◌then◌else◌, inl, inr, refl, sym, ap, subst, ◌∙◌, true≢false}
+use Rattle.std.proofs.Common.{◌≡◌, ◌≢◌, ◌⊎◌, ℕ, ◌/◌, ◌+◌, ◌*◌, Bool, true, false, List, [], ◌∷◌, ◌++◌, Option, Some, None, Result, if◌then◌else◌, inl, inr, refl, sym, ap, subst, ◌∙◌, true≢false}
 use Rattle.std.specs.List.{list_any}
-use Rattle.std.proofs.lemmas.Bool.{cases_eq, eqb-false}
+use Rattle.std.proofs.lemmas.Bool.{cases_eq, eqb-false, or_parts, or_right, or_left}
 use Rattle.std.proofs.lemmas.List.{append_cancel_left}
 use Rattle.std.proofs.lemmas.List.Folds.{list_any-append}
 use Rattle.rv32_exec.specs.declared.stop.Stop.{Stop}
@@ -29,25 +29,13 @@ use Rattle.turn_steps.proofs.Sparing.{IsSpeculative, IsStraight, Keeps, none_isn
 
 -- ---- tests of the entries
 
-or_none : (a b : Bool) → (a || b) ≡ false → (a ≡ false) × (b ≡ false)
-or_none true b isnt = absurd (true≢false isnt)
-or_none false b isnt = (refl, isnt)
-
-or_right : (a b : Bool) → b ≡ true → (a || b) ≡ true
-or_right true b is = refl
-or_right false b is = is
-
-or_left : (a b : Bool) → a ≡ true → (a || b) ≡ true
-or_left true b is = refl
-or_left false b is = absurd (true≢false (sym is))
-
 module _ (test : Entry → Bool) where
   -- none passes, so none of the later ones does
   none_later : (first later : List Entry) → list_any test (first ++ later) ≡ false → list_any test later ≡ false
-  none_later first later isnt = (or_none (list_any test first) (list_any test later) (sym (list_any-append test first later) ∙ isnt)).1
+  none_later first later isnt = (or_parts (list_any test first) (list_any test later) (sym (list_any-append test first later) ∙ isnt)).1
 
   one_none : (e : Entry) → list_any test (e ∷ []) ≡ false → test e ≡ false
-  one_none e isnt = (or_none (test e) false isnt).0
+  one_none e isnt = (or_parts (test e) false isnt).0
 
   none_last : (first : List Entry) (e : Entry) → list_any test (first ++ e ∷ []) ≡ false → test e ≡ false
   none_last first e isnt = one_none e (none_later first (e ∷ []) isnt)

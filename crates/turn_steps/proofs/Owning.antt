@@ -1,6 +1,6 @@
 -- Rows of which a core has stored bytes, taken one by one.
 use Rattle.std.proofs.Common.{◌≡◌, ◌≢◌, ℕ, Bool, true, false, ◌&&◌, ◌||◌, ◌==◌, not, List, [], ◌∷◌, ◌++◌, refl, ap, sym, subst, ◌∙◌, arith, ⊎_elim}
-use Rattle.std.proofs.lemmas.Bool.{cases_eq}
+use Rattle.std.proofs.lemmas.Bool.{cases_eq, and_right}
 use Rattle.std.proofs.lemmas.Bool.Decides.{nat_tests}
 use Rattle.std.specs.BTreeMap.{is_at}
 use Rattle.std.specs.Ordering.{nat_cmp}
@@ -28,10 +28,6 @@ all_true : (base first second : Bool) → first ≡ true → second ≡ true →
 all_true true first second p q = refl
 all_true false first second p q = rw (p, q) refl
 
-none_false : (first second : Bool) → second ≡ false → (first && second) ≡ false
-none_false true second is = is
-none_false false second is = refl
-
 -- a row that it has stored bytes of is put in
 pub more_owned : (owns : ℕ → Bool) (ys : List ℕ) (x : ℕ) (start rows new : ℕ → Bool) → ((r : ℕ) → rows r ≡ (start r || (among ys r && owns r)))
     → owns x ≡ true → new x ≡ true → ((r : ℕ) → is_at (nat_cmp x) r ≡ false → new r ≡ rows r)
@@ -49,7 +45,7 @@ pub none_owned : (owns : ℕ → Bool) (ys : List ℕ) (x : ℕ) (start rows : �
 none_owned owns ys x start rows so none r =
     ⊎_elim
     (λ same. subst (λ (n : ℕ). rows n ≡ (start n || (among (ys ++ x ∷ []) n && owns n))) (sym same)
-    (so x ∙ ap (λ b. start x || b) (none_false (among ys x) (owns x) none ∙ sym (none_false (among (ys ++ x ∷ []) x) (owns x) none))))
+    (so x ∙ ap (λ b. start x || b) (and_right (among ys x) (owns x) none ∙ sym (and_right (among (ys ++ x ∷ []) x) (owns x) none))))
     (λ other. so r ∙ ap (λ b. start r || (b && owns r)) (sym (among_others ys x r other)))
     (cases_eq r x)
 

@@ -1,6 +1,6 @@
 -- A pass over rows in ascending order.
 use Rattle.std.proofs.Common.{◌≡◌, ◌≢◌, ℕ, zero, suc, ◌<◌, ◌≤◌, Bool, true, false, ◌||◌, List, [], ◌∷◌, ◌++◌, if◌then◌else◌, nat_lt, refl, ap, sym, subst, ◌∙◌, arith, append_assoc, ⊎_elim}
-use Rattle.std.proofs.lemmas.Bool.{cases_eq, cases_lt}
+use Rattle.std.proofs.lemmas.Bool.{cases_eq, cases_lt, or_from, or_right}
 use Rattle.std.proofs.lemmas.Bool.Decides.{nat_tests}
 use Rattle.std.proofs.lemmas.Cmp.{ranked}
 use Rattle.std.proofs.lemmas.List.{append-nil, flat_map_more}
@@ -28,15 +28,12 @@ apart x y other = grind (arith, nat_tests)
 itself : (x : ℕ) → is_at (nat_cmp x) x ≡ true
 itself x = grind (arith, nat_tests)
 
-neither : (b c : Bool) → b ≡ false → c ≡ false → (b || c) ≡ false
-neither b c p q = rw p q
-
 -- all are past this one
 above : (x : ℕ) (rows : List ℕ) → AllByRecursion (λ y. nat_cmp x y ≡ Less) rows → (row : ℕ) → row ≤ x → among rows row ≡ false
 above x [] all row le = refl
 above x (y ∷ rows) all row le =
     let past : x < y = less_from x y all.0 in
-    neither (is_at (nat_cmp row) y) (among rows row) (apart row y (omega arith)) (above x rows all.1 row le)
+    or_from (is_at (nat_cmp row) y) (among rows row) (apart row y (omega arith)) (above x rows all.1 row le)
 
 past_it : (x : ℕ) (rows : List ℕ) → AllByRecursion (λ y. nat_cmp x y ≡ Less) rows → (n : ℕ) → n ≤ suc x → AllByRecursion (λ y. n ≤ y) rows
 past_it x [] all n le = tt
@@ -51,7 +48,7 @@ pub is_new : (ys : List ℕ) (x : ℕ) (rest : List ℕ) → IsStrictlySortedBy 
 is_new [] x rest sorted = refl
 is_new (y ∷ ys) x rest sorted =
     let less : y < x = less_from y x (in_the_middle (λ z. nat_cmp y z ≡ Less) ys x rest (sorted_head nat_cmp y (ys ++ x ∷ rest) sorted)) in
-    neither (is_at (nat_cmp x) y) (among ys x) (apart x y (omega arith)) (is_new ys x rest (sorted_tail nat_cmp y (ys ++ x ∷ rest) sorted))
+    or_from (is_at (nat_cmp x) y) (among ys x) (apart x y (omega arith)) (is_new ys x rest (sorted_tail nat_cmp y (ys ++ x ∷ rest) sorted))
 
 or_none : (b : Bool) → (b || false) ≡ b
 or_none true = refl
@@ -65,12 +62,8 @@ among_more : (ys : List ℕ) (x row : ℕ) → among (ys ++ x ∷ []) row ≡ (a
 among_more [] x row = or_none (is_at (nat_cmp row) x)
 among_more (y ∷ ys) x row = ap (λ b. is_at (nat_cmp row) y || b) (among_more ys x row) ∙ or_or (is_at (nat_cmp row) y) (among ys row) (is_at (nat_cmp row) x)
 
-or_true : (b c : Bool) → c ≡ true → (b || c) ≡ true
-or_true true c is = refl
-or_true false c is = is
-
 pub among_it : (ys : List ℕ) (x : ℕ) → among (ys ++ x ∷ []) x ≡ true
-among_it ys x = among_more ys x x ∙ or_true (among ys x) (is_at (nat_cmp x) x) (itself x)
+among_it ys x = among_more ys x x ∙ or_right (among ys x) (is_at (nat_cmp x) x) (itself x)
 
 pub among_others : (ys : List ℕ) (x row : ℕ) → row ≢ x → among (ys ++ x ∷ []) row ≡ among ys row
 among_others ys x row other = among_more ys x row ∙ ap (λ b. among ys row || b) (apart row x other) ∙ or_none (among ys row)
@@ -126,9 +119,9 @@ from text count (x ∷ rows) start le low sorted none =
     let least : start ≤ x = low.0 in
     let rest : List ℕ = flat_map (inside count text) rows in
     let before : (row : ℕ) → row < x → among (x ∷ rows) row ≡ false = λ row less.
-    neither (is_at (nat_cmp row) x) (among rows row) (apart row x (omega arith)) (above x rows head row (omega arith)) in
+    or_from (is_at (nat_cmp row) x) (among rows row) (apart row x (omega arith)) (above x rows head row (omega arith)) in
     let after : (row : ℕ) → x < row → among rows row ≡ false → among (x ∷ rows) row ≡ false = λ row less outside.
-    neither (is_at (nat_cmp row) x) (among rows row) (apart row x (omega arith)) outside in
+    or_from (is_at (nat_cmp row) x) (among rows row) (apart row x (omega arith)) outside in
     ⊎_elim
     (λ less. ap (λ t. text_below text start ++ (t ++ rest)) (is_inside text count x less)
     ∙ ap (λ t. t ++ (text x ++ rest)) (flat text start x least (λ row most under. none row most (omega arith) (before row under)))

@@ -1,6 +1,6 @@
 -- What was shown of the cores of a plain store, core by core.
-use Rattle.std.proofs.Common.{◌≡◌, ℕ, ◌+◌, ◌*◌, ◌/◌, ◌%◌, ◌<◌, ◌≤◌, ◌||◌, Bool, true, false, not, List, [], ◌∷◌, ◌++◌, length, Option, Some, None, is_some, inr, refl, ap, sym, subst, ◌∙◌, arith, add-one, append_assoc, true≢false, ⊎_elim}
-use Rattle.std.proofs.lemmas.Bool.{cases_Bool, cases_eq, or_parts, or_right}
+use Rattle.std.proofs.Common.{◌≡◌, ℕ, ◌+◌, ◌*◌, ◌/◌, ◌%◌, ◌<◌, ◌≤◌, ◌||◌, true, false, List, [], ◌∷◌, ◌++◌, length, Option, Some, None, is_some, inr, refl, ap, sym, subst, ◌∙◌, arith, add-one, append_assoc, true≢false, ⊎_elim}
+use Rattle.std.proofs.lemmas.Bool.{cases_Bool, cases_eq, or_parts, or_right, not-true}
 use Rattle.std.proofs.lemmas.List.{append-nil, get_or_append_left, get_or_push}
 use Rattle.std.proofs.lemmas.Option.{slice_get_past}
 use Rattle.std.specs.BTreeSet.{BTreeSet, contains}
@@ -36,14 +36,10 @@ more_cores old now core start text new so more =
 
 -- ---- what a turn leaves
 
-is_false : (b : Bool) → not b ≡ true → b ≡ false
-is_false true is = sym is
-is_false false is = refl
-
 runs_one : (v : StoreView) (core : ℕ) (attempt : Option Attempt) → v.attempt core ≡ attempt → is_speculative attempt ≡ true
     → (x : Attempt) × (v.attempt core ≡ Some x) × (x.straight ≡ false)
 runs_one v core None is runs = absurd (true≢false (sym runs))
-runs_one v core (Some x) is runs = (x, is, is_false x.straight runs)
+runs_one v core (Some x) is runs = (x, is, not-true x.straight runs)
 
 -- the rows that the entries touch may be otherwise
 pub kept_but : (before rows : BTreeSet ℕ) (added : List Entry) (v w : StoreView) (by core : ℕ) → w.shape.size ≡ v.shape.size

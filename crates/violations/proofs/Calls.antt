@@ -1,6 +1,7 @@
 -- The calls of the plain store, over its view.
 use Rattle.std.proofs.Common.{◌≡◌, ◌≢◌, ◌⊎◌, ℕ, ◌<◌, Bool, true, false, length, set, slice_get, slice_index, is_some, Option, Some, None, refl, sym, ap, subst, ◌∙◌, inl, inr, arith, length-set, true≢false}
 use Rattle.std.proofs.lemmas.Bool.{cases_eq}
+use Rattle.std.proofs.lemmas.Option.{same_Some}
 use Rattle.violations.specs.declared.attempt.Attempt.{Attempt}
 use Rattle.violations.specs.declared.core_state.CoreState.{CoreState}
 use Rattle.violations.specs.View.{attempt_of, IsSettled, MayBegin, Runs}
@@ -16,9 +17,6 @@ some_same o x y first second = cc
 
 pub none_some : {A : Type 0} (o : Option A) (x : A) → o ≡ None → o ≡ Some x → ⊥
 none_some o x none some = cc
-
-same_some : {A : Type 0} (x y : A) → Some x ≡ Some y → x ≡ y
-same_some x y is = cc
 
 -- ---- begin
 
@@ -51,7 +49,7 @@ begun_apart p by epoch settled may j k x y (inr old) (inr old') same = settled.a
 begun_quiet : (state : CoreState) (epoch : ℕ) → IsQuiet (Some (begun state epoch))
 begun_quiet state epoch = record {
   idle = λ none. absurd cc;
-  straight = λ t at is. absurd (true≢false (sym is ∙ ap (λ (x : Attempt). x.straight) (sym (same_some (attempt_of epoch false) t at))));
+  straight = λ t at is. absurd (true≢false (sym is ∙ ap (λ (x : Attempt). x.straight) (sym (same_Some (attempt_of epoch false) t at))));
 }
 
 pub begun_settled : (p : PlainView) (by epoch budget : ℕ) (state : CoreState) → IsSettled (store_view p) → MayBegin (store_view p) by epoch

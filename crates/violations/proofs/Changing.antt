@@ -2,7 +2,7 @@
 use Rattle.std.proofs.Common.{◌≡◌, ◌≢◌, ℕ, zero, suc, ◌+◌, ◌<◌, ◌≤◌, ◌++◌, Bool, true, false, List, [], ◌∷◌, length, set, get_or, slice_get, Option, Some, None, is_some, refl, sym, ap, ◌∙◌, inl, inr, arith, length-set, true≢false, ne_eqb, eq-eqb, ◌==◌, ◌||◌, ◌&&◌, ◌-◌, nat_le, nat_lt}
 use Rattle.std.proofs.lemmas.Bool.{cases_eq}
 use Rattle.std.proofs.lemmas.Bool.Decides.{nat_tests}
-use Rattle.std.proofs.lemmas.Option.{slice_get_read}
+use Rattle.std.proofs.lemmas.Option.{slice_get_read, slice_get_within}
 use Rattle.memory_bytes.specs.Shadow.{byte_in}
 use Rattle.violations.specs.declared.core_state.CoreState.{CoreState}
 use Rattle.violations.specs.CoreState.{IsWithin, HasRoom, IsIdle, IsSameState, AreWithin, HaveRoom, AreIdle, AreSame, AreReaders, AreDropped, GuardsOne}
@@ -97,18 +97,8 @@ reserving_more size accesses old new i state state' below there same within room
   ];
 }
 
-past_none : (states : List CoreState) (k : ℕ) → length states ≤ k → slice_get states k ≡ None
-past_none [] k past = refl
-past_none (first ∷ rest) zero past = absurd (omega arith)
-past_none (first ∷ rest) (suc k) past = past_none rest k (omega arith)
-
-below_length : (states : List CoreState) (k : ℕ) (state : CoreState) → slice_get states k ≡ Some state → k < length states
-below_length [] k state at = absurd cc
-below_length (first ∷ rest) zero state at = omega arith
-below_length (first ∷ rest) (suc k) state at = let less = below_length rest k state at in omega arith
-
 pub reserving_end : (size accesses : ℕ) (old new : List CoreState) (i : ℕ) → length new ≤ i → Reserving size accesses old new i → HaveRoom size accesses new
-reserving_end size accesses old new i all reserving = record { each = λ k state at. let below = below_length new k state at in reserving.room k state (omega arith) at }
+reserving_end size accesses old new i all reserving = record { each = λ k state at. let below = slice_get_within new k state at in reserving.room k state (omega arith) at }
 
 -- ---- attempts that end
 
@@ -159,7 +149,7 @@ dropping_on hurt old new i unhurt dropping = record {
 pub dropping_end : (hurt : ℕ → Bool) (old new : List CoreState) (i : ℕ) → length new ≤ i → Dropping hurt old new i → AreDropped hurt old new
 dropping_end hurt old new i all dropping = record {
   long = dropping.long;
-  dropped = λ k state hurt_k at. let below = below_length new k state at in dropping.dropped k state (omega arith) hurt_k at;
+  dropped = λ k state hurt_k at. let below = slice_get_within new k state at in dropping.dropped k state (omega arith) hurt_k at;
   kept = dropping.kept;
   within = dropping.within;
   room = dropping.room;
@@ -213,7 +203,7 @@ pub reading_end : (core : ℕ) (bytes : ℕ → Bool) (states : List CoreState) 
 reading_end core bytes states hurt i all reading = record {
   others = reading.others;
   run = reading.run;
-  spared = λ k a state other unhurt at runs byte. let below = below_length states k state at in reading.spared k a state (omega arith) other unhurt at runs byte;
+  spared = λ k a state other unhurt at runs byte. let below = slice_get_within states k state at in reading.spared k a state (omega arith) other unhurt at runs byte;
 }
 
 -- a byte that is there

@@ -1,5 +1,7 @@
 -- New plain stores, and room in them.
-use Rattle.std.proofs.Common.{◌≡◌, ◌⊎◌, ℕ, zero, suc, ◌<◌, ◌≤◌, List, [], ◌∷◌, length, slice_get, slice_index, Option, Some, None, is_some, unwrap_or, refl, sym, ap, ◌∙◌, inl, inr, arith, true≢false}
+use Rattle.std.proofs.Common.{◌≡◌, ℕ, zero, suc, ◌<◌, ◌≤◌, List, [], ◌∷◌, length, slice_get, slice_index, Option, Some, None, is_some, unwrap_or, refl, sym, ap, ◌∙◌, inl, inr, arith, true≢false}
+use Rattle.std.proofs.lemmas.Bool.{cases_lt}
+use Rattle.std.proofs.lemmas.Option.{slice_get_past}
 use Rattle.rv32_image.specs.declared.version.Version.{Version}
 use Rattle.rv32_image.specs.declared.version.Version.TheVariants.{One, Two}
 use Rattle.rv32_image.specs.Version.{limits_of}
@@ -19,14 +21,6 @@ there_is [] k below = absurd (omega arith)
 there_is (first ∷ rest) zero below = (first, refl)
 there_is (first ∷ rest) (suc k) below = there_is rest k (omega arith)
 
-none_past : (states : List CoreState) (k : ℕ) → length states ≤ k → slice_get states k ≡ None
-none_past [] k past = refl
-none_past (first ∷ rest) zero past = absurd (omega arith)
-none_past (first ∷ rest) (suc k) past = none_past rest k (omega arith)
-
-below_or_past : (k n : ℕ) → (k < n) ⊎ (n ≤ k)
-below_or_past k n = grind arith
-
 -- contracts see the same of both
 record LooksAlike (x y : Option CoreState) : Type 0 where
   pub attempt : attempt_in y ≡ attempt_in x
@@ -41,14 +35,14 @@ alike_by x y l m is_x is_y same = record {
 }
 
 looks_alike : (old new : List CoreState) → AreSame old new → (k : ℕ) → LooksAlike (slice_get old k) (slice_get new k)
-looks_alike old new same k = elim (below_or_past k (length old)) [
+looks_alike old new same k = elim (cases_lt k (length old)) [
   | inl below ↦
       let l = there_is old k below in
       let m = there_is new k (omega (arith, same.long, below)) in
       alike_by (slice_get old k) (slice_get new k) l.0 m.0 l.1 m.1 (same.each k l.0 m.0 l.1 m.1)
   | inr past ↦
-      let none = none_past old k past in
-      let none' = none_past new k (omega (arith, same.long, past)) in record {
+      let none = slice_get_past old k past in
+      let none' = slice_get_past new k (omega (arith, same.long, past)) in record {
         attempt = ap attempt_in (none' ∙ sym none);
         own = λ a. ap (λ z. own_in z a) (none' ∙ sym none);
         guarded = λ a. ap (λ z. guarded_in z a) (none' ∙ sym none);

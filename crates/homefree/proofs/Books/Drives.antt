@@ -1,7 +1,7 @@
 -- The turns of a list of core numbers, one after another, and the end that they come to.
-use Rattle.std.proofs.Common.{◌≡◌, ◌≢◌, ℕ, ◌+◌, ◌<◌, List, ◌∷◌, length, get_or, drop, Option, Some, None, Result, Ok, Err, option_map, refl, sym, ap, subst, ◌∙◌, arith, add-one, drop-cons}
+use Rattle.std.proofs.Common.{◌≡◌, ◌≢◌, ℕ, ◌+◌, ◌<◌, List, length, get_or, drop, Option, Some, None, Result, Ok, Err, option_map, refl, sym, ap, subst, ◌∙◌, arith}
 use Rattle.std.proofs.Math.Path.{fun_ext}
-use Rattle.std.proofs.lemmas.List.{get_or-replicate, get_or_past}
+use Rattle.std.proofs.lemmas.List.{get_or-replicate, get_or_past, drop_more}
 use native.Mathlib.Decide.{dec_lt}
 use Rattle.std.proofs.Math.ListN.{replicate, length-replicate}
 use Rattle.rv32_exec.specs.declared.sequential.End.{End}
@@ -35,10 +35,6 @@ none_held n k = elim (dec_lt k n) [
 pub no_harts : (n : ℕ) → harts_of (replicate n None) ≡ (λ _. None)
 no_harts n = fun_ext (λ k. ap (option_map (λ a. a.base)) (none_held n k))
 
--- the first of the rest
-rest_is : (xs : List ℕ) (i : ℕ) → i < length xs → drop i xs ≡ get_or xs i 0 ∷ drop (i + 1) xs
-rest_is xs i there = rw (add-one, drop-cons xs i 0) refl
-
 module _ {S : Type 0} (view : S → StoreView) (waits : S → Waits) (harts : ℕ → Option HartState) (mid next : Driver S) (xs : List ℕ) (i : ℕ) (there : i < length xs)
     (P : Result (Option End) TurnFault → Driver S → Type 0)
     (drives : (result : Result (Option End) TurnFault) (new : Driver S) → Driven view waits harts mid (drop i xs) result new → P result new) where
@@ -49,7 +45,7 @@ module _ {S : Type 0} (view : S → StoreView) (waits : S → Waits) (harts : �
       → EndsOrGoes answer (λ r. (new ≡ next) × (result ≡ r)) (λ a. Driven view waits (with_held harts core (held_after a (harts core))) next (drop (i + 1) xs) result new)
       → P result new
   by_turn answer result new turned more =
-      drives result new (subst (λ ys. Driven view waits harts mid ys result new) (sym (rest_is xs i there)) (next, answer, turned, more))
+      drives result new (subst (λ ys. Driven view waits harts mid ys result new) (sym (drop_more xs i 0 there)) (next, answer, turned, more))
 
   pub ends_over : (answer : Answer) (end : End) → answer ≡ Over end → TurnedWith view waits mid core (harts core) (Ok answer) next → P (Ok (Some end)) next
   ends_over answer end is turned = by_turn (Ok (Over end)) (Ok (Some end)) next (subst (λ a. TurnedWith view waits mid core (harts core) (Ok a) next) is turned) (refl, refl)

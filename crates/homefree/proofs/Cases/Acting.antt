@@ -2,7 +2,7 @@
 use Rattle.std.proofs.Common.{◌≡◌, ◌≢◌, ◌≤◌, ◌<◌, ℕ, true, false, List, [], length, Option, Some, None, option_copied, Bor, eq-eqb, true≢false, ◌&&◌, ◌∷◌, refl, sym, ap, subst, ◌∙◌, inl, inr, arith}
 use lib.Pointwise.{pointwise, bytes_decides}
 use Rattle.std.proofs.Math.Dec.{eqb}
-use Rattle.std.proofs.lemmas.Bool.{cases_Bool, eqb-true}
+use Rattle.std.proofs.lemmas.Bool.{cases_Bool, eqb-true, and_parts}
 use Rattle.rv32_exec.specs.Arrival.{Arrival}
 use Rattle.rv32_exec.specs.Hart.{HartState, start_of}
 use Rattle.rv32_exec.specs.declared.arrived.Arrived.{Arrived}
@@ -15,7 +15,6 @@ use Rattle.spec_history.specs.Effect.{effect_idle, effect_on}
 use Rattle.spec_history.specs.Replay.{replay}
 use Rattle.spec_history.specs.Laws.{IsKept}
 use Rattle.rv32_image.specs.Image.{LoadedImage}
-use Rattle.spec_history.proofs.OneEntry.Legal.{and_true}
 use Rattle.spec_history.proofs.Replay.Joining.{history_goes_on, no_entry}
 use Rattle.spec_history.proofs.Replay.Replays.{replayed}
 use Rattle.violations.specs.declared.attempt.Attempt.{Attempt}
@@ -235,8 +234,8 @@ differs x y is same = true≢false (sym (hart_same x) ∙ (ap (λ (z : HartState
 
 pub same_hart : (x y : HartState) → (pointwise eqb x.x y.x && (eqb x.pc y.pc && eqb x.done y.done)) ≡ true → x ≡ y
 same_hart x y is =
-    let both = and_true _ _ is in
-    let rest = and_true _ _ both.1 in
+    let both = and_parts _ _ is in
+    let rest = and_parts _ _ both.1 in
     let registers = (bytes_decides x.x y.x).0 both.0 in
     let pc = eqb-true x.pc y.pc rest.0 in
     let done = eqb-true x.done y.done rest.1 in

@@ -1,6 +1,6 @@
 -- What each note makes of the fields: what its entry makes of the flat machine's state.
 use Rattle.std.proofs.Common.{◌≡◌, ◌≤◌, ℕ, ◌+◌, ◌==◌, ◌≢◌, ◌||◌, Bool, true, false, cond, ◌++◌, length, Option, Some, None, option_map, vec_len, vec_capacity, refl, sym, ap, subst, ◌∙◌, inl, inr, arith, eq-eqb, ne_eqb}
-use Rattle.std.proofs.lemmas.Bool.{cases_eq}
+use Rattle.std.proofs.lemmas.Bool.{cases_eq, and_parts, or_right}
 use Rattle.rv32_exec.specs.declared.stop.Stop.{Stop}
 use Rattle.rv32_exec.specs.declared.stop.Stop.TheVariants as stop
 use Rattle.rv32_exec.specs.Arrival.{Arrival, after_number, after_loading}
@@ -12,7 +12,7 @@ use Rattle.spec_history.specs.declared.entry.What.TheVariants.{Start, Load, Stor
 use Rattle.spec_history.specs.FlatState.{CoreState, begun, end_after}
 use Rattle.spec_history.specs.Effect.{hurt_at, idle_at}
 use Rattle.spec_history.specs.Refusal.{runs_and}
-use Rattle.spec_history.proofs.OneEntry.Legal.{legal_entry, and_true}
+use Rattle.spec_history.proofs.OneEntry.Legal.{legal_entry}
 use Rattle.rv32_exec.specs.declared.sequential.End.TheVariants as end_is
 use Rattle.spec_history.specs.Replay.{count_of}
 use Rattle.spec_history.proofs.Replay.Replays.{effect-on, effect-idle}
@@ -212,16 +212,12 @@ caller : (o : Option CoreState) (test : CoreState → Bool) → runs_and o test 
 caller None test is = absurd cc
 caller (Some c) test is = (c, refl)
 
-or_true : (b : Bool) → (b || true) ≡ true
-or_true true = refl
-or_true false = refl
-
 or_same : (b : Bool) → (b || false) ≡ b
 or_same true = refl
 or_same false = refl
 
 marked : (epoch : ℕ) (c : CoreState) (now : Running) → kept_of c ≡ now → c.epoch ≡ epoch → Some (record now { hurt = true }) ≡ option_map kept_of (hurt_at epoch (Some c))
-marked epoch c now is same = rw (← is, eq-eqb c.epoch epoch same, or_true c.hurt) refl
+marked epoch c now is same = rw (← is, eq-eqb c.epoch epoch same, or_right c.hurt true refl) refl
 
 unmarked : (epoch : ℕ) (o : Option CoreState) → ((c : CoreState) → o ≡ Some c → c.epoch ≢ epoch) → option_map kept_of o ≡ option_map kept_of (hurt_at epoch o)
 unmarked epoch None other = refl
@@ -253,7 +249,7 @@ hurt_noted old new shares by core now runs image cores history room used totals 
     let d = found.0 in
     let epoch : d.epoch ≡ now.epoch = ap (λ (r : Running). r.epoch) found.2 in
     let l = legal_entry old.image (length old.running.items) s (record { by = by; what = Hurt now.epoch }) legal in
-    let it = caller (s.cores by) _ (and_true _ _ l.there).0 in
+    let it = caller (s.cores by) _ (and_parts _ _ l.there).0 in
     let apart = (whole.going l.going).kept.apart in
     subst (Shows new) (sym (effect-on old.image s by (Hurt now.epoch) it.0 it.1)) (record {
       homefree = homefree ∙ was.homefree;
@@ -277,7 +273,7 @@ cancel_noted old new shares by core now runs image cores history room used total
     let d = found.0 in
     let epoch : d.epoch ≡ now.epoch = ap (λ (r : Running). r.epoch) found.2 in
     let l = legal_entry old.image (length old.running.items) s (record { by = by; what = Cancel now.epoch }) legal in
-    let it = caller (s.cores by) _ (and_true _ _ l.there).0 in
+    let it = caller (s.cores by) _ (and_parts _ _ l.there).0 in
     let apart = (whole.going l.going).kept.apart in
     subst (Shows new) (sym (effect-on old.image s by (Cancel now.epoch) it.0 it.1)) (record {
       homefree = homefree ∙ was.homefree;

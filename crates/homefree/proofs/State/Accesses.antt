@@ -1,5 +1,6 @@
 -- The caller of an access: where it agreed with the store and the store did what its rule says, it agrees afterwards.
 use Rattle.std.proofs.Common.{◌≡◌, ℕ, ◌&&◌, ◌||◌, Bool, true, false, cond, is_some, is_none, Option, Some, None, unwrap_or, refl, sym, ap, ◌∙◌, true≢false}
+use Rattle.std.proofs.lemmas.Bool.{or_right, or_left}
 use Rattle.rv32_image.specs.Image.{LoadedImage}
 use Rattle.rv32_exec.specs.Hart.{HartState}
 use Rattle.memory_bytes.specs.Maps.{first_of, joined, stored, read_outside}
@@ -45,14 +46,6 @@ load_guards v w by address width value a byte hurt m c g l (Some b) at read =
 now_read : (first second : Option ℕ) → is_some (first_of first second) ≡ (is_some first || is_some second)
 now_read None second = refl
 now_read (Some byte) second = refl
-
-or_right : (a b : Bool) → b ≡ true → (a || b) ≡ true
-or_right true b is = refl
-or_right false b is = is
-
-or_left : (a b : Bool) → a ≡ true → (a || b) ≡ true
-or_left true b is = refl
-or_left false b is = absurd cc
 
 none_of : (o : Option ℕ) → is_some o ≡ false → o ≡ None
 none_of None is = refl

@@ -1,6 +1,6 @@
 -- One lemma for each kind of turn: where the state and the store agree and the store did what its rule says, the entries are
 -- legal in this order, and the state after them agrees with the store.
-use Rattle.std.proofs.Common.{◌≡◌, ◌≢◌, ℕ, zero, suc, ◌<◌, ◌≤◌, ◌==◌, ◌&&◌, not, Bool, true, false, cond, List, [], ◌++◌, Option, Some, None, unwrap_or, refl, sym, ap, ◌∙◌, inl, inr, arith, eq-eqb}
+use Rattle.std.proofs.Common.{◌≡◌, ◌≢◌, ℕ, zero, suc, ◌<◌, ◌≤◌, ◌==◌, ◌&&◌, not, Bool, true, false, cond, List, [], ◌++◌, Option, Some, None, unwrap_or, refl, sym, ap, ◌∙◌, inl, inr, arith, eq-eqb, lt-ltb}
 use Rattle.std.proofs.lemmas.Bool.{cases_Bool}
 use Rattle.rv32_exec.specs.declared.stop.Stop.{Stop}
 use Rattle.rv32_exec.specs.declared.stop.Stop.TheVariants as stop
@@ -29,7 +29,7 @@ use Rattle.violations.specs.View.{StoreView, IsSettled, attempt_of, epoch_of}
 use Rattle.violations.specs.Rule.{HurtsLater, Begins, Loads, Stores, Publishes, LoadsStraight, StoresStraight}
 use Rattle.homefree.specs.Agrees.{AgreesCore, AgreesAt, Agrees}
 use Rattle.homefree.specs.Hurts.{entry, entry_for_each, hurts, with_hurts}
-use Rattle.homefree.proofs.State.Legality.{by_it, lt_test}
+use Rattle.homefree.proofs.State.Legality.{by_it}
 use Rattle.homefree.proofs.State.HurtsReplay.{CanBeHurt, hurts_replay, still_runs}
 use Rattle.homefree.proofs.State.Others.{same_at, others_agree, others_spared, can_be_hurt_all, agrees_with, runs_on}
 use Rattle.homefree.proofs.State.Accesses.{begun_agrees, load_core, store_core, straight_core}
@@ -51,8 +51,8 @@ starts image count s v w by going agrees idle there left settled begins =
     let one : Entry = record { by = by; what = Start s.next_epoch } in
     let legal : refusal_of image count s one ≡ None = legal_is image count s one (record {
       going = going;
-      there = rw (lt_test by count there, idle) refl;
-      next = rw (eq-eqb s.next_epoch s.next_epoch refl, lt_test s.next_epoch image.epochs left) refl;
+      there = rw (lt-ltb by count there, idle) refl;
+      next = rw (eq-eqb s.next_epoch s.next_epoch refl, lt-ltb s.next_epoch image.epochs left) refl;
       homefree = refl;
       value = refl;
       spares = idle_misses image count s by (Start s.next_epoch) idle;

@@ -1,7 +1,7 @@
 -- The entries of a core that exits the loop: each cancels one other core, and then none but it runs.
-use Rattle.std.proofs.Common.{◌≡◌, ◌≢◌, ℕ, zero, suc, ◌<◌, ◌≤◌, ◌==◌, ◌&&◌, not, nat_lt, is_some, Bool, true, false, cond, List, [], ◌∷◌, ◌++◌, Option, Some, None, refl, sym, ap, ◌∙◌, inl, inr, arith, append-nil, eq-eqb, ne_eqb, true≢false}
+use Rattle.std.proofs.Common.{◌≡◌, ◌≢◌, ℕ, zero, suc, ◌<◌, ◌≤◌, ◌==◌, ◌&&◌, not, nat_lt, is_some, Bool, true, false, cond, List, [], ◌∷◌, ◌++◌, Option, Some, None, refl, sym, ap, ◌∙◌, inl, inr, arith, append-nil, eq-eqb, ne_eqb, true≢false, lt-ltb, le-ltb}
 use Rattle.std.proofs.Math.Path.{fun_ext}
-use Rattle.std.proofs.lemmas.Bool.{cases_eq}
+use Rattle.std.proofs.lemmas.Bool.{cases_eq, and_right, and_parts}
 use Rattle.rv32_image.specs.Image.{LoadedImage}
 use Rattle.rv32_exec.specs.NextEvent.{next_event}
 use Rattle.spec_history.specs.declared.entry.Entry.{Entry}
@@ -10,14 +10,14 @@ use Rattle.spec_history.specs.FlatState.{CoreState, FlatState}
 use Rattle.spec_history.specs.Effect.{by_core, effect, idle_at}
 use Rattle.spec_history.specs.Refusal.{refusal_of, is_at, is_an_exit}
 use Rattle.spec_history.specs.Replay.{replay_from}
-use Rattle.spec_history.proofs.OneEntry.Legal.{legal_is, and_true}
+use Rattle.spec_history.proofs.OneEntry.Legal.{legal_is}
 use Rattle.spec_history.proofs.Replay.Joining.{one_entry, no_entry, then_entries}
 use Rattle.spec_history.proofs.OneEntry.Keeping.{IsApart}
 use Rattle.spec_history.proofs.Searches.Tests.{one_passes}
 use Rattle.spec_history.proofs.Searches.Missing.{quiet_misses}
 use Rattle.spec_history.proofs.Replay.Replays.{effect-on}
 use Rattle.homefree.specs.Hurts.{entry_for_each, epoch_on, cancels, is_other, idle_if, with_cancels}
-use Rattle.homefree.proofs.State.Legality.{by_it, lt_test, lt_false, and_false_right}
+use Rattle.homefree.proofs.State.Legality.{by_it}
 use Rattle.homefree.proofs.State.HurtsReplay.{below, below_other, below_this, below_not_yet, with_cores}
 
 -- what the homefree core needs to cancel the others
@@ -39,7 +39,7 @@ cancel_legal : (image : LoadedImage) (count : ℕ) (t : FlatState) (by k : ℕ) 
 cancel_legal image count t by k c d going at unhurt homefree exit at_k later within =
     legal_is image count t (record { by = by; what = Cancel d.epoch }) (record {
       going = going;
-      there = rw (by_it (t.cores by) c (λ x. not x.hurt && nat_lt x.epoch d.epoch) at (rw (unhurt, lt_test c.epoch d.epoch later) refl))
+      there = rw (by_it (t.cores by) c (λ x. not x.hurt && nat_lt x.epoch d.epoch) at (rw (unhurt, lt-ltb c.epoch d.epoch later) refl))
           (one_passes count (λ j. is_at d.epoch (t.cores j)) k within (by_it (t.cores k) d (λ x. x.epoch == d.epoch) at_k (eq-eqb d.epoch d.epoch refl)));
       next = by_it (t.cores by) c (λ x. is_an_exit image (next_event image x.hart)) at exit;
       homefree = by_it (t.cores by) c (λ x. x.epoch == t.homefree) at (eq-eqb c.epoch t.homefree homefree);
@@ -97,13 +97,13 @@ module _ (image : LoadedImage) (count : ℕ) (s : FlatState) (by : ℕ) (c : Cor
   ]
 
   own_stays : (n : ℕ) → (state n).cores by ≡ Some c
-  own_stays n = ap (λ b. idle_if b (s.cores by)) (and_false_right (nat_lt by n) (others by) (not_other s.cores by)) ∙ may.at
+  own_stays n = ap (λ b. idle_if b (s.cores by)) (and_right (nat_lt by n) (others by) (not_other s.cores by)) ∙ may.at
 
   step : (n : ℕ) → (b : Bool) → others n ≡ b → replay_from image count s (entries n) ≡ Some (state n)
       → replay_from image count s (entries n ++ cond b (record { by = by; what = Cancel (epoch_on s.cores n) } ∷ []) []) ≡ Some (state (suc n))
   step n false is so_far = rw append-nil (so_far ∙ ap Some (same_state (below others n) (below others (suc n)) (λ k. no_more others n k is)))
   step n true is so_far =
-      let both = and_true (not (n == by)) (is_some (s.cores n)) is in
+      let both = and_parts (not (n == by)) (is_some (s.cores n)) is in
       let found = some_of (s.cores n) both.1 in
       let d = found.0 in
       let t = state n in
@@ -121,7 +121,7 @@ module _ (image : LoadedImage) (count : ℕ) (s : FlatState) (by : ℕ) (c : Cor
       so_far (one_entry image count t (record { by = by; what = Cancel d.epoch }) legal ∙ ap Some becomes))
 
   below_zero : (k : ℕ) → below others 0 k ≡ false
-  below_zero k = rw (lt_false k 0 (omega arith)) refl
+  below_zero k = rw (le-ltb k 0 (omega arith)) refl
 
   cancels_below : (n : ℕ) → replay_from image count s (entries n) ≡ Some (state n)
   cancels_below zero = no_entry image count s ∙ ap Some (sym (same_state (below others 0) (λ _. false) below_zero))
@@ -129,9 +129,9 @@ module _ (image : LoadedImage) (count : ℕ) (s : FlatState) (by : ℕ) (c : Cor
 
   all_below_by : (k : ℕ) (b : Bool) → others k ≡ b → below others count k ≡ others k
   all_below_by k true is =
-      let both = and_true (not (k == by)) (is_some (s.cores k)) is in
-      let found = some_of (s.cores k) both.1 in rw (lt_test k count (may.there k found.0 found.1)) refl
-  all_below_by k false is = and_false_right (nat_lt k count) (others k) is ∙ sym is
+      let both = and_parts (not (k == by)) (is_some (s.cores k)) is in
+      let found = some_of (s.cores k) both.1 in rw (lt-ltb k count (may.there k found.0 found.1)) refl
+  all_below_by k false is = and_right (nat_lt k count) (others k) is ∙ sym is
 
   -- the entries of all other cores replay, and lead to the state in which the core alone runs
   pub cancels_replay : replay_from image count s (cancels count s by) ≡ Some (with_cancels by s)

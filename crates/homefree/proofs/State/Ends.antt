@@ -1,7 +1,7 @@
 -- The end of the homefree epoch: it has published, or is straight, and commits, exits or faults.
 use Rattle.std.proofs.Common.{◌≡◌, ◌≢◌, ℕ, ◌≤◌, ◌==◌, ◌&&◌, not, cond, Bool, true, false, is_some, ◌++◌, Option, Some, None, unwrap_or, refl, sym, ap, subst, ◌∙◌, inl, inr, eq-eqb}
 use Rattle.std.proofs.Math.Path.{fun_ext}
-use Rattle.std.proofs.lemmas.Bool.{cases_eq}
+use Rattle.std.proofs.lemmas.Bool.{cases_eq, and_right}
 use Rattle.rv32_exec.specs.declared.stop.Stop.TheVariants as stop
 use Rattle.rv32_image.specs.Image.{LoadedImage}
 use Rattle.rv32_exec.specs.NextEvent.{next_event}
@@ -27,7 +27,7 @@ use Rattle.violations.specs.Rule.{Publishes, Ends}
 use Rattle.homefree.specs.Agrees.{AgreesAt, Agrees}
 use Rattle.homefree.specs.Hurts.{entry, hurts, hurt_if, with_hurts, epoch_on, entry_for_each, cancels, is_other, with_cancels}
 use Rattle.homefree.specs.Turned.{publishes_unless, CancelsOthers}
-use Rattle.homefree.proofs.State.Legality.{by_it, and_false_right}
+use Rattle.homefree.proofs.State.Legality.{by_it}
 use Rattle.homefree.proofs.State.HurtsReplay.{CanBeHurt, hurts_replay, still_runs}
 use Rattle.homefree.proofs.State.CancelsReplay.{MayCancel, cancels_replay, still_alone, others_idle}
 use Rattle.homefree.proofs.State.Others.{same_at, others_agree, others_spared, can_be_hurt_all, agrees_with, idle_on}
@@ -119,7 +119,7 @@ module _ (image : LoadedImage) (count : ℕ) (s : FlatState) (v : StoreView) (by
           value = refl;
           spares = spares Commit refl;
           cancelled = ap (λ o. by_core o false (λ z. is_an_exit image (next_event image z.hart)) && other_runs count t by) p.at
-              ∙ ap (λ b. b && other_runs count t by) (and_false_right (is_the_end (next_event image c.hart).at) (exits image (next_event image c.hart).now) stays);
+              ∙ ap (λ b. b && other_runs count t by) (and_right (is_the_end (next_event image c.hart).at) (exits image (next_event image c.hart).now) stays);
         }) in
         then_one Commit y legal (record {
           committed = λ a. l.committed a ∙ p.committed a;
@@ -183,7 +183,7 @@ no_core o d none some = cc
 no_other : (k by : ℕ) (o : Option CoreState) → (k ≢ by → o ≡ None) → (not (k == by) && is_some o) ≡ false
 no_other k by o idle = elim (cases_eq k by) [
   | inl e ↦ ap (λ b. not b && is_some o) (eq-eqb k by e)
-  | inr other ↦ and_false_right (not (k == by)) (is_some o) (ap is_some (idle other))
+  | inr other ↦ and_right (not (k == by)) (is_some o) (ap is_some (idle other))
 ]
 
 module _ (image : LoadedImage) (count : ℕ) (s : FlatState) (by : ℕ) (c : CoreState) (going : s.end ≡ None) (kept : IsKept image count s)
@@ -222,7 +222,7 @@ module _ (image : LoadedImage) (count : ℕ) (s : FlatState) (by : ℕ) (c : Cor
     value = refl;
     spares = misses_by image count alone by Commit c (over c.own s.committed) at_alone refl
         ∙ spares_all image.size count alone by (over c.own s.committed) (λ k d at_k other free a byte read. absurd (no_core (alone.cores k) d (idle k other) at_k));
-    cancelled = and_false_right (by_core (alone.cores by) false (λ z. is_an_exit image (next_event image z.hart))) (other_runs count alone by)
+    cancelled = and_right (by_core (alone.cores by) false (λ z. is_an_exit image (next_event image z.hart))) (other_runs count alone by)
         (all_fail count (λ k. not (k == by) && is_some (alone.cores k)) (λ k below. no_other k by (alone.cores k) (idle k)));
   })
 

@@ -1,7 +1,7 @@
 -- The entries of hurt cores are legal, and hurt these cores; those of cancelled cores make them idle.
-use Rattle.std.proofs.Common.{◌≡◌, ◌≢◌, ℕ, zero, suc, ◌<◌, ◌==◌, ◌&&◌, ◌||◌, not, nat_lt, Bool, true, false, cond, List, [], ◌∷◌, ◌++◌, Option, Some, None, refl, sym, ap, ◌∙◌, inl, inr, arith, append-nil, eq-eqb, ne_eqb}
+use Rattle.std.proofs.Common.{◌≡◌, ◌≢◌, ℕ, zero, suc, ◌<◌, ◌==◌, ◌&&◌, ◌||◌, not, nat_lt, Bool, true, false, cond, List, [], ◌∷◌, ◌++◌, Option, Some, None, refl, sym, ap, ◌∙◌, inl, inr, arith, append-nil, eq-eqb, ne_eqb, lt-ltb, le-ltb}
 use Rattle.std.proofs.Math.Path.{fun_ext}
-use Rattle.std.proofs.lemmas.Bool.{cases_eq}
+use Rattle.std.proofs.lemmas.Bool.{cases_eq, and_right}
 use Rattle.std.proofs.lemmas.Bool.Decides.{nat_tests}
 use Rattle.rv32_image.specs.Image.{LoadedImage}
 use Rattle.spec_history.specs.declared.entry.Entry.{Entry}
@@ -18,7 +18,7 @@ use Rattle.spec_history.proofs.Searches.Tests.{one_passes}
 use Rattle.spec_history.proofs.Searches.Missing.{quiet_misses}
 use Rattle.spec_history.proofs.Replay.Replays.{effect-on}
 use Rattle.homefree.specs.Hurts.{entry_for_each, hurts, epoch_on, hurt_if, with_hurts}
-use Rattle.homefree.proofs.State.Legality.{by_it, lt_test, lt_false, and_false_right}
+use Rattle.homefree.proofs.State.Legality.{by_it}
 
 -- a core that a call may hurt
 pub record CanBeHurt (s : FlatState) (c : CoreState) (k : ℕ) : Type 0 where
@@ -40,7 +40,7 @@ pub hurt_legal : (image : LoadedImage) (count : ℕ) (t : FlatState) (by k : ℕ
 hurt_legal image count t by k c d going at unhurt at_k unhurt_k speculates later within =
     legal_is image count t (record { by = by; what = Hurt d.epoch }) (record {
       going = going;
-      there = rw (by_it (t.cores by) c (λ x. not x.hurt && nat_lt x.epoch d.epoch) at (rw (unhurt, lt_test c.epoch d.epoch later) refl))
+      there = rw (by_it (t.cores by) c (λ x. not x.hurt && nat_lt x.epoch d.epoch) at (rw (unhurt, lt-ltb c.epoch d.epoch later) refl))
           (one_passes count (λ j. can_be_hurt d.epoch (t.cores j)) k within
           (by_it (t.cores k) d (λ x. not x.hurt && ((x.epoch == d.epoch) && not x.straight)) at_k (rw (unhurt_k, speculates, eq-eqb d.epoch d.epoch refl) refl)));
       next = refl;
@@ -74,10 +74,10 @@ below_other hurt n k other = ap (λ b. b && hurt k) (lt_same k n other)
     lt_same k n other = grind (arith, nat_tests)
 
 pub below_this : (hurt : ℕ → Bool) (n : ℕ) (b : Bool) → hurt n ≡ b → below hurt (suc n) n ≡ b
-below_this hurt n b is = rw (lt_test n (suc n) (omega arith)) is
+below_this hurt n b is = rw (lt-ltb n (suc n) (omega arith)) is
 
 pub below_not_yet : (hurt : ℕ → Bool) (n : ℕ) → below hurt n n ≡ false
-below_not_yet hurt n = rw (lt_false n n (omega arith)) refl
+below_not_yet hurt n = rw (le-ltb n n (omega arith)) refl
 
 one_more : (hurt : ℕ → Bool) (s : FlatState) (n k : ℕ) (d : CoreState) → IsApart s.cores → s.cores n ≡ Some d → d.hurt ≡ false → hurt n ≡ true
     → hurt_at d.epoch (hurt_if (below hurt n k) (s.cores k)) ≡ hurt_if (below hurt (suc n) k) (s.cores k)
@@ -118,7 +118,7 @@ module _ (image : LoadedImage) (count : ℕ) (s : FlatState) (by : ℕ) (c : Cor
       let d = one.core in
       let t = with_hurts (below hurt n) s in
       let epoch : epoch_on s.cores n ≡ d.epoch = ap (λ o. by_core o 0 (λ x. x.epoch)) one.at in
-      let by_t : t.cores by ≡ Some c = by_stays (below hurt n by) (and_false_right (nat_lt by n) (hurt by) itself) in
+      let by_t : t.cores by ≡ Some c = by_stays (below hurt n by) (and_right (nat_lt by n) (hurt by) itself) in
       let n_t : t.cores n ≡ Some d = ap (λ b. hurt_if b (s.cores n)) (below_not_yet hurt n) ∙ one.at in
       let legal = hurt_legal image count t by n c d going by_t unhurt n_t one.unhurt one.speculates one.later (kept.core n d one.at).there in
       let becomes : effect image t (record { by = by; what = Hurt d.epoch }) ≡ with_hurts (below hurt (suc n)) s =
@@ -129,7 +129,7 @@ module _ (image : LoadedImage) (count : ℕ) (s : FlatState) (by : ℕ) (c : Cor
       so_far (one_entry image count t (record { by = by; what = Hurt d.epoch }) legal ∙ ap Some becomes))
 
   below_zero : (k : ℕ) → below hurt 0 k ≡ false
-  below_zero k = rw (lt_false k 0 (omega arith)) refl
+  below_zero k = rw (le-ltb k 0 (omega arith)) refl
 
   same_none : with_hurts (λ _. false) s ≡ s
   same_none = refl
@@ -139,8 +139,8 @@ module _ (image : LoadedImage) (count : ℕ) (s : FlatState) (by : ℕ) (c : Cor
   hurts_below (suc n) = step n (hurt n) refl (hurts_below n)
 
   pub all_below_by : (k : ℕ) (b : Bool) → hurt k ≡ b → below hurt count k ≡ hurt k
-  all_below_by k true is = let one = can k is in rw (lt_test k count (kept.core k one.core one.at).there) refl
-  all_below_by k false is = and_false_right (nat_lt k count) (hurt k) is ∙ sym is
+  all_below_by k true is = let one = can k is in rw (lt-ltb k count (kept.core k one.core one.at).there) refl
+  all_below_by k false is = and_right (nat_lt k count) (hurt k) is ∙ sym is
 
   -- the entries of all hurt cores replay, and lead to the state with these hurt
   pub hurts_replay : replay_from image count s (hurts count s by hurt) ≡ Some (with_hurts hurt s)

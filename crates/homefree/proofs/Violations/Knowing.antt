@@ -1,6 +1,6 @@
 -- The violations of a list of entries, from a state on: what each was about is known. From there to their places in a history.
 use Rattle.std.proofs.Common.{◌≡◌, ℕ, zero, suc, ◌+◌, ◌-◌, ◌<◌, ◌≤◌, ◌==◌, ◌&&◌, not, Bool, true, false, nat_lt, List, [], ◌∷◌, ◌++◌, length, slice_get, take, Option, Some, None, option_map, option_and_then, if◌then◌else◌, refl, sym, ap, subst, ◌∙◌, inl, inr, arith, append-nil, lt-ltb}
-use Rattle.std.proofs.lemmas.Bool.{cases_eq, cases_lt, le-ltb}
+use Rattle.std.proofs.lemmas.Bool.{cases_eq, cases_lt, le-ltb, and_right}
 use Rattle.std.proofs.lemmas.List.{append_assoc, length-append}
 use Rattle.std.proofs.lemmas.Option.{slice_get_within}
 use Rattle.rv32_image.specs.Image.{LoadedImage}
@@ -14,17 +14,10 @@ use Rattle.spec_history.specs.Refusal.{refusal_of}
 use Rattle.spec_history.specs.Replay.{where_legal, replay, replay_from}
 use Rattle.spec_history.proofs.Replay.Reaching.{one_more_entry}
 use Rattle.spec_history.specs.Conflict.{AreKnown, entry_is, passes, is_notice, can_cause, cause_of, what_at}
-use Rattle.spec_history.proofs.Searches.Tests.{first_at, and_no}
+use Rattle.spec_history.proofs.Searches.Tests.{first_at}
 use Rattle.spec_history.proofs.Replay.Staying.{stays, there}
 use Rattle.homefree.specs.Caused.{IsKnown, HasKinds}
 use Rattle.homefree.specs.Missed.{IsMissed, IsFurtherStore, PassesOverNone}
-
-never : (A : Type 0) → false ≡ true → A
-never A is = absurd cc
-
-and_true : (a b : Bool) → (a && b) ≡ true → (a ≡ true) × (b ≡ true)
-and_true true b is = (refl, is)
-and_true false b is = absurd cc
 
 -- ---- what comes after a violation
 
@@ -125,7 +118,7 @@ module _ (before es : List Entry) (e : Entry) (core : ℕ) (what : What) (n : Ne
 
   quiet : (k : ℕ) → k < at → acts_at entries (length before) k ≡ false
   quiet k before_it = elim (cases_lt (length before) k) [
-    | inl later ↦ ap (λ b. nat_lt (length before) k && b) (quiet_after k later before_it) ∙ and_no (nat_lt (length before) k)
+    | inl later ↦ ap (λ b. nat_lt (length before) k && b) (quiet_after k later before_it) ∙ and_right (nat_lt (length before) k) false refl
     | inr early ↦ ap (λ b. b && entry_is entries k (λ entry. not (is_notice entry.what))) (le-ltb (length before) k early)
   ]
 
@@ -234,9 +227,6 @@ module _ (C : Type 0) (image : LoadedImage) (count : ℕ) where
 
 -- ---- a history with these entries more
 
-get_within : (entries : List Entry) (j : ℕ) (e : Entry) → slice_get entries j ≡ Some e → j < length entries
-get_within entries j e is = slice_get_within entries j e is
-
 taken_within : (entries more : List Entry) (place : ℕ) → place ≤ length entries → take place (entries ++ more) ≡ take place entries
 taken_within entries more zero below = refl
 taken_within [] more (suc place) below = absurd (omega (arith, below))
@@ -247,7 +237,7 @@ what_stays entries more cause what is = by_entry (slice_get entries cause) refl 
   where
     by_entry : (o : Option Entry) → slice_get entries cause ≡ o → option_map (λ (e : Entry). e.what) o ≡ Some what → what_at (entries ++ more) (Some cause) ≡ Some what
     by_entry None at none = absurd cc
-    by_entry (Some e) at some = ap (option_map (λ (x : Entry). x.what)) (there entries more cause (get_within entries cause e at) ∙ at) ∙ some
+    by_entry (Some e) at some = ap (option_map (λ (x : Entry). x.what)) (there entries more cause (slice_get_within entries cause e at) ∙ at) ∙ some
 
 said_by : (entries more : List Entry) (place by : ℕ) (what : What) (o : Option ℕ) → cause_of entries place by ≡ o → what_at entries o ≡ Some what
     → what_at (entries ++ more) (cause_of (entries ++ more) place by) ≡ Some what

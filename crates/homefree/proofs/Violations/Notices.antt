@@ -1,7 +1,8 @@
 -- Notices before an act: what is known of them, and what they leave of the cores.
 use Rattle.std.proofs.Common.{◌≡◌, ℕ, zero, suc, ◌+◌, ◌*◌, ◌==◌, ◌&&◌, ◌||◌, Bool, true, false, is_some, List, [], ◌∷◌, ◌++◌, Option, Some, None, option_map, if◌then◌else◌, refl, sym, ap, subst, ◌∙◌, true≢false}
-use Rattle.std.proofs.lemmas.Bool.{eq-eqb}
+use Rattle.std.proofs.lemmas.Bool.{eq-eqb, and_right, or_left, or_parts, or_right}
 use Rattle.std.proofs.lemmas.List.{append_assoc}
+use Rattle.std.proofs.lemmas.Option.{same_Some}
 use Rattle.memory_bytes.specs.Maps.{nothing}
 use Rattle.rv32_image.specs.Image.{LoadedImage}
 use Rattle.rv32_image.specs.Version.{limits_of}
@@ -26,14 +27,10 @@ next_by core e es what notice later = ap (λ b. if b then next_what core es else
 no_line : (n : ℕ) (test : ℕ → Bool) → ((k : ℕ) → test k ≡ false) → any_below n test ≡ false
 no_line n test none = all_fail n test (λ k below. none k)
 
-and_no : (b c : Bool) → c ≡ false → (b && c) ≡ false
-and_no true c is = is
-and_no false c is = refl
-
 -- an entry that writes nothing passes over nobody
 pub writes_none : (C : Type 0) (image : LoadedImage) (s : FlatState) (e : Entry) → ((a : ℕ) → written (s.cores e.by) e.what a ≡ None) → PassedHere C image s e
 writes_none C image s e none holds k missed =
-    absurd (true≢false (sym missed.reads ∙ and_no (is_some (read_bytes (s.cores k) missed.at)) _
+    absurd (true≢false (sym missed.reads ∙ and_right (is_some (read_bytes (s.cores k) missed.at)) _
     (no_line (limits_of image.version).line_length (λ x. is_some (written (s.cores e.by) e.what (line_number image missed.at * (limits_of image.version).line_length + x)))
     (λ x. ap (λ o. is_some o) (none (line_number image missed.at * (limits_of image.version).line_length + x))))))
 
@@ -101,9 +98,6 @@ hurt_keeps epoch (Some c) = refl
 abbrev pub after : CoreState → CoreState
 after d = record d { own = nothing; outside = nothing; straight = true }
 
-pub same_bytes : (x y : Bytes) → Some x ≡ Some y → x ≡ y
-same_bytes x y is = cc
-
 pub one_core : (o : Option CoreState) (a b : CoreState) → o ≡ Some a → o ≡ Some b → a ≡ b
 one_core o a b one two = cc
 
@@ -118,7 +112,7 @@ was_there None was c is same = absurd cc
 was_there (Some x) None c is same = absurd cc
 was_there (Some x) (Some d) c is same =
     let mine : c ≡ x = one_core (Some x) c x is refl in
-    record { core = d; at = refl; bytes = ap bytes_of mine ∙ same_bytes (bytes_of x) (bytes_of d) same }
+    record { core = d; at = refl; bytes = ap bytes_of mine ∙ same_Some (bytes_of x) (bytes_of d) same }
 
 -- ---- hurt, and not hurt before
 
@@ -129,35 +123,23 @@ IsNoLess s t j = (d e : CoreState) → s.cores j ≡ Some d → t.cores j ≡ So
 abbrev pub IsHurtIn : FlatState → ℕ → Type 0
 IsHurtIn t j = (e : CoreState) → t.cores j ≡ Some e → e.hurt ≡ true
 
-or_true : (b : Bool) → (b || true) ≡ true
-or_true true = refl
-or_true false = refl
-
-or_was : (a b : Bool) → (a || b) ≡ false → a ≡ false
-or_was true b is = absurd cc
-or_was false b is = refl
-
-or_still : (a b : Bool) → a ≡ true → (a || b) ≡ true
-or_still true b is = refl
-or_still false b is = absurd cc
-
 pub hurt_here : (epoch : ℕ) (o : Option CoreState) (e : CoreState) → hurt_at epoch o ≡ Some e → ((d : CoreState) → o ≡ Some d → d.epoch ≡ epoch) → e.hurt ≡ true
 hurt_here epoch None e is this = absurd cc
 hurt_here epoch (Some d) e is this =
     let same = one_core (hurt_at epoch (Some d)) e (record d { hurt = d.hurt || (d.epoch == epoch) }) is refl in
-    ap (λ (y : CoreState). y.hurt) same ∙ (ap (λ b. d.hurt || b) (eq-eqb d.epoch epoch (this d refl)) ∙ or_true d.hurt)
+    ap (λ (y : CoreState). y.hurt) same ∙ (ap (λ b. d.hurt || b) (eq-eqb d.epoch epoch (this d refl)) ∙ or_right d.hurt true refl)
 
 pub hurt_still : (epoch : ℕ) (o : Option CoreState) (e : CoreState) → hurt_at epoch o ≡ Some e → ((d : CoreState) → o ≡ Some d → d.hurt ≡ true) → e.hurt ≡ true
 hurt_still epoch None e is this = absurd cc
 hurt_still epoch (Some d) e is this =
     let same = one_core (hurt_at epoch (Some d)) e (record d { hurt = d.hurt || (d.epoch == epoch) }) is refl in
-    ap (λ (y : CoreState). y.hurt) same ∙ or_still d.hurt (d.epoch == epoch) (this d refl)
+    ap (λ (y : CoreState). y.hurt) same ∙ or_left d.hurt (d.epoch == epoch) (this d refl)
 
 pub unhurt_was : (epoch : ℕ) (o : Option CoreState) (e : CoreState) → hurt_at epoch o ≡ Some e → e.hurt ≡ false → (d : CoreState) × (o ≡ Some d) × (d.hurt ≡ false)
 unhurt_was epoch None e is free = absurd cc
 unhurt_was epoch (Some d) e is free =
     let same = one_core (hurt_at epoch (Some d)) e (record d { hurt = d.hurt || (d.epoch == epoch) }) is refl in
-    (d, refl, or_was d.hurt (d.epoch == epoch) (ap (λ (y : CoreState). y.hurt) (sym same) ∙ free))
+    (d, refl, (or_parts d.hurt (d.epoch == epoch) (ap (λ (y : CoreState). y.hurt) (sym same) ∙ free)).0)
 
 -- the cores after a violation that a core notes which runs
 pub hurt_effect : (image : LoadedImage) (t : FlatState) (by epoch : ℕ) (c : CoreState) → t.cores by ≡ Some c

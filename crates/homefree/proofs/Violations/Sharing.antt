@@ -1,7 +1,7 @@
 -- What the rule of the store says of a violation, in the words of the report: its kind is known.
 use Rattle.std.proofs.Common.{◌≡◌, ◌≢◌, ℕ, zero, suc, ◌+◌, ◌*◌, ◌/◌, ◌%◌, ◌<◌, ◌≤◌, ◌==◌, ◌&&◌, ◌||◌, not, Bool, true, false, nat_lt, is_some, List, [], ◌∷◌, length, All, if◌then◌else◌, refl, sym, ap, subst, ◌∙◌, inl, inr, arith, eq-eqb, ne_eqb, lt-ltb, le-leb}
 use Rattle.std.specs.List.{list_any}
-use Rattle.std.proofs.lemmas.Bool.{cases_eq}
+use Rattle.std.proofs.lemmas.Bool.{cases_eq, and_from, or_left, or_right}
 use Rattle.std.proofs.lemmas.List.Elements.{All-nil, All-cons, All-head, All-tail, All-weaker}
 use Rattle.rv32_image.specs.Image.{LoadedImage}
 use Rattle.rv32_image.specs.Version.{limits_of}
@@ -36,16 +36,6 @@ by_tests false false false false is same = cc
 kind_is : (image : LoadedImage) (m : Meeting) (cause : What) → (any_below image.size (is_beside image m) || is_crowded image m cause) ≡ true → kind_with image m cause ≢ Unexplained
 kind_is image m cause is =
     by_tests (any_below image.size (is_changed m)) (any_below image.size (is_shared m)) (any_below image.size (is_beside image m)) (is_crowded image m cause) is
-
-and_both : (a b : Bool) → a ≡ true → b ≡ true → (a && b) ≡ true
-and_both a b x y = rw (x, y) refl
-
-or_first : (a b : Bool) → a ≡ true → (a || b) ≡ true
-or_first a b is = rw is refl
-
-or_second : (a b : Bool) → b ≡ true → (a || b) ≡ true
-or_second true b is = refl
-or_second false b is = is
 
 -- ---- lines
 
@@ -90,9 +80,9 @@ pub is_met : (image : LoadedImage) (count : ℕ) (shape : Shape) (m : Meeting) (
     → ((x : ℕ) → m.reads x ≡ c.outside x) → ((x : ℕ) → is_some (c.outside x) ≡ true → x < image.size) → is_some (m.writes a) ≡ true → HasReadIn shape c a
     → kind_with image m cause ≢ Unexplained
 is_met image count shape m cause c a is reads within written read =
-    kind_is image m cause (or_first _ (is_crowded image m cause)
+    kind_is image m cause (or_left _ (is_crowded image m cause)
     (one_passes image.size (is_beside image m) read.at (within read.at read.read)
-    (and_both (is_some (m.reads read.at)) _ (ap (λ o. is_some o) (reads read.at) ∙ read.read)
+    (and_from (is_some (m.reads read.at)) _ (ap (λ o. is_some o) (reads read.at) ∙ read.read)
     (has_byte image (conflict.line_number image read.at) a (λ b. is_some (m.writes b)) (line_in image count shape read.at a is read.in_line) written))))
 
 -- ---- numbers that pass, counted
@@ -193,7 +183,7 @@ module _ (image : LoadedImage) (count : ℕ) (v : StoreView) (m : Meeting) (c : 
         number = o.at / line_length image;
         is = first_byte line o.at o.in_line;
         below = number_below image.version o.at image.size (below_size o.at o.within) whole;
-        passes = and_both (not (o.at / line_length image == conflict.line_number image address)) _
+        passes = and_from (not (o.at / line_length image == conflict.line_number image address)) _
             (ap not (ne_eqb (o.at / line_length image) (conflict.line_number image address) (λ same. two.0
             (first_byte line o.at o.in_line ∙ (ap (λ n. line_length image * n) same ∙ sym (ap (λ (s : Shape). view.line_of s address) shape))))))
             (holds_at o.at o.owned);
@@ -207,7 +197,7 @@ module _ (image : LoadedImage) (count : ℕ) (v : StoreView) (m : Meeting) (c : 
       let many = at_most (line_length image) (image.size / line_length image) crowded.others holds_other crowded.apart all in
       let full = crowded.full in
       let limit : v.shape.limits.buffer_lines ≡ (limits_of image.version).buffer_lines = ap (λ (s : Shape). s.limits.buffer_lines) shape in
-      and_both (holds_line image m (conflict.line_number image address)) _ (ap (holds_line image m) (sym same) ∙ holds_at here.at here.owned)
+      and_from (holds_line image m (conflict.line_number image address)) _ (ap (holds_line image m) (sym same) ∙ holds_at here.at here.owned)
       (le-leb (limits_of image.version).buffer_lines (count_below (image.size / line_length image) holds_other) (omega (arith, many, full, limit)))
 
   -- it lies in memory, as the byte that is owned there
@@ -218,8 +208,8 @@ module _ (image : LoadedImage) (count : ℕ) (v : StoreView) (m : Meeting) (c : 
 
   pub load_crowded : (width value : ℕ) → IsCrowded v k address → kind_with image m (Load address width value) ≢ Unexplained
   load_crowded width value crowded =
-      kind_is image m (Load address width value) (or_second (any_below image.size (is_beside image m)) _ (and_both (nat_lt address image.size) _ (below_it crowded) (is_full crowded)))
+      kind_is image m (Load address width value) (or_right (any_below image.size (is_beside image m)) _ (and_from (nat_lt address image.size) _ (below_it crowded) (is_full crowded)))
 
   pub store_crowded : (width value : ℕ) → IsCrowded v k address → kind_with image m (Store address width value) ≢ Unexplained
   store_crowded width value crowded =
-      kind_is image m (Store address width value) (or_second (any_below image.size (is_beside image m)) _ (and_both (nat_lt address image.size) _ (below_it crowded) (is_full crowded)))
+      kind_is image m (Store address width value) (or_right (any_below image.size (is_beside image m)) _ (and_from (nat_lt address image.size) _ (below_it crowded) (is_full crowded)))

@@ -1,7 +1,8 @@
 -- The cores that a call violates, and those that it passes over: which they are in each state of a turn, and what is known of them.
-use Rattle.std.proofs.Common.{◌≡◌, ◌≢◌, ◌⊎◌, ℕ, suc, ◌+◌, ◌*◌, ◌/◌, ◌%◌, ◌<◌, ◌==◌, ◌&&◌, ◌||◌, Bool, true, false, is_some, List, [], ◌++◌, Option, Some, None, option_map, option_and_then, if◌then◌else◌, refl, sym, ap, subst, ◌∙◌, inl, inr, true≢false, arith}
-use Rattle.std.proofs.lemmas.Bool.{cases_eq, cases_Bool, eq-eqb}
+use Rattle.std.proofs.Common.{◌≡◌, ◌≢◌, ◌⊎◌, ℕ, suc, ◌+◌, ◌*◌, ◌/◌, ◌%◌, ◌<◌, ◌==◌, ◌||◌, Bool, true, false, is_some, List, [], ◌++◌, Option, Some, None, option_map, option_and_then, if◌then◌else◌, refl, sym, ap, subst, ◌∙◌, inl, inr, true≢false, arith}
+use Rattle.std.proofs.lemmas.Bool.{cases_eq, cases_Bool, eq-eqb, and_parts}
 use Rattle.std.proofs.lemmas.List.{append_assoc}
+use Rattle.std.proofs.lemmas.Option.{same_Some}
 use Rattle.rv32_image.specs.Image.{LoadedImage}
 use Rattle.rv32_image.specs.Version.{limits_of}
 use Rattle.rv32_image.specs.declared.version.Version.{Version}
@@ -30,7 +31,7 @@ use Rattle.homefree.proofs.State.Accesses.{stored_accessed}
 use Rattle.homefree.proofs.Violations.Knowing.{next_what, PassedHere, AllKnown}
 use Rattle.homefree.proofs.State.Others.{spared_core}
 use Rattle.homefree.proofs.Violations.Sharing.{line_length, is_met, load_crowded, store_crowded}
-use Rattle.homefree.proofs.Violations.Notices.{writes_none, Bytes, bytes_of, Keeps, hurt_keeps, after, same_bytes, one_core, was_there, IsNoLess, IsHurtIn, hurt_here, hurt_still, unhurt_was, hurt_effect, all_known}
+use Rattle.homefree.proofs.Violations.Notices.{writes_none, Bytes, bytes_of, Keeps, hurt_keeps, after, one_core, was_there, IsNoLess, IsHurtIn, hurt_here, hurt_still, unhurt_was, hurt_effect, all_known}
 
 -- ---- a core that a call violates
 
@@ -52,10 +53,6 @@ some_of (Some byte) is = (byte, refl)
 epoch_is : (epoch other : ℕ) → Hurt epoch ≡ Hurt other → epoch ≡ other
 epoch_is epoch other is = cc
 
-and_two : (a b : Bool) → (a && b) ≡ true → (a ≡ true) × (b ≡ true)
-and_two true b is = (refl, is)
-and_two false b is = absurd cc
-
 -- a core that was there is there
 record Is (now : Option CoreState) (c : CoreState) : Type 0 where
   pub core : CoreState
@@ -64,7 +61,7 @@ record Is (now : Option CoreState) (c : CoreState) : Type 0 where
 
 still_there : (now was : Option CoreState) (c : CoreState) → option_map bytes_of now ≡ option_map bytes_of was → was ≡ Some c → Is now c
 still_there None was c same is = let none : None ≡ Some (bytes_of c) = same ∙ ap (option_map bytes_of) is in absurd cc
-still_there (Some d) was c same is = record { core = d; at = refl; bytes = same_bytes (bytes_of d) (bytes_of c) (same ∙ ap (option_map bytes_of) is) }
+still_there (Some d) was c same is = record { core = d; at = refl; bytes = same_Some (bytes_of d) (bytes_of c) (same ∙ ap (option_map bytes_of) is) }
 
 -- ---- lines
 
@@ -373,7 +370,7 @@ module _ (C : Type 0) (image : LoadedImage) (count : ℕ) (s : FlatState) (v : S
       let d = was.core in
       let free = no_less k other d missed.core was.at missed.runs missed.unhurt in
       let g = (agrees.core going k).runs d was.at free in
-      let two = and_two (is_some (read_bytes (t.cores k) missed.at)) _ missed.reads in
+      let two = and_parts (is_some (read_bytes (t.cores k) missed.at)) _ missed.reads in
       let found = some_below long (λ x. is_some (written (t.cores by) what (line_number image missed.at * long + x))) two.1 in
       let place : ℕ = line_number image missed.at * long + found.0 in
       let read : is_some (d.outside missed.at) ≡ true =

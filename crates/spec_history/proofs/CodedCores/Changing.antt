@@ -1,6 +1,6 @@
 -- A loop over all cores that changes each.
-use Rattle.std.proofs.Common.{◌≡◌, ◌≢◌, ◌⊎◌, ℕ, ◌+◌, ◌<◌, ◌≤◌, List, length, set, get_or, slice_get, slice_index, Option, Some, None, refl, sym, ap, ◌∙◌, inl, inr, arith, length-set, option_and_then}
-use Rattle.std.proofs.lemmas.Bool.{cases_eq}
+use Rattle.std.proofs.Common.{◌≡◌, ◌≢◌, ℕ, ◌+◌, ◌<◌, ◌≤◌, List, length, set, get_or, slice_get, slice_index, Option, Some, None, refl, sym, ap, ◌∙◌, inl, inr, arith, length-set, option_and_then}
+use Rattle.std.proofs.lemmas.Bool.{cases_eq, cases_lt}
 use Rattle.std.proofs.lemmas.Option.{slice_get_past}
 use Rattle.rv32_image.specs.Image.{LoadedImage}
 use Rattle.spec_history.specs.declared.cores.Core.{Core}
@@ -37,12 +37,9 @@ changing_more f image i before changed core new below is state keeps changing =
       fit = each_set (IsCoreOf image) changed i new below (keeps (changing.fit i core there)) changing.fit;
     }
 
-cases_within : (a b : ℕ) → (a < b) ⊎ (b ≤ a)
-cases_within a b = grind arith
-
 all_changed : (f : Option CoreState → Option CoreState) (image : LoadedImage) (i : ℕ) (before changed : List Core) → f None ≡ None → length changed ≤ i
     → Changing f image i before changed → (k : ℕ) → cores_of changed k ≡ f (cores_of before k)
-all_changed f image i before changed none all changing k = elim (cases_within k i) [
+all_changed f image i before changed none all changing k = elim (cases_lt k i) [
   | inl below ↦ changing.front k below
   | inr from ↦ ap (option_and_then core_of) (slice_get_past changed k (omega arith))
       ∙ sym (ap (λ o. f (option_and_then core_of o)) (slice_get_past before k (omega (arith, changing.long))) ∙ none)

@@ -1,7 +1,7 @@
 -- The core states that the cores of the code stand for.
 use Rattle.std.proofs.Common.{◌≡◌, ℕ, ◌+◌, ◌<◌, Bool, true, false, List, length, get_or, slice_get, Option, Some, None, refl, sym, ap, ◌∙◌, inl, inr, arith, not, is_some, option_map, option_and_then}
 use Rattle.std.proofs.lemmas.Bool.{cases_eq}
-use Rattle.std.proofs.lemmas.Option.{slice_get_read}
+use Rattle.std.proofs.lemmas.Option.{slice_get_read, same_Some}
 use Rattle.memory_bytes.specs.Shadow.{byte_in}
 use Rattle.spec_history.specs.declared.cores.FlatAttempt.{FlatAttempt}
 use Rattle.spec_history.specs.declared.cores.Core.{Core}
@@ -31,13 +31,10 @@ pub running_state : (core : Option CoreState) → not (is_some core) ≡ false �
 running_state None is = absurd cc
 running_state (Some c) is = (c, refl)
 
-same_value : (c d : CoreState) → Some c ≡ Some d → c ≡ d
-same_value c d is = cc
-
 by_attempt : (own outside : List (Option ℕ)) (attempt : Option FlatAttempt) (c : CoreState) → option_map (core_with own outside) attempt ≡ Some c
     → (t : FlatAttempt) × (attempt ≡ Some t) × (core_with own outside t ≡ c)
 by_attempt own outside None c is = absurd cc
-by_attempt own outside (Some t) c is = (t, refl, same_value (core_with own outside t) c is)
+by_attempt own outside (Some t) c is = (t, refl, same_Some (core_with own outside t) c is)
 
 -- a core that runs has an attempt
 pub attempt_of : (core : Core) (c : CoreState) → core_of core ≡ Some c

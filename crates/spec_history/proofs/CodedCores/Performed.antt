@@ -1,6 +1,6 @@
 -- What a legal entry finds, and what is shown of its effect.
 use Rattle.std.proofs.Common.{◌≡◌, ℕ, ◌+◌, ◌<◌, nat_lt, Bool, true, false, cond, List, length, set, get_or, slice_get, slice_index, Option, Some, None, option_and_then, refl, sym, ap, ◌∙◌, inl, inr, true≢false, length-set}
-use Rattle.std.proofs.lemmas.Bool.{cases_eq}
+use Rattle.std.proofs.lemmas.Bool.{cases_eq, and_parts}
 use Rattle.std.proofs.lemmas.Option.{slice_get_within}
 use Rattle.rv32_image.specs.Image.{LoadedImage}
 use Rattle.rv32_exec.specs.Hart.{HartState, stepped}
@@ -19,7 +19,7 @@ use Rattle.spec_history.specs.Effect.{by_core, with_core, after_load, after_stor
 use Rattle.spec_history.specs.Refusal.{runs_and, is_there}
 use Rattle.spec_history.specs.Cores.{core_of, core_with, IsNext, IsCoreOf, HasRoom}
 use Rattle.spec_history.specs.Machine.{cores_of, state_of, count_of_cores, IsFit, IsLegal, IsAsBefore, HasRoomAt, Becomes, after}
-use Rattle.spec_history.proofs.OneEntry.Legal.{and_true, IsLegalEntry, legal_entry}
+use Rattle.spec_history.proofs.OneEntry.Legal.{IsLegalEntry, legal_entry}
 use Rattle.spec_history.proofs.CodedCores.CoreStates.{core_there, state_there, attempt_of}
 use Rattle.spec_history.proofs.CodedCores.Parts.{get_set_same, get_set_other, same_there, states_set, fit_set, same_state}
 use Rattle.spec_history.proofs.Replay.Replays.{effect-on}
@@ -36,8 +36,8 @@ idle_not_there : (count : ℕ) (s : FlatState) (by : ℕ) (what : What) → IsOf
 idle_not_there count s by (Start epoch) of none is = of
 idle_not_there count s by (Load address width value) of none is = idle_fails (s.cores by) _ none is
 idle_not_there count s by (Store address width value) of none is = idle_fails (s.cores by) _ none is
-idle_not_there count s by (Hurt epoch) of none is = idle_fails (s.cores by) _ none (and_true (runs_and (s.cores by) (λ x. nat_lt x.epoch epoch)) _ is).0
-idle_not_there count s by (Cancel epoch) of none is = idle_fails (s.cores by) _ none (and_true (runs_and (s.cores by) (λ x. nat_lt x.epoch epoch)) _ is).0
+idle_not_there count s by (Hurt epoch) of none is = idle_fails (s.cores by) _ none (and_parts (runs_and (s.cores by) (λ x. nat_lt x.epoch epoch)) _ is).0
+idle_not_there count s by (Cancel epoch) of none is = idle_fails (s.cores by) _ none (and_parts (runs_and (s.cores by) (λ x. nat_lt x.epoch epoch)) _ is).0
 idle_not_there count s by Restart of none is = idle_fails (s.cores by) _ none is
 idle_not_there count s by Publish of none is = idle_fails (s.cores by) _ none is
 idle_not_there count s by Commit of none is = idle_fails (s.cores by) _ none is

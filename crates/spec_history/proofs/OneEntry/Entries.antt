@@ -1,6 +1,7 @@
 -- What each legal entry keeps.
 use Rattle.std.proofs.Common.{◌≡◌, ℕ, ◌+◌, ◌<◌, ◌==◌, ◌||◌, ◌&&◌, not, is_some, ◌≢◌, Bool, true, false, cond, List, slice_index, Option, Some, None, unwrap_or, refl, sym, ap, subst, ◌∙◌, inl, inr, true≢false, add-one, arith, ne_eqb, eqb-true}
-use Rattle.std.proofs.lemmas.Bool.{cases_Bool, cases_eq}
+use Rattle.std.proofs.lemmas.Bool.{cases_Bool, cases_eq, or_parts}
+use Rattle.std.proofs.lemmas.Option.{none-some}
 use Rattle.rv32_exec.specs.declared.stop.Stop.TheVariants as stop
 use Rattle.rv32_exec.specs.declared.sequential.End.{End}
 use Rattle.rv32_exec.specs.declared.sequential.End.TheVariants as end
@@ -189,10 +190,6 @@ before_hurt : (epoch : ℕ) (core : Option CoreState) (c : CoreState) → hurt_a
 before_hurt epoch None c is = absurd cc
 before_hurt epoch (Some d) c is = was_core d refl cc
 
-or_false : (a b : Bool) → (a || b) ≡ false → a ≡ false
-or_false true b is = is
-or_false false b is = refl
-
 hurt_kept : (image : LoadedImage) (count : ℕ) (committed : ℕ → ℕ) (homefree next_epoch k epoch : ℕ) (d : CoreState) → homefree < epoch
     → IsKeptCore image count committed homefree next_epoch k d
     → IsKeptCore image count committed homefree next_epoch k (record d { hurt = d.hurt || (d.epoch == epoch) })
@@ -206,9 +203,9 @@ hurt_kept image count committed homefree next_epoch k epoch d later was = record
   straight_owns = was.straight_owns;
   straight_read = was.straight_read;
   within = was.within;
-  reads_stand = λ unhurt. was.reads_stand (or_false d.hurt _ unhurt);
+  reads_stand = λ unhurt. was.reads_stand (or_parts d.hurt _ unhurt).0;
   runs_alone = λ unhurt speculative memory has.
-      let lead = was.runs_alone (or_false d.hurt _ unhurt) speculative memory has in
+      let lead = was.runs_alone (or_parts d.hurt _ unhurt).0 speculative memory has in
       record { after = lead.after; runs = lead.runs; holds = lead.holds };
 }
 
@@ -331,9 +328,6 @@ homefree_ends : (image : LoadedImage) (s : FlatState) (c : CoreState) (before af
 homefree_ends image s c before after ends runs =
     outcome_there image s.homefree c.hart before after (Ends (next_event image c.hart).now after) runs (rw ends refl) tt
 
-no_core : (c : CoreState) → None ≡ Some c → ⊥
-no_core c is = cc
-
 pub commit_goes_on : (image : LoadedImage) (count : ℕ) (s : FlatState) (by : ℕ) (c : CoreState) → Going image count s → s.cores by ≡ Some c → c.hurt ≡ false
     → c.epoch ≡ s.homefree → (next_event image c.hart).at ≡ stop.Ended → exits image (next_event image c.hart).now ≡ false → Spares s by (over c.own s.committed)
     → Going image count (effect_on image s by c Commit)
@@ -362,7 +356,7 @@ commit_goes_on image count s by c going at unhurt homefree ends goes_on spares =
         runs = starts image (s.homefree + 1) run.after;
         holds = run.holds;
         straight = λ k d at_k is. elim (at_core s.cores by None k d at_k) [
-          | inl same ↦ absurd (no_core d same.1)
+          | inl same ↦ absurd (none-some d same.1)
           | inr other ↦ absurd (straight k d other.0 other.1 is)
         ];
         unpublished = λ none. refl;

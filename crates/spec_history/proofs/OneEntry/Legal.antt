@@ -1,6 +1,6 @@
 -- What a legal entry tells.
-use Rattle.std.proofs.Common.{◌≡◌, ◌≢◌, ℕ, zero, suc, ◌<◌, ◌==◌, ◌&&◌, ◌||◌, not, Bool, true, false, cond, is_some, Option, Some, None, refl, sym, ap, ◌∙◌, inl, inr, true≢false, arith, ne_eqb, eq-eqb, eqb-true}
-use Rattle.std.proofs.lemmas.Bool.{cases_eq}
+use Rattle.std.proofs.Common.{◌≡◌, ◌≢◌, ℕ, zero, suc, ◌<◌, ◌==◌, ◌&&◌, not, Bool, true, false, cond, is_some, Option, Some, None, refl, sym, ap, ◌∙◌, inl, inr, true≢false, arith, ne_eqb, eq-eqb, eqb-true}
+use Rattle.std.proofs.lemmas.Bool.{cases_eq, and_parts, or_parts, not-false}
 use Rattle.rv32_exec.specs.declared.stop.Stop.{Stop}
 use Rattle.rv32_exec.specs.declared.stop.Stop.TheVariants as stop
 use Rattle.rv32_image.specs.Image.{LoadedImage}
@@ -18,22 +18,6 @@ use Rattle.spec_history.specs.Refusal.{any_below, is_there, is_next, is_homefree
 
 -- ---- tests
 
-pub and_true : (a b : Bool) → (a && b) ≡ true → (a ≡ true) × (b ≡ true)
-and_true true b is = (refl, is)
-and_true false b is = absurd cc
-
-pub not_true : (b : Bool) → not b ≡ true → b ≡ false
-not_true true is = absurd cc
-not_true false is = refl
-
-pub not_false : (b : Bool) → not b ≡ false → b ≡ true
-not_false true is = refl
-not_false false is = absurd cc
-
-or_false : (a b : Bool) → (a || b) ≡ false → (a ≡ false) × (b ≡ false)
-or_false true b is = absurd cc
-or_false false b is = (refl, is)
-
 pub and_false : (a b : Bool) → (a && b) ≡ false → a ≡ true → b ≡ false
 and_false true b is held = is
 and_false false b is held = absurd cc
@@ -43,7 +27,7 @@ pub none_below : (n : ℕ) (test : ℕ → Bool) → any_below n test ≡ false 
 unfolding any_below
 none_below zero test none k below = absurd (omega arith)
 none_below (suc n) test none k below =
-    let parts = or_false (test n) (any_below n test) none in
+    let parts = or_parts (test n) (any_below n test) none in
     elim (cases_eq k n) [
       | inl e ↦ rw e parts.0
       | inr other ↦ none_below n test parts.1 k (omega arith)
@@ -95,10 +79,10 @@ legal_entry image count s entry is =
     let cancelled = passes _ _ _ spares.1 in
     record {
       going = no_end s.end over.0;
-      there = not_false _ there.0;
-      next = not_false _ next.0;
-      homefree = not_false _ homefree.0;
-      value = not_false _ value.0;
+      there = not-false _ there.0;
+      next = not-false _ next.0;
+      homefree = not-false _ homefree.0;
+      value = not-false _ value.0;
       spares = spares.0;
       cancelled = cancelled.0;
     }
@@ -141,7 +125,7 @@ spared image count s entry none k c runs other there unhurt a byte read within =
 
 pub that_load : (address width : ℕ) (at : Stop) → is_that_load address width at ≡ true → (signed : Bool) × (rd : ℕ) × (at ≡ stop.Load address width signed rd)
 that_load address width (stop.Load a w signed rd) is =
-    let both = and_true (a == address) (w == width) is in
+    let both = and_parts (a == address) (w == width) is in
     let ea = eqb-true a address both.0 in
     let ew = eqb-true w width both.1 in (signed, rd, cc)
 that_load address width (stop.Store a w v) is = absurd cc
@@ -151,8 +135,8 @@ that_load address width (stop.Fault c p) is = absurd cc
 pub that_store : (address width value : ℕ) (at : Stop) → is_that_store address width value at ≡ true → at ≡ stop.Store address width value
 that_store address width value (stop.Load a w signed rd) is = absurd cc
 that_store address width value (stop.Store a w v) is =
-    let first = and_true (a == address) ((w == width) && (v == value)) is in
-    let rest = and_true (w == width) (v == value) first.1 in
+    let first = and_parts (a == address) ((w == width) && (v == value)) is in
+    let rest = and_parts (w == width) (v == value) first.1 in
     let ea = eqb-true a address first.0 in
     let ew = eqb-true w width rest.0 in
     let ev = eqb-true v value rest.1 in cc
@@ -170,7 +154,7 @@ that_fault cause pc (stop.Load a w signed rd) is = absurd cc
 that_fault cause pc (stop.Store a w v) is = absurd cc
 that_fault cause pc stop.Ended is = absurd cc
 that_fault cause pc (stop.Fault c p) is =
-    let both = and_true (c == cause) (p == pc) is in
+    let both = and_parts (c == cause) (p == pc) is in
     let ec = eqb-true c cause both.0 in
     let ep = eqb-true p pc both.1 in cc
 

@@ -1,5 +1,6 @@
 -- One list of entries after another, and who is spared by a change of committed memory.
 use Rattle.std.proofs.Common.{◌≡◌, ◌≢◌, ℕ, ◌==◌, ◌&&◌, not, Bool, true, false, is_some, List, [], ◌∷◌, ◌++◌, Option, Some, None, refl, sym, ap, ◌∙◌, true≢false, eq-eqb}
+use Rattle.std.proofs.lemmas.Bool.{and_parts, not-true, and_right}
 use Rattle.rv32_image.specs.Image.{LoadedImage}
 use Rattle.spec_history.specs.declared.entry.Entry.{Entry}
 use Rattle.spec_history.specs.declared.illegal.Illegal.{Illegal}
@@ -8,7 +9,7 @@ use Rattle.spec_history.specs.Effect.{effect}
 use Rattle.spec_history.specs.Refusal.{refusal_of, has_read, other_has_read, changes_unseen}
 use Rattle.spec_history.specs.Replay.{where_legal, replay_from, replay}
 use Rattle.spec_history.specs.Laws.{Splits}
-use Rattle.spec_history.proofs.OneEntry.Legal.{some_below, and_true, not_true}
+use Rattle.spec_history.proofs.OneEntry.Legal.{some_below}
 use Rattle.spec_history.proofs.OneEntry.Going.{Spares}
 use Rattle.spec_history.proofs.Searches.Tests.{all_fail}
 use Rattle.spec_history.proofs.Searches.Missing.{is_unseen}
@@ -23,7 +24,7 @@ some_of c a (Some byte) at unhurt is = (c, byte, refl, unhurt, at)
 read_by : (core : Option CoreState) (a : ℕ) → has_read core a ≡ true → (c : CoreState) × (byte : ℕ) × (core ≡ Some c) × (c.hurt ≡ false) × (c.outside a ≡ Some byte)
 read_by None a is = absurd cc
 read_by (Some c) a is =
-    let both = and_true (not c.hurt) (is_some (c.outside a)) is in some_of c a (c.outside a) refl (not_true c.hurt both.0) both.1
+    let both = and_parts (not c.hurt) (is_some (c.outside a)) is in some_of c a (c.outside a) refl (not-true c.hurt both.0) both.1
 
 not_same : (k by : ℕ) → not (k == by) ≡ true → k ≢ by
 not_same k by is same = true≢false (sym is ∙ ap not (eq-eqb k by same))
@@ -31,18 +32,14 @@ not_same k by is same = true≢false (sym is ∙ ap not (eq-eqb k by same))
 stays : (count : ℕ) (s : FlatState) (by : ℕ) (committed : ℕ → ℕ) → Spares s by committed → (a : ℕ) → other_has_read count s by a ≡ true → committed a ≡ s.committed a
 stays count s by committed spares a is =
     let found = some_below count (λ k. not (k == by) && has_read (s.cores k) a) is in
-    let both = and_true (not (found.0 == by)) (has_read (s.cores found.0) a) found.2 in
+    let both = and_parts (not (found.0 == by)) (has_read (s.cores found.0) a) found.2 in
     let c = read_by (s.cores found.0) a both.1 in
     spares found.0 c.0 c.2 (not_same found.0 by both.0) c.3 a c.1 c.4
-
-and_no : (b : Bool) → (b && false) ≡ false
-and_no true = refl
-and_no false = refl
 
 unseen_by : (count : ℕ) (s : FlatState) (by : ℕ) (committed : ℕ → ℕ) (a : ℕ) → Spares s by committed → (b : Bool) → other_has_read count s by a ≡ b
     → (not (committed a == s.committed a) && b) ≡ false
 unseen_by count s by committed a spares true is = rw (eq-eqb (committed a) (s.committed a) (stays count s by committed spares a is)) refl
-unseen_by count s by committed a spares false is = and_no (not (committed a == s.committed a))
+unseen_by count s by committed a spares false is = and_right (not (committed a == s.committed a)) false refl
 
 -- where no byte changes that another core, which is not hurt, has read, no hurt is missing
 pub spares_all : (size count : ℕ) (s : FlatState) (by : ℕ) (committed : ℕ → ℕ) → Spares s by committed → changes_unseen size count s by committed ≡ false

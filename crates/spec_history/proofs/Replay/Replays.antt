@@ -1,5 +1,6 @@
 -- Proofs of the laws of replay.
 use Rattle.std.proofs.Common.{◌≡◌, ℕ, ◌+◌, ◌==◌, ◌&&◌, not, nat_lt, Bool, true, false, cond, List, [], ◌∷◌, Option, Some, None, is_some, refl, sym, ap, subst, ◌∙◌, true≢false, arith, eqb-true, ltb-true}
+use Rattle.std.proofs.lemmas.Bool.{and_parts, not-true}
 use Rattle.rv32_exec.specs.declared.stop.Stop.TheVariants as stop
 use Rattle.rv32_exec.specs.declared.sequential.End.{End}
 use Rattle.rv32_exec.specs.declared.sequential.End.TheVariants as end
@@ -20,7 +21,7 @@ use Rattle.spec_history.specs.Effect.{by_core, effect, effect_on, effect_idle}
 use Rattle.spec_history.specs.Refusal.{refusal_of, runs, runs_and, next_is, is_an_exit, other_runs}
 use Rattle.spec_history.specs.Replay.{where_legal, replay_from, replay}
 use Rattle.spec_history.specs.Laws.{Holds, IsKept, IsPublished, EndsInOrder}
-use Rattle.spec_history.proofs.OneEntry.Legal.{and_true, and_false, not_true, IsLegalEntry, legal_entry, spared, that_load, that_store, the_end, that_fault}
+use Rattle.spec_history.proofs.OneEntry.Legal.{and_false, IsLegalEntry, legal_entry, spared, that_load, that_store, the_end, that_fault}
 use Rattle.spec_history.proofs.OneEntry.Going.{Going, Spares}
 use Rattle.spec_history.proofs.OneEntry.Entries.{load_speculative, load_straight, store_speculative, store_straight, start_goes_on, restart_goes_on, hurt_goes_on, cancel_goes_on, publish_goes_on, commit_goes_on, exit_published, exit_ends, published_is, fault_published, fault_ends, idle_at_the_end, ends_done}
 
@@ -64,7 +65,7 @@ record Runs_and (core : Option CoreState) (c : CoreState) (test : CoreState → 
 
 runs_so : (core : Option CoreState) (c : CoreState) (test : CoreState → Bool) → core ≡ Some c → runs_and core test ≡ true → Runs_and core c test
 runs_so core c test at is =
-    let both = and_true (not c.hurt) (test c) (sym (ap (λ o. runs_and o test) at) ∙ is) in record { unhurt = not_true c.hurt both.0; passes = both.1 }
+    let both = and_parts (not c.hurt) (test c) (sym (ap (λ o. runs_and o test) at) ∙ is) in record { unhurt = not-true c.hurt both.0; passes = both.1 }
 
 pub on_core : (core : Option CoreState) (c : CoreState) (test : CoreState → Bool) → core ≡ Some c → by_core core false test ≡ true → test c ≡ true
 on_core core c test at is = sym (ap (λ o. by_core o false test) at) ∙ is
@@ -134,7 +135,7 @@ after_commit image count s by c at going unhurt homefree ends spares false goes_
 
 started : (image : LoadedImage) (count : ℕ) (s : FlatState) (by epoch : ℕ) (c : CoreState) → s.cores by ≡ Some c → IsLegalEntry image count s (record { by = by; what = Start epoch }) → ⊥
 started image count s by epoch c at legal =
-    let there = and_true (nat_lt by count) _ legal.there in
+    let there = and_parts (nat_lt by count) _ legal.there in
     true≢false (sym there.1 ∙ ap (λ (o : Option CoreState). not (is_some o)) at)
 
 pub not_running : (core : Option CoreState) (test : CoreState → Bool) → core ≡ None → runs_and core test ≡ true → ⊥
@@ -152,11 +153,11 @@ step_on image count s by (Store address width value) c at legal going =
     let next = that_store address width value _ (on_core (s.cores by) c _ at legal.next) in
     on image count s by _ c at (after_store image count s by address width value c at legal.going going runs.unhurt next (spares image count s by _ c legal going.kept at) c.straight refl)
 step_on image count s by (Hurt epoch) c at legal going =
-    let both = and_true (runs_and (s.cores by) (λ x. nat_lt x.epoch epoch)) _ legal.there in
+    let both = and_parts (runs_and (s.cores by) (λ x. nat_lt x.epoch epoch)) _ legal.there in
     let runs = runs_so (s.cores by) c (λ x. nat_lt x.epoch epoch) at both.0 in
     on image count s by _ c at (goes image count _ legal.going (hurt_goes_on image count s by c epoch going at (ltb-true _ _ runs.passes)))
 step_on image count s by (Cancel epoch) c at legal going =
-    let both = and_true (runs_and (s.cores by) (λ x. nat_lt x.epoch epoch)) _ legal.there in
+    let both = and_parts (runs_and (s.cores by) (λ x. nat_lt x.epoch epoch)) _ legal.there in
     let runs = runs_so (s.cores by) c (λ x. nat_lt x.epoch epoch) at both.0 in
     on image count s by _ c at (goes image count _ legal.going (cancel_goes_on image count s by c epoch going at (ltb-true _ _ runs.passes)))
 step_on image count s by Restart c at legal going =
@@ -182,14 +183,14 @@ step_on image count s by (Fault cause pc) c at legal going =
 
 step_idle : (image : LoadedImage) (count : ℕ) (s : FlatState) (by : ℕ) (what : What) → s.cores by ≡ None → Steps image count s by what
 step_idle image count s by (Start epoch) at legal going =
-    let there = and_true (nat_lt by count) _ legal.there in
-    let next = and_true (epoch == s.next_epoch) (nat_lt epoch image.epochs) legal.next in
+    let there = and_parts (nat_lt by count) _ legal.there in
+    let next = and_parts (epoch == s.next_epoch) (nat_lt epoch image.epochs) legal.next in
     rw (effect-idle image s by (Start epoch) at)
     (goes image count _ legal.going (start_goes_on image count s by epoch going at (ltb-true _ _ there.0) (eqb-true _ _ next.0) (ltb-true _ _ next.1)))
 step_idle image count s by (Load address width value) at legal going = absurd (not_running (s.cores by) _ at legal.there)
 step_idle image count s by (Store address width value) at legal going = absurd (not_running (s.cores by) _ at legal.there)
-step_idle image count s by (Hurt epoch) at legal going = absurd (not_running (s.cores by) _ at (and_true (runs_and (s.cores by) (λ x. nat_lt x.epoch epoch)) _ legal.there).0)
-step_idle image count s by (Cancel epoch) at legal going = absurd (not_running (s.cores by) _ at (and_true (runs_and (s.cores by) (λ x. nat_lt x.epoch epoch)) _ legal.there).0)
+step_idle image count s by (Hurt epoch) at legal going = absurd (not_running (s.cores by) _ at (and_parts (runs_and (s.cores by) (λ x. nat_lt x.epoch epoch)) _ legal.there).0)
+step_idle image count s by (Cancel epoch) at legal going = absurd (not_running (s.cores by) _ at (and_parts (runs_and (s.cores by) (λ x. nat_lt x.epoch epoch)) _ legal.there).0)
 step_idle image count s by Restart at legal going = absurd (true≢false (sym legal.there ∙ ap (λ o. by_core o false (λ x. x.hurt)) at))
 step_idle image count s by Publish at legal going = absurd (not_running (s.cores by) _ at legal.there)
 step_idle image count s by Commit at legal going = absurd (not_running (s.cores by) _ at legal.there)

@@ -1,6 +1,6 @@
 -- Whether a byte would change that another core has read, from what a loop has found.
-use Rattle.std.proofs.Common.{◌≡◌, ◌⊎◌, ℕ, ◌+◌, ◌%◌, ◌<◌, ◌≤◌, ◌==◌, ◌&&◌, not, Bool, true, false, cond, List, length, slice_index, Option, Some, None, unwrap_or, refl, sym, ap, ◌∙◌, inl, inr, arith, eq-eqb}
-use Rattle.std.proofs.lemmas.Bool.{cases_eq}
+use Rattle.std.proofs.Common.{◌≡◌, ℕ, ◌+◌, ◌%◌, ◌<◌, ◌==◌, ◌&&◌, not, Bool, true, false, cond, List, length, slice_index, Option, Some, None, unwrap_or, refl, sym, ap, ◌∙◌, inl, inr, arith, eq-eqb}
+use Rattle.std.proofs.lemmas.Bool.{cases_eq, cases_lt}
 use Rattle.rv32_image.specs.Image.{LoadedImage}
 use Rattle.spec_history.specs.declared.entry.What.{What}
 use Rattle.spec_history.specs.declared.entry.What.TheVariants.{Start, Load, Store, Hurt, Cancel, Restart, Publish, Commit, Fault}
@@ -61,9 +61,6 @@ pub passed_all : (size count : ℕ) (s : FlatState) (by : ℕ) (cells : List (Op
 passed_all size count s by cells addresses covers passed =
     all_fail size _ (λ a below. passed_by count s by (byte_in cells) addresses a (byte_in cells a) refl (covers.each a) passed)
 
-cases_below : (a b : ℕ) → (a < b) ⊎ (b ≤ a)
-cases_below a b = grind arith
-
 -- ---- the bytes of a store
 
 -- the bytes below this one would not change unseen
@@ -87,7 +84,7 @@ below_more_bytes count s by address width value i rest storing more fails below 
 
 pub below_all : (size count : ℕ) (s : FlatState) (by address width value rest : ℕ) → Storing address width value width rest
     → Below count s by address width value width → changes_unseen size count s by (over (stored address width value) s.committed) ≡ false
-below_all size count s by address width value rest storing below = all_fail size _ (λ a under. elim (cases_below a (address + width)) [
+below_all size count s by address width value rest storing below = all_fail size _ (λ a under. elim (cases_lt a (address + width)) [
   | inl low ↦ below.each a low
   | inr high ↦ no_byte_is count s by (stored address width value) a (storing_end address width value rest storing a high)
 ])

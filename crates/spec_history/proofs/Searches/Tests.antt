@@ -1,6 +1,6 @@
 -- Tests below a number, from what a loop has found, and what a search from the front finds.
-use Rattle.std.proofs.Common.{◌≡◌, ℕ, zero, suc, ◌+◌, ◌<◌, ◌&&◌, ◌||◌, Bool, true, false, Some, None, refl, sym, ap, ◌∙◌, inl, inr, arith, add-one}
-use Rattle.std.proofs.lemmas.Bool.{cases_eq}
+use Rattle.std.proofs.Common.{◌≡◌, ℕ, zero, suc, ◌+◌, ◌<◌, Bool, true, false, Some, None, refl, sym, ap, ◌∙◌, inl, inr, arith, add-one}
+use Rattle.std.proofs.lemmas.Bool.{cases_eq, or_right}
 use Rattle.spec_history.specs.Refusal.{any_below}
 use Rattle.spec_history.specs.Searches.{first_below, count_below}
 
@@ -9,16 +9,12 @@ unfolding any_below
 all_fail zero test none = refl
 all_fail (suc n) test none = rw (none n (omega arith), all_fail n test (λ k below. none k (omega arith))) refl
 
-or_right : (a : Bool) → (a || true) ≡ true
-or_right true = refl
-or_right false = refl
-
 pub one_passes : (n : ℕ) (test : ℕ → Bool) (k : ℕ) → k < n → test k ≡ true → any_below n test ≡ true
 unfolding any_below
 one_passes zero test k below passes = absurd (omega arith)
 one_passes (suc n) test k below passes = elim (cases_eq k n) [
   | inl e ↦ rw (sym (ap test e) ∙ passes) refl
-  | inr other ↦ rw (one_passes n test k (omega arith) passes) (or_right (test n))
+  | inr other ↦ rw (one_passes n test k (omega arith) passes) (or_right (test n) true refl)
 ]
 
 -- ---- a search from the front
@@ -35,10 +31,6 @@ first_at (suc n) test k below passes none = elim (cases_eq k n) [
   | inl e ↦ rw (first_none n test (λ j before. none j (omega (arith, e))), sym (ap test e) ∙ passes) (ap Some (sym e))
   | inr other ↦ rw (first_at n test k (omega arith) passes none) refl
 ]
-
-pub and_no : (b : Bool) → (b && false) ≡ false
-and_no true = refl
-and_no false = refl
 
 -- ---- a count that goes on
 

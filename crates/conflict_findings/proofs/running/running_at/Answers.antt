@@ -1,7 +1,8 @@
 use Rattle.std.proofs.Common.{length, refl, ap, ◌∙◌}
+use Rattle.std.proofs.lemmas.Bool.{or_left, or_right, or_from}
 use Rattle.spec_history.specs.View.{state_in}
 use Rattle.conflict_findings.specs.Ends.{is_faulted}
-use Rattle.conflict_findings.proofs.Seeking.{ended_so, goes_on, or_left, or_none, or_right}
+use Rattle.conflict_findings.proofs.Seeking.{ended_so, goes_on}
 use Rattle.conflict_findings.proofs.running.running_at.Goals as goal
 use Rattle.conflict_findings.proofs.running.running_at.Goals.{then-is_violated-via-then-is_violated, then-is_violated-via-else-is_violated+then-is_faulted}
 
@@ -24,4 +25,4 @@ returns c =
     let r = c.in_ok-runner.runner in
     goes_on c.args.flat.now.image s c.args.entries.now (length c.args.entries.now) c.args.core c.in_ok-done.done r c.is_violated.result c.is_faulted.result
     c.in_ok-runner.ensures c.is_violated.ensures (c.is_faulted.ensures ∙ ap (λ e. is_faulted e r.epoch) c.ended.ensures) c.requires
-    (or_none c.is_violated.result c.is_faulted.result c.if-is_violated.false c.if-is_faulted.false) c.in_ok-done.ensures
+    (or_from c.is_violated.result c.is_faulted.result c.if-is_violated.false c.if-is_faulted.false) c.in_ok-done.ensures

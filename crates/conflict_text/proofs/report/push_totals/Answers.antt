@@ -2,13 +2,14 @@ use Rattle.std.proofs.Common.{◌≡◌, ◌++◌, ◌∙◌, ℕ, List, ap, ref
 use Rattle.std.specs.BTreeMap.{get}
 use Rattle.std.specs.List.{flat_map}
 use Rattle.std.specs.Ordering.{nat_cmp}
+use Rattle.std.proofs.lemmas.Result.{on_ok_weaker}
 use Rattle.conflict_findings.proofs.Counting.{line_counts}
 use Rattle.conflict_findings.specs.declared.keys.Key.TheVariants.{Load}
 use Rattle.conflict_findings.specs.declared.sum.Sum.{Sum}
 use Rattle.conflict_findings.specs.Keys.{sum_at, sum_or}
 use Rattle.conflict_findings.specs.Kinds.{counts_at}
 use Rattle.conflict_text.specs.Report.{epoch_line, kind_lines, line_line, line_text, pair_line, pc_line, pc_text, total_line}
-use Rattle.conflict_text.proofs.Summing.{ended, five_parts, follows, same_lines}
+use Rattle.conflict_text.proofs.Summing.{ended, five_parts, same_lines}
 use Rattle.conflict_text.proofs.report.push_totals.Goals as goal
 
 pub returns : goal.returns
@@ -20,7 +21,7 @@ returns c =
     let new = c.extend_from_slice.new.self.items in
     let line_told : ℕ × Sum → List ℕ = λ e. line_text image e (counts_at sums.kinds e.0) in
     let pc_told : ℕ × Sum → List ℕ = λ e. pc_text e.0 (sum_or (get nat_cmp sums.loads e.0)) (sum_or (get nat_cmp sums.stores e.0)) in
-    follows c.extend_from_slice.result (new ≡ before ++ last) _
+    on_ok_weaker {P = new ≡ before ++ last} c.extend_from_slice.result
     (λ all homefree rs ends running are. record {
       sums = flat_map epoch_line sums.epochs.entries ++ flat_map pair_line sums.pairs.items ++ flat_map (line_line image rs) sums.lines.items
           ++ flat_map (pc_line rs) sums.instructions.entries ++ kind_lines rs ++ total_line image homefree rs ends running;

@@ -1,7 +1,7 @@
 use Rattle.std.proofs.Common.{◌&&◌, ◌∙◌, Bool, is_none, sym, ap, arith}
+use Rattle.std.proofs.lemmas.Bool.{and_parts}
 use Rattle.std.specs.BTreeMap.{get}
 use Rattle.std.specs.Ordering.{nat_cmp}
-use Rattle.spec_history.proofs.OneEntry.Legal.{and_true}
 use Rattle.conflicts.specs.Behind.{kept_first}
 use Rattle.conflicts.proofs.Storing.{apart_by}
 use Rattle.conflicts.proofs.Walking.{ended, none_read, read_else, read_more}
@@ -22,7 +22,7 @@ loop-addr-preserved c =
     let addr = c.loop-addr.addr in record {
       noted = elim c.if-is_new.branch [
         | then-is_new+in_ok-insert w ↦
-            let both = and_true (is_none (stored addr)) (is_none (before addr)) (sym c.is_new.ensures ∙ w.if-is_new.true) in
+            let both = and_parts (is_none (stored addr)) (is_none (before addr)) (sym c.is_new.ensures ∙ w.if-is_new.true) in
             rw w.reads-is
             (read_more c.args.first addr c.args.place stored old before (get nat_cmp w.insert.new.self) (omega arith) c.loop-addr.invariant.noted both.0 both.1
             w.in_ok-insert.ensures.updates.1 (λ a apart. w.in_ok-insert.ensures.updates.2 a (apart_by addr a apart)))

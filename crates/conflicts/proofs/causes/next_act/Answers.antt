@@ -1,7 +1,8 @@
 use Rattle.std.proofs.Common.{◌≡◌, ◌<◌, ◌&&◌, ◌∙◌, ℕ, true, length, nat_lt, not, sym, ap, arith, lt-ltb}
+use Rattle.std.proofs.lemmas.Bool.{and_right}
 use Rattle.spec_history.proofs.CodedCores.CoreStates.{also_at}
 use Rattle.spec_history.specs.Conflict.{entry_is, is_notice}
-use Rattle.spec_history.proofs.Searches.Tests.{first_at, first_none, and_no}
+use Rattle.spec_history.proofs.Searches.Tests.{first_at, first_none}
 use Rattle.conflicts.proofs.causes.next_act.Goals as goal
 
 pub returns-then-is_act-clause-next : goal.returns-then-is_act-clause-next
@@ -17,7 +18,7 @@ returns-then-is_act-clause-next c =
 pub loop-j-preserved : goal.loop-j-preserved
 loop-j-preserved c =
     let acts = λ (k : ℕ). entry_is c.args.entries.now k (λ entry. not (is_notice entry.what)) in
-    let fails = ap (λ b. nat_lt c.args.place c.loop-j.j && b) (sym c.if-is_act.ensures) ∙ and_no (nat_lt c.args.place c.loop-j.j) in
+    let fails = and_right (nat_lt c.args.place c.loop-j.j) _ (sym c.if-is_act.ensures) in
     also_at (λ k. nat_lt c.args.place k && acts k) c.loop-j.j c.loop-j.invariant fails
 
 pub returns-clause-next : goal.returns-clause-next

@@ -1,8 +1,10 @@
 use Rattle.std.proofs.Common.{◌≡◌, ◌++◌, ap, subst, ◌∙◌}
+use Rattle.std.proofs.lemmas.Bool.{not-false}
+use Rattle.std.proofs.lemmas.Result.{IfOk-weaker}
 use Rattle.trace_text.specs.Laws.{AreEntries}
 use Rattle.trace_text.specs.Printing.{printed_trace}
 use Rattle.run_command.specs.Run.{IsPrinted, counts_line}
-use Rattle.run_command.proofs.Printing.{both_ok, if_ok, on_is, printed_traced}
+use Rattle.run_command.proofs.Printing.{both_ok, printed_traced}
 use Rattle.run_command.proofs.text.printed.Goals as goal
 
 pub returns : goal.returns
@@ -13,8 +15,8 @@ returns g c =
     let report = c.in_ok-report.report.items in
     let above = report ++ counts_line run.counted in
     let history = c.history.result.now in
-    if_ok c.with_history.result (λ text. (text.items ≡ above ++ printed_trace options.cores history) × AreEntries history) (λ text. IsPrinted image options text.items)
+    IfOk-weaker c.with_history.result (λ text. (text.items ≡ above ++ printed_trace options.cores history) × AreEntries history) (λ text. IsPrinted image options text.items)
     (λ text is. printed_traced g.S.EpochStore.view image options run.book run.end run.totals run.counted c.requires.finishes c.requires.explained c.requires.caches report text.items
-    (subst AreEntries c.history.ensures is.1) (on_is options.trace c.if-not-options.false) c.in_ok-report.ensures
+    (subst AreEntries c.history.ensures is.1) (not-false options.trace c.if-not-options.false) c.in_ok-report.ensures
     (is.0 ∙ ap (λ h. above ++ printed_trace options.cores h) c.history.ensures))
     (both_ok c.with_history.result (λ text. text.items ≡ above ++ printed_trace options.cores history) (AreEntries history) c.with_history.ensures.text c.with_history.ensures.numbers)

@@ -1,6 +1,5 @@
 use Rattle.std.proofs.Common.{◌≡◌, ◌<◌, ◌≤◌, ◌+◌, ◌&&◌, Bool, true, false, nat_le, nat_lt, refl, sym, ap, ◌∙◌, inl, inr, arith, le-leb, lt-ltb, leb-true}
-use Rattle.std.proofs.lemmas.Bool.{cases_eq}
-use Rattle.spec_history.proofs.OneEntry.Legal.{and_true}
+use Rattle.std.proofs.lemmas.Bool.{cases_eq, and_parts}
 use Rattle.spec_history.proofs.Searches.Tests.{all_fail, one_passes}
 use Rattle.conflicts.specs.Attempts.{covers}
 use Rattle.spec_history.specs.Conflict.{is_changed}
@@ -40,5 +39,5 @@ pub returns : goal.returns
 returns c =
     let bytes = c.args.bytes in
     sym (all_fail c.args.image.now.size (λ a. covers bytes.first bytes.length a && is_changed (meeting_in c.args.flat.now c.args.self.now.violated.parties) a) (λ a within. only_covered _ _ (λ is.
-    c.loop-addr.invariant a (leb-true bytes.first a (and_true (nat_le bytes.first a) (nat_lt a (bytes.first + bytes.length)) is).0)
+    c.loop-addr.invariant a (leb-true bytes.first a (and_parts (nat_le bytes.first a) (nat_lt a (bytes.first + bytes.length)) is).0)
     (omega (arith, c.loop-addr-test.false, c.end_of-addr-end.ensures.covered a is within)))))

@@ -1,16 +1,16 @@
 use Rattle.std.proofs.Common.{◌≡◌, ◌<◌, ◌≤◌, ℕ, Bool, false, sym, ap, ◌∙◌, inl, inr, arith}
-use Rattle.std.proofs.lemmas.Bool.{cases_eq}
+use Rattle.std.proofs.lemmas.Bool.{cases_eq, false_from_ne_true}
 use Rattle.conflicts.specs.Attempts.{core_does, loads_byte}
 use Rattle.conflicts.specs.Blame.{is_read_at}
 use Rattle.conflicts.specs.Violated.{violation_in}
 use Rattle.spec_history.proofs.Searches.Tests.{first_at, first_none}
-use Rattle.conflicts.proofs.Blaming.{either_way, not_so, unloaded}
+use Rattle.conflicts.proofs.Blaming.{either_way, unloaded}
 use Rattle.conflicts.proofs.blame.Violated.byte_at.Goals as goal
 
 pub loop-addr-init : goal.loop-addr-init
 loop-addr-init c a before below =
     unloaded c.args.image.now c.args.entries.now (violation_in c.args.flat.now c.args.self.now) c.args.load a
-    (not_so (core_does c.args.entries.now c.args.self.now.parties.victim c.args.load (loads_byte a))
+    (false_from_ne_true (core_does c.args.entries.now c.args.self.now.parties.victim c.args.load (loads_byte a))
     (λ loads. omega (arith, before, (c.loaded_at-first.ensures.each a loads below).0)))
 
 pub returns-then-is_read_at-clause-byte : goal.returns-then-is_read_at-clause-byte

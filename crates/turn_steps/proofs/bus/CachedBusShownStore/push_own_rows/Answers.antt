@@ -1,7 +1,8 @@
 use Rattle.std.proofs.Common.{◌≡◌, ◌<◌, ◌≤◌, ◌∙◌, Some, ap, sym, refl, length, get_or, slice_get, nat_lt, true, false, arith}
 use Rattle.std.proofs.lemmas.Bool.Decides.{nat_tests}
 use Rattle.std.proofs.lemmas.Option.{slice_get_past, slice_get_read}
-use Rattle.turn_steps.proofs.BusRows.{has_no_row, has_row, on_ok}
+use Rattle.std.proofs.lemmas.Result.{on_ok_weaker}
+use Rattle.turn_steps.proofs.BusRows.{has_no_row, has_row}
 use Rattle.turn_steps.proofs.bus.CachedBusShownStore.push_own_rows.Goals as goal
 
 pub returns-in-Some-clause-own : goal.returns-in-Some-clause-own
@@ -12,7 +13,7 @@ returns-in-Some-clause-own c = λ old shows.
     let below : c.args.core < length cores = omega (arith, within, ap length c.deref.ensures.value) in
     let there : slice_get cores c.args.core ≡ Some c.in-Some.held.now =
     slice_get_read cores _ c.args.core c.in-Some.held.now refl below (c.in-Some.ensures.lookup.1 ∙ ap (λ l. get_or l c.args.core c.in-Some.held.now) c.deref.ensures.value) in
-    on_ok c.push_own_rows.result _ _
+    on_ok_weaker c.push_own_rows.result
     (λ own a inside stored. has_row old c.args.shown.now.size c.args.core cores c.push_own_rows.new.rows shows c.in-Some.held.now there own a stored)
     c.push_own_rows.ensures.own
 
