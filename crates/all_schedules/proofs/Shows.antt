@@ -1,6 +1,7 @@
 -- What is printed of a book.
 use Rattle.std.proofs.Common.{◌≡◌, ℕ, List, ◌++◌, Option, Some, None, sym, ap, subst, ◌∙◌}
 use Rattle.rv32_image.specs.Image.{LoadedImage}
+use Rattle.rv32_image.proofs.SmallFacts.{one_value}
 use Rattle.rv32_exec.specs.declared.sequential.End.{End}
 use Rattle.spec_history.specs.FlatState.{FlatState}
 use Rattle.spec_history.specs.Laws.{IsPublished}
@@ -20,13 +21,10 @@ use Rattle.run_command.proofs.Committing.{committed_is_memory}
 use Rattle.run_command.proofs.Printing.{result_is}
 use Rattle.all_schedules.specs.Shown.{IsReport, IsShown, outcome_at}
 
-one_state : (o : Option FlatState) (s t : FlatState) → o ≡ Some s → o ≡ Some t → s ≡ t
-one_state o s t p q = let e : Some s ≡ Some t = sym p ∙ q in cc
-
 module _ {S : Type 0} (view : S → StoreView) (image : LoadedImage) (b : BookView S) (i : InStep view b) (image_is : b.image ≡ image)
     (bytes : List ℕ) (so : IsCommitted (view b.store) bytes) (size : (view b.store).shape.size ≡ image.size) (s : FlatState) (replays : ReplaysTo b s) where
   state_is : i.state ≡ s
-  state_is = one_state (replay b.image b.cores b.history) i.state s i.replays replays
+  state_is = one_value (replay b.image b.cores b.history) i.state s i.replays replays
 
   -- the loop is over
   pub of_ended : (end : End) → Some end ≡ s.end → IsReport image s s.end (report_of image (record { end = end; bytes = bytes }))

@@ -3,6 +3,7 @@ use Rattle.std.proofs.Common.{◌≡◌, ◌≢◌, ℕ, ◌+◌, ◌%◌, ◌<�
 use Rattle.std.proofs.lemmas.Bool.Decides.{nat_tests}
 use Rattle.rv32_image.specs.Image.{LoadedImage}
 use Rattle.rv32_image.specs.Version.{limits_of}
+use Rattle.rv32_image.proofs.SmallFacts.{none_and_some}
 use Rattle.cache_lines.specs.Lines.{is_line_length}
 use Rattle.violations.specs.declared.attempt.Attempt.{Attempt}
 use Rattle.violations.specs.View.{Shape, attempt_of, MayBegin, Runs}
@@ -15,7 +16,7 @@ use Rattle.bus_states.specs.Views.{view_of, AreOrdered}
 use Rattle.bus_states.proofs.Addresses.{line-aligned, line-and_offset, offset-in_line}
 use Rattle.bus_states.proofs.Coherence.{IsCoherentWith, committed-with, coherent-with}
 use Rattle.bus_states.proofs.Copies.{itself}
-use Rattle.bus_states.proofs.Hurting.{none_some, quiet-shows}
+use Rattle.bus_states.proofs.Hurting.{quiet-shows}
 use Rattle.bus_states.proofs.Opening.{IsIdle, idle-with}
 use Rattle.bus_states.proofs.Ordered.{clear-of, runs-there}
 use Rattle.bus_states.proofs.Quiet
@@ -73,8 +74,8 @@ opened-is_fresh bus image cores h =
 pub opened-ordered : (bus : Bus) (image : LoadedImage) (cores : ℕ) → IsOpened bus image cores → AreOrdered bus
 opened-ordered bus image cores h =
     record {
-      apart = λ j k x y at_j at_k e. absurd (none_some (bus.core j).attempt x (h.idle j).attempt at_j);
-      straight_first = λ j k x y at_j straight at_k away. absurd (none_some (bus.core j).attempt x (h.idle j).attempt at_j);
+      apart = λ j k x y at_j at_k e. absurd (none_and_some (bus.core j).attempt x (h.idle j).attempt at_j);
+      straight_first = λ j k x y at_j straight at_k away. absurd (none_and_some (bus.core j).attempt x (h.idle j).attempt at_j);
     }
 
 -- ---- one core changes and what is committed stays

@@ -3,6 +3,7 @@
 use Rattle.std.proofs.Common.{◌≡◌, ◌≢◌, ℕ, ◌%◌, ◌<◌, ◌==◌, ◌||◌, ◌&&◌, ◌⊎◌, inl, inr, not, nat_lt, Bool, true, false, cond, Option, Some, None, refl, sym, ap, subst, ◌∙◌, arith, ne_eqb}
 use Rattle.std.proofs.lemmas.Bool.{and_parts, both_ways}
 use Rattle.std.proofs.lemmas.Bool.Decides.{nat_tests}
+use Rattle.rv32_image.proofs.SmallFacts.{none_and_some}
 use Rattle.spec_states.specs.declared.line.LineState.{LineState}
 use Rattle.spec_states.specs.declared.line.Marks.{Marks}
 use Rattle.spec_states.specs.declared.next.Next.{Next}
@@ -62,10 +63,6 @@ hurts-same u v core hurt other same h =
 
 -- ---- two steps of a core
 
--- a core does not run an attempt and none
-pub none_some : (o : Option Attempt) (x : Attempt) → o ≡ None → o ≡ Some x → ⊥
-none_some o x none some = cc
-
 pub not_core : (hurt : ℕ → Bool) (core k : ℕ) → hurt core ≡ false → hurt k ≡ true → k ≢ core
 not_core hurt core k spared hit same = both_ways (hurt k) (ap hurt same ∙ spared) hit
 
@@ -86,7 +83,7 @@ hurts-then u v w core first second stays f s =
     record { not_itself = rw (f.not_itself, s.not_itself) refl; hurts = λ k e. hurt k (first k) refl e; spares = λ k away e. spare k away (first k) (second k) refl refl e }
   where
     by_first : (k : ℕ) → first k ≡ true → (b : Bool) → second k ≡ b → IsHurt u w core k
-    by_first k e true e2 = absurd (none_some (v.attempt k) (s.hurts k e2).attempt (f.hurts k e).none (s.hurts k e2).had)
+    by_first k e true e2 = absurd (none_and_some (v.attempt k) (s.hurts k e2).attempt (f.hurts k e).none (s.hurts k e2).had)
     by_first k e false e2 =
         let p = f.hurts k e in
         record {

@@ -2,6 +2,7 @@
 use Rattle.std.proofs.Common.{◌≡◌, ◌≢◌, inl, inr, ℕ, ◌%◌, ◌<◌, ◌≤◌, nat_lt, not, Bool, true, false, Option, Some, refl, sym, ap, subst, ◌∙◌, arith}
 use Rattle.std.proofs.lemmas.Bool.{cases_eq}
 use Rattle.std.proofs.lemmas.Bool.Decides.{nat_tests}
+use Rattle.rv32_image.proofs.SmallFacts.{one_value, none_and_some}
 use Rattle.spec_states.specs.States.{is_speculative}
 use Rattle.violations.specs.declared.attempt.Attempt.{Attempt}
 use Rattle.violations.specs.View.{attempt_of, epoch_of, IsClear, IsSettled, MayBegin, MayPublish, Runs}
@@ -12,7 +13,7 @@ use Rattle.bus_states.specs.Views.{view_of, AreOrdered}
 use Rattle.bus_states.proofs.Addresses.{line-aligned}
 use Rattle.bus_states.proofs.Coherence.{sees-unmodified}
 use Rattle.bus_states.proofs.Guarding.{guards-lines}
-use Rattle.bus_states.proofs.Hurting.{none_some, running}
+use Rattle.bus_states.proofs.Hurting.{running}
 use Rattle.bus_states.proofs.Showing.{none_in}
 use Rattle.bus_states.proofs.StraightAccesses.{IsFirst}
 
@@ -46,7 +47,7 @@ runs-there bus k x h runs =
       | true ↦ λ e. grind (arith, nat_tests)
       | false ↦ λ e.
           let past : bus.shape.cores ≤ k = grind (arith, nat_tests) in
-          absurd (none_some (bus.core k).attempt x (ap (λ (core : CoreState). core.attempt) (h.absent k past)) runs)
+          absurd (none_and_some (bus.core k).attempt x (ap (λ (core : CoreState). core.attempt) (h.absent k past)) runs)
     ] refl
 
 -- a core that speculates runs an attempt that isn't straight
@@ -84,15 +85,12 @@ ordered-stays old new h same =
       straight_first = λ j k x y at_j straight at_k away. h.straight_first j k x y (same j x at_j) straight (same k y at_k) away;
     }
 
-some_same : (o : Option Attempt) (x y : Attempt) → o ≡ Some x → o ≡ Some y → x ≡ y
-some_same o x y e f = cc
-
 -- an attempt of another core, after a call that violates attempts at most, is the one that it had
 hurt-had : (old new : Bus) (core : ℕ) (hurt : ℕ → Bool) → HurtsLater (view_of old) (view_of new) core hurt
     → (k : ℕ) (x : Attempt) → k ≢ core → (new.core k).attempt ≡ Some x → (old.core k).attempt ≡ Some x
 hurt-had old new core hurt others k x away at =
     elim (hurt k) as (λ b. hurt k ≡ b → (old.core k).attempt ≡ Some x) [
-      | true ↦ λ e. absurd (none_some (new.core k).attempt x (others.hurts k e).none at)
+      | true ↦ λ e. absurd (none_and_some (new.core k).attempt x (others.hurts k e).none at)
       | false ↦ λ e. sym (others.spares k away e).attempt ∙ at
     ] refl
 
@@ -112,7 +110,7 @@ ordered-ends old new core h ends = ordered-stays old new h was
   where
     was : (k : ℕ) (x : Attempt) → (new.core k).attempt ≡ Some x → (old.core k).attempt ≡ Some x
     was k x at = elim (cases_eq k core) [
-      | inl here ↦ absurd (none_some (new.core k).attempt x (ap (λ (k : ℕ). (new.core k).attempt) here ∙ ends.attempt) at)
+      | inl here ↦ absurd (none_and_some (new.core k).attempt x (ap (λ (k : ℕ). (new.core k).attempt) here ∙ ends.attempt) at)
       | inr away ↦ sym (ends.others k away).attempt ∙ at
     ]
 
@@ -132,7 +130,7 @@ ordered-with : (old new : Bus) (core : ℕ) (attempt : Attempt) → AreOrdered o
 ordered-with old new core attempt h now fits = record { apart = apart; straight_first = straight_first }
   where
     mine : (k : ℕ) (x : Attempt) → k ≡ core → (new.core k).attempt ≡ Some x → x ≡ attempt
-    mine k x here at = some_same (new.core core).attempt x attempt (ap (λ (k : ℕ). (new.core k).attempt) (sym here) ∙ at) now.own
+    mine k x here at = one_value (new.core core).attempt x attempt (ap (λ (k : ℕ). (new.core k).attempt) (sym here) ∙ at) now.own
 
     apart : (j k : ℕ) (x y : Attempt) → (new.core j).attempt ≡ Some x → (new.core k).attempt ≡ Some y → x.epoch ≡ y.epoch → j ≡ k
     apart j k x y at_j at_k e = elim (cases_eq j core) [

@@ -2,6 +2,7 @@
 use Rattle.std.proofs.Common.{◌≡◌, ℕ, ◌+◌, ◌-◌, ◌%◌, ◌<◌, ◌≤◌, ◌==◌, ◌≢◌, ◌⊎◌, ◌&&◌, ◌||◌, Bool, true, false, cond, Option, None, refl, sym, ap, subst, ◌∙◌, lt-ltb}
 use Rattle.std.proofs.lemmas.Bool.{or_right, both_ways}
 use Rattle.memory_bytes.specs.Bytes.{IsWidth, byte_of}
+use Rattle.rv32_image.proofs.SmallFacts.{or_false}
 use Rattle.spec_states.specs.declared.line.Marks.{Marks}
 use Rattle.spec_states.specs.Copies.{LineCopy, IsUpToDate}
 use Rattle.spec_states.specs.Mask.{has, is_within}
@@ -101,10 +102,6 @@ seen-after true false byte cell c d up e = let x : false ≡ true = up refl in c
 seen-after false true byte cell c d up e = refl
 seen-after false false byte cell c d up e = e
 
-or_false : (b : Bool) → b ≡ (b || false)
-or_false true = refl
-or_false false = refl
-
 pub store-stored : (bus : Bus) (core addr offset width value : ℕ) (room : Option Room) → IsCoherent bus → MayAccess bus core addr room → IsWidth width
     → offset + width ≤ bus.line_length → store_wait bus core addr offset width room ≡ None
     → HasStored bus (after_store bus core addr offset width value room) core addr offset width value (store_violates bus core addr)
@@ -169,7 +166,7 @@ store-stored bus core addr offset width value room h may widths inside goes =
         ap (λ (marks : Marks). has marks.bytes x) (written-marks mid core addr offset width value a)
         ∙ by_line (λ (a : ℕ). a % bus.line_length ≡ 0 → has (own mid core a).marks.bytes x ≡ (has (own bus core a).marks.bytes x || ((addr == a) && is_within offset width x))) addr a
         (λ _. ap (λ (marks : Marks). has marks.bytes x) t.marks_are ∙ mask x ∙ rw (itself addr) refl)
-        (λ e a_aligned. ap (λ (bytes : ℕ). has bytes x) (t.elsewhere a a_aligned e).bytes ∙ rw e (or_false (has (own bus core a).marks.bytes x))) aligned
+        (λ e a_aligned. ap (λ (bytes : ℕ). has bytes x) (t.elsewhere a a_aligned e).bytes ∙ rw e (sym (or_false (has (own bus core a).marks.bytes x)))) aligned
 
     -- the mask had it not before
     before : (b d : Bool) → (b || d) ≡ false → b ≡ false

@@ -1,5 +1,6 @@
 -- Conditions of calls, from those of each core.
-use Rattle.std.proofs.Common.{◌≡◌, ◌≢◌, ◌≤◌, ◌<◌, ℕ, Bool, true, false, not, Option, Some, None, ◌+◌, ◌%◌, refl, ap, subst, ◌∙◌}
+use Rattle.std.proofs.Common.{◌≡◌, ◌≢◌, ◌≤◌, ◌<◌, ℕ, Bool, true, false, not, Some, None, ◌+◌, ◌%◌, refl, ap, subst, ◌∙◌}
+use Rattle.rv32_image.proofs.SmallFacts.{one_value, none_and_some}
 use Rattle.violations.specs.declared.attempt.Attempt.{Attempt}
 use mathlib.Core.Bool.{beq}
 use Rattle.memory_bytes.specs.Bytes.{IsWidth}
@@ -10,26 +11,20 @@ pub runs_is : (view : StoreView) (core : ℕ) (x : Attempt) (straight : Bool) �
     → Runs view core straight
 runs_is view core x straight at e = record { epoch = x.epoch; is = at ∙ ap (λ b. Some (attempt_of x.epoch b)) e }
 
-none_some : (o : Option Attempt) (x : Attempt) → o ≡ None → o ≡ Some x → ⊥
-none_some o x none some = cc
-
-same_attempt : (o : Option Attempt) (x y : Attempt) → o ≡ Some x → o ≡ Some y → x ≡ y
-same_attempt o x y e f = cc
-
 pub apart_none : (view : StoreView) (epoch k : ℕ) → view.attempt k ≡ None → IsApart view epoch k
 apart_none view epoch k none =
     record {
-      new = λ x at. absurd (none_some (view.attempt k) x none at);
-      after_straight = λ x at straight. absurd (none_some (view.attempt k) x none at);
+      new = λ x at. absurd (none_and_some (view.attempt k) x none at);
+      after_straight = λ x at straight. absurd (none_and_some (view.attempt k) x none at);
     }
 
 pub apart_some : (view : StoreView) (epoch k : ℕ) (y : Attempt) → view.attempt k ≡ Some y → y.epoch ≢ epoch
     → (y.straight ≡ true → y.epoch < epoch) → IsApart view epoch k
 apart_some view epoch k y at new after =
     record {
-      new = λ x e. subst (λ (z : Attempt). z.epoch ≢ epoch) (same_attempt (view.attempt k) y x at e) new;
+      new = λ x e. subst (λ (z : Attempt). z.epoch ≢ epoch) (one_value (view.attempt k) y x at e) new;
       after_straight =
-          λ x e. subst (λ (z : Attempt). z.straight ≡ true → z.epoch < epoch) (same_attempt (view.attempt k) y x at e) after;
+          λ x e. subst (λ (z : Attempt). z.straight ≡ true → z.epoch < epoch) (one_value (view.attempt k) y x at e) after;
     }
 
 pub begins_is : (view : StoreView) (core epoch : ℕ) → IsSettled view → core < view.shape.cores → view.attempt core ≡ None
@@ -43,11 +38,11 @@ begins_is view core epoch settled there idle each =
     }
 
 pub not_before_none : (view : StoreView) (epoch k : ℕ) → view.attempt k ≡ None → IsNotBefore view epoch k
-not_before_none view epoch k none = record { first = λ x at. absurd (none_some (view.attempt k) x none at) }
+not_before_none view epoch k none = record { first = λ x at. absurd (none_and_some (view.attempt k) x none at) }
 
 pub not_before_some : (view : StoreView) (epoch k : ℕ) (y : Attempt) → view.attempt k ≡ Some y → epoch ≤ y.epoch → IsNotBefore view epoch k
 not_before_some view epoch k y at first =
-    record { first = λ x e. subst (λ (z : Attempt). epoch ≤ z.epoch) (same_attempt (view.attempt k) y x at e) first }
+    record { first = λ x e. subst (λ (z : Attempt). epoch ≤ z.epoch) (one_value (view.attempt k) y x at e) first }
 
 pub publishes_is : (view : StoreView) (core : ℕ) (y : Attempt) → IsSettled view → view.attempt core ≡ Some y → y.straight ≡ false
     → ((k : ℕ) → k < view.shape.cores → IsNotBefore view y.epoch k) → MayPublish view core

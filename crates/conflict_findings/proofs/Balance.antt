@@ -4,6 +4,7 @@ use Rattle.std.proofs.lemmas.Bool.{cases_eq, and_parts, not-true, or_right}
 use Rattle.std.proofs.lemmas.List.{length-append, take_all}
 use Rattle.std.proofs.lemmas.List.Sums.{sum_by-cons}
 use Rattle.rv32_image.specs.Image.{LoadedImage, IsImage}
+use Rattle.rv32_image.proofs.SmallFacts.{one_value, or_false}
 use Rattle.rv32_exec.specs.Hart.{HartState}
 use Rattle.rv32_exec.specs.NextEvent.{next_event}
 use Rattle.rv32_exec.specs.Sequential.{exits}
@@ -31,7 +32,7 @@ use Rattle.conflict_findings.specs.declared.ended.Ending.TheVariants.{Committed,
 use Rattle.conflict_findings.specs.declared.ended.Running.{Running}
 use Rattle.conflict_findings.specs.Ends.{done_by, ended_as, ended_at, ended_before, ended_by, ended_with, is_faulted, running_after, running_below, running_from, running_in}
 use Rattle.conflict_findings.proofs.Growing.{ended_is, none_ended, none_running, one_ended, one_running}
-use Rattle.conflict_findings.proofs.Losing.{first_legal, found_core, same_state}
+use Rattle.conflict_findings.proofs.Losing.{first_legal, found_core}
 
 -- ---- a sum over cores
 
@@ -95,13 +96,9 @@ alive (Some c) = cond c.hurt 0 1
 abbrev NoFault : Option End → Type 0
 NoFault e = (epoch : ℕ) → is_faulted e epoch ≡ false
 
-or_no : (b : Bool) → (b || false) ≡ b
-or_no true = refl
-or_no false = refl
-
 on_alive : (e : Option End) (o : Option CoreState) → NoFault e → on e o ≡ alive o
 on_alive e None none = refl
-on_alive e (Some c) none = ap (λ b. cond b 0 1) (ap (λ b. c.hurt || b) (none c.epoch) ∙ or_no c.hurt)
+on_alive e (Some c) none = ap (λ b. cond b 0 1) (ap (λ b. c.hurt || b) (none c.epoch) ∙ or_false c.hurt)
 
 -- how many go on, where no epoch has faulted
 alive_total : (image : LoadedImage) (s : FlatState) (n : ℕ) → NoFault s.end → length (running_below image s n) ≡ total n (λ k. alive (s.cores k))
@@ -148,7 +145,7 @@ OtherEpoch epoch o = (d : CoreState) → o ≡ Some d → d.epoch ≢ epoch
 
 hurt_other : (epoch : ℕ) (o : Option CoreState) → OtherEpoch epoch o → alive (hurt_at epoch o) ≡ alive o
 hurt_other epoch None other = refl
-hurt_other epoch (Some d) other = ap (λ b. cond b 0 1) (ap (λ b. d.hurt || b) (ne_eqb d.epoch epoch (other d refl)) ∙ or_no d.hurt)
+hurt_other epoch (Some d) other = ap (λ b. cond b 0 1) (ap (λ b. d.hurt || b) (ne_eqb d.epoch epoch (other d refl)) ∙ or_false d.hurt)
 
 idle_other : (epoch : ℕ) (o : Option CoreState) → OtherEpoch epoch o → alive (idle_at epoch o) ≡ alive o
 idle_other epoch None other = refl
@@ -156,7 +153,7 @@ idle_other epoch (Some d) other = ap (λ b. alive (cond b None (Some d))) (ne_eq
 
 fault_other : (epoch cause pc : ℕ) (o : Option CoreState) → OtherEpoch epoch o → on (Some (end.Fault epoch cause pc)) o ≡ alive o
 fault_other epoch cause pc None other = refl
-fault_other epoch cause pc (Some d) other = ap (λ b. cond b 0 1) (ap (λ b. d.hurt || b) (ne_eqb epoch d.epoch (λ e. other d refl (sym e))) ∙ or_no d.hurt)
+fault_other epoch cause pc (Some d) other = ap (λ b. cond b 0 1) (ap (λ b. d.hurt || b) (ne_eqb epoch d.epoch (λ e. other d refl (sym e))) ∙ or_false d.hurt)
 
 hurt_here : (epoch : ℕ) (c : CoreState) → c.epoch ≡ epoch → alive (hurt_at epoch (Some c)) ≡ 0
 hurt_here epoch c is = ap (λ b. cond b 0 1) (or_right c.hurt _ (eq-eqb c.epoch epoch is))
@@ -352,7 +349,7 @@ zeros (suc n) = omega (arith, one_total n (λ k. 0), zeros n)
 none_begun : (image : LoadedImage) (count : ℕ) (entries : List Entry) (s : FlatState) → replay image count [] ≡ Some s
     → 0 ≡ length (ended_before image count entries 0) + going_on image count s
 none_begun image count entries s replays =
-    let same : first_state image ≡ s = same_state _ (first_state image) s (no_entries image count) replays in
+    let same : first_state image ≡ s = one_value _ (first_state image) s (no_entries image count) replays in
     let idle : going_on image count (first_state image) ≡ 0 = running_total image (first_state image) count ∙ zeros count in
     omega (arith, ap (going_on image count) same, idle, ap length (none_ended image count entries))
 

@@ -4,6 +4,7 @@ use Rattle.std.specs.Option.{option_or}
 use Rattle.std.proofs.lemmas.Bool.{cases_eq, false_from_ne_true, both_ways}
 use Rattle.rv32_image.specs.Image.{LoadedImage}
 use Rattle.rv32_image.specs.Version.{limits_of}
+use Rattle.rv32_image.proofs.SmallFacts.{one_value, none_and_some}
 use Rattle.spec_history.specs.declared.entry.Entry.{Entry}
 use Rattle.spec_history.specs.Searches.{first_below}
 use Rattle.spec_history.proofs.Searches.Tests.{first_at, first_none}
@@ -25,13 +26,6 @@ pub record IsFirst (at : ℕ → ℕ) (reads : ℕ → Option ℕ) (n load a : �
 abbrev pub IsEarliest : (ℕ → ℕ) → (ℕ → Option ℕ) → ℕ → Option (ℕ × ℕ) → Type 0
 IsEarliest at reads n None = (x : ℕ) → x < n → reads x ≡ None
 IsEarliest at reads n (Some found) = IsFirst at reads n found.0 found.1
-
-clash : (o : Option ℕ) (k : ℕ) (P : Type 0) → o ≡ None → o ≡ Some k → P
-clash None k P none is = absurd cc
-clash (Some j) k P none is = absurd cc
-
-same : (o : Option ℕ) (j k : ℕ) → o ≡ Some j → o ≡ Some k → j ≡ k
-same o j k one other = ap (λ (x : Option ℕ). unwrap_or x 0) (sym one ∙ other)
 
 none_more : (reads : ℕ → Option ℕ) (n : ℕ) → ((x : ℕ) → x < n → reads x ≡ None) → reads n ≡ None → (x : ℕ) → x < n + 1 → reads x ≡ None
 none_more reads n was is x below = elim (cases_eq x n) [
@@ -59,7 +53,7 @@ now_first at reads n load is later = record {
   at_is = refl;
   read = is;
   least = λ y other below there. elim (cases_eq y n) [
-    | inl e ↦ let one = same (reads n) load other is (ap reads (sym e) ∙ there) in omega (arith, one)
+    | inl e ↦ let one = one_value (reads n) load other is (ap reads (sym e) ∙ there) in omega (arith, one)
     | inr apart ↦ let less = later y other (omega (arith, below, apart)) there in omega (arith, less)
   ];
   lowest = later;
@@ -68,14 +62,14 @@ now_first at reads n load is later = record {
 -- one more was asked
 more_by : (at : ℕ → ℕ) (reads : ℕ → Option ℕ) (n : ℕ) (known : Option (ℕ × ℕ)) (read : Option ℕ) → reads n ≡ read → IsEarliest at reads n known → IsEarliest at reads (n + 1) (earlier known read (at n))
 more_by at reads n None None is was = none_more reads n was is
-more_by at reads n (Some found) None is was = still_first at reads n found.0 found.1 was (λ other there. clash (reads n) other (found.0 ≤ other) is there)
-more_by at reads n None (Some load) is was = now_first at reads n load is (λ y other below there. clash (reads y) other (load < other) (was y below) there)
+more_by at reads n (Some found) None is was = still_first at reads n found.0 found.1 was (λ other there. absurd (none_and_some (reads n) other is there))
+more_by at reads n None (Some load) is was = now_first at reads n load is (λ y other below there. absurd (none_and_some (reads y) other (was y below) there))
 more_by at reads n (Some found) (Some load) is was = either_way (nat_lt load found.0) (IsEarliest at reads (n + 1) (if nat_lt load found.0 then Some (load, at n) else Some found))
     (λ less. rw less (now_first at reads n load is (λ y other below there.
     let most = was.least y other below there in
     let under = ltb-true load found.0 less in omega (arith, most, under))))
     (λ no. rw no (still_first at reads n found.0 found.1 was (λ other there.
-    let one = same (reads n) load other is there in
+    let one = one_value (reads n) load other is there in
     let over = ltb-false load found.0 no in omega (arith, one, over))))
 
 pub earliest_more : (at : ℕ → ℕ) (reads : ℕ → Option ℕ) (n : ℕ) (known : Option (ℕ × ℕ)) → IsEarliest at reads n known → IsEarliest at reads (n + 1) (earlier known (reads n) (at n))
@@ -148,7 +142,7 @@ pub none_found : (image : LoadedImage) (entries : List Entry) (core before line 
     → ((x : ℕ) → x < (limits_of image.version).line_length → Reads image entries core before line x ≡ None) → load_in image entries core before line ≡ None
 none_found image entries core before line none =
     first_none before (λ j. is_some (byte_in image entries core before line j)) (λ j below. no_byte image entries core before line j (λ y inside.
-    unread_by image entries core before line j y (λ o is most. clash (Reads image entries core before line y) o ⊥ (none y inside) is) below))
+    unread_by image entries core before line j y (λ o is most. none_and_some (Reads image entries core before line y) o (none y inside) is) below))
 
 -- ---- where all were asked
 

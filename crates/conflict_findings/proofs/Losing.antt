@@ -8,6 +8,7 @@ use Rattle.std.proofs.lemmas.List.Concat.{flat_map-cons}
 use Rattle.std.proofs.lemmas.List.Elements.{filter-append}
 use Rattle.std.proofs.lemmas.List.Sums.{sum_by-cons}
 use Rattle.rv32_image.specs.Image.{LoadedImage, IsImage}
+use Rattle.rv32_image.proofs.SmallFacts.{one_value}
 use Rattle.spec_history.specs.declared.entry.Entry.{Entry}
 use Rattle.spec_history.specs.declared.entry.What.{What}
 use Rattle.spec_history.specs.declared.entry.What.TheVariants.{Start, Load, Store, Hurt, Cancel, Restart, Publish, Commit, Fault}
@@ -48,15 +49,12 @@ pub first_legal : (image : LoadedImage) (count : ℕ) (s last : FlatState) (entr
 unfolding replay_from
 first_legal image count s last entry later is = no_refusal (refusal_of image count s entry) _ last is
 
-pub same_state : (o : Option FlatState) (s t : FlatState) → o ≡ Some s → o ≡ Some t → s ≡ t
-same_state o s t one two = cc
-
 pub legal_at : (image : LoadedImage) (count : ℕ) (entries : List Entry) (last s : FlatState) (place : ℕ) (entry : Entry) → replay image count entries ≡ Some last
     → replay image count (take place entries) ≡ Some s → slice_get entries place ≡ Some entry → refusal_of image count s entry ≡ None
 legal_at image count entries last s place entry replays before there =
     let rest = rest_at entries place entry there in
     let parts = splits image count (take place entries) (entry ∷ rest.0) last (ap (replay image count) rest.1 ∙ replays) in
-    ap (λ t. refusal_of image count t entry) (same_state _ s parts.between before parts.first_replays) ∙ first_legal image count parts.between last entry rest.0 parts.later_replays
+    ap (λ t. refusal_of image count t entry) (one_value _ s parts.between before parts.first_replays) ∙ first_legal image count parts.between last entry rest.0 parts.later_replays
 
 -- ---- the core of an epoch
 

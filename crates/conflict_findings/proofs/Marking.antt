@@ -2,6 +2,7 @@
 use Rattle.std.proofs.Common.{◌≡◌, ◌≢◌, ◌⊎◌, ℕ, suc, ◌+◌, ◌==◌, ◌&&◌, ◌||◌, not, Bool, true, false, nat_lt, List, slice_get, Option, Some, None, is_some, if◌then◌else◌, refl, sym, ap, ◌∙◌, inl, inr, add-one, true≢false, eq-eqb, ne_eqb}
 use Rattle.std.proofs.lemmas.Bool.{and_left, and_from, and_parts, and_right}
 use Rattle.rv32_image.specs.Image.{LoadedImage}
+use Rattle.rv32_image.proofs.SmallFacts.{or_false}
 use Rattle.spec_history.specs.declared.entry.Entry.{Entry}
 use Rattle.spec_history.specs.declared.entry.What.{What}
 use Rattle.spec_history.specs.declared.entry.What.TheVariants.{Start, Load, Store, Hurt, Cancel, Restart, Publish, Commit, Fault}
@@ -35,17 +36,13 @@ record GoesOn (cores : ℕ → Option CoreState) (by k : ℕ) (what : What) (new
 abbrev IsAfter : (ℕ → Option CoreState) → ℕ → ℕ → What → CoreState → Type 0
 IsAfter cores by k what new = Begun by k what new ⊎ GoesOn cores by k what new
 
-or_no : (b : Bool) → b ≡ (b || false)
-or_no true = refl
-or_no false = refl
-
 -- another core than that of the entry
 other_core : (cores : ℕ → Option CoreState) (by k : ℕ) (what : What) (c : CoreState) → k ≢ by → cores k ≡ Some c → hurts c.epoch what ≡ false → IsAfter cores by k what c
 other_core cores by k what c other at quiet = inr (record {
   old = c;
   runs = at;
   epoch = refl;
-  hurt_is = or_no c.hurt ∙ ap (λ b. c.hurt || b) (sym quiet);
+  hurt_is = sym (or_false c.hurt) ∙ ap (λ b. c.hurt || b) (sym quiet);
   begins_not = and_left (by == k) (is_begin what) (ne_eqb by k (λ e. other (sym e)));
 })
 
@@ -63,7 +60,7 @@ acts cores by k what old new c runs epoch hurt begins quiet (inl at) =
       old = old;
       runs = ap cores at.0 ∙ runs;
       epoch = sym (ap (λ (x : CoreState). x.epoch) same) ∙ epoch;
-      hurt_is = sym (ap (λ (x : CoreState). x.hurt) same) ∙ (hurt ∙ (or_no old.hurt ∙ ap (λ b. old.hurt || b) (sym (quiet old.epoch))));
+      hurt_is = sym (ap (λ (x : CoreState). x.hurt) same) ∙ (hurt ∙ (sym (or_false old.hurt) ∙ ap (λ b. old.hurt || b) (sym (quiet old.epoch))));
       begins_not = and_right (by == k) _ begins;
     })
 acts cores by k what old new c runs epoch hurt begins quiet (inr at) = other_core cores by k what c at.0 at.1 (quiet c.epoch)
@@ -91,7 +88,7 @@ idle_by cores by k epoch false old c runs at = inr (record {
   old = c;
   runs = runs ∙ at;
   epoch = refl;
-  hurt_is = or_no c.hurt;
+  hurt_is = sym (or_false c.hurt);
   begins_not = and_right (by == k) false refl;
 })
 
@@ -105,7 +102,7 @@ stays cores by k what c begins quiet runs = inr (record {
   old = c;
   runs = runs;
   epoch = refl;
-  hurt_is = or_no c.hurt ∙ ap (λ b. c.hurt || b) (sym (quiet c.epoch));
+  hurt_is = sym (or_false c.hurt) ∙ ap (λ b. c.hurt || b) (sym (quiet c.epoch));
   begins_not = and_right (by == k) _ begins;
 })
 

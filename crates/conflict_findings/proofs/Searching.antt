@@ -1,5 +1,5 @@
 -- Which addresses were read, and those in order.
-use Rattle.std.proofs.Common.{◌≡◌, ℕ, ◌+◌, ◌*◌, ◌/◌, ◌<◌, ◌≤◌, ◌==◌, Bool, true, false, cond, is_some, nat_lt, List, length, slice_index, Option, Some, None, refl, ap, subst, ◌∙◌, arith, ltb-true, ltb-false}
+use Rattle.std.proofs.Common.{◌≡◌, ℕ, ◌+◌, ◌*◌, ◌/◌, ◌<◌, ◌≤◌, ◌==◌, Bool, true, false, cond, is_some, nat_lt, List, length, slice_index, Option, Some, refl, ap, subst, ◌∙◌, arith, ltb-true, ltb-false}
 use Rattle.std.proofs.lemmas.Bool.{and_parts}
 use Rattle.std.specs.List.Sorted.{IsPermutation, IsSorted}
 use Rattle.std.specs.Ordering.{is_lt, nat_cmp}
@@ -14,6 +14,7 @@ use Rattle.rv32_image.specs.Image.{LoadedImage}
 use Rattle.rv32_image.specs.declared.version.Version.{Version}
 use Rattle.rv32_image.specs.declared.version.Version.TheVariants.{One, Two}
 use Rattle.rv32_image.specs.Version.{limits_of}
+use Rattle.rv32_image.proofs.SmallFacts.{value_of}
 use Rattle.spec_history.proofs.OneEntry.Legal.{some_below}
 use Rattle.spec_history.specs.Conflict.{Meeting, is_shared, line_has, line_number}
 use Rattle.conflicts.proofs.Blaming.{either_way}
@@ -21,15 +22,11 @@ use Rattle.conflict_findings.specs.Runs.{AreRead, is_falsely_shared}
 
 -- ---- addresses that were read
 
-there : (byte : Option ℕ) → is_some byte ≡ true → (b : ℕ) × (byte ≡ Some b)
-there None is = absurd cc
-there (Some b) is = (b, refl)
-
 -- a shared byte is among those that were read
 pub shared_listed : (m : Meeting) (addresses : List ℕ) (a : ℕ) → ((a byte : ℕ) → m.reads a ≡ Some byte → IsAmong a addresses) → is_shared m a ≡ true
     → (k : ℕ) × (k < length addresses) × (slice_index addresses k ≡ a)
 shared_listed m addresses a listed shared =
-    let byte = there (m.reads a) (and_parts (is_some (m.writes a)) (is_some (m.reads a)) shared).1 in
+    let byte = value_of (m.reads a) (and_parts (is_some (m.writes a)) (is_some (m.reads a)) shared).1 in
     let among = listed a byte.0 byte.1 in (among.place, among.within, among.is)
 
 -- a falsely shared line is that of one of them
@@ -38,16 +35,11 @@ pub line_listed : (image : LoadedImage) (m : Meeting) (addresses : List ℕ) (j 
 line_listed image m addresses j listed is =
     let read = (and_parts (line_has image j (λ a. is_some (m.reads a))) _ is).0 in
     let at = some_below (limits_of image.version).line_length (λ x. is_some (m.reads (j * (limits_of image.version).line_length + x))) read in
-    let byte = there (m.reads (j * (limits_of image.version).line_length + at.0)) at.2 in
+    let byte = value_of (m.reads (j * (limits_of image.version).line_length + at.0)) at.2 in
     let among = listed (j * (limits_of image.version).line_length + at.0) byte.0 byte.1 in
     (among.place, among.within, ap (λ a. a / (limits_of image.version).line_length) among.is ∙ div-mul-add j (limits_of image.version).line_length at.0 at.1)
 
 -- ---- lines of memory
-
--- a byte of a line of memory is in memory
-pub byte_within : (v : Version) (size line x : ℕ) → line < size / (limits_of v).line_length → x < (limits_of v).line_length → line * (limits_of v).line_length + x < size
-byte_within One size line x below inside = omega (arith, below, inside)
-byte_within Two size line x below inside = omega (arith, below, inside)
 
 -- ---- those in order
 

@@ -6,6 +6,7 @@ use Rattle.std.proofs.lemmas.List.Elements.{All-tail}
 use Rattle.std.proofs.Math.Path.{fun_ext}
 use Rattle.std.proofs.lemmas.Option.{same_Some}
 use Rattle.rv32_image.specs.Image.{LoadedImage, IsImage}
+use Rattle.rv32_image.proofs.SmallFacts.{or_false}
 use Rattle.spec_history.specs.declared.entry.Entry.{Entry}
 use Rattle.spec_history.specs.declared.entry.What.{What}
 use Rattle.spec_history.specs.declared.entry.What.TheVariants.{Start, Load, Store, Hurt, Cancel, Restart, Publish, Commit, Fault}
@@ -183,14 +184,9 @@ then_hurt image count s by epoch other c at differ same hurts =
     (and_from _ _ (ap (λ o. runs_and o (λ (x : CoreState). nat_lt x.epoch epoch)) same ∙ first.0)
     (one_passes count (λ k. can_be_hurt epoch (idle_at other (s.cores k))) victim.0 victim.1 (still_there epoch other (s.cores victim.0) differ victim.2)))
 
--- the core of the violated epoch is idle after its cancellation, violated or not
-or_no : (b : Bool) → (b || false) ≡ b
-or_no true = refl
-or_no false = refl
-
 idle_alike : (b : Bool) (c : CoreState) → (if b then None else Some (record c { hurt = c.hurt || b })) ≡ (if b then None else Some c)
 idle_alike true c = refl
-idle_alike false c = ap (λ h. Some (record c { hurt = h })) (or_no c.hurt)
+idle_alike false c = ap (λ h. Some (record c { hurt = h })) (or_false c.hurt)
 
 core_gone : (x : ℕ) (core : Option CoreState) → idle_at x (hurt_at x core) ≡ idle_at x core
 core_gone x None = refl

@@ -164,9 +164,6 @@ pub hurt_there : (entries : List Entry) (place : ℕ) (entry : Entry) (epoch : �
     → true ≡ entry_is entries place (λ e. is_hurt e.what)
 hurt_there entries place entry epoch at is = sym (ap (λ o. passes o (λ (e : Entry). is_hurt e.what)) at ∙ ap is_hurt is)
 
-pub same_entry : (o : Option Entry) (a b : Entry) → o ≡ Some a → o ≡ Some b → a ≡ b
-same_entry o a b first second = cc
-
 -- ---- what is known of each violation is known of its explanation
 
 pub is_of_a_kind : (image : LoadedImage) (count : ℕ) (entries : List Entry) (e : Explanation) → AreKnown image count entries → IsExplained image count entries e → e.kind ≢ Unexplained

@@ -3,6 +3,7 @@ use Rattle.std.proofs.Common.{◌≡◌, ◌≢◌, ℕ, zero, suc, ◌<◌, ◌
 use Rattle.std.proofs.lemmas.Bool.{cases_eq, and_parts, not-true, and_right}
 use Rattle.memory_bytes.specs.Maps.{over, stored}
 use Rattle.rv32_image.specs.Image.{LoadedImage, IsImage}
+use Rattle.rv32_image.proofs.SmallFacts.{one_value, or_false}
 use Rattle.spec_history.specs.declared.entry.Entry.{Entry}
 use Rattle.spec_history.specs.declared.entry.What.{What}
 use Rattle.spec_history.specs.declared.entry.What.TheVariants.{Start, Load, Store, Hurt, Cancel, Restart, Publish, Commit, Fault}
@@ -13,7 +14,6 @@ use Rattle.spec_history.specs.Refusal.{any_below, runs, runs_and, can_be_hurt, i
 use Rattle.spec_history.specs.Replay.{replay}
 use Rattle.spec_history.specs.Laws.{IsKept}
 use Rattle.spec_history.proofs.OneEntry.Legal.{IsLegalEntry, legal_entry, some_below, none_below}
-use Rattle.spec_history.proofs.OneEntry.Keeping.{same_core}
 use Rattle.spec_history.proofs.Searches.Tests.{all_fail, one_passes}
 use Rattle.spec_history.proofs.Replay.Replays.{Whole, replayed, effect-on}
 use Rattle.spec_history.specs.Conflict.{written, meeting, is_changed, read_bytes}
@@ -34,13 +34,9 @@ running (Some c) test is = running_by c test is
 
 -- ---- a core of another epoch is as it was
 
-or_no : (b : Bool) → (b || false) ≡ b
-or_no true = refl
-or_no false = refl
-
 hurt_other : (epoch : ℕ) (c : CoreState) → c.epoch ≢ epoch → hurt_at epoch (Some c) ≡ Some c
 hurt_other epoch c other =
-    ap (λ b. Some (record c { hurt = c.hurt || b })) (ne_eqb c.epoch epoch other) ∙ ap (λ b. Some (record c { hurt = b })) (or_no c.hurt)
+    ap (λ b. Some (record c { hurt = c.hurt || b })) (ne_eqb c.epoch epoch other) ∙ ap (λ b. Some (record c { hurt = b })) (or_false c.hurt)
 
 pub core_other : (epoch : ℕ) (core : Option CoreState) (c : CoreState) → core ≡ Some c → c.epoch ≢ epoch → hurt_at epoch core ≡ core
 core_other epoch core c is other = ap (hurt_at epoch) is ∙ (hurt_other epoch c other ∙ sym is)
@@ -225,7 +221,7 @@ before_of image count s by victim v kept at legal =
     let d = running (s.cores hurt.0) (λ x. (x.epoch == v.epoch) && not x.straight) hurt.2 in
     let named = eqb-true d.0.epoch v.epoch (and_parts (d.0.epoch == v.epoch) (not d.0.straight) d.2).0 in
     let same : hurt.0 ≡ victim = kept.apart hurt.0 victim d.0 v d.1 at named in
-    let is : d.0 ≡ v = same_core (s.cores victim) d.0 v (sym (ap s.cores same) ∙ d.1) at in (
+    let is : d.0 ≡ v = one_value (s.cores victim) d.0 v (sym (ap s.cores same) ∙ d.1) at in (
       c.0,
       c.1,
       (λ e. absurd (omega (arith, earlier, e))),
@@ -233,7 +229,7 @@ before_of image count s by victim v kept at legal =
         at = at;
         unhurt = sym (ap (λ (x : CoreState). x.hurt) is) ∙ d.3;
         below = (kept.core victim v at).there;
-        other = λ e. let x : v ≡ c.0 = same_core (s.cores by) v c.0 (sym (ap s.cores e) ∙ at) c.1 in omega (arith, earlier, ap (λ (y : CoreState). y.epoch) x);
+        other = λ e. let x : v ≡ c.0 = one_value (s.cores by) v c.0 (sym (ap s.cores e) ∙ at) c.1 in omega (arith, earlier, ap (λ (y : CoreState). y.epoch) x);
         apart = λ k x other at_k clash. other (kept.apart k victim x v at_k at clash);
       },
     )

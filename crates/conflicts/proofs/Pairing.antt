@@ -3,7 +3,7 @@ use Rattle.std.proofs.Common.{◌≡◌, ℕ, ◌+◌, ◌*◌, ◌/◌, ◌<◌
 use Rattle.rv32_image.specs.Image.{LoadedImage}
 use Rattle.rv32_image.specs.Version.{limits_of}
 use Rattle.rv32_image.specs.declared.version.Version.{Version}
-use Rattle.rv32_image.specs.declared.version.Version.TheVariants.{One, Two}
+use Rattle.rv32_image.proofs.Bounds.{byte_within}
 use Rattle.spec_history.specs.declared.entry.Entry.{Entry}
 use Rattle.spec_history.specs.declared.entry.What.{What}
 use Rattle.spec_history.specs.declared.entry.What.TheVariants.{Start, Load, Store, Hurt, Cancel, Publish, Commit, Fault, Restart}
@@ -52,16 +52,12 @@ through a b c is also = rw (is, also) refl
 
 -- ---- the lowest byte of a line that is written
 
-within_line : (v : Version) (size line x : ℕ) → line < size / (limits_of v).line_length → x < (limits_of v).line_length → line * (limits_of v).line_length + x < size
-within_line One size line x below inside = omega (arith, below, inside)
-within_line Two size line x below inside = omega (arith, below, inside)
-
 by_written : (v : Version) (size line byte : ℕ) (test : ℕ → Bool) (found : Option ℕ) → first_below (limits_of v).line_length test ≡ found → line < size / (limits_of v).line_length
     → Some byte ≡ option_map (λ (x : ℕ). line * (limits_of v).line_length + x) found → byte < size
 by_written v size line byte test None at below is = absurd cc
 by_written v size line byte test (Some x) at below is =
     let same : byte ≡ line * (limits_of v).line_length + x = ap (λ (o : Option ℕ). unwrap_or o 0) is in
-    omega (arith, same, within_line v size line x below (first_found (limits_of v).line_length test x at).within)
+    omega (arith, same, byte_within v size line x below (first_found (limits_of v).line_length test x at).within)
 
 -- it lies in memory
 pub beside_within : (image : LoadedImage) (m : Meeting) (line byte : ℕ) → line < image.size / (limits_of image.version).line_length → Some byte ≡ written_in image m line → byte < image.size

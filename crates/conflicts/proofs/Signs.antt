@@ -2,6 +2,7 @@
 use Rattle.std.proofs.Common.{◌≡◌, ℕ, ◌+◌, ◌<◌, ◌≤◌, ◌==◌, ◌&&◌, ◌||◌, Bool, true, false, is_some, nat_lt, List, length, slice_get, slice_index, Option, Some, None, min, option_and_then, if◌then◌else◌, refl, sym, ap, subst, ◌∙◌, inl, inr, arith, lt-ltb, ltb-true, ltb-false}
 use Rattle.std.proofs.lemmas.Bool.{cases_eq, false_from_ne_true, and_from, and_parts, or_right}
 use Rattle.memory_bytes.specs.Shadow.{IsAmong}
+use Rattle.rv32_image.proofs.SmallFacts.{value_of}
 use Rattle.spec_history.specs.declared.entry.Entry.{Entry}
 use Rattle.spec_history.specs.declared.entry.What.{What}
 use Rattle.spec_history.specs.declared.entry.What.TheVariants.{Start, Load, Store, Hurt, Cancel, Restart, Publish, Commit, Fault}
@@ -126,13 +127,9 @@ soonest size entries core read addresses after end count first all listed was = 
       absurd cc);
 }
 
-there : (byte : Option ℕ) → is_some byte ≡ true → (b : ℕ) × (byte ≡ Some b)
-there None is = absurd cc
-there (Some b) is = (b, refl)
-
 pub listed_by : (bytes : ℕ → Option ℕ) (addresses : List ℕ) → ((a byte : ℕ) → bytes a ≡ Some byte → IsAmong a addresses)
     → (a : ℕ) → is_some (bytes a) ≡ true → IsAmong a addresses
-listed_by bytes addresses each a is = let byte = there (bytes a) is in each a byte.0 byte.1
+listed_by bytes addresses each a is = let byte = value_of (bytes a) is in each a byte.0 byte.1
 
 pub still_next : (test : ℕ → Bool) (from after count end : ℕ) → from ≤ after → after < end → IsNext test (from + 1) count end → IsNext test (after + 1) count end
 still_next test from after count end past room next = record {

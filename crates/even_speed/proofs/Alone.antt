@@ -3,6 +3,7 @@ use Rattle.std.proofs.Common.{◌≡◌, ◌≢◌, ℕ, zero, suc, ◌+◌, ◌
 use Rattle.std.proofs.lemmas.Bool.{and_parts}
 use Rattle.std.proofs.lemmas.Option.{same_Some}
 use Rattle.rv32_image.specs.Image.{LoadedImage}
+use Rattle.rv32_image.proofs.SmallFacts.{none_and_some}
 use Rattle.rv32_exec.specs.declared.sequential.End.{End}
 use Rattle.spec_history.specs.declared.entry.Entry.{Entry}
 use Rattle.spec_history.specs.declared.entry.What.{What}
@@ -32,9 +33,6 @@ pub record IsAlone (s : FlatState) : Type 0 where
   pub runs : (c : CoreState) → s.cores 0 ≡ Some c → (c.epoch ≡ s.homefree) × (s.next_epoch ≡ s.homefree + 1) × (c.hurt ≡ false)
   pub others : (k : ℕ) → s.cores (suc k) ≡ None
 
-no_core : (core : Option CoreState) (c : CoreState) → core ≡ Some c → core ≡ None → ⊥
-no_core core c some none = cc
-
 suc_isnt : (k : ℕ) → suc k ≢ 0
 suc_isnt k is = omega (arith, is)
 
@@ -42,7 +40,7 @@ with_alone : (s : FlatState) (committed : ℕ → ℕ) (homefree published next_
     → next_epoch ≡ homefree + 1 → core.hurt ≡ false
     → IsAlone (record { committed = committed; homefree = homefree; published = published; next_epoch = next_epoch; end = end; cores = with_core s.cores 0 (Some core) })
 with_alone s committed homefree published next_epoch end core a epoch next unhurt = record {
-  idle = λ none. absurd (no_core _ core (with_core_same s.cores 0 (Some core)) none);
+  idle = λ none. absurd (none_and_some _ core none (with_core_same s.cores 0 (Some core)));
   runs = λ c is. subst (λ (d : CoreState). (d.epoch ≡ homefree) × (next_epoch ≡ homefree + 1) × (d.hurt ≡ false))
       (same_Some core c (sym (with_core_same s.cores 0 (Some core)) ∙ is)) (epoch, next, unhurt);
   others = λ k. with_core_other s.cores 0 (Some core) (suc k) (suc_isnt k) ∙ a.others k;
@@ -99,7 +97,7 @@ on_alone image s c Restart at legal a = absurd (no_restart s 0 a legal.there)
 on_alone image s c Publish at legal a = let r = a.runs c at in with_alone s _ _ _ _ _ _ a r.0 r.1 r.2
 on_alone image s c Commit at legal a = record {
   idle = λ none. (a.runs c at).1;
-  runs = λ d is. absurd (no_core _ d is (with_core_same s.cores 0 None));
+  runs = λ d is. absurd (none_and_some _ d (with_core_same s.cores 0 None) is);
   others = λ k. with_core_other s.cores 0 None (suc k) (suc_isnt k) ∙ a.others k;
 }
 on_alone image s c (Fault cause pc) at legal a = record { idle = a.idle; runs = a.runs; others = a.others }

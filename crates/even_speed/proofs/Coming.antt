@@ -2,6 +2,7 @@
 use Rattle.std.proofs.Common.{◌≡◌, ℕ, ◌+◌, ◌==◌, not, Bool, true, false, cond, List, [], ◌++◌, Option, Some, None, Result, option_map, refl, sym, ap, subst, ◌∙◌, inl, inr, true≢false, arith, eq-eqb, ne_eqb, append_assoc}
 use Rattle.std.proofs.lemmas.Option.{same_Some}
 use Rattle.rv32_image.specs.Image.{LoadedImage, IsImage}
+use Rattle.rv32_image.proofs.SmallFacts.{one_value}
 use Rattle.rv32_exec.specs.declared.stop.Stop.TheVariants as stop
 use Rattle.rv32_exec.specs.declared.sequential.End.{End}
 use Rattle.rv32_exec.specs.declared.sequential.End.TheVariants.{Done, Exit, Fault}
@@ -33,7 +34,6 @@ use Rattle.homefree.specs.Hurts.{entry}
 use Rattle.homefree.specs.InStep.{InStep}
 use Rattle.homefree.specs.Turned.{Outcome, Turn, Turned, cause_of, does, left_or_over, turn_at}
 use Rattle.homefree.specs.Turned as turn
-use Rattle.homefree.proofs.Books.Following.{one_state}
 use Rattle.even_speed.specs.Even.{restarts}
 use Rattle.even_speed.specs.InOrder.{epoch_count, executed_in}
 use Rattle.even_speed.specs.Timed.{Came, CameBy, From, GoesTo, Leads, Leaves, StaysAt}
@@ -277,7 +277,7 @@ module _ {S : Type 0} (view : S → StoreView) (waits : S → Waits) (old new : 
   Comes' r = CameBy old.image i.state j.state core held (restarts (driver old shares) (driver new shares')) r
 
   same_state : new ≡ old → j.state ≡ i.state
-  same_state is = one_state (replay old.image old.cores old.history) j.state i.state
+  same_state is = one_value (replay old.image old.cores old.history) j.state i.state
       (subst (λ (b : BookView S). replay b.image b.cores b.history ≡ Some j.state) is j.replays) i.replays
 
   acted : turn.Acting view waits old new i.state shares shares' core (option_map (arrival_of old.image) held) result → Comes' result
@@ -286,7 +286,7 @@ module _ {S : Type 0} (view : S → StoreView) (waits : S → Waits) (old new : 
       let same : replay new.image new.cores new.history ≡ replay old.image old.cores (old.history ++ a.out.entries) = rw (g.image, g.cores, g.history) refl in
       let all : replay old.image old.cores (old.history ++ a.out.entries) ≡ Some j.state = sym same ∙ j.replays in
       let parts = splits old.image old.cores old.history a.out.entries j.state all in
-      let first = one_state (replay old.image old.cores old.history) parts.between i.state parts.first_replays i.replays in
+      let first = one_value (replay old.image old.cores old.history) parts.between i.state parts.first_replays i.replays in
       let later : replay_from old.image old.cores i.state a.out.entries ≡ Some j.state =
       subst (λ x. replay_from old.image old.cores x a.out.entries ≡ Some j.state) first parts.later_replays in
       let more : new.totals.restarts ≡ old.totals.restarts + (counts_of a.out.entries).restarts = ap (λ (c : Counts). c.restarts) g.totals in

@@ -4,6 +4,7 @@ use Rattle.std.proofs.Math.Path.{fun_ext}
 use Rattle.std.proofs.lemmas.Bool.{cases_eq, cases_Bool}
 use Rattle.std.proofs.lemmas.Option.{same_Some}
 use Rattle.rv32_image.specs.Image.{LoadedImage}
+use Rattle.rv32_image.proofs.SmallFacts.{one_value, none_and_some}
 use Rattle.rv32_exec.specs.declared.sequential.End.{End}
 use Rattle.rv32_exec.specs.declared.sequential.End.TheVariants.{Done}
 use Rattle.rv32_exec.specs.Hart.{HartState}
@@ -20,7 +21,6 @@ use Rattle.homefree.specs.declared.answer.Cause.TheVariants.{NoEpoch, NotHomefre
 use Rattle.homefree.specs.declared.fault.TurnFault.{TurnFault}
 use Rattle.homefree.specs.BookView.{BookView, IsOfSameLoop}
 use Rattle.homefree.specs.Driven.{Driver, held_after, with_held}
-use Rattle.homefree.proofs.Books.Following.{one_state}
 use Rattle.even_speed.specs.declared.account.Account.{Account}
 use Rattle.even_speed.specs.declared.clock.Clock.{Clock}
 use Rattle.even_speed.specs.declared.clock.Next.{Next}
@@ -156,9 +156,6 @@ was_time image was b held at c is unhurt due on =
     let o = subst (λ x. IsOnTime image x held c) is on in (o.0, next_at _ at c.next due (o.1 unhurt).1)
 
 -- ---- the clock of the one core that there is
-
-not_over : (o : Option End) (end : End) → o ≡ Some end → o ≡ None → ⊥
-not_over o end is none = cc
 
 due_now : (at told : ℕ) (next : Next) → next ≡ Due at → IsDueAt told next → at ≡ told
 due_now at told next is due = subst (IsDueAt told) is due
@@ -440,7 +437,7 @@ module _ {S : Type 0} (image : LoadedImage) (cores : ℕ) (s u : FlatState) (p :
   -- the loop wasn't done before, where it has an epoch
   wasnt_over : (n : ℕ) → u.homefree ≡ suc n → WasOver s u t.core (suc n) → ⊥
   wasnt_over n is w = elim on.going [
-    | inl none ↦ not_over s.end (Done (suc n)) w.over none
+    | inl none ↦ none_and_some s.end (Done (suc n)) none w.over
     | inr first ↦ omega (arith, is, w.homefree, first)
   ]
 
@@ -489,7 +486,7 @@ module _ {S : Type 0} (old mid : Driver S) (p : Pace) (t : Turn) (same : IsOfSam
   here : (result : Result Answer TurnFault) (l : Leads old mid t.core (p.held t.core) result) → AreOnTime old.book.image old.book.cores l.before p
   here result l =
       subst (λ x. AreOnTime old.book.image old.book.cores x p)
-      (one_state (replay old.book.image old.book.cores old.book.history) timed.0 l.before timed.1 l.led) timed.2
+      (one_value (replay old.book.image old.book.cores old.book.history) timed.0 l.before timed.1 l.led) timed.2
 
   pub timed_on : (answer : Answer) (p' : Pace) → Leads old mid t.core (p.held t.core) (Ok answer) → ((end : End) → answer ≢ Over end) → ((cause : StopCause) → answer ≢ Stopped cause)
       → ((k : ℕ) → p'.held k ≡ with_held p.held t.core (held_after answer (p.held t.core)) k) → ((k : ℕ) → p'.clocks k ≡ clocks_after old mid p.clocks t answer k)

@@ -5,3 +5,5 @@ pub mod Lines
 pub mod Inputs
 pub mod Printed
 pub mod Settled
+pub mod SmallFacts
+pub mod Bounds

@@ -81,10 +81,6 @@ pub limit-is : (version : Version) → IsLimit (limits_of version).buffer_lines
 limit-is One = inl refl
 limit-is Two = inr refl
 
-pub most_few : (version : Version) → (limits_of version).most_cores ≤ 16
-most_few One = omega arith
-most_few Two = omega arith
-
 pub fresh_opened : (image : LoadedImage) (count : ℕ) → IsImage image → IsOpened (fresh_bus image count) image count
 fresh_opened image count h =
     record {

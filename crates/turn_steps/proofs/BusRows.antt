@@ -6,6 +6,7 @@ use Rattle.std.specs.Ordering.{nat_cmp}
 use Rattle.std.proofs.lemmas.Bool.{cases_Bool, cases_eq}
 use Rattle.std.proofs.lemmas.Bool.Decides.{nat_tests}
 use Rattle.std.proofs.lemmas.Option.{slice_get_within}
+use Rattle.rv32_image.proofs.SmallFacts.{one_value}
 use Rattle.spec_states.specs.Mask.{has}
 use Rattle.spec_states.proofs.MaskLaws.{has-zero}
 use Rattle.cache_lines.specs.declared.line.Line.{Line}
@@ -122,16 +123,13 @@ module _ (v : CachedView) (size core a : ℕ) (rows : BTreeSet ℕ) (size_is : s
 
 -- ---- what was shown of a core
 
-one_held : (o : Option Held) (x y : Held) → o ≡ Some x → o ≡ Some y → x ≡ y
-one_held o x y first second = cc
-
 module _ (v : CachedView) (size core : ℕ) (shown : List Held) (rows : BTreeSet ℕ) (are : AreShown size shown v) where
   -- this was shown of the core
   pub has_row : (was : Held) → slice_get shown core ≡ Some was → ((place : ℕ) → place < 8 → HasOwnRows size (slice_index_or was.ways place no_line) rows)
       → (a : ℕ) → (store_view v).own core a ≡ true → contains nat_cmp rows (a / 16) ≡ true
   has_row was there own a stored =
       let below : core < (bus v).shape.cores = subst (λ n. core < n) are.cores_are.count_is (slice_get_within shown core was there) in
-      let is : was ≡ held size v core = one_held (slice_get shown core) was (held size v core) there (are.cores_are.each core below) in
+      let is : was ≡ held size v core = one_value (slice_get shown core) was (held size v core) there (are.cores_are.each core below) in
       has_own_row v size core a rows are.size_is are.coherent (subst (λ (h : Held). (place : ℕ) → place < 8 → HasOwnRows size (slice_index_or h.ways place no_line) rows) is own)
       (subst (λ n. has ((state_or_none (slice_get v.cores core)).copy (n * (a / n))).marks.bytes (a % n) ≡ true) (sym are.size_is) stored)
 

@@ -1,7 +1,8 @@
 -- How the lines of what the cores of a bus hold go on.
-use Rattle.std.proofs.Common.{◌≡◌, ℕ, zero, suc, ◌+◌, ◌<◌, List, [], ◌∷◌, ◌++◌, length, slice_get, Option, Some, refl, ap, sym, ◌∙◌, arith, add-one, append_assoc}
+use Rattle.std.proofs.Common.{◌≡◌, ℕ, zero, suc, ◌+◌, ◌<◌, List, [], ◌∷◌, ◌++◌, length, slice_get, Some, refl, ap, sym, ◌∙◌, arith, add-one, append_assoc}
 use native.Mathlib.Decide.{dec_lt}
 use Rattle.std.proofs.lemmas.List.{append-nil, length_push}
+use Rattle.rv32_image.proofs.SmallFacts.{one_value}
 use Rattle.spec_bus.specs.Cached.{CachedView}
 use Rattle.turn_steps.specs.Caches.{AreHeld, Held, bus_changes, changes, held}
 
@@ -13,15 +14,12 @@ more : (size : ℕ) (old now : CachedView) (core : ℕ) → bus_changes size old
 unfolding bus_changes
 more size old now core = refl
 
-same_held : (o : Option Held) (x y : Held) → o ≡ Some x → o ≡ Some y → x ≡ y
-same_held o x y first second = cc
-
 -- one core more, of which this was shown
 pub bus_changes-more : (first text : List ℕ) (size : ℕ) (old now : CachedView) (count : ℕ) (shown : List Held) (core : ℕ) (was is : Held) → slice_get shown core ≡ Some was → core < count
     → AreHeld size old count shown → is ≡ held size now core → text ≡ first ++ bus_changes size old now core
     → text ++ changes size core was is ≡ first ++ bus_changes size old now (core + 1)
 bus_changes-more first text size old now count shown core was is there below held_before now_is so =
-    let was_is : was ≡ held size old core = same_held (slice_get shown core) was (held size old core) there (held_before.each core below) in
+    let was_is : was ≡ held size old core = one_value (slice_get shown core) was (held size old core) there (held_before.each core below) in
     ap (λ t. t ++ changes size core was is) so
     ∙ (append_assoc first (bus_changes size old now core) (changes size core was is)
     ∙ (ap (λ t. first ++ (bus_changes size old now core ++ t)) (ap (λ w. changes size core w is) was_is ∙ ap (λ w. changes size core (held size old core) w) now_is)

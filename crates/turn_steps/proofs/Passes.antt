@@ -10,6 +10,7 @@ use Rattle.std.specs.List.{AllByRecursion, flat_map, list_any}
 use Rattle.std.specs.List.Sorted.{IsStrictlySortedBy}
 use Rattle.std.specs.Ordering.{nat_cmp}
 use Rattle.std.specs.declared.cmp.Ordering.TheVariants.{Less}
+use Rattle.rv32_image.proofs.SmallFacts.{or_false}
 use Rattle.turn_steps.specs.Passes.{inside}
 use Rattle.turn_steps.specs.Rows.{text_below}
 
@@ -50,23 +51,19 @@ is_new (y ∷ ys) x rest sorted =
     let less : y < x = less_from y x (in_the_middle (λ z. nat_cmp y z ≡ Less) ys x rest (sorted_head nat_cmp y (ys ++ x ∷ rest) sorted)) in
     or_from (is_at (nat_cmp x) y) (among ys x) (apart x y (omega arith)) (is_new ys x rest (sorted_tail nat_cmp y (ys ++ x ∷ rest) sorted))
 
-or_none : (b : Bool) → (b || false) ≡ b
-or_none true = refl
-or_none false = refl
-
 or_or : (a b c : Bool) → (a || (b || c)) ≡ ((a || b) || c)
 or_or true b c = refl
 or_or false b c = refl
 
 among_more : (ys : List ℕ) (x row : ℕ) → among (ys ++ x ∷ []) row ≡ (among ys row || is_at (nat_cmp row) x)
-among_more [] x row = or_none (is_at (nat_cmp row) x)
+among_more [] x row = or_false (is_at (nat_cmp row) x)
 among_more (y ∷ ys) x row = ap (λ b. is_at (nat_cmp row) y || b) (among_more ys x row) ∙ or_or (is_at (nat_cmp row) y) (among ys row) (is_at (nat_cmp row) x)
 
 pub among_it : (ys : List ℕ) (x : ℕ) → among (ys ++ x ∷ []) x ≡ true
 among_it ys x = among_more ys x x ∙ or_right (among ys x) (is_at (nat_cmp x) x) (itself x)
 
 pub among_others : (ys : List ℕ) (x row : ℕ) → row ≢ x → among (ys ++ x ∷ []) row ≡ among ys row
-among_others ys x row other = among_more ys x row ∙ ap (λ b. among ys row || b) (apart row x other) ∙ or_none (among ys row)
+among_others ys x row other = among_more ys x row ∙ ap (λ b. among ys row || b) (apart row x other) ∙ or_false (among ys row)
 
 -- the next one of a set
 pub is_next : (keys ys : List ℕ) (x : ℕ) (s t u : List ℕ) → IsStrictlySortedBy nat_cmp keys → s ≡ keys → s ≡ ys ++ t → t ≡ x ∷ u → among ys x ≡ false

@@ -1,8 +1,9 @@
 -- What a call of a store leaves of a core that runs speculatively after it.
-use Rattle.std.proofs.Common.{◌≡◌, ◌≢◌, ℕ, ◌+◌, ◌*◌, ◌/◌, ◌<◌, ◌||◌, Bool, true, false, Option, Some, None, is_some, unwrap_or, inl, inr, refl, sym, ap, subst, ◌∙◌, true≢false}
+use Rattle.std.proofs.Common.{◌≡◌, ◌≢◌, ℕ, ◌+◌, ◌*◌, ◌/◌, ◌<◌, ◌||◌, Bool, true, false, Some, None, inl, inr, refl, sym, ap, subst, ◌∙◌, true≢false}
 use Rattle.std.proofs.Math.Bool.{or-false}
 use Rattle.std.proofs.lemmas.Bool.{cases_Bool}
 use Rattle.rv32_image.specs.Image.{LoadedImage}
+use Rattle.rv32_image.proofs.SmallFacts.{one_value, unwrap_none}
 use Rattle.spec_history.specs.FlatState.{CoreState, FlatState}
 use Rattle.violations.specs.declared.attempt.Attempt.{Attempt}
 use Rattle.violations.specs.View.{StoreView, attempt_of, epoch_of, is_accessed}
@@ -28,12 +29,9 @@ pub record IsStraight (v : StoreView) (k : ℕ) : Type 0 where
 pub none_isnt : (v : StoreView) (k : ℕ) → v.attempt k ≡ None → IsSpeculative v k → ⊥
 none_isnt v k none runs = let is = runs.is in cc
 
-same_attempt : (o : Option Attempt) (x y : Attempt) → o ≡ Some x → o ≡ Some y → x ≡ y
-same_attempt o x y one two = cc
-
 pub straight_isnt : (v : StoreView) (k : ℕ) → IsStraight v k → IsSpeculative v k → ⊥
 straight_isnt v k straight runs =
-    true≢false (ap (λ (x : Attempt). x.straight) (same_attempt (v.attempt k) (attempt_of straight.epoch true) runs.attempt straight.is runs.is) ∙ runs.unpublished)
+    true≢false (ap (λ (x : Attempt). x.straight) (one_value (v.attempt k) (attempt_of straight.epoch true) runs.attempt straight.is runs.is) ∙ runs.unpublished)
 
 pub straight_still : (v w : StoreView) (k : ℕ) → w.attempt k ≡ v.attempt k → IsStraight v k → IsStraight w k
 straight_still v w k same straight = record { epoch = straight.epoch; is = same ∙ straight.is }
@@ -99,13 +97,9 @@ pub same_first : (v x : StoreView) (core : ℕ) (hurt : ℕ → Bool) (a : ℕ) 
 same_first v x core hurt a true same sees = ap (λ (y : StoreView). y.committed a) same.0
 same_first v x core hurt a false publishes sees = publishes.committed a ∙ sees refl
 
-sees_by : (committed : ℕ → ℕ) (a : ℕ) (own : Option ℕ) → is_some own ≡ false → unwrap_or own (committed a) ≡ committed a
-sees_by committed a None isnt = refl
-sees_by committed a (Some byte) isnt = absurd (true≢false isnt)
-
 -- a byte that it has not stored is the committed one
 pub sees_committed : (s : FlatState) (v : StoreView) (core : ℕ) (c : CoreState) (a : ℕ) → Agrees s v → AgreesCore s.committed v core c → v.own core a ≡ false → v.sees core a ≡ v.committed a
-sees_committed s v core c a agrees mine isnt = mine.sees a ∙ (sees_by s.committed a (c.own a) (sym (mine.own a) ∙ isnt) ∙ sym (agrees.committed a))
+sees_committed s v core c a agrees mine isnt = mine.sees a ∙ (unwrap_none (c.own a) (s.committed a) (sym (mine.own a) ∙ isnt) ∙ sym (agrees.committed a))
 
 -- ---- the core's own accesses
 

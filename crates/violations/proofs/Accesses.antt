@@ -4,12 +4,13 @@ use Rattle.memory_bytes.specs.Bytes.{byte_of, number_at}
 use Rattle.memory_bytes.specs.Maps.{first_of, joined, over, stored, read_outside}
 use Rattle.memory_bytes.specs.Shadow.{byte_in}
 use Rattle.memory_bytes.proofs.Bytes.{over-joined, number_at_same}
+use Rattle.rv32_image.proofs.SmallFacts.{none_of}
 use Rattle.violations.specs.declared.core_state.CoreState.{CoreState}
 use Rattle.violations.specs.View.{attempt_of, IsSettled, Runs, is_accessed}
 use Rattle.violations.specs.Rule.{HurtsLater, TakesIn, Loads, Stores, LoadsStraight}
 use Rattle.violations.specs.Plain.{PlainView, GuardsLoaded, attempt_in, own_in, guarded_in, store_view}
 use Rattle.violations.proofs.Changing.{get_set_other}
-use Rattle.violations.proofs.Plains.{none_by, none_hurt, alike_state, shape_same, with_state, here}
+use Rattle.violations.proofs.Plains.{none_hurt, alike_state, shape_same, with_state, here}
 use Rattle.violations.proofs.Calls.{straight_bare}
 
 abbrev committed_of : PlainView → ℕ → ℕ
@@ -38,7 +39,7 @@ some_first (Some byte) second is = refl
 
 guarded_now : (address width a committed : ℕ) (own before : Option ℕ) → is_accessed address width a ≡ true → is_some own ≡ false
     → is_some (first_of (cond ((nat_le address a && nat_lt a (address + width)) && is_none own) (Some committed) None) before) ≡ true
-guarded_now address width a committed own before inside outside = rw (inside, none_by own outside) refl
+guarded_now address width a committed own before inside outside = rw (inside, none_of own outside) refl
 
 -- a byte that is guarded now and was not is one of those that are read from outside
 taken_now : (accessed : Bool) (own before : Option ℕ) (committed : ℕ) → is_some before ≡ false

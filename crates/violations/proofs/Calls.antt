@@ -1,7 +1,8 @@
 -- The calls of the plain store, over its view.
-use Rattle.std.proofs.Common.{◌≡◌, ◌≢◌, ◌⊎◌, ℕ, ◌<◌, Bool, true, false, length, set, slice_get, slice_index, is_some, Option, Some, None, refl, sym, ap, subst, ◌∙◌, inl, inr, arith, length-set, true≢false}
+use Rattle.std.proofs.Common.{◌≡◌, ◌≢◌, ◌⊎◌, ℕ, ◌<◌, Bool, true, false, length, set, slice_get, slice_index, is_some, Some, refl, sym, ap, subst, ◌∙◌, inl, inr, arith, length-set, true≢false}
 use Rattle.std.proofs.lemmas.Bool.{cases_eq}
 use Rattle.std.proofs.lemmas.Option.{same_Some}
+use Rattle.rv32_image.proofs.SmallFacts.{one_value, none_and_some}
 use Rattle.violations.specs.declared.attempt.Attempt.{Attempt}
 use Rattle.violations.specs.declared.core_state.CoreState.{CoreState}
 use Rattle.violations.specs.View.{attempt_of, IsSettled, MayBegin, Runs}
@@ -12,12 +13,6 @@ use Rattle.violations.specs.Plain.{PlainView, attempt_in, own_in, guarded_in, st
 use Rattle.violations.proofs.Changing.{get_set_other}
 use Rattle.violations.proofs.Plains.{IsBare, clear_of, bare_of, IsQuiet, same_core, alike_state, shape_same, bare_state, CameFrom, settled_from, came_same, with_state, here, quiet_state, came_state}
 
-pub some_same : {A : Type 0} (o : Option A) (x y : A) → o ≡ Some x → o ≡ Some y → x ≡ y
-some_same o x y first second = cc
-
-pub none_some : {A : Type 0} (o : Option A) (x : A) → o ≡ None → o ≡ Some x → ⊥
-none_some o x none some = cc
-
 -- ---- begin
 
 abbrev pub begun : CoreState → ℕ → CoreState
@@ -27,7 +22,7 @@ begun state epoch = record state { attempt = Some (attempt_of epoch false) }
 where_at : (p : PlainView) (by : ℕ) (state : CoreState) (t : Attempt) → by < length p.states → state.attempt ≡ Some t → (k : ℕ) (now : Attempt) → attempt_in (slice_get (set p.states by state) k) ≡ Some now
     → ((k ≡ by) × (now ≡ t)) ⊎ ((k ≢ by) × (attempt_in (slice_get p.states k) ≡ Some now))
 where_at p by state t below is k now at = elim (cases_eq k by) [
-  | inl e ↦ inl (e, some_same _ now t at (ap (λ j. attempt_in (slice_get (set p.states by state) j)) e ∙ (ap attempt_in (here p by state below) ∙ is)))
+  | inl e ↦ inl (e, one_value _ now t at (ap (λ j. attempt_in (slice_get (set p.states by state) j)) e ∙ (ap attempt_in (here p by state below) ∙ is)))
   | inr other ↦ inr (other, sym (ap attempt_in (get_set_other p.states by k state other)) ∙ at)
 ]
 
@@ -93,7 +88,7 @@ idle_quiet state idle = record {
 
 ended_came : (p : PlainView) (by : ℕ) (state : CoreState) → by < length p.states → IsIdle state → (k : ℕ) (now : Attempt) → attempt_in (slice_get (set p.states by state) k) ≡ Some now → CameFrom p k now
 ended_came p by state below idle k now at = elim (cases_eq k by) [
-  | inl e ↦ absurd (none_some _ now (ap (λ j. attempt_in (slice_get (set p.states by state) j)) e ∙ (ap attempt_in (here p by state below) ∙ idle.attempt)) at)
+  | inl e ↦ absurd (none_and_some _ now (ap (λ j. attempt_in (slice_get (set p.states by state) j)) e ∙ (ap attempt_in (here p by state below) ∙ idle.attempt)) at)
   | inr other ↦ came_same p k _ now (get_set_other p.states by k state other) at
 ]
 
@@ -123,8 +118,8 @@ straight_bare p by state settled runs there = subst IsBare there (bare_of p by (
 -- a state whose attempt is not straight is quiet
 running_quiet : (state : CoreState) (epoch : ℕ) → state.attempt ≡ Some (attempt_of epoch false) → IsQuiet (Some state)
 running_quiet state epoch is = record {
-  idle = λ none. absurd (none_some _ _ none is);
-  straight = λ t at straight. absurd (true≢false (sym straight ∙ ap (λ (x : Attempt). x.straight) (some_same _ t (attempt_of epoch false) at is)));
+  idle = λ none. absurd (none_and_some _ _ none is);
+  straight = λ t at straight. absurd (true≢false (sym straight ∙ ap (λ (x : Attempt). x.straight) (one_value _ t (attempt_of epoch false) at is)));
 }
 
 pub runs_here : (p : PlainView) (by : ℕ) (state : CoreState) (straight : Bool) (runs : Runs (store_view p) by straight) → slice_get p.states by ≡ Some state → state.attempt ≡ Some (attempt_of runs.epoch straight)

@@ -4,6 +4,7 @@ use Rattle.std.proofs.lemmas.Bool.{cases_eq}
 use Rattle.std.proofs.lemmas.Bool.Decides.{nat_tests}
 use Rattle.std.proofs.lemmas.Option.{slice_get_read, slice_get_within}
 use Rattle.memory_bytes.specs.Shadow.{byte_in}
+use Rattle.rv32_image.proofs.SmallFacts.{one_value}
 use Rattle.violations.specs.declared.core_state.CoreState.{CoreState}
 use Rattle.violations.specs.CoreState.{IsWithin, HasRoom, IsIdle, IsSameState, AreWithin, HaveRoom, AreIdle, AreSame, AreReaders, AreDropped, GuardsOne}
 use Rattle.violations.specs.View.{is_accessed}
@@ -26,17 +27,11 @@ get_set_other (first ∷ rest) (suc i) (suc k) state other = get_set_other rest 
 pub state_there : (states xs : List CoreState) (i : ℕ) (state : CoreState) → xs ≡ states → i < length xs → state ≡ get_or xs i state → slice_get states i ≡ Some state
 state_there states xs i state same below is = slice_get_read states (length xs) i state (ap length same) below (is ∙ ap (λ ys. get_or ys i state) same)
 
-same_state : (o : Option CoreState) (l m : CoreState) → o ≡ Some l → o ≡ Some m → l ≡ m
-same_state o l m first second = cc
-
-no_state : (o : Option CoreState) (l : CoreState) → o ≡ None → o ≡ Some l → ⊥
-no_state o l none some = cc
-
 -- what holds of the new state and of all others holds of all
 pub all_set : (P : CoreState → Type 0) (states : List CoreState) (i : ℕ) (state : CoreState) → i < length states → P state
     → ((k : ℕ) (l : CoreState) → slice_get states k ≡ Some l → P l) → (k : ℕ) (l : CoreState) → slice_get (set states i state) k ≡ Some l → P l
 all_set P states i state below holds all k l at = elim (cases_eq k i) [
-  | inl e ↦ let same : state ≡ l = same_state _ state l (get_set_same states i state below) (sym (ap (slice_get (set states i state)) e) ∙ at) in rw (← same) holds
+  | inl e ↦ let same : state ≡ l = one_value _ state l (get_set_same states i state below) (sym (ap (slice_get (set states i state)) e) ∙ at) in rw (← same) holds
   | inr other ↦ all k l (sym (get_set_other states i k state other) ∙ at)
 ]
 
@@ -57,7 +52,7 @@ idle_more size states state idle within are = record { each = idle_at size state
 pub same_states : (states : List CoreState) → AreSame states states
 same_states states = record {
   long = refl;
-  each = λ k was is at at'. let same = same_state _ was is at at' in
+  each = λ k was is at at'. let same = one_value _ was is at at' in
       record { attempt = ap (λ (l : CoreState). l.attempt) (sym same); own = λ a. ap (λ (l : CoreState). byte_in l.own.cells a) (sym same); guarded = λ a. ap (λ (l : CoreState). byte_in l.guarded.cells a) (sym same) };
 }
 
@@ -67,7 +62,7 @@ same_set old new i state state' below there same are = record {
   long = length-set new i state' ∙ are.long;
   each = λ k was is at at'. elim (cases_eq k i) [
     | inl e ↦
-        let here : state' ≡ is = same_state _ state' is (get_set_same new i state' below) (sym (ap (slice_get (set new i state')) e) ∙ at') in
+        let here : state' ≡ is = one_value _ state' is (get_set_same new i state' below) (sym (ap (slice_get (set new i state')) e) ∙ at') in
         let before = are.each i was state (sym (ap (slice_get old) e) ∙ at) there in
         rw (← here) (record { attempt = same.attempt ∙ before.attempt; own = λ a. same.own a ∙ before.own a; guarded = λ a. same.guarded a ∙ before.guarded a })
     | inr other ↦ are.each k was is at (sym (get_set_other new i k state' other) ∙ at')
@@ -92,7 +87,7 @@ reserving_more size accesses old new i state state' below there same within room
   same = same_set old new i state state' below there same reserving.same;
   within = within_set size new i state' below within reserving.within;
   room = λ k l under at. elim (cases_eq k i) [
-    | inl e ↦ let here : state' ≡ l = same_state _ state' l (get_set_same new i state' below) (sym (ap (slice_get (set new i state')) e) ∙ at) in rw (← here) room
+    | inl e ↦ let here : state' ≡ l = one_value _ state' l (get_set_same new i state' below) (sym (ap (slice_get (set new i state')) e) ∙ at) in rw (← here) room
     | inr other ↦ reserving.room k l (omega arith) (sym (get_set_other new i k state' other) ∙ at)
   ];
 }
@@ -123,7 +118,7 @@ pub dropping_more : (hurt : ℕ → Bool) (old new : List CoreState) (i : ℕ) (
 dropping_more hurt old new i state state' below there is idle within room dropping = record {
   long = length-set new i state' ∙ dropping.long;
   dropped = λ k l under hurt_k at. elim (cases_eq k i) [
-    | inl e ↦ let here : state' ≡ l = same_state _ state' l (get_set_same new i state' below) (sym (ap (slice_get (set new i state')) e) ∙ at) in rw (← here) idle
+    | inl e ↦ let here : state' ≡ l = one_value _ state' l (get_set_same new i state' below) (sym (ap (slice_get (set new i state')) e) ∙ at) in rw (← here) idle
     | inr other ↦ dropping.dropped k l (omega arith) hurt_k (sym (get_set_other new i k state' other) ∙ at)
   ];
   kept = λ k unhurt. elim (cases_eq k i) [
@@ -193,7 +188,7 @@ reading_on core bytes states hurt i state at spares reading = record {
   run = reading.run;
   spared = λ k a l under apart_core unhurt at_k runs_k byte. elim (cases_eq k i) [
     | inl e ↦
-        let same : state ≡ l = same_state _ state l at (sym (ap (slice_get states) e) ∙ at_k) in
+        let same : state ≡ l = one_value _ state l at (sym (ap (slice_get states) e) ∙ at_k) in
         rw (← same) (spares (λ f. apart_core (e ∙ f)) (ap (λ (x : CoreState). is_some x.attempt) same ∙ runs_k) a byte)
     | inr apart ↦ reading.spared k a l (omega arith) apart_core unhurt at_k runs_k byte
   ];
@@ -205,11 +200,6 @@ reading_end core bytes states hurt i all reading = record {
   run = reading.run;
   spared = λ k a state other unhurt at runs byte. let below = slice_get_within states k state at in reading.spared k a state (omega arith) other unhurt at runs byte;
 }
-
--- a byte that is there
-pub some_byte : (o : Option ℕ) → is_some o ≡ true → (byte : ℕ) × (o ≡ Some byte)
-some_byte None is = absurd cc
-some_byte (Some byte) is = (byte, refl)
 
 range_by : (address width a : ℕ) → (nat_le address a && nat_lt a (address + width)) ≡ true → (address ≤ a) × (a < address + width)
 range_by address width a is = (grind (arith, nat_tests), grind (arith, nat_tests))

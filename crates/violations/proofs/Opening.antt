@@ -1,10 +1,8 @@
 -- New plain stores, and room in them.
-use Rattle.std.proofs.Common.{◌≡◌, ℕ, zero, suc, ◌<◌, ◌≤◌, List, [], ◌∷◌, length, slice_get, slice_index, Option, Some, None, is_some, unwrap_or, refl, sym, ap, ◌∙◌, inl, inr, arith, true≢false}
+use Rattle.std.proofs.Common.{◌≡◌, ℕ, zero, suc, ◌<◌, ◌≤◌, List, [], ◌∷◌, length, slice_get, slice_index, Option, Some, is_some, unwrap_or, refl, sym, ap, ◌∙◌, inl, inr, arith, true≢false}
 use Rattle.std.proofs.lemmas.Bool.{cases_lt}
 use Rattle.std.proofs.lemmas.Option.{slice_get_past}
-use Rattle.rv32_image.specs.declared.version.Version.{Version}
-use Rattle.rv32_image.specs.declared.version.Version.TheVariants.{One, Two}
-use Rattle.rv32_image.specs.Version.{limits_of}
+use Rattle.rv32_image.proofs.SmallFacts.{none_and_some}
 use Rattle.violations.specs.declared.attempt.Attempt.{Attempt}
 use Rattle.violations.specs.declared.core_state.CoreState.{CoreState}
 use Rattle.violations.specs.View.{IsSettled}
@@ -96,22 +94,15 @@ same_fit p states budget same within room fit = record {
 
 -- ---- new stores
 
-pub most_few : (version : Version) → (limits_of version).most_cores ≤ 16
-most_few One = omega arith
-most_few Two = omega arith
-
 pub idle_out : (size : ℕ) (states : List CoreState) → AreIdle size states → (k : ℕ) → IsOut (slice_get states k)
 idle_out size states idle k = out_by (slice_get states k) (λ state at. (idle.each k state at).0)
-
-none_some : {A : Type 0} (o : Option A) (x : A) → o ≡ None → o ≡ Some x → ⊥
-none_some o x none some = cc
 
 pub fresh_settled : (p : PlainView) (size : ℕ) → AreIdle size p.states → IsSettled (store_view p)
 fresh_settled p size idle =
     let out = idle_out size p.states idle in record {
-      there = λ k x at. absurd (none_some _ x (out k).attempt at);
-      apart = λ j k x y at_j at_k same. absurd (none_some _ x (out j).attempt at_j);
-      straight_first = λ j k x y at_j straight at_k other. absurd (none_some _ x (out j).attempt at_j);
+      there = λ k x at. absurd (none_and_some _ x (out k).attempt at);
+      apart = λ j k x y at_j at_k same. absurd (none_and_some _ x (out j).attempt at_j);
+      straight_first = λ j k x y at_j straight at_k other. absurd (none_and_some _ x (out j).attempt at_j);
       idle = λ k none. clear_of p k (out k).bare;
       straight = λ k x at straight. clear_of p k (out k).bare;
       whole_lines = λ cached k a b same guarded. absurd (true≢false (sym cached));

@@ -2,6 +2,7 @@
 use Rattle.std.proofs.Common.{◌≡◌, ◌≢◌, ◌⊎◌, ℕ, ◌<◌, ◌≤◌, Bool, true, false, List, length, set, slice_get, slice_index, Option, Some, None, is_some, unwrap_or, refl, sym, ap, subst, ◌∙◌, inl, inr, arith, length-set, true≢false}
 use Rattle.std.proofs.lemmas.Bool.{cases_eq}
 use Rattle.memory_bytes.specs.Maps.{over}
+use Rattle.rv32_image.proofs.SmallFacts.{none_of, unwrap_none}
 use Rattle.violations.specs.declared.attempt.Attempt.{Attempt}
 use Rattle.violations.specs.declared.core_state.CoreState.{CoreState}
 use Rattle.violations.specs.View.{Shape, IsClear, IsSettled}
@@ -16,10 +17,6 @@ pub record IsBare (x : Option CoreState) : Type 0 where
   pub own : (a : ℕ) → own_in x a ≡ None
   pub guarded : (a : ℕ) → guarded_in x a ≡ None
 
-pub none_by : (o : Option ℕ) → is_some o ≡ false → o ≡ None
-none_by None is = refl
-none_by (Some byte) is = absurd cc
-
 pub clear_of : (p : PlainView) (k : ℕ) → IsBare (slice_get p.states k) → IsClear (store_view p) k
 clear_of p k bare = record {
   own = λ a. ap is_some (bare.own a);
@@ -28,7 +25,7 @@ clear_of p k bare = record {
 }
 
 pub bare_of : (p : PlainView) (k : ℕ) → IsClear (store_view p) k → IsBare (slice_get p.states k)
-bare_of p k clear = record { own = λ a. none_by _ (clear.own a); guarded = λ a. none_by _ (clear.guarded a) }
+bare_of p k clear = record { own = λ a. none_of _ (clear.own a); guarded = λ a. none_of _ (clear.guarded a) }
 
 pub bare_state : (state : CoreState) → KeepsNothing state → IsBare (Some state)
 bare_state state keeps = record { own = keeps.own; guarded = keeps.guarded }
@@ -50,10 +47,6 @@ seen_own : (own : Option ℕ) (committed committed' : ℕ) → is_some own ≡ t
 seen_own None committed committed' is = absurd cc
 seen_own (Some byte) committed committed' is = refl
 
-seen_rest : (own : Option ℕ) (committed : ℕ) → is_some own ≡ false → unwrap_or own committed ≡ committed
-seen_rest None committed is = refl
-seen_rest (Some byte) committed is = absurd cc
-
 pub same_core : (p q : PlainView) (k : ℕ) → slice_get q.states k ≡ slice_get p.states k → ((a : ℕ) → slice_index q.committed a ≡ slice_index p.committed a) → IsSameCore (store_view p) (store_view q) k
 same_core p q k same committed = record {
   attempt = ap attempt_in same;
@@ -69,7 +62,7 @@ spared_of p q k same stands = record {
   own = λ a. ap (λ x. is_some (own_in x a)) same;
   guarded = λ a. ap (λ x. is_some (guarded_in x a)) same;
   sees_own = λ a own. ap (λ x. over (own_in x) (λ b. slice_index q.committed b) a) same ∙ seen_own (own_in (slice_get p.states k) a) (slice_index p.committed a) (slice_index q.committed a) own;
-  sees_rest = λ a none. ap (λ x. over (own_in x) (λ b. slice_index q.committed b) a) same ∙ seen_rest (own_in (slice_get p.states k) a) (slice_index q.committed a) none;
+  sees_rest = λ a none. ap (λ x. over (own_in x) (λ b. slice_index q.committed b) a) same ∙ unwrap_none (own_in (slice_get p.states k) a) (slice_index q.committed a) none;
   stands = stands;
 }
 

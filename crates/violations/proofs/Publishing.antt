@@ -4,6 +4,7 @@ use Rattle.std.proofs.lemmas.Bool.{cases_eq}
 use Rattle.std.proofs.lemmas.Grind.{common_steps}
 use Rattle.memory_bytes.specs.Maps.{over, stored}
 use Rattle.memory_bytes.specs.Shadow.{byte_in}
+use Rattle.rv32_image.proofs.SmallFacts.{one_value, none_and_some, value_of, none_of, unwrap_none}
 use Rattle.violations.specs.declared.attempt.Attempt.{Attempt}
 use Rattle.violations.specs.declared.core_state.CoreState.{CoreState}
 use Rattle.violations.specs.View.{attempt_of, epoch_of, IsSettled, Runs, MayPublish, is_accessed}
@@ -12,8 +13,7 @@ use Rattle.violations.specs.CoreState.{IsWithin, HasRoom, AreWithin, HaveRoom, K
 use Rattle.violations.specs.Plain.{PlainView, attempt_in, own_in, guarded_in, store_view, IsFit, ViolatesReaders}
 use Rattle.violations.proofs.Changing.{get_set_same, get_set_other, all_set}
 use Rattle.violations.proofs.Accesses.{stored_there}
-use Rattle.violations.proofs.Plains.{none_by, IsBare, bare_of, bare_state, IsQuiet, quiet_of, spared_of, shape_same, CameFrom, settled_from, came_same}
-use Rattle.violations.proofs.Calls.{some_same, none_some}
+use Rattle.violations.proofs.Plains.{IsBare, bare_of, bare_state, IsQuiet, quiet_of, spared_of, shape_same, CameFrom, settled_from, came_same}
 
 -- ---- the cores that are violated
 
@@ -28,15 +28,11 @@ out_by (Some state) idle = let is = idle state refl in record { attempt = is.att
 pub out_at : (hurt : ℕ → Bool) (old new : List CoreState) → AreDropped hurt old new → (k : ℕ) → hurt k ≡ true → IsOut (slice_get new k)
 out_at hurt old new dropped k is = out_by (slice_get new k) (λ state at. dropped.dropped k state is at)
 
-some_attempt : (o : Option Attempt) → is_some o ≡ true → (t : Attempt) × (o ≡ Some t)
-some_attempt None is = absurd cc
-some_attempt (Some t) is = (t, refl)
-
 -- each of them ran
 ran_at : (p : PlainView) (by : ℕ) (bytes hurt : ℕ → Bool) → AreReaders by bytes p.states hurt → (k : ℕ) → hurt k ≡ true → (t : Attempt) × (attempt_in (slice_get p.states k) ≡ Some t)
 ran_at p by bytes hurt readers k is =
     let found = readers.run k is in
-    let t = some_attempt found.0.attempt found.2.runs in (t.0, ap attempt_in found.1 ∙ t.1)
+    let t = value_of found.0.attempt found.2.runs in (t.0, ap attempt_in found.1 ∙ t.1)
 
 apart_from : (hurt : ℕ → Bool) (by k : ℕ) → hurt by ≡ false → hurt k ≡ true → k ≢ by
 apart_from hurt by k unhurt is e = true≢false (sym is ∙ (ap hurt e ∙ unhurt))
@@ -116,7 +112,7 @@ first_after p by settled may k x other at =
 
 -- another core's attempt, which the call leaves or ends
 came_other : (p : PlainView) (hurt : ℕ → Bool) (states : List CoreState) (k : ℕ) (now : Attempt) → AreDropped hurt p.states states → attempt_in (slice_get states k) ≡ Some now → (b : Bool) → hurt k ≡ b → CameFrom p k now
-came_other p hurt states k now dropped at true is = absurd (none_some _ now (out_at hurt p.states states dropped k is).attempt at)
+came_other p hurt states k now dropped at true is = absurd (none_and_some _ now (out_at hurt p.states states dropped k is).attempt at)
 came_other p hurt states k now dropped at false is = came_same p k (slice_get states k) now (dropped.kept k is) at
 
 quiet_out : (x : Option CoreState) → IsOut x → IsQuiet x
@@ -131,7 +127,7 @@ published_came : (p : PlainView) (by : ℕ) (hurt : ℕ → Bool) (states : List
 published_came p by hurt states state' dropped below may is k now at b is_b = elim (cases_eq k by) [
   | inl e ↦
       let here = ap (λ j. attempt_in (slice_get (set states by state') j)) e ∙ (ap attempt_in (get_set_same states by state' below) ∙ is) in
-      let same = some_same _ now (attempt_of may.epoch true) at here in record {
+      let same = one_value _ now (attempt_of may.epoch true) at here in record {
         was = attempt_of may.epoch false;
         is = ap (λ j. attempt_in (slice_get p.states j)) e ∙ may.is;
         epoch = ap (λ (t : Attempt). t.epoch) same;
@@ -183,10 +179,6 @@ published_fit p by hurt committed states state state' fit dropped below there lo
     (λ some. let all_room = dropped.room (length p.committed) p.budget (fit.room some) in
     record { each = all_set (HasRoom (length p.committed) p.budget) states by state' below (room (length p.committed) p.budget (all_room.each by state there)) all_room.each })
 
-not_own : (o : Option ℕ) (byte : ℕ) → is_some o ≡ false → unwrap_or o byte ≡ byte
-not_own None byte is = refl
-not_own (Some b) byte is = absurd cc
-
 pub publishes : (p : PlainView) (by : ℕ) (hurt : ℕ → Bool) (committed : List ℕ) (states : List CoreState) (state state' : CoreState) → IsSettled (store_view p) → (may : MayPublish (store_view p) by)
     → AreReaders by (bytes_in state.own.cells) p.states hurt → AreDropped hurt p.states states → slice_get p.states by ≡ Some state → state'.attempt ≡ option_map straightened state.attempt
     → length committed ≡ length p.committed → ((a : ℕ) → slice_index committed a ≡ over (byte_in state.own.cells) (λ b. slice_index p.committed b) a)
@@ -201,7 +193,7 @@ publishes p by hurt committed states state state' settled may readers dropped th
       cached = refl;
       others = hurts_of p q by may.epoch false (bytes_in state.own.cells) hurt settled readers may.is (first_after p by settled may) gone
           (λ k other unhurt. get_set_other states by k state' other ∙ dropped.kept k unhurt)
-          (λ a none. writes a ∙ not_own (byte_in state.own.cells a) (slice_index p.committed a) none);
+          (λ a none. writes a ∙ unwrap_none (byte_in state.own.cells a) (slice_index p.committed a) none);
       committed = λ a. writes a ∙ ap (λ x. over (own_in x) (λ b. slice_index p.committed b) a) (sym there);
       attempt = ap attempt_in (get_set_same states by state' below) ∙ (publisher p by state state' may.epoch there may.is is ∙ ap (λ o. Some (attempt_of (epoch_of o) true)) (sym may.is));
       meets = guards_of p by (λ a. is_some (own_in (slice_get p.states by) a)) hurt violates;
@@ -226,7 +218,7 @@ stored_fit p hurt committed states fit dropped long =
 
 -- a store has no byte outside its addresses
 stored_outside : (address width value a : ℕ) → is_accessed address width a ≡ false → stored address width value a ≡ None
-stored_outside address width value a outside = none_by (stored address width value a) (stored_there address width value a ∙ outside)
+stored_outside address width value a outside = none_of (stored address width value a) (stored_there address width value a ∙ outside)
 
 pub stores_straight : (p : PlainView) (by address width value : ℕ) (hurt : ℕ → Bool) (committed : List ℕ) (states : List CoreState) → IsSettled (store_view p) → (runs : Runs (store_view p) by true)
     → AreReaders by (is_accessed address width) p.states hurt → AreDropped hurt p.states states → length committed ≡ length p.committed

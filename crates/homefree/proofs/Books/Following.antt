@@ -2,6 +2,7 @@
 -- which a turn answers is that of its history.
 use Rattle.std.proofs.Common.{◌≡◌, ◌≢◌, ◌≤◌, ◌<◌, ℕ, ◌+◌, Bool, true, false, cond, List, [], Option, Some, None, Result, Ok, Err, refl, sym, ap, subst, ◌∙◌, arith, append-nil}
 use Rattle.std.proofs.lemmas.List.Elements.{All-nil}
+use Rattle.rv32_image.proofs.SmallFacts.{one_value}
 use Rattle.rv32_exec.specs.declared.sequential.End.{End}
 use Rattle.rv32_exec.specs.declared.sequential.End.TheVariants.{Exit}
 use Rattle.rv32_exec.specs.Arrival.{Arrival}
@@ -37,15 +38,12 @@ use Rattle.homefree.proofs.Books.NeverAgain.{never_again}
 
 -- ---- the state of a book
 
-pub one_state : (o : Option FlatState) (s t : FlatState) → o ≡ Some s → o ≡ Some t → s ≡ t
-one_state o s t one two = cc
-
 kept_in : {S : Type 0} (view : S → StoreView) (b : BookView S) (i : InStep view b) (s : FlatState) → replay b.image b.cores b.history ≡ Some s → s.end ≡ None
     → IsKept b.image b.cores s
 kept_in view b i s replays going = ((replayed b.image b.cores b.history s i.is_image replays).going going).kept
 
 agrees_in : {S : Type 0} (view : S → StoreView) (b : BookView S) (i : InStep view b) (s : FlatState) → replay b.image b.cores b.history ≡ Some s → Agrees s (view b.store)
-agrees_in view b i s replays = subst (λ x. Agrees x (view b.store)) (one_state (replay b.image b.cores b.history) i.state s i.replays replays) i.agrees
+agrees_in view b i s replays = subst (λ x. Agrees x (view b.store)) (one_value (replay b.image b.cores b.history) i.state s i.replays replays) i.agrees
 
 -- ---- a core that has to come again
 
@@ -249,7 +247,7 @@ module _ {S : Type 0} (view : S → StoreView) (waits : S → Waits) (old new : 
   -- where the history led to a state of this end, it still does
   same_end : (end : End) → new ≡ old → s.end ≡ Some end → (u : FlatState) → replay new.image new.cores new.history ≡ Some u → u.end ≡ Some end
   same_end end same is = subst (λ b. (u : FlatState) → replay b.image b.cores b.history ≡ Some u → u.end ≡ Some end) (sym same)
-      (λ u leads. ap (λ (x : FlatState). x.end) (one_state (replay old.image old.cores old.history) u s leads replays) ∙ is)
+      (λ u leads. ap (λ (x : FlatState). x.end) (one_value (replay old.image old.cores old.history) u s leads replays) ∙ is)
 
   pub turn_ends : InStep view old → Turned view waits old s shares core next answer new shares' → (end : End) → answer ≡ Ok (Over end)
       → (u : FlatState) → replay new.image new.cores new.history ≡ Some u → u.end ≡ Some end
@@ -263,7 +261,7 @@ module _ {S : Type 0} (view : S → StoreView) (waits : S → Waits) (old new : 
       let ended = acts_ends here a.reserved (view new.store) a.out going (kept_in view old i s replays going) agrees end (ok_over answer a.out.answer end a.answer_is is) a.acts in
       let goes : replay new.image new.cores new.history ≡ Some ended.0 = rw (a.grows.image, a.grows.cores, a.grows.history)
       (history_goes_on old.image old.cores old.history a.out.entries s ended.0 replays ended.1) in
-      ap (λ (x : FlatState). x.end) (one_state (replay new.image new.cores new.history) u ended.0 leads goes) ∙ ended.2
+      ap (λ (x : FlatState). x.end) (one_value (replay new.image new.cores new.history) u ended.0 leads goes) ∙ ended.2
 
   -- a history that is said to be full is
   pub turn_full : Turned view waits old s shares core next answer new shares' → answer ≡ Err HistoryFull → IsFull new

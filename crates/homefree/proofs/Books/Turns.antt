@@ -1,6 +1,7 @@
 -- A book's first state, and its turns: from what the parts did to a turn of the book.
 use Rattle.std.proofs.Common.{◌≡◌, ◌≤◌, ◌<◌, ◌*◌, ℕ, ◌+◌, ◌-◌, All, List, [], ◌++◌, length, Option, Some, None, Ok, Err, refl, sym, ap, subst, ◌∙◌, inl, inr, arith, length-append, append-nil, vec_len, vec_capacity}
 use Rattle.std.proofs.lemmas.List.Elements.{All-nil, All-append}
+use Rattle.rv32_image.proofs.SmallFacts.{one_value, none_and_some}
 use Rattle.rv32_exec.specs.declared.sequential.End.{End}
 use Rattle.rv32_exec.specs.Arrival.{Arrival}
 use Rattle.rv32_image.specs.Image.{LoadedImage, IsImage}
@@ -112,11 +113,8 @@ book_stopped view r store room old cause b full = record {
 
 -- ---- turns that change nothing
 
-one_state : (o : Option FlatState) (s t : FlatState) → o ≡ Some s → o ≡ Some t → s ≡ t
-one_state o s t one two = cc
-
 pub end_of : (r : Register) (v : StoreView) (s : FlatState) → Fits r v → replay r.image (length r.running.items) r.history.items ≡ Some s → s.end ≡ r.end
-end_of r v s f replays = ap (λ (x : FlatState). x.end) (one_state (replay r.image (length r.running.items) r.history.items) s f.state replays f.replays) ∙ sym f.shows.end
+end_of r v s f replays = ap (λ (x : FlatState). x.end) (one_value (replay r.image (length r.running.items) r.history.items) s f.state replays f.replays) ∙ sym f.shows.end
 
 module _ {S : Type 0} (view : S → StoreView) (waits : S → Waits) (r : Register) (store : S) (room core : ℕ) (shares : Counts) (next : Option Arrival) (f : Fits r (view store)) where
   pub turned_over : (cause : Option StopCause) (end : End) → r.end ≡ Some end → (s : FlatState) → replay r.image (length r.running.items) r.history.items ≡ Some s
@@ -260,10 +258,7 @@ goes_on_from : (image : LoadedImage) (count : ℕ) (first later : List Entry) (s
     → replay_from image count s later ≡ Some u
 goes_on_from image count first later s u replays all =
     let parts = splits image count first later u all in
-    subst (λ t. replay_from image count t later ≡ Some u) (one_state (replay image count first) parts.between s parts.first_replays replays) parts.later_replays
-
-still_none : (cause : Option StopCause) → cause ≡ None → cause ≡ Some stop.HistoryFull → ⊥
-still_none cause none some = cc
+    subst (λ t. replay_from image count t later ≡ Some u) (one_value (replay image count first) parts.between s parts.first_replays replays) parts.later_replays
 
 pub book_acts : {S : Type 0} {waits : Waits} (view : S → StoreView) (r q new : Register) (store reserved after : S) (room core : ℕ) (cause : Option StopCause) (shares shares' : Counts) (next : Option Arrival) (answer : Answer) → IsBook view r store room cause → r.end ≡ None → cause ≡ None → IsAsBefore r q
     → core < length r.running.items → length r.history.items + (limits_of r.image.version).free_entries ≤ room → IsSettled (view reserved) → Fits q (view reserved)
@@ -294,7 +289,7 @@ book_acts {S} {waits} view r q new store reserved after room core cause shares s
           (grown_passes (IsOfCaches view) q.image count q.history.items a.entries f.state a.fits.state caches (passes caches) f.replays goes known);
       within = rw (a.steps.history, same.history, length-append r.history.items a.entries) (omega (arith, free, few));
       most = b.most;
-      full = λ is. absurd (still_none cause unstopped is);
+      full = λ is. absurd (none_and_some cause stop.HistoryFull unstopped is);
     }
 
 -- ---- what the code's numbers say

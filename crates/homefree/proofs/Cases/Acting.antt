@@ -3,6 +3,7 @@ use Rattle.std.proofs.Common.{◌≡◌, ◌≢◌, ◌≤◌, ◌<◌, ℕ, tru
 use lib.Pointwise.{pointwise, bytes_decides}
 use Rattle.std.proofs.Math.Dec.{eqb}
 use Rattle.std.proofs.lemmas.Bool.{cases_Bool, eqb-true, and_parts}
+use Rattle.rv32_image.proofs.SmallFacts.{one_value}
 use Rattle.rv32_exec.specs.Arrival.{Arrival}
 use Rattle.rv32_exec.specs.Hart.{HartState, start_of}
 use Rattle.rv32_exec.specs.declared.arrived.Arrived.{Arrived}
@@ -37,9 +38,6 @@ use Rattle.homefree.specs.Turned.{Acts, does}
 use Rattle.homefree.proofs.State.Arms as arm
 use Rattle.homefree.proofs.Fields.Steps.{counted_then, steps_none, none_kept, core_of}
 
-one_state : (o : Option FlatState) (s t : FlatState) → o ≡ Some s → o ≡ Some t → s ≡ t
-one_state o s t one two = cc
-
 pub kept_of_fits : (r : Register) (v : StoreView) (f : Fits r v) → r.end ≡ None → IsKept r.image (length r.running.items) f.state
 kept_of_fits r v f going = ((replayed r.image (length r.running.items) r.history.items f.state f.is_image f.replays).going (sym f.shows.end ∙ going)).kept
 
@@ -64,7 +62,7 @@ acted_by {waits} old new v w shares shares' core next answer entries f steps sho
   steps = steps;
   short = short;
   acts = λ s replays. subst (λ x. Acts (turn_of old waits x core next) v w (does entries answer))
-      (one_state (replay old.image (length old.running.items) old.history.items) f.state s f.replays replays) acts;
+      (one_value (replay old.image (length old.running.items) old.history.items) f.state s f.replays replays) acts;
   fits = fits;
 }
 

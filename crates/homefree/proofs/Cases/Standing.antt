@@ -1,8 +1,6 @@
 -- A core that runs its epoch: the state's core behind what the register keeps, and what the store's calls ask.
 use Rattle.std.proofs.Common.{◌≡◌, ◌+◌, ◌≤◌, ℕ, Bool, true, false, length, Option, Some, None, IsSome, option_map, vec_len, vec_capacity, refl, sym, ap, subst, ◌∙◌, arith}
-use Rattle.rv32_image.specs.Version.{limits_of}
-use Rattle.rv32_image.specs.declared.version.Version.{Version}
-use Rattle.rv32_image.specs.declared.version.Version.TheVariants.{One, Two}
+use Rattle.rv32_image.proofs.Bounds.{most_few}
 use Rattle.rv32_exec.specs.declared.stop.Stop.{Stop}
 use Rattle.rv32_exec.specs.declared.stop.Stop.TheVariants as stop
 use Rattle.rv32_exec.specs.Arrival.{Arrival}
@@ -104,12 +102,8 @@ may_store r v core now arrived address width value f is_at =
 
 -- ---- a batch of hurts
 
-most_cores : (version : Version) → (limits_of version).most_cores ≤ 16
-most_cores One = omega arith
-most_cores Two = omega arith
-
 pub few_cores : (r : Register) (v : StoreView) → Fits r v → length r.running.items ≤ 16
-few_cores r v f = let most = most_cores r.image.version in let count = f.core_count.most in omega (arith, most, count)
+few_cores r v f = let most = most_few r.image.version in let count = f.core_count.most in omega (arith, most, count)
 
 some_kept : (o : Option CoreState) (p : Option Running) (c : CoreState) → p ≡ option_map kept_of o → o ≡ Some c → IsSome p
 some_kept o p c is some = rw (is, some) refl

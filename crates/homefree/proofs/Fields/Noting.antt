@@ -1,6 +1,7 @@
 -- What each note makes of the fields: what its entry makes of the flat machine's state.
-use Rattle.std.proofs.Common.{◌≡◌, ◌≤◌, ℕ, ◌+◌, ◌==◌, ◌≢◌, ◌||◌, Bool, true, false, cond, ◌++◌, length, Option, Some, None, option_map, vec_len, vec_capacity, refl, sym, ap, subst, ◌∙◌, inl, inr, arith, eq-eqb, ne_eqb}
+use Rattle.std.proofs.Common.{◌≡◌, ◌≤◌, ℕ, ◌+◌, ◌==◌, ◌≢◌, Bool, true, cond, ◌++◌, length, Option, Some, None, option_map, vec_len, vec_capacity, refl, sym, ap, subst, ◌∙◌, inl, inr, arith, eq-eqb, ne_eqb}
 use Rattle.std.proofs.lemmas.Bool.{cases_eq, and_parts, or_right}
+use Rattle.rv32_image.proofs.SmallFacts.{or_false}
 use Rattle.rv32_exec.specs.declared.stop.Stop.{Stop}
 use Rattle.rv32_exec.specs.declared.stop.Stop.TheVariants as stop
 use Rattle.rv32_exec.specs.Arrival.{Arrival, after_number, after_loading}
@@ -212,16 +213,12 @@ caller : (o : Option CoreState) (test : CoreState → Bool) → runs_and o test 
 caller None test is = absurd cc
 caller (Some c) test is = (c, refl)
 
-or_same : (b : Bool) → (b || false) ≡ b
-or_same true = refl
-or_same false = refl
-
 marked : (epoch : ℕ) (c : CoreState) (now : Running) → kept_of c ≡ now → c.epoch ≡ epoch → Some (record now { hurt = true }) ≡ option_map kept_of (hurt_at epoch (Some c))
 marked epoch c now is same = rw (← is, eq-eqb c.epoch epoch same, or_right c.hurt true refl) refl
 
 unmarked : (epoch : ℕ) (o : Option CoreState) → ((c : CoreState) → o ≡ Some c → c.epoch ≢ epoch) → option_map kept_of o ≡ option_map kept_of (hurt_at epoch o)
 unmarked epoch None other = refl
-unmarked epoch (Some c) other = rw (ne_eqb c.epoch epoch (other c refl), or_same c.hurt) refl
+unmarked epoch (Some c) other = rw (ne_eqb c.epoch epoch (other c refl), or_false c.hurt) refl
 
 dropped : (epoch : ℕ) (c : CoreState) → c.epoch ≡ epoch → None ≡ option_map kept_of (idle_at epoch (Some c))
 dropped epoch c same = ap (λ b. option_map kept_of (cond b None (Some c))) (sym (eq-eqb c.epoch epoch same))

@@ -2,6 +2,7 @@
 use Rattle.std.proofs.Common.{◌≡◌, ℕ, ◌&&◌, ◌||◌, Bool, true, false, cond, is_some, is_none, Option, Some, None, unwrap_or, refl, sym, ap, ◌∙◌, true≢false}
 use Rattle.std.proofs.lemmas.Bool.{or_right, or_left}
 use Rattle.rv32_image.specs.Image.{LoadedImage}
+use Rattle.rv32_image.proofs.SmallFacts.{none_of}
 use Rattle.rv32_exec.specs.Hart.{HartState}
 use Rattle.memory_bytes.specs.Maps.{first_of, joined, stored, read_outside}
 use Rattle.memory_bytes.proofs.Bytes.{over-joined}
@@ -46,10 +47,6 @@ load_guards v w by address width value a byte hurt m c g l (Some b) at read =
 now_read : (first second : Option ℕ) → is_some (first_of first second) ≡ (is_some first || is_some second)
 now_read None second = refl
 now_read (Some byte) second = refl
-
-none_of : (o : Option ℕ) → is_some o ≡ false → o ≡ None
-none_of None is = refl
-none_of (Some byte) is = absurd cc
 
 reads_by : (b : Bool) (o : Option ℕ) (here : ℕ) → b ≡ true → o ≡ None → is_some (cond (b && is_none o) (Some here) None) ≡ true
 reads_by true None here is none = refl

@@ -3,6 +3,7 @@ use Rattle.std.proofs.Common.{◌≡◌, ◌≢◌, ℕ, zero, suc, ◌<◌, ◌
 use Rattle.std.proofs.Math.Path.{fun_ext}
 use Rattle.std.proofs.lemmas.Bool.{cases_eq, and_right, and_parts}
 use Rattle.rv32_image.specs.Image.{LoadedImage}
+use Rattle.rv32_image.proofs.SmallFacts.{value_of}
 use Rattle.rv32_exec.specs.NextEvent.{next_event}
 use Rattle.spec_history.specs.declared.entry.Entry.{Entry}
 use Rattle.spec_history.specs.declared.entry.What.TheVariants.{Cancel}
@@ -49,10 +50,6 @@ cancel_legal image count t by k c d going at unhurt homefree exit at_k later wit
     })
 
 -- ---- one more idle core
-
-some_of : (o : Option CoreState) → is_some o ≡ true → (d : CoreState) × (o ≡ Some d)
-some_of None is = absurd cc
-some_of (Some d) is = (d, refl)
 
 other_idle : (b : Bool) (epoch : ℕ) (core : Option CoreState) → ((x : CoreState) → core ≡ Some x → x.epoch ≢ epoch) → idle_at epoch (idle_if b core) ≡ idle_if b core
 other_idle true epoch core other = refl
@@ -104,7 +101,7 @@ module _ (image : LoadedImage) (count : ℕ) (s : FlatState) (by : ℕ) (c : Cor
   step n false is so_far = rw append-nil (so_far ∙ ap Some (same_state (below others n) (below others (suc n)) (λ k. no_more others n k is)))
   step n true is so_far =
       let both = and_parts (not (n == by)) (is_some (s.cores n)) is in
-      let found = some_of (s.cores n) both.1 in
+      let found = value_of (s.cores n) both.1 in
       let d = found.0 in
       let t = state n in
       let epoch : epoch_on s.cores n ≡ d.epoch = ap (λ o. by_core o 0 (λ x. x.epoch)) found.1 in
@@ -130,7 +127,7 @@ module _ (image : LoadedImage) (count : ℕ) (s : FlatState) (by : ℕ) (c : Cor
   all_below_by : (k : ℕ) (b : Bool) → others k ≡ b → below others count k ≡ others k
   all_below_by k true is =
       let both = and_parts (not (k == by)) (is_some (s.cores k)) is in
-      let found = some_of (s.cores k) both.1 in rw (lt-ltb k count (may.there k found.0 found.1)) refl
+      let found = value_of (s.cores k) both.1 in rw (lt-ltb k count (may.there k found.0 found.1)) refl
   all_below_by k false is = and_right (nat_lt k count) (others k) is ∙ sym is
 
   -- the entries of all other cores replay, and lead to the state in which the core alone runs

@@ -2,6 +2,7 @@
 use Rattle.std.proofs.Common.{◌≡◌, ◌≢◌, ℕ, ◌≤◌, ◌==◌, ◌&&◌, not, cond, Bool, true, false, is_some, ◌++◌, Option, Some, None, unwrap_or, refl, sym, ap, subst, ◌∙◌, inl, inr, eq-eqb}
 use Rattle.std.proofs.Math.Path.{fun_ext}
 use Rattle.std.proofs.lemmas.Bool.{cases_eq, and_right}
+use Rattle.rv32_image.proofs.SmallFacts.{none_and_some}
 use Rattle.rv32_exec.specs.declared.stop.Stop.TheVariants as stop
 use Rattle.rv32_image.specs.Image.{LoadedImage}
 use Rattle.rv32_exec.specs.NextEvent.{next_event}
@@ -177,9 +178,6 @@ not_over : (b : Bool) (end : End) (o : Option End) → b ≡ true → cond b (So
 not_over true end o is none = cc
 not_over false end o is none = cc
 
-no_core : (o : Option CoreState) (d : CoreState) → o ≡ None → o ≡ Some d → ⊥
-no_core o d none some = cc
-
 no_other : (k by : ℕ) (o : Option CoreState) → (k ≢ by → o ≡ None) → (not (k == by) && is_some o) ≡ false
 no_other k by o idle = elim (cases_eq k by) [
   | inl e ↦ ap (λ b. not b && is_some o) (eq-eqb k by e)
@@ -221,7 +219,7 @@ module _ (image : LoadedImage) (count : ℕ) (s : FlatState) (by : ℕ) (c : Cor
     homefree = by_it (alone.cores by) c (λ y. y.epoch == s.homefree) at_alone (eq-eqb c.epoch s.homefree homefree);
     value = refl;
     spares = misses_by image count alone by Commit c (over c.own s.committed) at_alone refl
-        ∙ spares_all image.size count alone by (over c.own s.committed) (λ k d at_k other free a byte read. absurd (no_core (alone.cores k) d (idle k other) at_k));
+        ∙ spares_all image.size count alone by (over c.own s.committed) (λ k d at_k other free a byte read. absurd (none_and_some (alone.cores k) d (idle k other) at_k));
     cancelled = and_right (by_core (alone.cores by) false (λ z. is_an_exit image (next_event image z.hart))) (other_runs count alone by)
         (all_fail count (λ k. not (k == by) && is_some (alone.cores k)) (λ k below. no_other k by (alone.cores k) (idle k)));
   })

@@ -1,9 +1,10 @@
 -- The entries of hurt cores are legal, and hurt these cores; those of cancelled cores make them idle.
-use Rattle.std.proofs.Common.{◌≡◌, ◌≢◌, ℕ, zero, suc, ◌<◌, ◌==◌, ◌&&◌, ◌||◌, not, nat_lt, Bool, true, false, cond, List, [], ◌∷◌, ◌++◌, Option, Some, None, refl, sym, ap, ◌∙◌, inl, inr, arith, append-nil, eq-eqb, ne_eqb, lt-ltb, le-ltb}
+use Rattle.std.proofs.Common.{◌≡◌, ◌≢◌, ℕ, zero, suc, ◌<◌, ◌==◌, ◌&&◌, not, nat_lt, Bool, true, false, cond, List, [], ◌∷◌, ◌++◌, Option, Some, None, refl, sym, ap, ◌∙◌, inl, inr, arith, append-nil, eq-eqb, ne_eqb, lt-ltb, le-ltb}
 use Rattle.std.proofs.Math.Path.{fun_ext}
 use Rattle.std.proofs.lemmas.Bool.{cases_eq, and_right}
 use Rattle.std.proofs.lemmas.Bool.Decides.{nat_tests}
 use Rattle.rv32_image.specs.Image.{LoadedImage}
+use Rattle.rv32_image.proofs.SmallFacts.{or_false}
 use Rattle.spec_history.specs.declared.entry.Entry.{Entry}
 use Rattle.spec_history.specs.declared.entry.What.TheVariants.{Hurt}
 use Rattle.spec_history.specs.FlatState.{CoreState, FlatState}
@@ -52,15 +53,11 @@ hurt_legal image count t by k c d going at unhurt at_k unhurt_k speculates later
 
 -- ---- one more hurt core
 
-or_no : (b : Bool) → (b || false) ≡ b
-or_no true = refl
-or_no false = refl
-
 other_hurt : (b : Bool) (epoch : ℕ) (core : Option CoreState) → ((x : CoreState) → core ≡ Some x → x.epoch ≢ epoch) → hurt_at epoch (hurt_if b core) ≡ hurt_if b core
 other_hurt true epoch None other = refl
 other_hurt false epoch None other = refl
 other_hurt true epoch (Some x) other = refl
-other_hurt false epoch (Some x) other = rw (ne_eqb x.epoch epoch (other x refl), or_no x.hurt) refl
+other_hurt false epoch (Some x) other = rw (ne_eqb x.epoch epoch (other x refl), or_false x.hurt) refl
 
 this_hurt : (b : Bool) (epoch : ℕ) (core : Option CoreState) (x : CoreState) → core ≡ Some x → x.epoch ≡ epoch → x.hurt ≡ false → b ≡ false
     → hurt_at epoch (hurt_if b core) ≡ hurt_if true core

@@ -2,6 +2,7 @@
 use Rattle.std.proofs.Common.{◌≡◌, ◌≢◌, ℕ, ◌<◌, Bool, true, false, Option, Some, None, is_some, unwrap_or, refl, sym, ap, subst, ◌∙◌, inl, inr, arith, true≢false}
 use Rattle.std.proofs.lemmas.Bool.{cases_eq, cases_Bool}
 use Rattle.rv32_image.specs.Image.{LoadedImage}
+use Rattle.rv32_image.proofs.SmallFacts.{one_value, none_and_some}
 use Rattle.spec_history.specs.FlatState.{CoreState, FlatState}
 use Rattle.spec_history.specs.Effect.{with_core}
 use Rattle.spec_history.specs.Laws.{IsKept}
@@ -95,12 +96,6 @@ others_spared s m' v w by hurt going agrees others new k c at other unhurt a byt
 
 -- ---- who can be hurt
 
-no_attempt : (o : Option Attempt) (x : Attempt) → o ≡ Some x → o ≡ None → ⊥
-no_attempt o x some none = cc
-
-attempts_same : (o : Option Attempt) (x y : Attempt) → o ≡ Some x → o ≡ Some y → x ≡ y
-attempts_same o x y one two = cc
-
 straight_last : (image : LoadedImage) (count : ℕ) (s : FlatState) (k by : ℕ) (c d : CoreState) → IsKept image count s → s.cores by ≡ Some c → s.cores k ≡ Some d
     → c.epoch < d.epoch → d.straight ≡ false
 straight_last image count s k by c d kept at at_k later = elim (cases_Bool d.straight) [
@@ -110,12 +105,12 @@ straight_last image count s k by c d kept at at_k later = elim (cases_Bool d.str
 
 can_by : (image : LoadedImage) (count : ℕ) (s : FlatState) (v w : StoreView) (by k : ℕ) (c : CoreState) (core : Option CoreState) → IsKept image count s → s.cores by ≡ Some c
     → v.attempt by ≡ Some (attempt_of c.epoch c.straight) → s.cores k ≡ core → AgreesAt s.committed v k core → IsHurt v w by k → CanBeHurt s c k
-can_by image count s v w by k c None kept at mine at_k f hurt = absurd (no_attempt (v.attempt k) hurt.attempt hurt.had (f.idle refl))
+can_by image count s v w by k c None kept at mine at_k f hurt = absurd (none_and_some (v.attempt k) hurt.attempt (f.idle refl) hurt.had)
 can_by image count s v w by k c (Some d) kept at mine at_k f hurt = elim (cases_Bool d.hurt) [
-  | inl is ↦ absurd (no_attempt (v.attempt k) hurt.attempt hurt.had (f.hurt d refl is))
+  | inl is ↦ absurd (none_and_some (v.attempt k) hurt.attempt (f.hurt d refl is) hurt.had)
   | inr unhurt ↦
       let g = f.runs d refl unhurt in
-      let same = attempts_same (v.attempt k) hurt.attempt _ hurt.had g.attempt in
+      let same = one_value (v.attempt k) hurt.attempt _ hurt.had g.attempt in
       let epoch : hurt.attempt.epoch ≡ d.epoch = ap (λ (x : Attempt). x.epoch) same in
       let own : epoch_of (v.attempt by) ≡ c.epoch = ap epoch_of mine in
       let later : c.epoch < d.epoch = omega (arith, hurt.later) in

@@ -4,6 +4,7 @@ use Rattle.std.proofs.lemmas.Bool.{cases_eq, cases_lt, le-ltb, and_right}
 use Rattle.std.proofs.lemmas.List.{append_assoc, length-append}
 use Rattle.std.proofs.lemmas.Option.{slice_get_within}
 use Rattle.rv32_image.specs.Image.{LoadedImage}
+use Rattle.rv32_image.proofs.SmallFacts.{one_value}
 use Rattle.spec_history.specs.declared.entry.Entry.{Entry}
 use Rattle.spec_history.specs.declared.entry.What.{What}
 use Rattle.spec_history.specs.declared.entry.What.TheVariants.{Hurt}
@@ -160,12 +161,6 @@ first_legal : (image : LoadedImage) (count : ℕ) (s t : FlatState) (e : Entry) 
 unfolding replay_from
 first_legal image count s t e es is = legal_first (refusal_of image count s e) (replay_from image count (effect image s e) es) t is
 
-one_state : (o : Option FlatState) (s t : FlatState) → o ≡ Some s → o ≡ Some t → s ≡ t
-one_state o s t one two = cc
-
-one_entry_is : (o : Option Entry) (x y : Entry) → o ≡ Some x → o ≡ Some y → x ≡ y
-one_entry_is o x y one two = cc
-
 module _ (C : Type 0) (image : LoadedImage) (count : ℕ) where
   at_first : (before es : List Entry) (e : Entry) (s : FlatState) → replay image count before ≡ Some s → KnownHere image s e es
       → (by k : ℕ) (t : FlatState) (c : CoreState) → slice_get (before ++ e ∷ es) (length before) ≡ Some (record { by = by; what = Hurt c.epoch })
@@ -173,8 +168,8 @@ module _ (C : Type 0) (image : LoadedImage) (count : ℕ) where
       → IsKnown image t by k (what_at (before ++ e ∷ es) (cause_of (before ++ e ∷ es) (length before) by))
   at_first before es e s replays known by k t c at replays_t runs =
       let one : Entry = record { by = by; what = Hurt c.epoch } in
-      let entry : e ≡ one = one_entry_is (slice_get (before ++ e ∷ es) (length before)) e one (here before es e) at in
-      let state : t ≡ s = one_state (replay image count before) t s (ap (replay image count) (sym (taken before (e ∷ es))) ∙ replays_t) replays in
+      let entry : e ≡ one = one_value (slice_get (before ++ e ∷ es) (length before)) e one (here before es e) at in
+      let state : t ≡ s = one_value (replay image count before) t s (ap (replay image count) (sym (taken before (e ∷ es))) ∙ replays_t) replays in
       let it = known k c (ap (λ (x : Entry). x.what) entry) (ap (λ (x : FlatState). x.cores k) (sym state) ∙ runs) in
       let mine : e.by ≡ by = ap (λ (x : Entry). x.by) entry in
       let said = says before es e by it.0 (next by it.0 es (ap (λ b. next_what b es) (sym mine) ∙ it.1)) in
@@ -202,8 +197,8 @@ module _ (C : Type 0) (image : LoadedImage) (count : ℕ) where
       → (k : ℕ) (x : Entry) (t : FlatState) → slice_get (before ++ e ∷ es) (length before) ≡ Some x
       → replay image count (take (length before) (before ++ e ∷ es)) ≡ Some t → IsMissed image t x k → IsFurtherStore image t x
   passed_first before es e s holds replays passed k x t at replays_t missed =
-      let entry : e ≡ x = one_entry_is (slice_get (before ++ e ∷ es) (length before)) e x (here before es e) at in
-      let state : s ≡ t = one_state (replay image count before) s t replays (ap (replay image count) (sym (taken before (e ∷ es))) ∙ replays_t) in
+      let entry : e ≡ x = one_value (slice_get (before ++ e ∷ es) (length before)) e x (here before es e) at in
+      let state : s ≡ t = one_value (replay image count before) s t replays (ap (replay image count) (sym (taken before (e ∷ es))) ∙ replays_t) in
       let now : PassedHere C image t x = subst (PassedHere C image t) entry (subst (λ y. PassedHere C image y e) state passed) in
       now holds k missed
 

@@ -6,6 +6,7 @@ use Rattle.std.proofs.lemmas.Option.{same_Some}
 use Rattle.memory_bytes.specs.Maps.{nothing}
 use Rattle.rv32_image.specs.Image.{LoadedImage}
 use Rattle.rv32_image.specs.Version.{limits_of}
+use Rattle.rv32_image.proofs.SmallFacts.{one_value}
 use Rattle.spec_history.specs.declared.entry.Entry.{Entry}
 use Rattle.spec_history.specs.declared.entry.What.{What}
 use Rattle.spec_history.specs.declared.entry.What.TheVariants.{Start, Load, Store, Hurt, Cancel, Restart, Publish, Commit, Fault}
@@ -98,9 +99,6 @@ hurt_keeps epoch (Some c) = refl
 abbrev pub after : CoreState → CoreState
 after d = record d { own = nothing; outside = nothing; straight = true }
 
-pub one_core : (o : Option CoreState) (a b : CoreState) → o ≡ Some a → o ≡ Some b → a ≡ b
-one_core o a b one two = cc
-
 -- a core that is there was there, with the same bytes
 pub record Was (was : Option CoreState) (c : CoreState) : Type 0 where
   pub core : CoreState
@@ -111,7 +109,7 @@ pub was_there : (now was : Option CoreState) (c : CoreState) → now ≡ Some c 
 was_there None was c is same = absurd cc
 was_there (Some x) None c is same = absurd cc
 was_there (Some x) (Some d) c is same =
-    let mine : c ≡ x = one_core (Some x) c x is refl in
+    let mine : c ≡ x = one_value (Some x) c x is refl in
     record { core = d; at = refl; bytes = ap bytes_of mine ∙ same_Some (bytes_of x) (bytes_of d) same }
 
 -- ---- hurt, and not hurt before
@@ -126,19 +124,19 @@ IsHurtIn t j = (e : CoreState) → t.cores j ≡ Some e → e.hurt ≡ true
 pub hurt_here : (epoch : ℕ) (o : Option CoreState) (e : CoreState) → hurt_at epoch o ≡ Some e → ((d : CoreState) → o ≡ Some d → d.epoch ≡ epoch) → e.hurt ≡ true
 hurt_here epoch None e is this = absurd cc
 hurt_here epoch (Some d) e is this =
-    let same = one_core (hurt_at epoch (Some d)) e (record d { hurt = d.hurt || (d.epoch == epoch) }) is refl in
+    let same = one_value (hurt_at epoch (Some d)) e (record d { hurt = d.hurt || (d.epoch == epoch) }) is refl in
     ap (λ (y : CoreState). y.hurt) same ∙ (ap (λ b. d.hurt || b) (eq-eqb d.epoch epoch (this d refl)) ∙ or_right d.hurt true refl)
 
 pub hurt_still : (epoch : ℕ) (o : Option CoreState) (e : CoreState) → hurt_at epoch o ≡ Some e → ((d : CoreState) → o ≡ Some d → d.hurt ≡ true) → e.hurt ≡ true
 hurt_still epoch None e is this = absurd cc
 hurt_still epoch (Some d) e is this =
-    let same = one_core (hurt_at epoch (Some d)) e (record d { hurt = d.hurt || (d.epoch == epoch) }) is refl in
+    let same = one_value (hurt_at epoch (Some d)) e (record d { hurt = d.hurt || (d.epoch == epoch) }) is refl in
     ap (λ (y : CoreState). y.hurt) same ∙ or_left d.hurt (d.epoch == epoch) (this d refl)
 
 pub unhurt_was : (epoch : ℕ) (o : Option CoreState) (e : CoreState) → hurt_at epoch o ≡ Some e → e.hurt ≡ false → (d : CoreState) × (o ≡ Some d) × (d.hurt ≡ false)
 unhurt_was epoch None e is free = absurd cc
 unhurt_was epoch (Some d) e is free =
-    let same = one_core (hurt_at epoch (Some d)) e (record d { hurt = d.hurt || (d.epoch == epoch) }) is refl in
+    let same = one_value (hurt_at epoch (Some d)) e (record d { hurt = d.hurt || (d.epoch == epoch) }) is refl in
     (d, refl, (or_parts d.hurt (d.epoch == epoch) (ap (λ (y : CoreState). y.hurt) (sym same) ∙ free)).0)
 
 -- the cores after a violation that a core notes which runs

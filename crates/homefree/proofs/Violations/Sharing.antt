@@ -7,6 +7,7 @@ use Rattle.rv32_image.specs.Image.{LoadedImage}
 use Rattle.rv32_image.specs.Version.{limits_of}
 use Rattle.rv32_image.specs.declared.version.Version.{Version}
 use Rattle.rv32_image.specs.declared.version.Version.TheVariants.{One, Two}
+use Rattle.rv32_image.proofs.Bounds.{place_in, number_below}
 use Rattle.spec_history.specs.declared.entry.What.{What}
 use Rattle.spec_history.specs.declared.entry.What.TheVariants.{Load, Store}
 use Rattle.spec_history.specs.FlatState.{CoreState}
@@ -45,19 +46,11 @@ in_line : (v : Version) (a b : ℕ) → b / (limits_of v).line_length ≡ a / (l
 in_line One a b same = omega (arith, same)
 in_line Two a b same = omega (arith, same)
 
-place_below : (v : Version) (a : ℕ) → a % (limits_of v).line_length < (limits_of v).line_length
-place_below One a = omega arith
-place_below Two a = omega arith
-
 -- lines by their first bytes, and by their numbers
 same_number : (v : Version) (a b : ℕ) → (limits_of v).line_length * (a / (limits_of v).line_length) ≡ (limits_of v).line_length * (b / (limits_of v).line_length)
     → a / (limits_of v).line_length ≡ b / (limits_of v).line_length
 same_number One a b same = omega (arith, same)
 same_number Two a b same = omega (arith, same)
-
-number_below : (v : Version) (a size : ℕ) → a < size → size % (limits_of v).line_length ≡ 0 → a / (limits_of v).line_length < size / (limits_of v).line_length
-number_below One a size below whole = omega (arith, below, whole)
-number_below Two a size below whole = omega (arith, below, whole)
 
 line_below : (v : Version) (a b size : ℕ) → a / (limits_of v).line_length ≡ b / (limits_of v).line_length → a < size → size % (limits_of v).line_length ≡ 0 → b < size
 line_below One a b size same below whole = omega (arith, same, below, whole)
@@ -66,7 +59,7 @@ line_below Two a b size same below whole = omega (arith, same, below, whole)
 -- a line of which a byte passes
 has_byte : (image : LoadedImage) (line a : ℕ) (test : ℕ → Bool) → line ≡ a / line_length image → test a ≡ true → line_has image line test ≡ true
 has_byte image line a test at passes =
-    one_passes (line_length image) (λ x. test (line * line_length image + x)) (a % line_length image) (place_below image.version a)
+    one_passes (line_length image) (λ x. test (line * line_length image + x)) (a % line_length image) (place_in image.version a)
     (ap test (ap (λ n. n * line_length image + a % line_length image) at ∙ in_line image.version a a refl) ∙ passes)
 
 line_in : (image : LoadedImage) (count : ℕ) (shape : Shape) (a b : ℕ) → shape ≡ shape_of image count → view.line_of shape a ≡ view.line_of shape b

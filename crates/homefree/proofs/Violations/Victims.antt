@@ -7,6 +7,8 @@ use Rattle.rv32_image.specs.Image.{LoadedImage}
 use Rattle.rv32_image.specs.Version.{limits_of}
 use Rattle.rv32_image.specs.declared.version.Version.{Version}
 use Rattle.rv32_image.specs.declared.version.Version.TheVariants.{One, Two}
+use Rattle.rv32_image.proofs.Bounds.{place_in}
+use Rattle.rv32_image.proofs.SmallFacts.{one_value, none_and_some, value_of}
 use Rattle.spec_history.specs.declared.entry.Entry.{Entry}
 use Rattle.spec_history.specs.declared.entry.What.{What}
 use Rattle.spec_history.specs.declared.entry.What.TheVariants.{Load, Store, Hurt, Publish}
@@ -31,24 +33,17 @@ use Rattle.homefree.proofs.State.Accesses.{stored_accessed}
 use Rattle.homefree.proofs.Violations.Knowing.{next_what, PassedHere, AllKnown}
 use Rattle.homefree.proofs.State.Others.{spared_core}
 use Rattle.homefree.proofs.Violations.Sharing.{line_length, is_met, load_crowded, store_crowded}
-use Rattle.homefree.proofs.Violations.Notices.{writes_none, Bytes, bytes_of, Keeps, hurt_keeps, after, one_core, was_there, IsNoLess, IsHurtIn, hurt_here, hurt_still, unhurt_was, hurt_effect, all_known}
+use Rattle.homefree.proofs.Violations.Notices.{writes_none, Bytes, bytes_of, Keeps, hurt_keeps, after, was_there, IsNoLess, IsHurtIn, hurt_here, hurt_still, unhurt_was, hurt_effect, all_known}
 
 -- ---- a core that a call violates
 
-no_attempt : (o : Option Attempt) (x : Attempt) → o ≡ Some x → o ≡ None → ⊥
-no_attempt o x some none = cc
-
 runs_by : (m : ℕ → ℕ) (v : StoreView) (k : ℕ) (core : Option CoreState) (x : Attempt) → AgreesAt m v k core → v.attempt k ≡ Some x
     → (d : CoreState) × (core ≡ Some d) × AgreesCore m v k d
-runs_by m v k None x f has = absurd (no_attempt (v.attempt k) x has (f.idle refl))
+runs_by m v k None x f has = absurd (none_and_some (v.attempt k) x (f.idle refl) has)
 runs_by m v k (Some d) x f has = elim (cases_Bool d.hurt) [
-  | inl is ↦ absurd (no_attempt (v.attempt k) x has (f.hurt d refl is))
+  | inl is ↦ absurd (none_and_some (v.attempt k) x (f.hurt d refl is) has)
   | inr unhurt ↦ (d, refl, f.runs d refl unhurt)
 ]
-
-some_of : (o : Option ℕ) → is_some o ≡ true → (byte : ℕ) × (o ≡ Some byte)
-some_of None is = absurd cc
-some_of (Some byte) is = (byte, refl)
 
 epoch_is : (epoch other : ℕ) → Hurt epoch ≡ Hurt other → epoch ≡ other
 epoch_is epoch other is = cc
@@ -75,10 +70,6 @@ own_place : (v : Version) (a b : ℕ) → (limits_of v).line_length * (a / (limi
     → b / (limits_of v).line_length * (limits_of v).line_length + a % (limits_of v).line_length ≡ a
 own_place One a b same = omega (arith, same)
 own_place Two a b same = omega (arith, same)
-
-place_in : (v : Version) (a : ℕ) → a % (limits_of v).line_length < (limits_of v).line_length
-place_in One a = omega arith
-place_in Two a = omega arith
 
 line_inside : (v : Version) (a x size : ℕ) → x < (limits_of v).line_length → a < size → size % (limits_of v).line_length ≡ 0
     → a / (limits_of v).line_length * (limits_of v).line_length + x < size
@@ -115,7 +106,7 @@ module _ (C : Type 0) (image : LoadedImage) (count : ℕ) (s : FlatState) (v : S
   }
 
   read_within : (k : ℕ) (d : CoreState) → s.cores k ≡ Some d → (x : ℕ) → is_some (d.outside x) ≡ true → x < image.size
-  read_within k d runs x is = let some = some_of (d.outside x) is in (kept.core k d runs).within x some.0 some.1
+  read_within k d runs x is = let some = value_of (d.outside x) is in (kept.core k d runs).within x some.0 some.1
 
   -- ---- the states in a turn
 
@@ -128,7 +119,7 @@ module _ (C : Type 0) (image : LoadedImage) (count : ℕ) (s : FlatState) (v : S
   first_now : (hurt : ℕ → Bool) → First hurt 0 s
   first_now hurt = record {
     keeps = λ j. refl;
-    no_less = λ j d e was is free. ap (λ (y : CoreState). y.hurt) (one_core (s.cores j) d e was is) ∙ free;
+    no_less = λ j d e was is free. ap (λ (y : CoreState). y.hurt) (one_value (s.cores j) d e was is) ∙ free;
     told = λ j none. absurd (omega (arith, none));
   }
 
@@ -138,7 +129,7 @@ module _ (C : Type 0) (image : LoadedImage) (count : ℕ) (s : FlatState) (v : S
   epoch_there : (x : StoreView) (t : FlatState) (j : ℕ) → Victim x j → Keeps s t j → (d : CoreState) → t.cores j ≡ Some d → d.epoch ≡ epoch_on s.cores j
   epoch_there x t j q keeps d is =
       let was = was_there (t.cores j) (s.cores j) d is keeps in
-      ap (λ (b : Bytes). b.epoch) was.bytes ∙ (ap (λ (y : CoreState). y.epoch) (one_core (s.cores j) was.core q.core was.at q.runs) ∙ sym (epoch_of_victim x j q))
+      ap (λ (b : Bytes). b.epoch) was.bytes ∙ (ap (λ (y : CoreState). y.epoch) (one_value (s.cores j) was.core q.core was.at q.runs) ∙ sym (epoch_of_victim x j q))
 
   first_tells : (x : StoreView) (hurt : ℕ → Bool) → ((j : ℕ) → hurt j ≡ true → Victim x j) → (j : ℕ) (t : FlatState) → hurt j ≡ true → First hurt j t
       → First hurt (suc j) (effect image t (record { by = by; what = Hurt (epoch_on s.cores j) }))
@@ -229,7 +220,7 @@ module _ (C : Type 0) (image : LoadedImage) (count : ℕ) (s : FlatState) (v : S
   straight_now : (first hurt : ℕ → Bool) → c.straight ≡ true → ((j : ℕ) → first j ≡ false) → Second first hurt 0 s
   straight_now first hurt is none = record {
     others = λ j other. refl;
-    no_less = λ j other d e was now free. ap (λ (y : CoreState). y.hurt) (one_core (s.cores j) d e was now) ∙ free;
+    no_less = λ j other d e was now free. ap (λ (y : CoreState). y.hurt) (one_value (s.cores j) d e was now) ∙ free;
     core = c;
     runs = at;
     epoch = refl;
@@ -250,7 +241,7 @@ module _ (C : Type 0) (image : LoadedImage) (count : ℕ) (s : FlatState) (v : S
   found_by x t j k e q runs epoch keeps =
       let was = was_there (t.cores k) (s.cores k) e runs keeps in
       let same : k ≡ j = kept.apart k j was.core q.core was.at q.runs (sym (ap (λ (b : Bytes). b.epoch) was.bytes) ∙ (epoch ∙ epoch_of_victim x j q)) in
-      let it : was.core ≡ q.core = one_core (s.cores k) was.core q.core was.at (ap s.cores same ∙ q.runs) in record {
+      let it : was.core ≡ q.core = one_value (s.cores k) was.core q.core was.at (ap s.cores same ∙ q.runs) in record {
         same = same;
         reads = λ a. ap (λ o. option_and_then (λ (y : CoreState). y.outside a) o) runs ∙ (ap (λ (b : Bytes). b.outside a) was.bytes ∙ ap (λ (y : CoreState). y.outside a) it);
         stores = λ a. ap (λ o. option_and_then (λ (y : CoreState). y.own a) o) runs ∙ (ap (λ (b : Bytes). b.own a) was.bytes ∙ ap (λ (y : CoreState). y.own a) it);
@@ -263,7 +254,7 @@ module _ (C : Type 0) (image : LoadedImage) (count : ℕ) (s : FlatState) (v : S
       → epoch_on s.cores j ≡ e.epoch → Found t j k q.core
   found_second first hurt x t j k e q other p runs epoch = elim (cases_eq k by) [
     | inl is ↦
-        (let me = one_core (t.cores by) e p.core (ap t.cores (sym is) ∙ runs) p.runs in
+        (let me = one_value (t.cores by) e p.core (ap t.cores (sym is) ∙ runs) p.runs in
         absurd (other (kept.apart j by q.core c q.runs at (sym (epoch_of_victim x j q) ∙ (epoch ∙ (ap (λ (y : CoreState). y.epoch) me ∙ p.epoch))))))
     | inr away ↦ found_by x t j k e q runs (sym epoch) (p.others k away)
   ]
@@ -321,7 +312,7 @@ module _ (C : Type 0) (image : LoadedImage) (count : ℕ) (s : FlatState) (v : S
     first = λ what same further.
         let me = caller hurt n t p in
         let which : address ≡ further.address = store_address address width value further.address further.width further.value (some_store (Store address width value) what same ∙ further.stores) in
-        let bytes = ap bytes_of (one_core (t.cores by) further.core me.core further.runs me.at) ∙ me.bytes in
+        let bytes = ap bytes_of (one_value (t.cores by) further.core me.core further.runs me.at) ∙ me.bytes in
         let own = has_stored t address further.core within bytes (ap (λ a. line_has image (line_number image a) (λ b. is_some (further.core.own b))) which ∙ further.before) in
         true≢false (sym is ∙ l.told own j);
   }
@@ -330,7 +321,7 @@ module _ (C : Type 0) (image : LoadedImage) (count : ℕ) (s : FlatState) (v : S
       → Guards x j (is_accessed address width) ⊎ IsCrowded x j address → IsKnown image t by k (Some (Store address width value))
   straight_known first hurt x t n j k address width value q p f meets = record {
     kind = store_kind x t j k address width value q f meets;
-    first = λ what same further. true≢false (sym p.straight ∙ (ap (λ (y : CoreState). y.straight) (one_core (t.cores by) p.core further.core p.runs further.runs) ∙ further.speculates));
+    first = λ what same further. true≢false (sym p.straight ∙ (ap (λ (y : CoreState). y.straight) (one_value (t.cores by) p.core further.core p.runs further.runs) ∙ further.speculates));
   }
 
   own_still : (hurt : ℕ → Bool) (n : ℕ) (t : FlatState) → First hurt n t → (a : ℕ) → own_bytes (t.cores by) a ≡ c.own a
@@ -363,9 +354,9 @@ module _ (C : Type 0) (image : LoadedImage) (count : ℕ) (s : FlatState) (v : S
   reader : (t : FlatState) (what : What) (k : ℕ) (e : CoreState) → t.cores by ≡ Some e → e.epoch ≡ c.epoch → ((j : ℕ) → j ≢ by → Keeps s t j) → ((j : ℕ) → j ≢ by → IsNoLess s t j)
       → IsMissed image t (record { by = by; what = what }) k → Reader t what k
   reader t what k e there epoch keeps no_less missed =
-      let mine_too = one_core (t.cores by) missed.causer e missed.causer_runs there in
+      let mine_too = one_value (t.cores by) missed.causer e missed.causer_runs there in
       let above : c.epoch < missed.core.epoch = subst (λ n. n < missed.core.epoch) (ap (λ (y : CoreState). y.epoch) mine_too ∙ epoch) missed.later in
-      let other : k ≢ by = λ me. no_self e.epoch c.epoch missed.core.epoch (ap (λ (y : CoreState). y.epoch) (one_core (t.cores by) e missed.core there (ap t.cores (sym me) ∙ missed.runs))) epoch above in
+      let other : k ≢ by = λ me. no_self e.epoch c.epoch missed.core.epoch (ap (λ (y : CoreState). y.epoch) (one_value (t.cores by) e missed.core there (ap t.cores (sym me) ∙ missed.runs))) epoch above in
       let was = was_there (t.cores k) (s.cores k) missed.core missed.runs (keeps k other) in
       let d = was.core in
       let free = no_less k other d missed.core was.at missed.runs missed.unhurt in
@@ -375,7 +366,7 @@ module _ (C : Type 0) (image : LoadedImage) (count : ℕ) (s : FlatState) (v : S
       let place : ℕ = line_number image missed.at * long + found.0 in
       let read : is_some (d.outside missed.at) ≡ true =
       ap (λ o. is_some o) (sym (ap (λ (b : Bytes). b.outside missed.at) was.bytes) ∙ sym (ap (λ o. option_and_then (λ (y : CoreState). y.outside missed.at) o) missed.runs)) ∙ two.0 in
-      let some = some_of (d.outside missed.at) read in record {
+      let some = value_of (d.outside missed.at) read in record {
         core = d;
         runs = was.at;
         unharmed = free;
@@ -495,7 +486,7 @@ module _ (C : Type 0) (image : LoadedImage) (count : ℕ) (s : FlatState) (v : S
       let h = others.hurts j is in
       let away : j ≢ by = λ me. true≢false (sym is ∙ (ap hurt me ∙ others.not_itself)) in
       elim (cases_Bool (first j)) [
-        | inl gone ↦ absurd (no_attempt (x.attempt j) h.attempt h.had (p.others.hurts j gone).none)
+        | inl gone ↦ absurd (none_and_some (x.attempt j) h.attempt (p.others.hurts j gone).none h.had)
         | inr stays ↦
             (let spared = p.others.spares j away stays in
             let found = runs_by s.committed v j (s.cores j) h.attempt (agrees.core going j) (sym spared.attempt ∙ h.had) in record {

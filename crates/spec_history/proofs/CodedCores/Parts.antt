@@ -4,6 +4,7 @@ use Rattle.std.proofs.lemmas.Bool.{cases_eq}
 use Rattle.std.proofs.Math.Path.{fun_ext}
 use Rattle.std.proofs.lemmas.Grind.{common_steps}
 use Rattle.rv32_image.specs.Image.{LoadedImage}
+use Rattle.rv32_image.proofs.SmallFacts.{one_value}
 use Rattle.rv32_exec.specs.declared.sequential.End.{End}
 use Rattle.rv32_exec.specs.Hart.{HartState}
 use Rattle.spec_history.specs.declared.cores.Core.{Core}
@@ -33,14 +34,11 @@ states_set cores i core below k = elim (cases_eq k i) [
   | inr other ↦ ap (option_and_then core_of) (get_set_other cores i k core other) ∙ sym (with_core_other (cores_of cores) i (core_of core) k other)
 ]
 
-pub same_there : (o : Option Core) (l m : Core) → o ≡ Some l → o ≡ Some m → l ≡ m
-same_there o l m first second = cc
-
 -- a fact of all cores stays, where it holds of the one that changed
 pub each_set : (P : Core → Type 0) (cores : List Core) (i : ℕ) (core : Core) → i < length cores → P core
     → ((k : ℕ) (l : Core) → slice_get cores k ≡ Some l → P l) → (k : ℕ) (l : Core) → slice_get (set cores i core) k ≡ Some l → P l
 each_set P cores i core below here all k l at = elim (cases_eq k i) [
-  | inl e ↦ let same : core ≡ l = same_there _ core l (get_set_same cores i core below) (sym (ap (slice_get (set cores i core)) e) ∙ at) in rw (← same) here
+  | inl e ↦ let same : core ≡ l = one_value _ core l (get_set_same cores i core below) (sym (ap (slice_get (set cores i core)) e) ∙ at) in rw (← same) here
   | inr other ↦ all k l (sym (get_set_other cores i k core other) ∙ at)
 ]
 

@@ -3,6 +3,7 @@ use Rattle.std.proofs.Common.{◌≡◌, ℕ, ◌+◌, ◌<◌, nat_lt, Bool, tr
 use Rattle.std.proofs.lemmas.Bool.{cases_eq, and_parts}
 use Rattle.std.proofs.lemmas.Option.{slice_get_within}
 use Rattle.rv32_image.specs.Image.{LoadedImage}
+use Rattle.rv32_image.proofs.SmallFacts.{one_value}
 use Rattle.rv32_exec.specs.Hart.{HartState, stepped}
 use Rattle.rv32_exec.specs.NextEvent.{next_event}
 use Rattle.rv32_exec.specs.Sequential.{exits}
@@ -21,7 +22,7 @@ use Rattle.spec_history.specs.Cores.{core_of, core_with, IsNext, IsCoreOf, HasRo
 use Rattle.spec_history.specs.Machine.{cores_of, state_of, count_of_cores, IsFit, IsLegal, IsAsBefore, HasRoomAt, Becomes, after}
 use Rattle.spec_history.proofs.OneEntry.Legal.{IsLegalEntry, legal_entry}
 use Rattle.spec_history.proofs.CodedCores.CoreStates.{core_there, state_there, attempt_of}
-use Rattle.spec_history.proofs.CodedCores.Parts.{get_set_same, get_set_other, same_there, states_set, fit_set, same_state}
+use Rattle.spec_history.proofs.CodedCores.Parts.{get_set_same, get_set_other, states_set, fit_set, same_state}
 use Rattle.spec_history.proofs.Replay.Replays.{effect-on}
 
 abbrev pub IsOfCore : What → Type 0
@@ -97,25 +98,21 @@ finds_core m by what core of fit is at =
       next = of_image.next attempt.0 attempt.1;
     }
 
--- the attempt that the code reads is the one that was found
-same_attempt : (attempt : Option FlatAttempt) (t u : FlatAttempt) → attempt ≡ Some t → attempt ≡ Some u → t ≡ u
-same_attempt attempt t u first second = cc
-
 pub event_now : (m : Machine) (by : ℕ) (what : What) (core : Core) (f : FindsCore m by what core) (t : FlatAttempt) → core.attempt ≡ Some t
     → t.next.now ≡ (next_event m.image f.found.state.hart).now
 event_now m by what core f t is =
-    let same = same_attempt core.attempt f.attempt t f.attempted is in
+    let same = one_value core.attempt f.attempt t f.attempted is in
     sym (ap (λ (x : FlatAttempt). x.next.now) same) ∙ (f.next.now ∙ ap (λ (x : CoreState). (next_event m.image x.hart).now) f.stands)
 
 pub event_at : (m : Machine) (by : ℕ) (what : What) (core : Core) (f : FindsCore m by what core) (t : FlatAttempt) → core.attempt ≡ Some t
     → t.next.at ≡ (next_event m.image f.found.state.hart).at
 event_at m by what core f t is =
-    let same = same_attempt core.attempt f.attempt t f.attempted is in
+    let same = one_value core.attempt f.attempt t f.attempted is in
     sym (ap (λ (x : FlatAttempt). x.next.at) same) ∙ (f.next.at ∙ ap (λ (x : CoreState). (next_event m.image x.hart).at) f.stands)
 
 pub epoch_is : (m : Machine) (by : ℕ) (what : What) (core : Core) (f : FindsCore m by what core) (t : FlatAttempt) → core.attempt ≡ Some t → t.epoch ≡ f.found.state.epoch
 epoch_is m by what core f t is =
-    let same = same_attempt core.attempt f.attempt t f.attempted is in
+    let same = one_value core.attempt f.attempt t f.attempted is in
     sym (ap (λ (x : FlatAttempt). x.epoch) same) ∙ ap (λ (x : CoreState). x.epoch) f.stands
 
 -- ---- what is published
@@ -257,5 +254,5 @@ pub room_at : (m m' : Machine) (by : ℕ) (what : What) (new : Core) → by < le
 room_at m m' by what new below cores room = record {
   room = λ core at.
       let there = get_set_same m.cores.items by new below in
-      let same : new ≡ core = same_there (slice_get m'.cores.items by) new core (ap (λ xs. slice_get xs by) cores ∙ there) at in rw (← same) room;
+      let same : new ≡ core = one_value (slice_get m'.cores.items by) new core (ap (λ xs. slice_get xs by) cores ∙ there) at in rw (← same) room;
 }

@@ -2,6 +2,7 @@
 use Rattle.std.proofs.Common.{◌≡◌, ℕ, ◌+◌, ◌<◌, ◌==◌, ◌||◌, ◌&&◌, not, is_some, ◌≢◌, Bool, true, false, cond, List, slice_index, Option, Some, None, unwrap_or, refl, sym, ap, subst, ◌∙◌, inl, inr, true≢false, add-one, arith, ne_eqb, eqb-true}
 use Rattle.std.proofs.lemmas.Bool.{cases_Bool, cases_eq, or_parts}
 use Rattle.std.proofs.lemmas.Option.{none-some}
+use Rattle.rv32_image.proofs.SmallFacts.{one_value}
 use Rattle.rv32_exec.specs.declared.stop.Stop.TheVariants as stop
 use Rattle.rv32_exec.specs.declared.sequential.End.{End}
 use Rattle.rv32_exec.specs.declared.sequential.End.TheVariants as end
@@ -21,7 +22,7 @@ use Rattle.spec_history.specs.Laws.{Holds, IsKeptCore, IsKept, IsPublished, Ends
 use Rattle.memory_bytes.proofs.Bytes.{number_at_same}
 use Rattle.spec_history.proofs.OneEntry.Progress.{comes_to_event, comes_past_access, outcome_there, published_memory-is, published_memory-exit}
 use Rattle.spec_history.proofs.OneEntry.Legal.{none_below}
-use Rattle.spec_history.proofs.OneEntry.Keeping.{with_core_same, with_core_other, at_core, same_core, apart_with, apart_changed, keeps_with, moves_on, begun_kept}
+use Rattle.spec_history.proofs.OneEntry.Keeping.{with_core_same, with_core_other, at_core, apart_with, apart_changed, keeps_with, moves_on, begun_kept}
 use Rattle.spec_history.proofs.OneEntry.Accesses.{load_goes_on, load_counts, store_goes_on, store_within, holds_stored, load_kept, store_kept}
 use Rattle.spec_history.proofs.OneEntry.Going.{Shown, Going, Spares, same_spares, rest_kept, keeps_changed, shown_with, others_speculate, shown_straight, homefree_run, straight_kept}
 
@@ -41,7 +42,7 @@ goes_on image count s by c new committed published kept at same spares is_kept s
 }
 
 speculated : (s : FlatState) (by : ℕ) (c : CoreState) → s.cores by ≡ Some c → c.straight ≡ false → (d : CoreState) → s.cores by ≡ Some d → d.straight ≡ false
-speculated s by c at speculative d at' = let same : c ≡ d = same_core (s.cores by) c d at at' in sym (ap (λ (x : CoreState). x.straight) same) ∙ speculative
+speculated s by c at speculative d at' = let same : c ≡ d = one_value (s.cores by) c d at at' in sym (ap (λ (x : CoreState). x.straight) same) ∙ speculative
 
 -- ---- what a load and a store do, straight or not
 

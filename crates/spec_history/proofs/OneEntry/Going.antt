@@ -1,6 +1,7 @@
 -- What a legal entry keeps of the whole machine, while the loop is not over.
 use Rattle.std.proofs.Common.{◌≡◌, ◌≢◌, ℕ, ◌≤◌, true, false, List, length, slice_index, Option, Some, unwrap_or, refl, sym, ap, subst, ◌∙◌, inl, inr, true≢false, arith}
 use Rattle.std.proofs.lemmas.Bool.{cases_eq, cases_Bool}
+use Rattle.rv32_image.proofs.SmallFacts.{one_value}
 use Rattle.rv32_exec.specs.declared.sequential.End.TheVariants as end
 use Rattle.rv32_image.specs.Image.{LoadedImage}
 use Rattle.rv32_exec.specs.Hart.{HartState, start_of}
@@ -9,7 +10,7 @@ use Rattle.memory_bytes.specs.Maps.{over}
 use Rattle.spec_history.specs.FlatState.{CoreState, FlatState}
 use Rattle.spec_history.specs.Effect.{with_core}
 use Rattle.spec_history.specs.Laws.{Holds, IsKeptCore, IsKept}
-use Rattle.spec_history.proofs.OneEntry.Keeping.{at_core, with_core_other, with_core_same, same_core, Keeps, keeps_with, moves_on}
+use Rattle.spec_history.proofs.OneEntry.Keeping.{at_core, with_core_other, with_core_same, Keeps, keeps_with, moves_on}
 
 -- how committed memory came about
 pub record Shown (image : LoadedImage) (committed : ℕ → ℕ) (homefree published : ℕ) (cores : ℕ → Option CoreState) : Type 0 where
@@ -139,7 +140,7 @@ memory_same image h h' memory memory' runs = cc
 none_straight : (image : LoadedImage) (count : ℕ) (s : FlatState) (by : ℕ) (c : CoreState) → IsKept image count s → s.cores by ≡ Some c → c.epoch ≡ s.homefree → c.straight ≡ false
     → (k : ℕ) (d : CoreState) → s.cores k ≡ Some d → d.straight ≡ false
 none_straight image count s by c kept at_by homefree speculative k d at = elim (cases_eq k by) [
-  | inl e ↦ let same : c ≡ d = same_core (s.cores by) c d at_by (sym (ap s.cores e) ∙ at) in sym (ap (λ (x : CoreState). x.straight) same) ∙ speculative
+  | inl e ↦ let same : c ≡ d = one_value (s.cores by) c d at_by (sym (ap s.cores e) ∙ at) in sym (ap (λ (x : CoreState). x.straight) same) ∙ speculative
   | inr other ↦ elim (cases_Bool d.straight) [
     | inl straight ↦ absurd (others_speculate image count s by c kept at_by homefree k d other at straight)
     | inr is ↦ is

@@ -3,6 +3,7 @@ use Rattle.std.proofs.Common.{◌≡◌, ◌≢◌, ◌⊎◌, ℕ, ◌+◌, ◌
 use Rattle.std.proofs.lemmas.Bool.{cases_eq}
 use Rattle.std.proofs.lemmas.Bool.Decides.{nat_tests}
 use Rattle.rv32_image.specs.Image.{LoadedImage}
+use Rattle.rv32_image.proofs.SmallFacts.{one_value}
 use Rattle.rv32_exec.specs.Hart.{start_of}
 use Rattle.rv32_exec.specs.Sequential.{Runs, after_steps}
 use Rattle.memory_bytes.specs.Maps.{first_of, read_outside}
@@ -24,9 +25,6 @@ with_core_other cores by core k other = ap (λ b. cond b core (cores k)) (ne_eqb
 
 pub with_core_same : (cores : ℕ → Option CoreState) (by : ℕ) (core : Option CoreState) → with_core cores by core by ≡ core
 with_core_same cores by core = ap (λ b. cond b core (cores by)) (eq-eqb by by refl)
-
-pub same_core : (core : Option CoreState) (c d : CoreState) → core ≡ Some c → core ≡ Some d → c ≡ d
-same_core core c d first second = cc
 
 -- no two cores run the same epoch
 abbrev pub IsApart : (ℕ → Option CoreState) → Type 0
@@ -54,7 +52,7 @@ pub apart_changed : (cores : ℕ → Option CoreState) (by : ℕ) (core new : Co
     → IsApart cores → IsApart (with_core cores by (Some new))
 apart_changed cores by core new runs same apart =
     apart_with cores by (Some new)
-    (λ c is k d other at_k clash. let epoch : c.epoch ≡ core.epoch = ap (λ (x : CoreState). x.epoch) (same_core (Some new) c new is refl) ∙ same in
+    (λ c is k d other at_k clash. let epoch : c.epoch ≡ core.epoch = ap (λ (x : CoreState). x.epoch) (one_value (Some new) c new is refl) ∙ same in
     other (apart k by d core at_k runs (sym clash ∙ epoch)))
     apart
 

@@ -1,6 +1,7 @@
 -- What a legal entry tells.
 use Rattle.std.proofs.Common.{◌≡◌, ◌≢◌, ℕ, zero, suc, ◌<◌, ◌==◌, ◌&&◌, not, Bool, true, false, cond, is_some, Option, Some, None, refl, sym, ap, ◌∙◌, inl, inr, true≢false, arith, ne_eqb, eq-eqb, eqb-true}
 use Rattle.std.proofs.lemmas.Bool.{cases_eq, and_parts, or_parts, not-false}
+use Rattle.rv32_image.proofs.SmallFacts.{none_of}
 use Rattle.rv32_exec.specs.declared.stop.Stop.{Stop}
 use Rattle.rv32_exec.specs.declared.stop.Stop.TheVariants as stop
 use Rattle.rv32_image.specs.Image.{LoadedImage}
@@ -63,10 +64,6 @@ passes : (b : Bool) (refusal : Illegal) (rest : Option Illegal) → cond b (Some
 passes true refusal rest is = absurd cc
 passes false refusal rest is = (refl, is)
 
-no_end : {A : Type 0} (o : Option A) → is_some o ≡ false → o ≡ None
-no_end None is = refl
-no_end (Some x) is = absurd cc
-
 pub legal_entry : (image : LoadedImage) (count : ℕ) (s : FlatState) (entry : Entry) → refusal_of image count s entry ≡ None → IsLegalEntry image count s entry
 unfolding refusal_of
 legal_entry image count s entry is =
@@ -78,7 +75,7 @@ legal_entry image count s entry is =
     let spares = passes _ _ _ value.1 in
     let cancelled = passes _ _ _ spares.1 in
     record {
-      going = no_end s.end over.0;
+      going = none_of s.end over.0;
       there = not-false _ there.0;
       next = not-false _ next.0;
       homefree = not-false _ homefree.0;

@@ -1,10 +1,10 @@
 use Rattle.std.proofs.Common.{◌≡◌, ◌+◌, ◌*◌, ◌<◌, ◌∙◌, ℕ, Option, sym, ap, subst, arith}
 use Rattle.rv32_image.specs.declared.version.Limits.{Limits}
 use Rattle.rv32_image.specs.Version.{limits_of}
+use Rattle.rv32_image.proofs.Bounds.{byte_within}
 use Rattle.conflicts.specs.Attempts.{first_read}
 use Rattle.conflict_findings.specs.Runs.{earlier}
 use Rattle.conflict_findings.proofs.Loading.{At, IsEarliest, Reads, earliest_more, none_so, some_so}
-use Rattle.conflict_findings.proofs.Searching.{byte_within}
 use Rattle.conflict_findings.proofs.lines.first_in.Goals as goal
 
 pub loop-x-preserved : goal.loop-x-preserved

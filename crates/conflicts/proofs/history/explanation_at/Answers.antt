@@ -1,11 +1,12 @@
 use Rattle.std.proofs.Common.{◌≡◌, None, false, true, get_or, refl, sym, ap, subst, ◌∙◌}
+use Rattle.rv32_image.proofs.SmallFacts.{one_value}
 use Rattle.rv32_exec.specs.Hart.{HartState}
 use Rattle.std.proofs.lemmas.Option.{slice_get-get_or}
 use Rattle.spec_history.specs.declared.entry.Entry.{Entry}
 use Rattle.spec_history.specs.declared.entry.What.TheVariants.{Start}
 use Rattle.spec_history.specs.Refusal.{refusal_of}
 use Rattle.spec_history.specs.View.{state_in}
-use Rattle.conflicts.proofs.Explaining.{no_victim, no_causer, explained_by, hurt_there, same_entry}
+use Rattle.conflicts.proofs.Explaining.{no_victim, no_causer, explained_by, hurt_there}
 use Rattle.conflicts.proofs.history.explanation_at.Goals as goal
 
 unfoldable none : Entry
@@ -16,7 +17,7 @@ unfolding none
 returns-in_default-core_at-clause-found c entry at legal =
     let here = get_or c.args.entries.now c.args.place none in
     let there = slice_get-get_or c.args.entries.now c.args.place none c.requires.place in
-    let legal_here = subst (λ e. refusal_of c.args.image.now c.args.cores (state_in c.args.flat.now) e ≡ None) (same_entry _ entry here at there) legal in
+    let legal_here = subst (λ e. refusal_of c.args.image.now c.args.cores (state_in c.args.flat.now) e ≡ None) (one_value _ entry here at there) legal in
     let clash : false ≡ true = no_victim c.args.image.now c.args.cores (state_in c.args.flat.now) here c.in-Hurt.epoch c.in-Hurt.is legal_here c.in_default-core_at.ensures in
     absurd cc
 
@@ -25,7 +26,7 @@ unfolding none
 returns-in_default-epoch-clause-found c entry at legal =
     let here = get_or c.args.entries.now c.args.place none in
     let there = slice_get-get_or c.args.entries.now c.args.place none c.requires.place in
-    let legal_here = subst (λ e. refusal_of c.args.image.now c.args.cores (state_in c.args.flat.now) e ≡ None) (same_entry _ entry here at there) legal in
+    let legal_here = subst (λ e. refusal_of c.args.image.now c.args.cores (state_in c.args.flat.now) e ≡ None) (one_value _ entry here at there) legal in
     let clash : false ≡ true = no_causer c.args.image.now c.args.cores (state_in c.args.flat.now) here c.in-Hurt.epoch c.in-Hurt.is legal_here (sym c.epoch.ensures ∙ c.in_default-epoch.is) in
     absurd cc
 

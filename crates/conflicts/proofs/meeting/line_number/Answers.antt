@@ -1,8 +1,9 @@
-use Rattle.std.proofs.Common.{◌≡◌, ◌<◌, ◌≤◌, ◌+◌, ◌*◌, ◌/◌, ◌%◌, ◌∙◌, ℕ, sym, ap, subst, arith}
+use Rattle.std.proofs.Common.{◌≡◌, ◌<◌, ◌≤◌, ◌+◌, ◌*◌, ◌/◌, ◌∙◌, ℕ, sym, ap, subst, arith}
 use Rattle.rv32_image.specs.declared.version.Limits.{Limits}
 use Rattle.rv32_image.specs.declared.version.Version.{Version}
 use Rattle.rv32_image.specs.declared.version.Version.TheVariants.{One, Two}
 use Rattle.rv32_image.specs.Version.{limits_of}
+use Rattle.rv32_image.proofs.Bounds.{number_below}
 use Rattle.conflicts.proofs.meeting.line_number.Goals as goal
 
 first : (v : Version) (addr : ℕ) → addr / (limits_of v).line_length * (limits_of v).line_length ≤ addr
@@ -26,12 +27,8 @@ returns-clause-within c below =
     let small : c.args.addr < 1048576 = omega (arith, below, c.version.ensures.limits.size_most) in
     subst (λ n. c.args.addr / n * long + long < 4294967296) (sym same) (room c.args.image.now.version c.args.addr small)
 
-inside : (v : Version) (addr size : ℕ) → addr < size → size % (limits_of v).line_length ≡ 0 → addr / (limits_of v).line_length < size / (limits_of v).line_length
-inside One addr size below whole = omega (arith, below, whole)
-inside Two addr size below whole = omega (arith, below, whole)
-
 pub returns-clause-inside : goal.returns-clause-inside
 returns-clause-inside c below =
     let long = (limits_of c.args.image.now.version).line_length in
     let same : c.limits.result.line_length ≡ long = ap (λ (l : Limits). l.line_length) (c.limits.ensures ∙ ap limits_of c.version.ensures.version) in
-    subst (λ n. c.args.addr / n < c.args.image.now.size / long) (sym same) (inside c.args.image.now.version c.args.addr c.args.image.now.size below c.version.ensures.limits.size_allowed.lines)
+    subst (λ n. c.args.addr / n < c.args.image.now.size / long) (sym same) (number_below c.args.image.now.version c.args.addr c.args.image.now.size below c.version.ensures.limits.size_allowed.lines)

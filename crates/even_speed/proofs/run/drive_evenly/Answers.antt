@@ -1,5 +1,6 @@
 use Rattle.std.proofs.Common.{◌*◌, suc, ◌<◌, None, Ok, Err, Some, List, ℕ, ◌≡◌, ◌+◌, ◌∷◌, [], length, cond, false, ◌==◌, ◌≢◌, not, refl, sym, ap, subst, ◌∙◌, arith}
 use Rattle.std.proofs.lemmas.Result.{err_from_is_err_and}
+use Rattle.rv32_image.proofs.Bounds.{most_few}
 use Rattle.rv32_exec.specs.declared.sequential.End.{End}
 use Rattle.run_ledger.specs.declared.counts.Counts.{Counts}
 use Rattle.homefree.specs.declared.answer.Answer.{Answer}
@@ -10,7 +11,6 @@ use Rattle.homefree.specs.Acted.{IfArrived}
 use Rattle.homefree.specs.Driven.{Driver, driver}
 use Rattle.homefree.specs.Held.{harts_of}
 use Rattle.homefree.proofs.Books.Drives.{in_order, none_held, no_harts}
-use Rattle.violations.proofs.Opening.{most_few}
 use Rattle.even_speed.specs.declared.clock.Clock.{Clock}
 use Rattle.even_speed.specs.declared.clocks.Turn.{Turn}
 use Rattle.even_speed.specs.Account.{WastesNone}

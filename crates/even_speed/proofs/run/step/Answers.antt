@@ -2,9 +2,9 @@ use Rattle.std.proofs.Common.{◌≡◌, ◌<◌, ℕ, List, length, Option, Som
 use Rattle.std.specs.Option.{option_copied}
 use Rattle.std.proofs.Common.{get_or}
 use Rattle.std.proofs.lemmas.Option.{get_or_from_slice_get, slice_get_read}
-use Rattle.violations.proofs.Opening.{most_few}
 use Rattle.std.proofs.lemmas.Result.{err_from_is_err_and}
 use Rattle.rv32_image.specs.Image.{LoadedImage}
+use Rattle.rv32_image.proofs.Bounds.{most_few}
 use Rattle.rv32_exec.specs.Arrival.{Arrival}
 use Rattle.homefree.specs.Acted.{IfArrived}
 use Rattle.homefree.specs.Driven.{arrival_of}

@@ -1,6 +1,7 @@
 use Rattle.std.proofs.Common.{◌≡◌, length, sym, ap, subst, ◌∙◌, rules, arith}
 use Rattle.rv32_image.specs.declared.version.Limits.{Limits}
 use Rattle.rv32_image.specs.Version.{limits_of}
+use Rattle.rv32_image.proofs.Bounds.{most_few}
 use Rattle.bus_states.specs.Bus.{Bus}
 use Rattle.bus_states.specs.Coherent.{IsCoherent}
 use Rattle.bus_states.specs.Views.{view_of, AreOrdered}
@@ -8,7 +9,7 @@ use Rattle.bus_states.proofs.AttemptRules.{opened-coherent, opened-is_fresh, ope
 use Rattle.violations.specs.Rule.{IsFresh}
 use Rattle.spec_bus.specs.Fresh.{fresh_bus, AreIdle}
 use Rattle.spec_bus.specs.Parts.{bus_of}
-use Rattle.spec_bus.proofs.Idle.{fresh_is, fresh_opened, most_few}
+use Rattle.spec_bus.proofs.Idle.{fresh_is, fresh_opened}
 use Rattle.spec_bus.proofs.cached.CachedBusEpochStore.fresh.Goals as goal
 
 bus-is : (c : goal.After-code) → bus_of c.code.result c.limits-limits.result c.in_ok-cores.cores.items c.in_ok-memory.memory.items ≡ fresh_bus c.args.image.now c.args.cores

@@ -1,7 +1,8 @@
 use Rattle.std.proofs.Common.{◌≡◌, length, slice_index, refl, sym, ap, ◌∙◌, arith, rules}
 use Rattle.rv32_image.specs.Version.{limits_of}
+use Rattle.rv32_image.proofs.Bounds.{most_few}
 use Rattle.violations.specs.Plain.{PlainView}
-use Rattle.violations.proofs.Opening.{fresh_settled, fresh_fit, idle_out, most_few}
+use Rattle.violations.proofs.Opening.{fresh_settled, fresh_fit, idle_out}
 use Rattle.violations.proofs.plain.PlainStoreEpochStore.fresh.Goals as goal
 
 pub invariant_of-result : goal.invariant_of-result

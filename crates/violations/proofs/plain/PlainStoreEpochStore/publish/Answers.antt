@@ -1,4 +1,5 @@
 use Rattle.std.proofs.Common.{◌≡◌, ◌<◌, length, false, slice_get, refl, sym, subst, ◌∙◌, arith}
+use Rattle.rv32_image.proofs.SmallFacts.{one_value}
 use Rattle.violations.specs.declared.core_state.CoreState.{CoreState}
 use Rattle.violations.specs.CoreState.{AreReaders, bytes_in}
 use Rattle.violations.specs.View.{MayPublish, attempt_of}
@@ -6,7 +7,6 @@ use Rattle.violations.specs.CoreSet.{is_in}
 use Rattle.violations.specs.Plain.{store_view}
 use Rattle.violations.specs.PlainInside.{view_of}
 use Rattle.violations.proofs.Changing.{state_there}
-use Rattle.violations.proofs.Calls.{some_same}
 use Rattle.violations.proofs.Publishing.{published_settled, published_fit, publishes, owned_readers}
 use Rattle.violations.proofs.plain.PlainStoreEpochStore.publish.Goals as goal
 
@@ -53,7 +53,7 @@ returns-clause-publishes c =
     let now = state_there states states c.args.core state refl below c.index_mut-state.ensures.value in
     let there = sym (dropped.kept c.args.core c.readers_of-hurt.ensures.others) ∙ now in
     let first = state_there p.states p.states c.args.core c.index.result.now refl was c.index.ensures in
-    let same : c.index.result.now ≡ state = some_same (slice_get p.states c.args.core) c.index.result.now state first there in
+    let same : c.index.result.now ≡ state = one_value (slice_get p.states c.args.core) c.index.result.now state first there in
     let readers = subst (λ (l : CoreState). AreReaders c.args.core (bytes_in l.own.cells) p.states hurt) same (rw c.as_slice.ensures.value at c.readers_of-hurt.ensures) in
     rw (← c.self.view_is) (publishes p c.args.core hurt c.commit.new.memory.items states state c.go_straight.new.self c.self.invariant.settled may readers dropped there
     c.go_straight.ensures.attempt c.commit.ensures.long c.commit.ensures.bytes)
@@ -71,6 +71,6 @@ returns-clause-violates c =
     let now = state_there states states c.args.core state refl below c.index_mut-state.ensures.value in
     let there = sym (dropped.kept c.args.core c.readers_of-hurt.ensures.others) ∙ now in
     let first = state_there p.states p.states c.args.core c.index.result.now refl was c.index.ensures in
-    let same : c.index.result.now ≡ state = some_same (slice_get p.states c.args.core) c.index.result.now state first there in
+    let same : c.index.result.now ≡ state = one_value (slice_get p.states c.args.core) c.index.result.now state first there in
     let readers = subst (λ (l : CoreState). AreReaders c.args.core (bytes_in l.own.cells) p.states hurt) same (rw c.as_slice.ensures.value at c.readers_of-hurt.ensures) in
     rw (← c.self.view_is) (owned_readers p c.args.core hurt state c.self.invariant.settled readers there)
