@@ -4,8 +4,8 @@ use Rattle.std.proofs.lemmas.List.{take_all}
 use Rattle.rv32_image.specs.ImageText.{pieces}
 use Rattle.trace_text.specs.declared.fault.TraceFault.{TraceFault}
 use Rattle.trace_text.specs.declared.fault.TraceFaultKind.{TraceFaultKind}
-use Rattle.trace_text.specs.declared.fault.TraceFaultKind.TheVariants.{Head, Line, TooLong, Read, NoMemory}
 use Rattle.trace_text.specs.Reading.{IsFaultOf}
+use Rattle.trace_text.proofs.Lines.{same_fault}
 use Rattle.all_schedules.specs.Turns.{begins_turns, below_image, image_length, image_part, joined, line_read, lines_read, schedule_text, word_read, words_read}
 
 -- ---- the lines above the turns
@@ -68,14 +68,6 @@ joined-err old fault (Err f) q is = is
 pub onto_none : (r : Result (List ℕ) TraceFault) → joined (Ok []) r ≡ r
 onto_none (Ok turns) = refl
 onto_none (Err fault) = refl
-
-same_fault : {A B : Type 0} (kind : TraceFaultKind) (fault : TraceFault) (one : Result A TraceFault) (other : Result B TraceFault)
-    → (one ≡ Err fault → other ≡ Err fault) → IsFaultOf kind fault one → IsFaultOf kind fault other
-same_fault NoMemory fault one other f is = is
-same_fault Head fault one other f is = f is
-same_fault Line fault one other f is = f is
-same_fault TooLong fault one other f is = f is
-same_fault Read fault one other f is = is
 
 -- ---- lines of turns
 

@@ -23,6 +23,7 @@ use Rattle.trace_commands.specs.declared.outcome.Outcome.TheVariants.{Reported, 
 use Rattle.trace_commands.specs.declared.outcome.CommandStop.{CommandStop}
 use Rattle.trace_commands.specs.declared.outcome.CommandStop.TheVariants as cause
 use Rattle.trace_commands.specs.Outcome.{outcome_of_turns_fault}
+use Rattle.trace_commands.proofs.Audits.{keeps_itself}
 use Rattle.all_schedules.specs.Made.{IsFull, loop_on}
 use Rattle.all_schedules.specs.Replay.{IsNoReplay, IsPrinted, IsReplay, IsReplayOutcome, IsStop, IsUnprinted, OfText}
 use Rattle.all_schedules.specs.Shown.{outcome_at}
@@ -116,10 +117,6 @@ module _ {S : Type 0} (view : S → StoreView) (waits : S → Waits) (heads : Lo
         let at = shown_at (has_trace text) cores outcome printed is in
         subst (λ (o : Outcome). IsReplayOutcome view waits heads cores room text old new o) (sym at.2)
         (printed_at at.0 at.1 printed (subst (λ (o : Outcome). IsPrinted view waits heads (has_trace text) cores room text o printed) at.2 is) grows)
-
-keeps_itself : (known : Option (List ℕ)) → Keeps known known
-keeps_itself None = tt
-keeps_itself (Some bytes) = refl
 
 module _ {S : Type 0} (view : S → StoreView) (waits : S → Waits) (heads : Loop → List ℕ → List Entry → List ℕ → Type 0) (cores : Option ℕ) (room : ℕ) where
   refused : (fault : InputFault) (text : List ℕ) (output : Option (List ℕ)) → (fault ≡ input.TooLong → longest_trace_text < length text)

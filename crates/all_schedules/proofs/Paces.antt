@@ -16,11 +16,11 @@ use Rattle.trace_commands.specs.declared.outcome.Outcome.TheVariants.{BadImage, 
 use Rattle.trace_commands.specs.declared.outcome.CommandStop.{CommandStop}
 use Rattle.trace_commands.specs.declared.outcome.CommandStop.TheVariants as cause
 use Rattle.trace_commands.specs.Outcome.{outcome_of_fault}
+use Rattle.trace_commands.proofs.Audits.{keeps_itself}
 use Rattle.all_schedules.specs.Made.{loop_on}
 use Rattle.all_schedules.specs.Paced.{IsPacedOf, IsPacedOutcome, IsPacedStop, IsPacedText}
 use Rattle.all_schedules.specs.declared.paced.Pace.{Pace}
 use Rattle.all_schedules.specs.Shown.{outcome_at}
-use Rattle.all_schedules.proofs.Works.{keeps_itself}
 
 module _ {S : Type 0} (view : S → StoreView) (waits : S → Waits) (pace : Pace) (l : Loop) (old new : Option (List ℕ)) where
   printed_at : (end : Option End) (homefree : ℕ) (text : List ℕ) → IsCoreCount l.image l.cores → IsPacedText view waits pace l (outcome_at end homefree) text

@@ -1,15 +1,11 @@
 -- What the program answers, from what its parts do.
 use Rattle.std.proofs.Common.{◌≡◌, ℕ, List, [], Option, Some, None, refl, inr}
-use Rattle.std.specs.Io.KnownBytes.{Keeps}
 use Rattle.rv32_image.specs.Reading.{ForText}
 use Rattle.trace_commands.specs.declared.outcome.Outcome.TheVariants.{Usage}
 use Rattle.trace_commands.specs.Outcome.{AppendsPrefix, error_line, status_of}
+use Rattle.trace_commands.proofs.Audits.{keeps_itself}
 use Rattle.all_schedules.specs.Streams.{Stream}
 use Rattle.all_schedules.specs.Work.{WorkAnswers}
-
-pub keeps_itself : (known : Option (List ℕ)) → Keeps known known
-keeps_itself None = tt
-keeps_itself (Some bytes) = refl
 
 abbrev kept : Option (List ℕ) → Stream
 kept known = record { old = known; new = known }

@@ -13,7 +13,7 @@ use Rattle.spec_states.specs.Mask.{has, IsWithinLine}
 use Rattle.spec_states.specs.Rows.{requires_ownership, owns_line}
 use Rattle.spec_states.specs.States.{is_valid, is_exclusive, is_speculative}
 use Rattle.spec_states.proofs.MaskLaws.{has-nonzero}
-use Rattle.spec_states.proofs.RowLaws.{speculative-valid}
+use Rattle.spec_states.proofs.RowLaws.{speculative-valid, nonzero}
 use Rattle.violations.specs.View
 use Rattle.violations.specs.Rule.{OwnsIn}
 use Rattle.bus_states.specs.Bus.{Bus, committed, line_of, offset_of}
@@ -94,9 +94,6 @@ modified-marked copy c h some =
       | false ↦ λ e. absurd (some (h.not_modified e))
     ] refl
 
-written : (n : ℕ) → n ≢ 0 → not (n == 0) ≡ true
-written n some = grind (arith, nat_tests)
-
 unempty : (n : ℕ) → not (n == 0) ≡ true → n ≢ 0
 unempty n e = grind (arith, nat_tests)
 
@@ -106,7 +103,7 @@ modified-owns_line I marks e some = cc
 modified-owns_line S marks e some = cc
 modified-owns_line E marks e some = cc
 modified-owns_line M marks e some = cc
-modified-owns_line SpS marks e some = written marks.bytes some
+modified-owns_line SpS marks e some = nonzero marks.bytes some
 modified-owns_line SpE marks e some = refl
 
 -- where it is not alone with the line, it stands in its core's buffer
@@ -116,7 +113,7 @@ modified-required I marks e some shared = cc
 modified-required S marks e some shared = cc
 modified-required E marks e some shared = cc
 modified-required M marks e some shared = cc
-modified-required SpS marks e some shared = written marks.bytes some
+modified-required SpS marks e some shared = nonzero marks.bytes some
 modified-required SpE marks e some shared = cc
 
 -- the lines of the buffer are such

@@ -159,7 +159,7 @@ heard-absent bus message k e =
 pub unviolated : (same hit over later : Bool) → same ≡ false → (not same && (hit || (over && later))) ≡ false → hit ≡ false
 unviolated same hit over later e v = grind (arith, nat_tests)
 
-roomy : (same hit over later : Bool) → same ≡ false → (not same && (hit || (over && later))) ≡ false
+pub roomy : (same hit over later : Bool) → same ≡ false → (not same && (hit || (over && later))) ≡ false
     → (not same && (over && not later)) ≡ false → over ≡ false
 roomy same hit over later e v w = grind (arith, nat_tests)
 

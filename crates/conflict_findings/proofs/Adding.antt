@@ -1,5 +1,5 @@
 -- The sum of a part is that of the list of its violations.
-use Rattle.std.proofs.Common.{◌≡◌, ℕ, ◌+◌, Bool, true, false, cond, List, [], ◌∷◌, Option, filter, sum_by, refl, ap, ◌∙◌, arith}
+use Rattle.std.proofs.Common.{◌≡◌, ℕ, ◌+◌, Bool, true, false, cond, List, [], ◌∷◌, Option, filter, sum_by, refl, ap, ◌∙◌, arith, ap₂}
 use Rattle.std.proofs.lemmas.List.Sums.{sum_by-cons}
 use Rattle.conflict_findings.specs.declared.kinds.CountsByKind.{CountsByKind}
 use Rattle.conflict_findings.specs.declared.pair_sums.Bounds.{Bounds}
@@ -31,11 +31,8 @@ sum_passing f test (x ∷ xs) =
 abbrev sum : ℕ → ℕ → Sum
 sum n m = record { count = n; lost = m }
 
-same_sum : (a b m n : ℕ) → a ≡ b → m ≡ n → sum a m ≡ sum b n
-same_sum a b m n first second = ap (λ x. sum x m) first ∙ ap (λ x. sum b x) second
-
 pub part_sum : (part : Part) (rs : List Rollback) → sum_in Whole (filter (belongs part) rs) ≡ sum_in part rs
-part_sum part rs = same_sum _ _ _ _ (sum_passing (λ (r : Rollback). 1) (belongs part) rs) (sum_passing (λ (r : Rollback). r.lost) (belongs part) rs)
+part_sum part rs = ap₂ sum (sum_passing (λ (r : Rollback). 1) (belongs part) rs) (sum_passing (λ (r : Rollback). r.lost) (belongs part) rs)
 
 abbrev all_of : Pair → Sum → CountsByKind → Fates → Option Bounds → Option Bounds → PairSum
 all_of p s k f d b = record { pair = p; sum = s; counts = k; fates = f; distance = d; bytes = b }

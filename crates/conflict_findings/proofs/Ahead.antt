@@ -1,9 +1,8 @@
 -- The end of an attempt that was found before is still ahead.
-use Rattle.std.proofs.Common.{◌≡◌, ℕ, zero, suc, ◌<◌, ◌≤◌, ◌&&◌, Bool, true, false, cond, nat_lt, List, length, Option, Some, None, get_or, All, IfSome, refl, sym, ap, subst, ◌∙◌, inl, inr, arith, lt-ltb, le-ltb}
-use Rattle.std.proofs.lemmas.Bool.{cases_eq, cases_order}
+use Rattle.std.proofs.Common.{◌≡◌, ℕ, ◌<◌, ◌≤◌, ◌&&◌, Bool, true, false, nat_lt, List, length, Option, Some, None, get_or, All, IfSome, sym, ap, subst, ◌∙◌, inl, inr, arith, lt-ltb, le-ltb}
+use Rattle.std.proofs.lemmas.Bool.{cases_order}
 use Rattle.std.proofs.lemmas.List.Elements.{All-get_or}
 use Rattle.std.proofs.Math.ListN.{get_or-eq_default}
-use Rattle.std.specs.Option.{option_or}
 use Rattle.spec_history.specs.declared.entry.Entry.{Entry}
 use Rattle.spec_history.specs.Conflict.{entry_is}
 use Rattle.spec_history.specs.Searches.{first_below}
@@ -11,46 +10,11 @@ use Rattle.spec_history.proofs.Searches.Tests.{first_at, first_none}
 use Rattle.conflicts.specs.declared.explanation.Explanation.{Explanation}
 use Rattle.conflicts.specs.declared.explanation.Runner.{Runner}
 use Rattle.conflicts.specs.Fates.{first_after, is_over, over_at}
+use Rattle.conflicts.proofs.Finding.{none_first, first_found}
 use Rattle.conflict_findings.specs.declared.known_ends.KnownEnd.{KnownEnd}
 use Rattle.conflict_findings.specs.KnownEnds.{IsKnownEnd}
 
 -- ---- an end that is still ahead
-
-none_both : (o : Option ℕ) (b : Bool) (n : ℕ) → option_or o (cond b (Some n) None) ≡ None → (o ≡ None) × (b ≡ false)
-none_both None true n is = absurd cc
-none_both None false n is = (refl, refl)
-none_both (Some k) b n is = absurd cc
-
-no_first : (n : ℕ) (test : ℕ → Bool) → first_below n test ≡ None → (k : ℕ) → k < n → test k ≡ false
-unfolding first_below
-no_first zero test is k below = absurd (omega (arith, below))
-no_first (suc n) test is k below =
-    let both = none_both (first_below n test) (test n) n is in
-    elim (cases_eq k n) [
-      | inl e ↦ ap test e ∙ both.1
-      | inr other ↦ no_first n test both.0 k (omega (arith, below, other))
-    ]
-
--- what a first one is
-record IsFirst (n : ℕ) (test : ℕ → Bool) (k : ℕ) : Type 0 where
-  within : k < n
-  passes : test k ≡ true
-  before : (j : ℕ) → j < k → test j ≡ false
-
-first_of_two : (n : ℕ) (test : ℕ → Bool) (k : ℕ) (o : Option ℕ) (b : Bool) → first_below n test ≡ o → test n ≡ b → (o ≡ Some k → IsFirst n test k)
-    → option_or o (cond b (Some n) None) ≡ Some k → IsFirst (suc n) test k
-first_of_two n test k (Some m) b first here was is =
-    let one = was is in
-    record { within = omega (arith, one.within); passes = one.passes; before = one.before }
-first_of_two n test k None true first here was is =
-    let same : n ≡ k = cc in
-    record { within = omega (arith, same); passes = ap test (sym same) ∙ here; before = λ j below. no_first n test first j (omega (arith, below, same)) }
-first_of_two n test k None false first here was is = absurd cc
-
-first_is : (n : ℕ) (test : ℕ → Bool) (k : ℕ) → first_below n test ≡ Some k → IsFirst n test k
-unfolding first_below
-first_is zero test k is = absurd cc
-first_is (suc n) test k is = first_of_two n test k (first_below n test) (test n) refl refl (first_is n test k) is
 
 -- a later place hides no more
 hidden : (p q k : ℕ) (b : Bool) → p ≤ q → (nat_lt p k && b) ≡ false → (nat_lt q k && b) ≡ false
@@ -70,11 +34,11 @@ shown p q k b ahead passes later =
 pub still_ahead : (n p q : ℕ) (test : ℕ → Bool) (at : Option ℕ) → at ≡ first_below n (λ j. nat_lt p j && test j) → p ≤ q → IfSome at (λ j. q < j)
     → at ≡ first_below n (λ j. nat_lt q j && test j)
 still_ahead n p q test None is later ahead =
-    let none = no_first n (λ j. nat_lt p j && test j) (sym is) in
+    let none = none_first n (λ j. nat_lt p j && test j) (sym is) in
     sym (first_none n (λ j. nat_lt q j && test j) (λ k below. hidden p q k (test k) later (none k below)))
 still_ahead n p q test (Some k) is later ahead =
-    let one = first_is n (λ j. nat_lt p j && test j) k (sym is) in
-    sym (first_at n (λ j. nat_lt q j && test j) k one.within (shown p q k (test k) ahead one.passes later) (λ j below. hidden p q j (test j) later (one.before j below)))
+    let one = first_found n (λ j. nat_lt p j && test j) k (sym is) in
+    sym (first_at n (λ j. nat_lt q j && test j) k one.within (shown p q k (test k) ahead one.passes later) (λ j below. hidden p q j (test j) later (one.first j below)))
 
 -- ---- what is kept in slots
 

@@ -10,6 +10,8 @@ use Rattle.spec_history.specs.Searches.{first_below, last_below}
 use Rattle.conflicts.specs.Blame.{Violation, after, blamed_range, blamed_store, goes_with, is_alike, is_place, range_around, read_at}
 use Rattle.spec_history.specs.Conflict.{is_shared}
 use Rattle.conflicts.proofs.Blaming.{either_way}
+use Rattle.conflicts.proofs.Finding.{same_place}
+use Rattle.conflicts.proofs.Nearing.{all_three}
 use Rattle.conflict_findings.specs.declared.run.Run.{Run}
 use Rattle.conflict_findings.specs.Runs.{is_below_end, only, run_at, run_from, run_with}
 
@@ -71,15 +73,6 @@ place_is : (found : Option ℕ) (place : ℕ) → is_place found place ≡ true 
 place_is None place is = absurd cc
 place_is (Some other) place is = ap Some (eqb-true other place is)
 
-is_so : (found : Option ℕ) (place : ℕ) → found ≡ Some place → is_place found place ≡ true
-is_so found place is = ap (λ (o : Option ℕ). is_place o place) is ∙ eq-eqb place place refl
-
-all_three : (a b c : Bool) → a ≡ true → b ≡ true → c ≡ true → (a && (b && c)) ≡ true
-all_three true true true a b c = refl
-all_three true true false a b c = c
-all_three true false c a b d = b
-all_three false b c a d e = a
-
 -- a run goes on below a byte, if the byte below met alike
 goes_on : (image : LoadedImage) (entries : List Entry) (v : Violation) (load store a : ℕ) → 0 < a
     → is_alike image entries v load store a (a - 1) ≡ not ((blamed_range image entries v load store a).first == a)
@@ -110,7 +103,7 @@ within image entries v load store a j kind shared reads stores above below =
     let both = and_parts (is_place (read_at entries v j) load) (is_place (blamed_store image entries v j) store) here.1 in
     let itself : alike a ≡ true =
     ap (λ (k : Kind). goes_with image k v.bytes a a && (is_place (read_at entries v a) load && is_place (blamed_store image entries v a) store)) kind
-    ∙ all_three (is_shared v.bytes a) (is_place (read_at entries v a) load) (is_place (blamed_store image entries v a) store) shared (is_so _ load reads) (is_so _ store stores) in
+    ∙ all_three (is_shared v.bytes a) (is_place (read_at entries v a) load) (is_place (blamed_store image entries v a) store) shared (same_place _ load reads) (same_place _ store stores) in
     let lower : alike (j - 1) ≡ true = elim (cases_eq a (j - 1)) [
       | inl e ↦ sym (ap alike e) ∙ itself
       | inr other ↦ in_range image.size alike a (j - 1) (omega (arith, above, other)) (omega (arith, above, below))

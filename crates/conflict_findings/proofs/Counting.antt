@@ -13,7 +13,7 @@ use Rattle.conflict_findings.specs.Sums.{count_in, lost_in}
 use Rattle.std.specs.BTreeMap.{BTreeMap, get}
 use Rattle.std.specs.Ordering.{nat_cmp}
 
-some_count : (n lost : ℕ) → (sum_or (some_sum n lost)).count ≡ n
+pub some_count : (n lost : ℕ) → (sum_or (some_sum n lost)).count ≡ n
 some_count zero lost = refl
 some_count (suc n) lost = refl
 

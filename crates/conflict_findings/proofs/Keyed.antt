@@ -1,5 +1,5 @@
 -- Sums by a number that take in one violation more.
-use Rattle.std.proofs.Common.{◌≡◌, ℕ, zero, suc, ◌+◌, ◌<◌, ◌≤◌, ◌==◌, Bool, true, false, cond, List, [], ◌∷◌, length, get_or, take, Option, Some, None, refl, sym, ap, ◌∙◌, inl, inr, arith, eqb-true, eq-eqb}
+use Rattle.std.proofs.Common.{◌≡◌, ℕ, zero, suc, ◌+◌, ◌<◌, ◌≤◌, ◌==◌, Bool, true, false, cond, List, [], ◌∷◌, length, get_or, take, Option, Some, None, refl, sym, ap, ◌∙◌, inl, inr, arith, eqb-true, eq-eqb, ap₂}
 use Rattle.std.proofs.lemmas.Bool.{cases_eq}
 use Rattle.std.proofs.lemmas.List.Sums.{count_by-le-length, sum_by-cons, sum_by_more, sum_by_more_le_part}
 use Rattle.std.proofs.lemmas.List.{length-take-le}
@@ -13,6 +13,7 @@ use Rattle.conflict_findings.specs.declared.sum.Sum.{Sum}
 use Rattle.conflict_findings.specs.Keys.{key_of, more, part_at, some_sum, sum_at, sum_or}
 use Rattle.conflict_findings.specs.Parts.{belongs}
 use Rattle.conflict_findings.specs.Sums.{count_in, lost_by, lost_in}
+use Rattle.conflict_findings.proofs.Counting.{some_count}
 
 -- ---- one violation more
 
@@ -20,7 +21,7 @@ abbrev sum : ℕ → ℕ → Sum
 sum n m = record { count = n; lost = m }
 
 same_sum : (a b m n : ℕ) → a ≡ b → m ≡ n → sum a m ≡ sum b n
-same_sum a b m n first second = ap (λ x. sum x m) first ∙ ap (λ x. sum b x) second
+same_sum a b m n first second = ap₂ sum first second
 
 one_more : (n m w k l : ℕ) → (n ≡ 0 → m ≡ 0) → k ≡ n + 1 → l ≡ m + w → some_sum k l ≡ Some (more (sum_or (some_sum n m)) w)
 one_more zero m w k l none is lost =
@@ -37,7 +38,7 @@ not_one_more n m k l is lost =
     ap (λ x. some_sum x m) a ∙ ap (λ x. some_sum k x) b
 
 -- what nobody belongs to lost nothing
-lost_step : (b : Bool) (w n s : ℕ) → cond b 1 0 + n ≡ 0 → (n ≡ 0 → s ≡ 0) → cond b w 0 + s ≡ 0
+pub lost_step : (b : Bool) (w n s : ℕ) → cond b 1 0 + n ≡ 0 → (n ≡ 0 → s ≡ 0) → cond b w 0 + s ≡ 0
 lost_step true w n s is rest = absurd (omega (arith, is))
 lost_step false w n s is rest = omega (arith, rest (omega (arith, is)))
 
@@ -117,17 +118,13 @@ keyed key rs i d at old new below is was here others q =
 
 -- ---- the sums fit
 
-or_count : (n m : ℕ) → (sum_or (some_sum n m)).count ≡ n
-or_count zero m = refl
-or_count (suc n) m = refl
-
 or_lost : (n m : ℕ) → (sum_or (some_sum n m)).lost ≤ m
 or_lost zero m = omega arith
 or_lost (suc n) m = omega arith
 
 pub count_fits : (key : Key) (rs : List Rollback) (i at : ℕ) (old : Option Sum) → i ≤ length rs → old ≡ sum_at key (take i rs) at → (sum_or old).count ≤ i
 count_fits key rs i at old below is =
-    omega (arith, ap (λ (o : Option Sum). (sum_or o).count) is, or_count (count_in (part_at key at) (take i rs)) (lost_in (part_at key at) (take i rs)), count_by-le-length (belongs (part_at key at)) (take i rs), length-take-le i rs below)
+    omega (arith, ap (λ (o : Option Sum). (sum_or o).count) is, some_count (count_in (part_at key at) (take i rs)) (lost_in (part_at key at) (take i rs)), count_by-le-length (belongs (part_at key at)) (take i rs), length-take-le i rs below)
 
 part_le : (b : Bool) (w : ℕ) → cond b w 0 ≤ w
 part_le true w = omega arith

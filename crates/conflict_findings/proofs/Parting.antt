@@ -6,6 +6,7 @@ use Rattle.spec_history.specs.declared.kind.Kind.TheVariants.{TrueSharing, Silen
 use Rattle.conflict_findings.specs.declared.rollback.Pair.{Pair}
 use Rattle.conflict_findings.specs.declared.rollback.Rollback.{Rollback}
 use Rattle.conflict_findings.specs.Parts.{has_pair, is_kind, is_pair}
+use Rattle.conflict_findings.proofs.Keyed.{lost_step}
 
 -- ---- the five kinds
 
@@ -49,15 +50,11 @@ zeros : (ps : List Pair) → sum_by (λ (p : Pair). 0) ps ≡ 0
 zeros [] = refl
 zeros (p ∷ ps) = sum_by-cons (λ (x : Pair). 0) p ps ∙ omega (arith, zeros ps)
 
-none_step : (b : Bool) (w n s : ℕ) → cond b 1 0 + n ≡ 0 → (n ≡ 0 → s ≡ 0) → cond b w 0 + s ≡ 0
-none_step true w n s is more = absurd (omega (arith, is))
-none_step false w n s is more = omega (arith, more (omega (arith, is)))
-
 none_of : (q : Pair) (w : ℕ) (ps : List Pair) → count_by (is_pair q) ps ≡ 0 → sum_by (λ p. cond (is_pair q p) w 0) ps ≡ 0
 none_of q w [] is = refl
 none_of q w (p ∷ ps) is =
     sum_by-cons (λ x. cond (is_pair q x) w 0) p ps
-    ∙ none_step (is_pair q p) w (count_by (is_pair q) ps) (sum_by (λ x. cond (is_pair q x) w 0) ps) (sym (sum_by-cons (λ x. cond (is_pair q x) 1 0) p ps) ∙ is) (none_of q w ps)
+    ∙ lost_step (is_pair q p) w (count_by (is_pair q) ps) (sum_by (λ x. cond (is_pair q x) w 0) ps) (sym (sum_by-cons (λ x. cond (is_pair q x) 1 0) p ps) ∙ is) (none_of q w ps)
 
 one_step : (b : Bool) (w n s : ℕ) → cond b 1 0 + n ≡ 1 → (n ≡ 0 → s ≡ 0) → (n ≡ 1 → s ≡ w) → cond b w 0 + s ≡ w
 one_step true w n s is none one = omega (arith, none (omega (arith, is)))

@@ -1,12 +1,11 @@
 -- What the program answers, from what `why` does.
 use Rattle.std.proofs.Common.{◌≡◌, ℕ, ◌+◌, List, [], Option, Some, None, refl, inl, inr}
-use Rattle.std.specs.Io.KnownBytes.{Keeps}
 use Rattle.rv32_image.specs.Input.{TakesAtMost}
 use Rattle.rv32_image.specs.Reading.{ForText}
 use Rattle.trace_text.specs.TraceText.{longest_trace_text}
 use Rattle.trace_commands.specs.declared.outcome.Outcome.TheVariants.{Usage}
 use Rattle.trace_commands.specs.Outcome.{AppendsPrefix, error_line, status_of}
-use Rattle.trace_commands.proofs.Audits.{for_each}
+use Rattle.trace_commands.proofs.Audits.{for_each, keeps_itself}
 use Rattle.conflict_text.specs.Why.{WhyAnswers}
 use Rattle.conflict_text.specs.Work.{Stream, WorkAnswers}
 
@@ -22,10 +21,6 @@ pub why_answers : (input output errors : Stream) (status : ℕ) → TakesAtMost 
 why_answers input output errors status taken =
     for_each (λ text. WhyAnswers text output.old output.new errors.old errors.new status) (λ text. WorkAnswers text input output errors status) input.old
     (λ text answers. answers_for text input output errors status taken answers)
-
-keeps_itself : (known : Option (List ℕ)) → Keeps known known
-keeps_itself None = tt
-keeps_itself (Some bytes) = refl
 
 abbrev kept : Option (List ℕ) → Stream
 kept known = record { old = known; new = known }

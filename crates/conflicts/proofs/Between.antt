@@ -17,6 +17,7 @@ use Rattle.spec_history.specs.Effect.{effect, hurt_at, idle_at}
 use Rattle.spec_history.specs.Refusal.{any_below, runs_and, can_be_hurt, is_an_exit, is_at, is_there, next_is, refusal_of}
 use Rattle.spec_history.specs.Replay.{replay, replay_from, where_legal}
 use Rattle.spec_history.proofs.OneEntry.Legal.{legal_entry, legal_is, some_below}
+use Rattle.spec_history.proofs.Replay.Joining.{one_entry}
 use Rattle.spec_history.proofs.Searches.Missing.{quiet_misses}
 use Rattle.spec_history.proofs.Searches.Tests.{one_passes}
 use Rattle.spec_history.proofs.Replay.Replays.{Whole, all_entries, effect-on, replayed}
@@ -217,10 +218,6 @@ then_legal image count s entry entries cause is =
 at_once : (image : LoadedImage) (count : ℕ) (s : FlatState) (cause : Entry) → refusal_after image count s [] cause ≡ Some (refusal_of image count s cause)
 unfolding replay_from
 at_once image count s cause = refl
-
-one_entry : (image : LoadedImage) (count : ℕ) (s : FlatState) (entry : Entry) → refusal_of image count s entry ≡ None → replay_from image count s (entry ∷ []) ≡ Some (effect image s entry)
-unfolding replay_from
-one_entry image count s entry is = ap (λ refusal. where_legal refusal (Some (effect image s entry))) is
 
 -- what the cause is refused with, by what the two cores run
 abbrev missed_with : LoadedImage → (ℕ → ℕ) → What → Option CoreState → Option CoreState → Option Illegal

@@ -60,7 +60,7 @@ unfound_step (Some i) b n P is one = absurd cc
 unfound_step None true n P is one = absurd cc
 unfound_step None false n P is one = one refl refl
 
-none_first : (n : ℕ) (test : ℕ → Bool) → first_below n test ≡ None → (k : ℕ) → k < n → test k ≡ false
+pub none_first : (n : ℕ) (test : ℕ → Bool) → first_below n test ≡ None → (k : ℕ) → k < n → test k ≡ false
 unfolding first_below
 none_first zero test is k below = absurd (omega (arith, below))
 none_first (suc n) test is k below = unfound_step (first_below n test) (test n) n (test k ≡ false) is (λ rest fails. elim (cases_eq k n) [
@@ -110,7 +110,7 @@ pub another_later : (n : ℕ) (test : ℕ → Bool) (place j : ℕ) → place < 
 another_later n test place j after below passes =
     not_place (last_below n test) place (λ is. both_ways (test j) ((last_found n test place is).last j after below) passes)
 
-same_place : (found : Option ℕ) (place : ℕ) → found ≡ Some place → is_place found place ≡ true
+pub same_place : (found : Option ℕ) (place : ℕ) → found ≡ Some place → is_place found place ≡ true
 same_place found place is = ap (λ (o : Option ℕ). is_place o place) is ∙ eq-eqb place place refl
 
 pub is_last : (n : ℕ) (test : ℕ → Bool) (place : ℕ) → place < n → test place ≡ true → ((j : ℕ) → place < j → j < n → test j ≡ false) → is_place (last_below n test) place ≡ true
@@ -142,7 +142,7 @@ none_stored before start place begins stores is after most none k later below =
     sym (ap (λ (o : Option ℕ). is_after o k && stores k) (same_start before start place begins is after most) ∙ ap (λ b. b && stores k) (lt-ltb start k later))
     ∙ none_last place (λ j. is_after (last_below place begins) j && stores j) none k below
 
-all_so : (a b c : Bool) → a ≡ true → b ≡ true → c ≡ true → ((a && b) && c) ≡ true
+pub all_so : (a b c : Bool) → a ≡ true → b ≡ true → c ≡ true → ((a && b) && c) ≡ true
 all_so a b c x y z = rw (x, y, z) refl
 
 reads_at : (before start place : ℕ) (begins loads stores : ℕ → Bool) → last_below before begins ≡ Some start → start < place → place < before → loads place ≡ true
@@ -156,7 +156,7 @@ none_of : (o : Option ℕ) (P : Type 0) → (o ≡ None → P) → (is_none o �
 none_of None P one other = one refl
 none_of (Some k) P one other = other refl
 
-no_first : (a b c : Bool) → a ≡ false → ((a && b) && c) ≡ false
+pub no_first : (a b c : Bool) → a ≡ false → ((a && b) && c) ≡ false
 no_first a b c is = rw is refl
 
 no_second : (a b c : Bool) → b ≡ false → ((a && b) && c) ≡ false

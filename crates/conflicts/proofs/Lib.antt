@@ -2,7 +2,7 @@ pub mod Backwards
 pub mod Blaming
 mod Listed
 pub mod Explaining
-mod Finding
+pub mod Finding
 mod Pairing
 mod Needed
 mod Between

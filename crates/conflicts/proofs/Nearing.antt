@@ -43,7 +43,7 @@ nearer lines test from end count next was is =
       ];
     }
 
-all_three : (a b c : Bool) → a ≡ true → b ≡ true → c ≡ true → (a && (b && c)) ≡ true
+pub all_three : (a b c : Bool) → a ≡ true → b ≡ true → c ≡ true → (a && (b && c)) ≡ true
 all_three true true true a b c = refl
 all_three true true false a b c = c
 all_three true false c a b d = b

@@ -1,16 +1,13 @@
 -- What no load reads.
-use Rattle.std.proofs.Common.{◌≡◌, ℕ, ◌<◌, ◌&&◌, Bool, true, false, List, Option, Some, None, refl, ap, ◌∙◌, arith, le-ltb}
+use Rattle.std.proofs.Common.{◌≡◌, ℕ, ◌<◌, false, List, Option, Some, None, ap, ◌∙◌, arith, le-ltb}
 use Rattle.spec_history.specs.declared.entry.Entry.{Entry}
 use Rattle.spec_history.proofs.Searches.Tests.{first_none}
 use Rattle.conflicts.specs.Attempts.{attempt_place, first_read, is_after, reads_outside}
-
-by_after : (after loads unstored : Bool) → after ≡ false → ((after && loads) && unstored) ≡ false
-by_after true loads unstored is = absurd cc
-by_after false loads unstored is = refl
+use Rattle.conflicts.proofs.Finding.{no_first}
 
 -- nothing is read by what does not stand after the attempt's start
 pub unread : (entries : List Entry) (core before a place : ℕ) → is_after (attempt_place entries core before) place ≡ false → reads_outside entries core before a place ≡ false
-unread entries core before a place is = by_after _ _ _ is
+unread entries core before a place is = no_first _ _ _ is
 
 pub unread_until : (entries : List Entry) (core before start a place : ℕ) → attempt_place entries core before ≡ Some start → place < start → reads_outside entries core before a place ≡ false
 unread_until entries core before start a place is early =

@@ -14,7 +14,7 @@ use Rattle.conflicts.specs.declared.behind.Accesses.{Accesses}
 use Rattle.conflicts.specs.declared.behind.Behind.{Behind}
 use Rattle.conflicts.proofs.Backwards.{last_none}
 use Rattle.conflicts.proofs.Blaming.{either_way}
-use Rattle.conflicts.proofs.Finding.{last_found}
+use Rattle.conflicts.proofs.Finding.{last_found, no_first}
 use Rattle.conflicts.proofs.Storing.{apart_by}
 
 -- ---- the bytes of one access
@@ -142,9 +142,6 @@ begun_so entries core place is = sym (ap is_some (begun_here entries core place 
 
 not_after : (attempt : Option ℕ) (start k : ℕ) → attempt ≡ Some start → k < start + 1 → is_after attempt k ≡ false
 not_after attempt start k is below = ap (λ (o : Option ℕ). is_after o k) is ∙ le-ltb start k (omega (arith, below))
-
-no_first : (a b c : Bool) → a ≡ false → ((a && b) && c) ≡ false
-no_first a b c is = rw is refl
 
 pub unread_here : (entries : List Entry) (core place a : ℕ) → Begins entries core place ≡ true → first_read entries core (place + 1) a ≡ None
 unread_here entries core place a is = first_none (place + 1) (reads_outside entries core (place + 1) a) (λ k below.

@@ -12,6 +12,7 @@ use Rattle.spec_history.specs.FlatState.{CoreState, FlatState, begun, first_stat
 use Rattle.spec_history.specs.Effect.{by_core, effect, effect_on, effect_idle, with_core}
 use Rattle.spec_history.specs.Refusal.{refusal_of, runs_and}
 use Rattle.spec_history.specs.Replay.{replay_from, replay, count_of, counts_of}
+use Rattle.spec_history.proofs.CodedCores.Performed.{idle_fails}
 use Rattle.spec_history.proofs.OneEntry.Keeping.{with_core_other, with_core_same}
 use Rattle.spec_history.proofs.OneEntry.Legal.{IsLegalEntry, legal_entry, some_below}
 use Rattle.spec_history.proofs.Replay.Replays.{effect-on, effect-idle, legal_by, on_core}
@@ -26,6 +27,7 @@ use Rattle.homefree.specs.InStep.{InStep}
 use Rattle.homefree.specs.Turned.{Turn}
 use Rattle.rv32_exec.specs.declared.stop.Stop.{Stop}
 use Rattle.even_speed.specs.Kept.{NeverWaits}
+use Rattle.even_speed.proofs.Moving.{passes}
 
 -- the core runs the homefree epoch, if any, and isn't hurt; there is no other
 pub record IsAlone (s : FlatState) : Type 0 where
@@ -47,12 +49,6 @@ with_alone s committed homefree published next_epoch end core a epoch next unhur
 }
 
 -- ---- what a legal entry tells
-
-passes : (core : Option CoreState) (c : CoreState) (test : CoreState → Bool) → core ≡ Some c → runs_and core test ≡ true → test c ≡ true
-passes core c test at is = (and_parts (not c.hurt) (test c) (sym (ap (λ o. runs_and o test) at) ∙ is)).1
-
-idle_passes : (core : Option CoreState) (test : CoreState → Bool) → core ≡ None → by_core core false test ≡ true → ⊥
-idle_passes core test at is = true≢false (sym is ∙ ap (λ o. by_core o false test) at)
 
 first_below : (k : ℕ) → k < 1 → k ≡ 0
 first_below k below = omega (arith, below)
@@ -80,9 +76,9 @@ no_restart : (s : FlatState) (by : ℕ) → IsAlone s → by_core (s.cores by) f
 no_restart s zero a is = by_what (s.cores 0) refl
   where
     by_what : (core : Option CoreState) → s.cores 0 ≡ core → ⊥
-    by_what None at = idle_passes (s.cores 0) (λ c. c.hurt) at is
+    by_what None at = idle_fails (s.cores 0) (λ c. c.hurt) at is
     by_what (Some c) at = true≢false (sym (on_core (s.cores 0) c (λ x. x.hurt) at is) ∙ (a.runs c at).2)
-no_restart s (suc k) a is = idle_passes (s.cores (suc k)) (λ c. c.hurt) (a.others k) is
+no_restart s (suc k) a is = idle_fails (s.cores (suc k)) (λ c. c.hurt) (a.others k) is
 
 -- ---- one entry
 

@@ -23,7 +23,7 @@ number_at_same f g address (suc width) same =
 
 -- ---- the bytes of a store
 
-within_test : (address width a : ℕ) → address ≤ a → a < address + width → (nat_le address a && nat_lt a (address + width)) ≡ true
+pub within_test : (address width a : ℕ) → address ≤ a → a < address + width → (nat_le address a && nat_lt a (address + width)) ≡ true
 within_test address width a low high = grind (arith, nat_tests)
 
 below_test : (address width a : ℕ) → a < address → (nat_le address a && nat_lt a (address + width)) ≡ false

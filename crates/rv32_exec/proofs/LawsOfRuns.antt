@@ -26,7 +26,7 @@ go_on_same (Runs h memory) f g same = same h memory
 go_on_same (Ends e memory) f g same = refl
 go_on_same (Faults cause pc memory) f g same = refl
 
-one_step : (image : LoadedImage) (n : ℕ) (h : HartState) (memory : List ℕ) → after_steps image (suc n) h memory ≡ go_on (execute image h memory) (after_steps image n)
+pub one_step : (image : LoadedImage) (n : ℕ) (h : HartState) (memory : List ℕ) → after_steps image (suc n) h memory ≡ go_on (execute image h memory) (after_steps image n)
 unfolding after_steps
 one_step image n h memory = refl
 

@@ -43,7 +43,7 @@ fault_read input.Read text long = refl
 fault_read input.NoMemory text long = refl
 
 -- a text that is longer than this
-long_text : (n : ℕ) → (text : List ℕ) × (n < length text)
+pub long_text : (n : ℕ) → (text : List ℕ) × (n < length text)
 long_text n = (replicate (n + 1) 0, omega (arith, length-replicate {A = ℕ} (n + 1) 0))
 
 -- so does the fault of an input that could not be read

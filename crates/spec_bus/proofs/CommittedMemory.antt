@@ -4,9 +4,8 @@ use Rattle.std.proofs.lemmas.Bool.{false_from_ne_true}
 use Rattle.std.proofs.lemmas.Bool.Decides.{nat_tests}
 use Rattle.spec_states.specs.Copies.{LineCopy}
 use Rattle.spec_states.specs.Mask.{is_within}
-use Rattle.spec_states.specs.States.{is_valid, is_modified}
-use Rattle.spec_states.specs.declared.line.LineState.{LineState}
-use Rattle.spec_states.specs.declared.line.LineState.TheVariants.{I, S, E, M, SpS, SpE}
+use Rattle.spec_states.specs.States.{is_modified}
+use Rattle.spec_states.proofs.RowLaws.{modified-valid}
 use Rattle.cache_lines.specs.declared.line.Line.{Line}
 use Rattle.cache_lines.specs.Cells.{cell_of}
 use Rattle.cache_lines.specs.Lines.{Contents, is_line_length, set_count, way_count, set_of, line_in, is_copy_of}
@@ -21,14 +20,6 @@ use Rattle.bus_states.proofs.Addresses.{by_length, line-and_offset, offset-in_li
 use Rattle.bus_states.proofs.Coherence.{none_below, none_at_all}
 use Rattle.spec_bus.specs.CoreStates.{state_of, line_in_place, is_modified_in, FitsMemory}
 use Rattle.spec_bus.specs.declared.bus_core.Core.{Core}
-
-pub modified_valid : (state : LineState) → is_modified state ≡ true → is_valid state ≡ true
-modified_valid I e = e
-modified_valid S e = refl
-modified_valid E e = refl
-modified_valid M e = refl
-modified_valid SpS e = refl
-modified_valid SpE e = refl
 
 -- a byte lies in a line just where its own line is that one
 byte_in_line : (length addr p : ℕ) → is_line_length length ≡ true → addr % length ≡ 0 → is_within addr length p ≡ (addr == line_of length p)
@@ -56,7 +47,7 @@ place_written cache at old new p h way is = is ∙ one (is_modified line.state) 
         → cond b (cell_of line (p - line.addr)) (old p) ≡ cond b ((copy_at cache (line_of n p)).cell (offset_of n p)) (old p)
     here true m e =
         let at_line : line.addr ≡ line_of n p = grind (arith, nat_tests) in
-        let valid = modified_valid line.state m in
+        let valid = modified-valid line.state m in
         let held : is_copy_of line (line_of n p) ≡ true = rw (valid, e) refl in
         let copy = copy_at-line cache h (at / way_count * n) (at % way_count) (line_of n p) way held in
         ap (cell_of line) (byte_offset n line.addr p h.length_is at_line) ∙ ap (λ (c : LineCopy). c.cell (offset_of n p)) (sym copy)
@@ -65,7 +56,7 @@ place_written cache at old new p h way is = is ∙ one (is_modified line.state) 
     one : (m : Bool) → is_modified line.state ≡ m
         → cond m (with_line n line.addr (cell_of line) old) old p ≡ cond (m && (line.addr == line_of n p)) ((copy_at cache (line_of n p)).cell (offset_of n p)) (old p)
     one true m =
-        let aligned = h.aligned (at / way_count * n) (at % way_count) way (modified_valid line.state m) in
+        let aligned = h.aligned (at / way_count * n) (at % way_count) way (modified-valid line.state m) in
         ap (λ (b : Bool). cond b (cell_of line (p - line.addr)) (old p)) (byte_in_line n line.addr p h.length_is aligned) ∙ here (line.addr == line_of n p) m refl
     one false m = refl
 
@@ -118,7 +109,7 @@ some_modified cache a h = same (some_core (set_count * way_count) (is_modified_i
         let line : Line = line_in_place cache at in
         let m : is_modified line.state ≡ true = grind (arith, nat_tests) in
         let there : (line.addr == a) ≡ true = grind (arith, nat_tests) in
-        let held : is_copy_of line a ≡ true = rw (modified_valid line.state m, there) refl in
+        let held : is_copy_of line a ≡ true = rw (modified-valid line.state m, there) refl in
         ap (λ (c : LineCopy). is_modified c.state) (copy_at-line cache h (at / way_count * n) (at % way_count) a (omega arith) held) ∙ m
 
     -- and the other way round
@@ -190,6 +181,6 @@ pub fits_memory : (bus : Bus) (k size : ℕ) (core : Core) → IsCoherent bus �
     → size ≡ bus.shape.size → FitsMemory core.cache size
 fits_memory bus k size core h there is sized addr m =
     let held : is_modified ((bus.core k).copy addr).state ≡ true = ap (λ (s : CoreState). is_modified (s.copy addr).state) (sym is) ∙ m in
-    let inside = h.inside k addr (modified_valid ((bus.core k).copy addr).state held) in
+    let inside = h.inside k addr (modified-valid ((bus.core k).copy addr).state held) in
     let long : core.cache.line_length ≡ bus.line_length = ap (λ (s : CoreState). s.line_length) is ∙ h.lengths k there in
     rw (long, sized) inside

@@ -1,7 +1,7 @@
 mod CoreCopies
 mod CommittedMemory
 mod SameRooms
-mod Bytes
+pub mod Bytes
 mod Surveys
 mod Tellings
 mod Moving

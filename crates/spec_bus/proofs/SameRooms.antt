@@ -24,6 +24,7 @@ use Rattle.bus_states.specs.Messages.{Room, Message, message_of, is_alone, is_bu
 use Rattle.bus_states.specs.Attempts.{with_core}
 use Rattle.bus_states.specs.Speculative.{own, holds_line, room_for, no_room, kept_line, load_next, after_load, load_wait, store_next, owns, after_claim, with_bytes, after_store, store_wait}
 use Rattle.bus_states.specs.Straight.{after_straight_load, after_straight_store, straight_store_message, unmarked_next, stores_alone}
+use Rattle.bus_states.proofs.Accesses.{invalid-unmarked}
 use Rattle.spec_bus.specs.declared.bus_core.Core.{Core}
 use Rattle.spec_bus.specs.Cached.{CachedView, bus, room}
 use Rattle.spec_bus.specs.Parts.{room_in, state_or_none, line_or_none, victim_or_none}
@@ -91,20 +92,12 @@ invalid_unmodified M e = absurd (true≢false e)
 invalid_unmodified SpS e = absurd (true≢false e)
 invalid_unmodified SpE e = absurd (true≢false e)
 
-invalid_unmarked : (s : LineState) → is_valid s ≡ false → is_speculative s ≡ false
-invalid_unmarked I e = refl
-invalid_unmarked S e = absurd (true≢false e)
-invalid_unmarked E e = absurd (true≢false e)
-invalid_unmarked M e = absurd (true≢false e)
-invalid_unmarked SpS e = absurd (true≢false e)
-invalid_unmarked SpE e = absurd (true≢false e)
-
 same_marked : (l m : Line) → IsOneLine l m → is_speculative l.state ≡ is_speculative m.state
 same_marked l m h = by (is_valid l.state) refl
   where
     by : (b : Bool) → is_valid l.state ≡ b → is_speculative l.state ≡ is_speculative m.state
     by true e = ap (λ (x : LineCopy). is_speculative x.state) (h.copy e)
-    by false e = invalid_unmarked l.state e ∙ sym (invalid_unmarked m.state (sym h.valid ∙ e))
+    by false e = invalid-unmarked l.state e ∙ sym (invalid-unmarked m.state (sym h.valid ∙ e))
 
 same_is_copy : (l m : Line) → IsOneLine l m → (a : ℕ) → is_copy_of l a ≡ is_copy_of m a
 same_is_copy l m h a = by (is_valid l.state) refl

@@ -7,16 +7,13 @@ use Rattle.bus_states.specs.Bus.{Bus, some_core, committed_among}
 use Rattle.bus_states.specs.Coherent.{IsCoherent}
 use Rattle.bus_states.proofs.Heard.{absent-unviolated}
 use Rattle.bus_states.specs.Messages.{Message, violates, holds_up, remains}
+use Rattle.spec_bus.proofs.CommittedMemory.{some-more}
 
 -- the cores below n are surveyed
 pub record IsSurveyed (bus : Bus) (message : Message) (n : ℕ) (hurt : ℕ → Bool) (busy shared : Bool) : Type 0 where
   pub hurt_are : (k : ℕ) → hurt k ≡ (nat_lt k n && violates bus message k)
   pub busy_is : busy ≡ some_core n (holds_up bus message)
   pub shared_is : shared ≡ some_core n (remains bus message)
-
-some_core-more : (n : ℕ) (test : ℕ → Bool) → some_core (n + 1) test ≡ (test n || some_core n test)
-unfolding some_core
-some_core-more n test = rw (add-one n) refl
 
 -- one more core in a set, where it passes the test
 set-more : (n k : ℕ) (f : ℕ → Bool) (old new : Bool) → old ≡ (nat_lt k n && f k) → new ≡ ((f n && (k == n)) || old)
@@ -33,8 +30,8 @@ pub surveyed_more : (bus : Bus) (message : Message) (n : ℕ) (hurt hurt2 : ℕ 
 surveyed_more bus message n hurt hurt2 busy shared violated up stays h step e f g =
     record {
       hurt_are = λ k. set-more n k (violates bus message) (hurt k) (hurt2 k) (h.hurt_are k) (rw e at (step k));
-      busy_is = rw (f, h.busy_is) (sym (some_core-more n (holds_up bus message)));
-      shared_is = rw (g, h.shared_is) (sym (some_core-more n (remains bus message)));
+      busy_is = rw (f, h.busy_is) (sym (some-more n (holds_up bus message)));
+      shared_is = rw (g, h.shared_is) (sym (some-more n (remains bus message)));
     }
 
 pub surveyed_none : (bus : Bus) (message : Message) (hurt : ℕ → Bool) → ((k : ℕ) → hurt k ≡ false)

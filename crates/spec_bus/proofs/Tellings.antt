@@ -1,5 +1,5 @@
 -- The loop in which the other cores hear a message.
-use Rattle.std.proofs.Common.{◌≡◌, ◌≢◌, ℕ, ◌+◌, ◌<◌, ◌≤◌, ◌%◌, ◌==◌, ◌||◌, ◌&&◌, not, nat_lt, Bool, true, false, cond, length, slice_get, refl, sym, ap, subst, ◌∙◌, arith, ne_eqb}
+use Rattle.std.proofs.Common.{◌≡◌, ◌≢◌, ℕ, ◌+◌, ◌<◌, ◌≤◌, ◌%◌, ◌==◌, ◌&&◌, not, nat_lt, Bool, true, false, cond, length, slice_get, refl, sym, ap, subst, ◌∙◌, arith, ne_eqb}
 use Rattle.std.proofs.lemmas.Bool.Decides.{nat_tests}
 use Rattle.orb.specs.Lines.{holds}
 use Rattle.violations.specs.View.{epoch_of}
@@ -7,7 +7,7 @@ use Rattle.bus_states.specs.Bus.{CoreState, Bus, is_later}
 use Rattle.bus_states.specs.Coherent.{IsCoherent}
 use Rattle.bus_states.specs.Messages.{Message, reply, reply_to, order, bytes_after, violates, holds_up, heard_core, is_busy}
 use Rattle.bus_states.proofs.Coherence.{none_below}
-use Rattle.bus_states.proofs.Heard.{heard-absent, message-gives_way}
+use Rattle.bus_states.proofs.Heard.{heard-absent, message-gives_way, roomy}
 use Rattle.spec_bus.specs.declared.parts.Parts.{Parts}
 use Rattle.spec_bus.specs.CoreStates.{heard, MayHear}
 use Rattle.spec_bus.specs.Parts.{bus_in, IsTold}
@@ -27,10 +27,6 @@ pub record AreTelling (old new : Parts) (message : Message) (n : ℕ) : Type 0 w
 entry-out : (enters after before held : Bool) → enters ≡ (after && not before) → held ≡ before → enters ≡ true → held ≡ false
 entry-out enters after true held e f g = grind (arith, nat_tests)
 entry-out enters after false held e f g = f
-
-roomy : (same hit over later : Bool) → same ≡ false → (not same && (hit || (over && later))) ≡ false
-    → (not same && (over && not later)) ≡ false → over ≡ false
-roomy same hit over later e v w = grind (arith, nat_tests)
 
 hears : (bus : Bus) (message : Message) (k : ℕ) → IsCoherent bus → message.addr % bus.line_length ≡ 0
     → is_busy bus message ≡ false → k < bus.shape.cores → k ≢ message.sender

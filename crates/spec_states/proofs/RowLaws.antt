@@ -29,7 +29,7 @@ comes b e = rw e refl
 empty : (b : Bool) → b ≡ false → false ≡ (b && true)
 empty b e = rw e refl
 
-nonzero : (n : ℕ) → n ≢ 0 → not (n == 0) ≡ true
+pub nonzero : (n : ℕ) → n ≢ 0 → not (n == 0) ≡ true
 nonzero n h = grind (arith, nat_tests)
 
 -- a marked copy that was not loaded is modified

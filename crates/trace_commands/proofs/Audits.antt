@@ -1,12 +1,12 @@
 -- What an audit comes to, from what its parts answer.
-use Rattle.std.proofs.Common.{◌≡◌, ℕ, ◌+◌, ◌<◌, ◌≤◌, List, length, replicate, Option, Some, None, Ok, IfSome, refl, subst, arith}
-use Rattle.std.proofs.lemmas.List.{length-replicate}
+use Rattle.std.proofs.Common.{◌≡◌, ℕ, ◌<◌, ◌≤◌, List, length, Option, Some, None, Ok, IfSome, refl, subst}
 use Rattle.std.specs.Io.KnownBytes.{Keeps}
 use Rattle.rv32_image.specs.declared.input.InputFault.{InputFault}
 use Rattle.rv32_image.specs.declared.input.InputFault.TheVariants as input
 use Rattle.rv32_image.specs.Image.{LoadedImage}
 use Rattle.rv32_image.specs.ImageText.{image_text}
 use Rattle.rv32_image.specs.Reading.{ForText}
+use Rattle.rv32_image.proofs.Inputs.{long_text}
 use Rattle.trace_text.specs.declared.fault.TraceFaultKind.{TraceFaultKind}
 use Rattle.trace_text.specs.declared.fault.TraceFaultKind.TheVariants as trace
 use Rattle.trace_text.specs.TraceText.{image_part, longest_trace_text, trace_text}
@@ -51,10 +51,6 @@ refused : (fault : InputFault) (text : List ℕ) → (fault ≡ input.TooLong �
 refused input.TooLong text long = (refl, long refl)
 refused input.Read text long = refl
 refused input.NoMemory text long = tt
-
--- a text that is longer than this
-long_text : (n : ℕ) → (text : List ℕ) × (n < length text)
-long_text n = (replicate (n + 1) 0, omega (arith, length-replicate {A = ℕ} (n + 1) 0))
 
 pub refused_input : (known : Option (List ℕ)) (fault : InputFault) → (fault ≡ input.TooLong → IfSome known (λ whole. longest_trace_text < length whole))
     → ForText known (λ text. IsNoVerdict text (outcome_of_trace_fault (input_fault fault).kind (input_fault fault)))

@@ -72,7 +72,7 @@ lines_read-err : (old : List Entry) (fault : TraceFault) (n : ℕ) (line : List 
 unfolding lines_read
 lines_read-err old fault n line lines is = joined-err old fault (line_read n line) (lines_read (n + 1) lines) is
 
-same_fault : {A B : Type 0} (kind : TraceFaultKind) (fault : TraceFault) (one : Result A TraceFault) (other : Result B TraceFault)
+pub same_fault : {A B : Type 0} (kind : TraceFaultKind) (fault : TraceFault) (one : Result A TraceFault) (other : Result B TraceFault)
     → (one ≡ Err fault → other ≡ Err fault) → IsFaultOf kind fault one → IsFaultOf kind fault other
 same_fault NoMemory fault one other f is = is
 same_fault Head fault one other f is = f is

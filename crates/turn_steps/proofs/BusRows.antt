@@ -1,10 +1,9 @@
 -- The rows in which a core on the bus has stored bytes.
-use Rattle.std.proofs.Common.{◌≡◌, ◌⊎◌, ℕ, ◌+◌, ◌*◌, ◌/◌, ◌%◌, ◌<◌, ◌==◌, zero, suc, true, false, List, [], ◌∷◌, cond, length, slice_get, IsTrue, Option, Some, None, inl, inr, refl, sym, ap, subst, ◌∙◌, arith, true≢false}
+use Rattle.std.proofs.Common.{◌≡◌, ◌⊎◌, ℕ, ◌+◌, ◌*◌, ◌/◌, ◌%◌, ◌<◌, zero, suc, true, false, List, [], ◌∷◌, cond, length, slice_get, IsTrue, Option, Some, None, inl, inr, refl, sym, ap, subst, ◌∙◌, arith, true≢false}
 use Rattle.std.specs.BTreeSet.{BTreeSet, contains}
 use Rattle.std.specs.List.{slice_index_or}
 use Rattle.std.specs.Ordering.{nat_cmp}
-use Rattle.std.proofs.lemmas.Bool.{cases_Bool, cases_eq}
-use Rattle.std.proofs.lemmas.Bool.Decides.{nat_tests}
+use Rattle.std.proofs.lemmas.Bool.{cases_eq}
 use Rattle.std.proofs.lemmas.Option.{slice_get_within}
 use Rattle.rv32_image.proofs.SmallFacts.{one_value}
 use Rattle.spec_states.specs.Mask.{has}
@@ -15,6 +14,7 @@ use Rattle.cache_lines.specs.Lines as lines
 use Rattle.cache_lines.specs.Protocol.{copy_or_none, copy_at}
 use Rattle.cache_lines.proofs.LineLaws.{is_copy_of-true}
 use Rattle.bus_states.specs.Coherent.{IsCoherent}
+use Rattle.bus_states.proofs.Addresses.{either_length}
 use Rattle.spec_bus.specs.declared.bus_core.Core.{Core}
 use Rattle.spec_bus.specs.Cached.{CachedView, bus, line_in, line_of_core, store_view}
 use Rattle.spec_bus.specs.Parts.{state_or_none}
@@ -36,12 +36,6 @@ own_more size ways i old new kept own one place below = elim (cases_eq place i) 
 set_at : (size set : ℕ) → (size ≡ 16) ⊎ (size ≡ 32) → set < 4 → set * size / size % 4 ≡ set
 set_at size set (inl is) below = rw is (omega (arith, below))
 set_at size set (inr is) below = rw is (omega (arith, below))
-
-sizes : (size : ℕ) → is_line_length size ≡ true → (size ≡ 16) ⊎ (size ≡ 32)
-sizes size is = elim (cases_Bool (size == 16)) [
-  | inl sixteen ↦ inl (grind (arith, nat_tests))
-  | inr other ↦ inr (grind (arith, nat_tests))
-]
 
 -- a stored byte of the copy of a line is one of a way of the line's set
 in_a_way : (cache : Contents) (addr x : ℕ) → has (copy_at cache addr).marks.bytes x ≡ true
@@ -76,7 +70,7 @@ at_place size v core set (suc (suc way)) _ below = absurd (omega (arith, below))
 module _ (v : CachedView) (size core a : ℕ) (rows : BTreeSet ℕ) (size_is : size ≡ (bus v).line_length) (coherent : IsCoherent (bus v))
     (own : (place : ℕ) → place < 8 → HasOwnRows size (slice_index_or (ways_of size v core) place no_line) rows) where
   allowed : (size ≡ 16) ⊎ (size ≡ 32)
-  allowed = sizes size (ap is_line_length size_is ∙ coherent.length_is)
+  allowed = either_length size (ap is_line_length size_is ∙ coherent.length_is)
 
   positive : 0 < size
   positive = elim allowed [ inl is ↦ omega (arith, is) | inr is ↦ omega (arith, is) ]

@@ -7,13 +7,10 @@ use Rattle.std.proofs.lemmas.Bool.{cases_Bool}
 use Rattle.spec_history.specs.declared.entry.Entry.{Entry}
 use Rattle.violations.specs.View.{StoreView}
 use Rattle.violations.specs.declared.attempt.Attempt.{Attempt}
+use Rattle.bus_states.proofs.Copies.{not_so}
 use Rattle.turn_steps.specs.Rows.{IsSameRow}
 use Rattle.turn_steps.specs.Laws.{KeepsRows, KeepsMemory, Adds, touches, stores_in, commits}
 use Rattle.turn_steps.proofs.Lines.{row_of_byte}
-
-no_true : (a b : Bool) → (a ≡ true → b ≡ true) → b ≡ false → a ≡ false
-no_true true b has isnt = absurd (true≢false (sym (has refl) ∙ isnt))
-no_true false b has isnt = refl
 
 or_true : (a b : Bool) → (a ≡ true) ⊎ (b ≡ true) → (a || b) ≡ true
 or_true true b either = refl
@@ -30,8 +27,8 @@ pub same_memory : (v w : StoreView) (core : ℕ) (added : List Entry) (rows : BT
     → (list_any commits added ≡ true → (a : ℕ) → a / 16 < v.shape.size / 16 → v.own core a ≡ true → contains nat_cmp rows (a / 16) ≡ true)
     → (row i : ℕ) → row < v.shape.size / 16 → contains nat_cmp rows row ≡ false → i < 16 → w.committed (16 * row + i) ≡ v.committed (16 * row + i)
 same_memory v w core added rows keeps stored owned row i inside isnt below =
-    keeps.same row (16 * row + i) at (no_true (list_any (stores_in row) added) (contains nat_cmp rows row) (stored row) isnt) (elim (cases_Bool (list_any commits added)) [
-      | inl is ↦ inr (no_true (v.own core (16 * row + i)) (contains nat_cmp rows row)
+    keeps.same row (16 * row + i) at (not_so (list_any (stores_in row) added) (contains nat_cmp rows row) (stored row) isnt) (elim (cases_Bool (list_any commits added)) [
+      | inl is ↦ inr (not_so (v.own core (16 * row + i)) (contains nat_cmp rows row)
           (λ own. subst (λ r. contains nat_cmp rows r ≡ true) at (owned is (16 * row + i) (subst (λ r. r < v.shape.size / 16) (sym at) inside) own)) isnt)
       | inr none ↦ inl none
     ])
@@ -44,4 +41,4 @@ pub same_kept : (v w : StoreView) (core : ℕ) (added : List Entry) (rows : BTre
     → ((row : ℕ) → list_any (touches row) added ≡ true → contains nat_cmp rows row ≡ true)
     → (k row : ℕ) (x : Attempt) → w.attempt k ≡ Some x → x.straight ≡ false → contains nat_cmp rows row ≡ false → IsSameRow v w k row
 same_kept v w core added rows keeps touched k row x runs speculative isnt =
-    keeps.same k row x runs speculative (inr (no_true (list_any (touches row) added) (contains nat_cmp rows row) (touched row) isnt))
+    keeps.same k row x runs speculative (inr (not_so (list_any (touches row) added) (contains nat_cmp rows row) (touched row) isnt))

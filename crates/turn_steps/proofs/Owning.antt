@@ -4,6 +4,7 @@ use Rattle.std.proofs.lemmas.Bool.{cases_eq, and_right}
 use Rattle.std.proofs.lemmas.Bool.Decides.{nat_tests}
 use Rattle.std.specs.BTreeMap.{is_at}
 use Rattle.std.specs.Ordering.{nat_cmp}
+use Rattle.spec_states.proofs.RowLaws.{nonzero}
 use Rattle.turn_steps.specs.declared.kept_row.KeptRow.{KeptRow}
 use Rattle.turn_steps.specs.Kept.{row_at}
 use Rattle.turn_steps.specs.KeptRow.{nothing}
@@ -12,14 +13,11 @@ use Rattle.turn_steps.proofs.Passes.{among, among_it, among_others, apart}
 abbrev pub owned_at : List (ℕ × KeptRow) → ℕ → Bool
 owned_at shown row = not ((row_at shown row).own == 0)
 
-not_zero : (n : ℕ) → n ≢ 0 → not (n == 0) ≡ true
-not_zero n other = grind (arith, nat_tests)
-
 zero_is : (n : ℕ) → n ≡ 0 → not (n == 0) ≡ false
 zero_is n is = grind (arith, nat_tests)
 
 pub is_owned : (shown : List (ℕ × KeptRow)) (x : ℕ) (row : KeptRow) → row ≡ row_at shown x → row.own ≢ 0 → owned_at shown x ≡ true
-is_owned shown x row is some = ap (λ (k : KeptRow). not (k.own == 0)) (sym is) ∙ not_zero row.own some
+is_owned shown x row is some = ap (λ (k : KeptRow). not (k.own == 0)) (sym is) ∙ nonzero row.own some
 
 pub isnt_owned : (shown : List (ℕ × KeptRow)) (x : ℕ) (row : KeptRow) → row ≡ row_at shown x → row.own ≡ 0 → owned_at shown x ≡ false
 isnt_owned shown x row is none = ap (λ (k : KeptRow). not (k.own == 0)) (sym is) ∙ zero_is row.own none

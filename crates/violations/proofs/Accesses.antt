@@ -27,7 +27,7 @@ either_some None (Some byte) = refl
 either_some (Some byte) None = refl
 either_some (Some byte) (Some other) = refl
 
-stored_by : (b : Bool) (x : ℕ) → is_some (cond b (Some x) None) ≡ b
+pub stored_by : (b : Bool) (x : ℕ) → is_some (cond b (Some x) None) ≡ b
 stored_by true x = refl
 stored_by false x = refl
 

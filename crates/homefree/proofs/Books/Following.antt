@@ -34,7 +34,7 @@ use Rattle.homefree.proofs.State.Arms.{Comes}
 use Rattle.homefree.proofs.Books.Turns.{agrees_same, sum_nothing}
 use Rattle.homefree.proofs.Books.Entries.{AllBy, acts_by}
 use Rattle.homefree.proofs.State.Ends as ends
-use Rattle.homefree.proofs.Books.NeverAgain.{never_again}
+use Rattle.homefree.proofs.Books.NeverAgain.{never_again, answer_is}
 
 -- ---- the state of a book
 
@@ -100,9 +100,6 @@ module _ (t : Turn) (v w : StoreView) (out : Outcome) (kept : IsKept t.image t.c
 
 abbrev EndsSo : Turn → Outcome → End → Type 0
 EndsSo t out end = (u : FlatState) × (replay_from t.image t.cores t.state out.entries ≡ Some u) × (u.end ≡ Some end)
-
-answer_is : (out other : Outcome) (answer : Answer) → out ≡ other → out.answer ≡ answer → other.answer ≡ answer
-answer_is out other answer same is = sym (ap (λ (o : Outcome). o.answer) same) ∙ is
 
 no_end : (t : Turn) (out : Outcome) (entries : List Entry) (answer : Answer) (end : End) → out ≡ does entries answer → out.answer ≡ Over end → answer ≢ Over end → EndsSo t out end
 no_end t out entries answer end same is isnt = absurd (isnt (answer_is out (does entries answer) (Over end) same is))

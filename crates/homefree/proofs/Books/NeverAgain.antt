@@ -11,7 +11,7 @@ use Rattle.homefree.specs.declared.answer.Cause.{Cause}
 use Rattle.homefree.specs.Turned.{Turn, Outcome}
 use Rattle.homefree.specs.Turned as turn
 
-answer_is : (out other : Outcome) (answer : Answer) → out ≡ other → out.answer ≡ answer → other.answer ≡ answer
+pub answer_is : (out other : Outcome) (answer : Answer) → out ≡ other → out.answer ≡ answer → other.answer ≡ answer
 answer_is out other answer same is = sym (ap (λ (o : Outcome). o.answer) same) ∙ is
 
 not_left : (o : Option End) (cause : Cause) → turn.left_or_over o ≢ Again cause

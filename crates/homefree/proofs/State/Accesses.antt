@@ -9,6 +9,7 @@ use Rattle.memory_bytes.proofs.Bytes.{over-joined}
 use Rattle.spec_history.specs.FlatState.{CoreState, begun}
 use Rattle.violations.specs.View.{StoreView, IsSettled, attempt_of, is_accessed}
 use Rattle.violations.specs.Rule.{Begins, Loads, Stores}
+use Rattle.violations.proofs.Accesses.{stored_there}
 use Rattle.homefree.specs.Agrees.{HasReadIn, AgreesCore}
 use Rattle.homefree.proofs.State.Others.{in_shape}
 
@@ -86,15 +87,6 @@ load_core v w by address width value hurt m c hart g l = record {
 
 -- ---- stores
 
-some_by : (b : Bool) (byte : ℕ) → is_some (cond b (Some byte) None) ≡ b
-some_by true byte = refl
-some_by false byte = refl
-
--- the bytes of a store are those that it accesses
-pub stored_accessed : (address width value a : ℕ) → is_some (stored address width value a) ≡ is_accessed address width a
-unfolding stored
-stored_accessed address width value a = some_by (is_accessed address width a) _
-
 own_or : (was now : Option ℕ) (accessed : Bool) → is_some now ≡ accessed → (is_some was || accessed) ≡ is_some (first_of now was)
 own_or was None true is = absurd cc
 own_or was (Some byte) false is = absurd cc
@@ -110,7 +102,7 @@ store_core v w by address width value hurt m c hart g l = record {
   attempt = l.attempt ∙ g.attempt;
   sees = λ a. l.sees a ∙ (ap (unwrap_or (stored address width value a)) (g.sees a) ∙ sym (over-joined (stored address width value) c.own m a));
   own = λ a. l.own a ∙ (ap (λ b. b || is_accessed address width a) (g.own a)
-      ∙ own_or (c.own a) (stored address width value a) (is_accessed address width a) (stored_accessed address width value a));
+      ∙ own_or (c.own a) (stored address width value a) (is_accessed address width a) (stored_there address width value a));
   guards_read = λ a byte read. l.guarded a ∙ g.guards_read a byte read;
   guards_only = λ a is. let old = in_shape v.shape w.shape c a l.shape (g.guards_only a (sym (l.guarded a) ∙ is)) in
       record { at = old.at; in_line = old.in_line; read = old.read };

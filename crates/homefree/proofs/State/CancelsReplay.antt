@@ -1,5 +1,5 @@
 -- The entries of a core that exits the loop: each cancels one other core, and then none but it runs.
-use Rattle.std.proofs.Common.{◌≡◌, ◌≢◌, ℕ, zero, suc, ◌<◌, ◌≤◌, ◌==◌, ◌&&◌, not, nat_lt, is_some, Bool, true, false, cond, List, [], ◌∷◌, ◌++◌, Option, Some, None, refl, sym, ap, ◌∙◌, inl, inr, arith, append-nil, eq-eqb, ne_eqb, true≢false, lt-ltb, le-ltb}
+use Rattle.std.proofs.Common.{◌≡◌, ◌≢◌, ℕ, zero, suc, ◌<◌, ◌≤◌, ◌==◌, ◌&&◌, not, nat_lt, is_some, Bool, true, false, cond, List, [], ◌∷◌, ◌++◌, Option, Some, None, refl, sym, ap, ◌∙◌, inl, inr, arith, append-nil, eq-eqb, ne_eqb, lt-ltb, le-ltb}
 use Rattle.std.proofs.Math.Path.{fun_ext}
 use Rattle.std.proofs.lemmas.Bool.{cases_eq, and_right, and_parts}
 use Rattle.rv32_image.specs.Image.{LoadedImage}
@@ -12,14 +12,14 @@ use Rattle.spec_history.specs.Effect.{by_core, effect, idle_at}
 use Rattle.spec_history.specs.Refusal.{refusal_of, is_at, is_an_exit}
 use Rattle.spec_history.specs.Replay.{replay_from}
 use Rattle.spec_history.proofs.OneEntry.Legal.{legal_is}
-use Rattle.spec_history.proofs.Replay.Joining.{one_entry, no_entry, then_entries}
+use Rattle.spec_history.proofs.Replay.Joining.{one_entry, no_entry, then_entries, not_same}
 use Rattle.spec_history.proofs.OneEntry.Keeping.{IsApart}
 use Rattle.spec_history.proofs.Searches.Tests.{one_passes}
 use Rattle.spec_history.proofs.Searches.Missing.{quiet_misses}
 use Rattle.spec_history.proofs.Replay.Replays.{effect-on}
 use Rattle.homefree.specs.Hurts.{entry_for_each, epoch_on, cancels, is_other, idle_if, with_cancels}
 use Rattle.homefree.proofs.State.Legality.{by_it}
-use Rattle.homefree.proofs.State.HurtsReplay.{below, below_other, below_this, below_not_yet, with_cores}
+use Rattle.homefree.proofs.State.HurtsReplay.{below, below_other, below_this, below_not_yet, with_cores, no_more}
 
 -- what the homefree core needs to cancel the others
 pub record MayCancel (image : LoadedImage) (count : ℕ) (s : FlatState) (by : ℕ) (c : CoreState) : Type 0 where
@@ -59,15 +59,6 @@ other_idle false epoch (Some x) other = ap (λ b. cond b None (Some x)) (ne_eqb 
 this_idle : (b : Bool) (epoch : ℕ) (core : Option CoreState) (x : CoreState) → core ≡ Some x → x.epoch ≡ epoch → b ≡ false → idle_at epoch (idle_if b core) ≡ idle_if true core
 this_idle true epoch core x at same off = absurd cc
 this_idle false epoch core x at same off = rw (at, eq-eqb x.epoch epoch same) refl
-
-no_more : (others : ℕ → Bool) (n k : ℕ) → others n ≡ false → below others n k ≡ below others (suc n) k
-no_more others n k is = elim (cases_eq k n) [
-  | inl e ↦ rw e (below_not_yet others n ∙ sym (below_this others n false is))
-  | inr other ↦ sym (below_other others n k other)
-]
-
-not_same : (k by : ℕ) → not (k == by) ≡ true → k ≢ by
-not_same k by is same = true≢false (sym is ∙ ap not (eq-eqb k by same))
 
 pub not_other : (cores : ℕ → Option CoreState) (by : ℕ) → is_other cores by by ≡ false
 not_other cores by = ap (λ b. not b && is_some (cores by)) (eq-eqb by by refl)

@@ -83,7 +83,7 @@ one_more hurt s n k d apart at unhurt is = elim (cases_eq k n) [
   | inr other ↦ rw (below_other hurt n k other) (other_hurt (below hurt n k) d.epoch (s.cores k) (λ x at_k same. other (apart k n x d at_k at same)))
 ]
 
-no_more : (hurt : ℕ → Bool) (n k : ℕ) → hurt n ≡ false → below hurt n k ≡ below hurt (suc n) k
+pub no_more : (hurt : ℕ → Bool) (n k : ℕ) → hurt n ≡ false → below hurt n k ≡ below hurt (suc n) k
 no_more hurt n k is = elim (cases_eq k n) [
   | inl e ↦ rw e (below_not_yet hurt n ∙ sym (below_this hurt n false is))
   | inr other ↦ sym (below_other hurt n k other)

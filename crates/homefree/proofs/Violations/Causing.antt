@@ -8,6 +8,7 @@ use Rattle.spec_history.specs.declared.entry.What.TheVariants.{Start, Load, Stor
 use Rattle.spec_history.specs.Conflict.{entry_is, is_notice, can_cause, cause_of, next_act, is_hurt}
 use Rattle.spec_history.proofs.Searches.Tests.{first_at}
 use Rattle.homefree.specs.Hurts.{entry, entry_for_each}
+use Rattle.homefree.proofs.Violations.Knowing.{acts_at}
 
 -- ---- lists in which each violation has its cause
 
@@ -176,9 +177,6 @@ found_past [] es place e all from at hurt = found es place e all at hurt
 found_past (x ∷ before) es zero e all from at hurt = absurd (omega (arith, from))
 found_past (x ∷ before) es (suc place) e all from at hurt =
     moved e.by place x (before ++ es) (found_past before es place e all (omega (arith, from)) at hurt)
-
-abbrev acts_at : List Entry → ℕ → ℕ → Bool
-acts_at entries place j = nat_lt place j && entry_is entries j (λ entry. not (is_notice entry.what))
 
 quiet : (entries : List Entry) (place core : ℕ) (a : Answers entries place core) → (k : ℕ) → k < a.at → acts_at entries place k ≡ false
 quiet entries place core a k below = elim (cases_lt place k) [

@@ -1,5 +1,5 @@
 -- The entries of a turn: what each violation was about is known, and over caches nobody is passed over.
-use Rattle.std.proofs.Common.{◌≡◌, ◌≢◌, ℕ, zero, suc, ◌+◌, ◌%◌, ◌<◌, ◌≤◌, ◌==◌, ◌&&◌, Bool, true, false, is_some, List, [], ◌++◌, Option, Some, None, if◌then◌else◌, refl, sym, ap, subst, ◌∙◌, inl, inr, arith}
+use Rattle.std.proofs.Common.{◌≡◌, ◌≢◌, ℕ, zero, suc, ◌+◌, ◌%◌, ◌<◌, ◌≤◌, ◌&&◌, Bool, true, false, is_some, List, [], ◌++◌, Option, Some, None, if◌then◌else◌, refl, sym, ap, subst, ◌∙◌, inl, inr, arith}
 use Rattle.std.proofs.lemmas.Bool.{eq-eqb}
 use Rattle.std.proofs.lemmas.List.{append_assoc}
 use Rattle.memory_bytes.specs.Bytes.{IsWidth}
@@ -11,10 +11,11 @@ use Rattle.rv32_exec.proofs.Accesses.{stop_of_event}
 use Rattle.spec_history.specs.declared.entry.Entry.{Entry}
 use Rattle.spec_history.specs.declared.entry.What.{What}
 use Rattle.spec_history.specs.declared.entry.What.TheVariants.{Start, Load, Store, Hurt, Cancel, Restart, Commit, Fault}
-use Rattle.spec_history.specs.Effect.{by_core, effect, effect_on, effect_idle, idle_at}
+use Rattle.spec_history.specs.Effect.{by_core, effect, effect_on, effect_idle}
 use Rattle.spec_history.specs.FlatState.{CoreState, FlatState}
 use Rattle.spec_history.specs.Laws.{IsKept}
 use Rattle.spec_history.specs.Conflict.{is_beside, line_number, line_has, read_bytes, meeting, written}
+use Rattle.spec_history.proofs.OneEntry.Entries.{still_runs}
 use Rattle.violations.specs.View.{StoreView, IsSettled}
 use Rattle.violations.specs.Rule.{shape_of}
 use Rattle.homefree.specs.declared.answer.Answer.{Answer}
@@ -61,18 +62,10 @@ cancelled_next by these epochs (suc n) tail what later =
 abbrev IsWithin : FlatState → FlatState → Type 0
 IsWithin t u = (j : ℕ) (e : CoreState) → u.cores j ≡ Some e → t.cores j ≡ Some e
 
-idle_within : (epoch : ℕ) (o : Option CoreState) (e : CoreState) → idle_at epoch o ≡ Some e → o ≡ Some e
-idle_within epoch None e is = absurd cc
-idle_within epoch (Some d) e is = by_test (d.epoch == epoch) is
-  where
-    by_test : (b : Bool) → (if b then None else Some d) ≡ Some e → Some d ≡ Some e
-    by_test true same = absurd cc
-    by_test false same = same
-
 cancel_by : (image : LoadedImage) (t u : FlatState) (by epoch : ℕ) (o : Option CoreState) → IsWithin t u
     → IsWithin t (by_core o (effect_idle image u by (Cancel epoch)) (λ core. effect_on image u by core (Cancel epoch)))
 cancel_by image t u by epoch None p j e is = p j e is
-cancel_by image t u by epoch (Some d) p j e is = p j e (idle_within epoch (u.cores j) e is)
+cancel_by image t u by epoch (Some d) p j e is = p j e (still_runs epoch (u.cores j) e is)
 
 cancel_stays : (image : LoadedImage) (t u : FlatState) (by epoch : ℕ) → IsWithin t u → IsWithin t (effect image u (record { by = by; what = Cancel epoch }))
 unfolding effect

@@ -94,7 +94,7 @@ taken : (before es : List Entry) → take (length before) (before ++ es) ≡ bef
 taken [] es = refl
 taken (x ∷ before) es = ap (λ (xs : List Entry). x ∷ xs) (taken before es)
 
-abbrev acts_at : List Entry → ℕ → ℕ → Bool
+abbrev pub acts_at : List Entry → ℕ → ℕ → Bool
 acts_at entries place j = nat_lt place j && entry_is entries j (λ entry. not (is_notice entry.what))
 
 module _ (before es : List Entry) (e : Entry) (core : ℕ) (what : What) (n : Next core what es) where

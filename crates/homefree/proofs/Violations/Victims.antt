@@ -24,12 +24,12 @@ use Rattle.violations.specs.declared.attempt.Attempt.{Attempt}
 use Rattle.violations.specs.View.{Shape, StoreView, IsSettled, epoch_of, is_accessed}
 use Rattle.violations.specs.View as view
 use Rattle.violations.specs.Rule.{Guards, OwnsIn, IsCrowded, IsHurt, HurtsLater, Stores, Publishes, StoresStraight, shape_of}
+use Rattle.violations.proofs.Accesses.{stored_there}
 use Rattle.homefree.specs.Agrees.{AgreesCore, AgreesAt, Agrees}
 use Rattle.homefree.specs.Caused.{IsKnown}
 use Rattle.homefree.specs.Hurts.{entry, entry_for_each, epoch_on}
 use Rattle.homefree.specs.Missed.{IsMissed, IsFurtherStore}
 use Rattle.homefree.specs.Turned.{publishes_unless}
-use Rattle.homefree.proofs.State.Accesses.{stored_accessed}
 use Rattle.homefree.proofs.Violations.Knowing.{next_what, PassedHere, AllKnown}
 use Rattle.homefree.proofs.State.Others.{spared_core}
 use Rattle.homefree.proofs.Violations.Sharing.{line_length, is_met, load_crowded, store_crowded}
@@ -282,7 +282,7 @@ module _ (C : Type 0) (image : LoadedImage) (count : ℕ) (s : FlatState) (v : S
   store_kind : (x : StoreView) (t : FlatState) (j k address width value : ℕ) (q : Victim x j) → Found t j k q.core → Guards x j (is_accessed address width) ⊎ IsCrowded x j address
       → kind_of image t by k (Some (Store address width value)) ≢ Unexplained
   store_kind x t j k address width value q f (inl g) =
-      guards_known x t j k (Store address width value) (is_accessed address width) q f g (λ a accessed. stored_accessed address width value a ∙ accessed)
+      guards_known x t j k (Store address width value) (is_accessed address width) q f g (λ a accessed. stored_there address width value a ∙ accessed)
   store_kind x t j k address width value q f (inr crowded) =
       store_crowded image count x (meeting t by (Store address width value) k) q.core j address q.same_shape whole f.stores q.keeps.own width value crowded
 
@@ -402,7 +402,7 @@ module _ (C : Type 0) (image : LoadedImage) (count : ℕ) (s : FlatState) (v : S
       let r = reader_first hurt t (Store address width value) k p missed in
       let me = caller hurt count t p in
       let g : Guards v k (is_accessed address width) =
-      record { at = r.byte; is_one = sym (stored_accessed address width value r.byte) ∙ r.writes; guarded = r.guarded holds } in
+      record { at = r.byte; is_one = sym (stored_there address width value r.byte) ∙ r.writes; guarded = r.guarded holds } in
       elim (cases_Bool (line_has image (line_number image address) (λ a. is_some (me.core.own a)))) [
         | inl before ↦ record {
           core = me.core;
@@ -453,7 +453,7 @@ module _ (C : Type 0) (image : LoadedImage) (count : ℕ) (s : FlatState) (v : S
       absurd (not_told hurt t (Store address width value) k p.told missed r.core r.runs
       (l.tells k r.away (record {
         at = r.byte;
-        is_one = sym (stored_accessed address width value r.byte) ∙ r.writes;
+        is_one = sym (stored_there address width value r.byte) ∙ r.writes;
         guarded = guards_still x first b k r.byte published r.away spared (r.guarded holds);
       })))
 

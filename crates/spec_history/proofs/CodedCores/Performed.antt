@@ -29,7 +29,7 @@ abbrev pub IsOfCore : What → Type 0
 IsOfCore (Start epoch) = ⊥
 IsOfCore what = Unit {0}
 
-idle_fails : (core : Option CoreState) (test : CoreState → Bool) → core ≡ None → by_core core false test ≡ true → ⊥
+pub idle_fails : (core : Option CoreState) (test : CoreState → Bool) → core ≡ None → by_core core false test ≡ true → ⊥
 idle_fails core test none is = true≢false (sym is ∙ ap (λ o. by_core o false test) none)
 
 -- such an entry is of a core that runs

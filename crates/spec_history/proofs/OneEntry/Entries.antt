@@ -22,7 +22,7 @@ use Rattle.spec_history.specs.Laws.{Holds, IsKeptCore, IsKept, IsPublished, Ends
 use Rattle.memory_bytes.proofs.Bytes.{number_at_same}
 use Rattle.spec_history.proofs.OneEntry.Progress.{comes_to_event, comes_past_access, outcome_there, published_memory-is, published_memory-exit}
 use Rattle.spec_history.proofs.OneEntry.Legal.{none_below}
-use Rattle.spec_history.proofs.OneEntry.Keeping.{with_core_same, with_core_other, at_core, apart_with, apart_changed, keeps_with, moves_on, begun_kept}
+use Rattle.spec_history.proofs.OneEntry.Keeping.{with_core_same, with_core_other, at_core, apart_with, apart_changed, keeps_with, moves_on, begun_kept, start_runs}
 use Rattle.spec_history.proofs.OneEntry.Accesses.{load_goes_on, load_counts, store_goes_on, store_within, holds_stored, load_kept, store_kept}
 use Rattle.spec_history.proofs.OneEntry.Going.{Shown, Going, Spares, same_spares, rest_kept, keeps_changed, shown_with, others_speculate, shown_straight, homefree_run, straight_kept}
 
@@ -259,7 +259,7 @@ kept_by true d c is = absurd cc
 kept_by false d c is = is
 
 -- a core that still runs ran before
-still_runs : (epoch : ℕ) (core : Option CoreState) (c : CoreState) → idle_at epoch core ≡ Some c → core ≡ Some c
+pub still_runs : (epoch : ℕ) (core : Option CoreState) (c : CoreState) → idle_at epoch core ≡ Some c → core ≡ Some c
 still_runs epoch None c is = absurd cc
 still_runs epoch (Some d) c is = kept_by (d.epoch == epoch) d c is
 
@@ -318,10 +318,6 @@ publish_goes_on image count s by c going at unhurt homefree spares =
     })
     (shown_straight image count s by c new (over c.own s.committed) run.after going at homefree refl run.runs run.holds)
 
-starts : (image : LoadedImage) (epoch : ℕ) (memory : List ℕ) → after_steps image 0 (start_of image epoch) memory ≡ Runs (start_of image epoch) memory
-unfolding after_steps
-starts image epoch memory = refl
-
 -- the outcome of the homefree epoch, where it ends
 homefree_ends : (image : LoadedImage) (s : FlatState) (c : CoreState) (before after : List ℕ) → (next_event image c.hart).at ≡ stop.Ended
     → after_steps image c.hart.done (start_of image s.homefree) before ≡ Runs c.hart after
@@ -354,7 +350,7 @@ commit_goes_on image count s by c going at unhurt homefree ends goes_on spares =
         hart = start_of image (s.homefree + 1);
         done = first_epochs-ends image s.homefree (next_event image c.hart).now going.shown.before run.after going.shown.done (sym outcome) goes_on;
         long = run.holds.long;
-        runs = starts image (s.homefree + 1) run.after;
+        runs = start_runs image (s.homefree + 1) run.after;
         holds = run.holds;
         straight = λ k d at_k is. elim (at_core s.cores by None k d at_k) [
           | inl same ↦ absurd (none-some d same.1)

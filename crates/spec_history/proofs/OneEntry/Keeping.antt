@@ -2,6 +2,7 @@
 use Rattle.std.proofs.Common.{◌≡◌, ◌≢◌, ◌⊎◌, ℕ, ◌+◌, ◌<◌, ◌≤◌, ◌&&◌, Bool, true, false, cond, is_none, nat_lt, nat_le, List, Option, Some, None, refl, sym, ap, ◌∙◌, inl, inr, true≢false, arith, eq-eqb, ne_eqb}
 use Rattle.std.proofs.lemmas.Bool.{cases_eq}
 use Rattle.std.proofs.lemmas.Bool.Decides.{nat_tests}
+use Rattle.memory_bytes.proofs.Bytes.{within_test}
 use Rattle.rv32_image.specs.Image.{LoadedImage}
 use Rattle.rv32_image.proofs.SmallFacts.{one_value}
 use Rattle.rv32_exec.specs.Hart.{start_of}
@@ -96,7 +97,7 @@ moves_on image count committed committed' homefree homefree' next_epoch next_epo
 
 -- ---- a core at the start of an epoch
 
-start_runs : (image : LoadedImage) (epoch : ℕ) (memory : List ℕ) → after_steps image 0 (start_of image epoch) memory ≡ Runs (start_of image epoch) memory
+pub start_runs : (image : LoadedImage) (epoch : ℕ) (memory : List ℕ) → after_steps image 0 (start_of image epoch) memory ≡ Runs (start_of image epoch) memory
 unfolding after_steps
 start_runs image epoch memory = refl
 
@@ -121,13 +122,10 @@ begun_kept image count committed homefree next_epoch k epoch there from below = 
 
 -- ---- a speculative load
 
-le_tests : (address width a : ℕ) → address ≤ a → a < address + width → (nat_le address a && nat_lt a (address + width)) ≡ true
-le_tests address width a low high = grind (arith, nat_tests)
-
 -- the bytes that are read are noted, unless they are its own
 pub noted : (address width a : ℕ) (own : ℕ → Option ℕ) (committed : ℕ → ℕ) → address ≤ a → a < address + width → own a ≡ None
     → read_outside address width own committed a ≡ Some (committed a)
-noted address width a own committed low high none = rw (none, le_tests address width a low high) refl
+noted address width a own committed low high none = rw (none, within_test address width a low high) refl
 
 noted_by : (low high none : Bool) (end a byte here : ℕ) → nat_lt a end ≡ high → cond ((low && high) && none) (Some here) None ≡ Some byte → (a < end) × (byte ≡ here)
 noted_by true true true end a byte here within is = (grind (arith, nat_tests), cc)

@@ -6,7 +6,7 @@ use Rattle.rv32_exec.specs.Hart.{HartState, start_of}
 use Rattle.rv32_exec.specs.NextEvent.{next_event}
 use Rattle.rv32_exec.specs.Sequential.{Progress, Runs, Ends, Faults, execute, after_steps, after_stop, epoch_outcome, go_on, first_epochs, sequential_memory, published_memory}
 use Rattle.rv32_exec.specs.Laws.{HasStopped}
-use Rattle.rv32_exec.proofs.LawsOfRuns.{after_steps-+, next_event_reached, execute_leads_on, LeadsOn}
+use Rattle.rv32_exec.proofs.LawsOfRuns.{after_steps-+, next_event_reached, execute_leads_on, LeadsOn, one_step}
 
 pub record Counted (image : LoadedImage) (h : HartState) (n : ℕ) (g : HartState) : Type 0 where
   pub count : g.done ≡ h.done + n
@@ -15,10 +15,6 @@ pub record Counted (image : LoadedImage) (h : HartState) (n : ℕ) (g : HartStat
 no_steps : (image : LoadedImage) (h g : HartState) (memory memory' : List ℕ) → after_steps image 0 h memory ≡ Runs g memory' → h ≡ g
 unfolding after_steps
 no_steps image h g memory memory' runs = cc
-
-one_step : (image : LoadedImage) (n : ℕ) (h : HartState) (memory : List ℕ) → after_steps image (suc n) h memory ≡ go_on (execute image h memory) (after_steps image n)
-unfolding after_steps
-one_step image n h memory = refl
 
 none_left : (image : LoadedImage) (p : Progress) → go_on p (after_steps image 0) ≡ p
 unfolding after_steps

@@ -26,7 +26,7 @@ read_by None a is = absurd cc
 read_by (Some c) a is =
     let both = and_parts (not c.hurt) (is_some (c.outside a)) is in some_of c a (c.outside a) refl (not-true c.hurt both.0) both.1
 
-not_same : (k by : ℕ) → not (k == by) ≡ true → k ≢ by
+pub not_same : (k by : ℕ) → not (k == by) ≡ true → k ≢ by
 not_same k by is same = true≢false (sym is ∙ ap not (eq-eqb k by same))
 
 stays : (count : ℕ) (s : FlatState) (by : ℕ) (committed : ℕ → ℕ) → Spares s by committed → (a : ℕ) → other_has_read count s by a ≡ true → committed a ≡ s.committed a

@@ -4,16 +4,12 @@ use Rattle.spec_history.proofs.Searches.Tests.{all_fail, one_passes}
 use Rattle.conflicts.specs.Attempts.{covers}
 use Rattle.spec_history.specs.Conflict.{is_changed}
 use Rattle.conflicts.specs.Parties.{meeting_in}
+use Rattle.conflicts.proofs.Finding.{all_so}
 use Rattle.conflict_findings.proofs.run.Told.changes.Goals as goal
 
 only_covered : (b t : Bool) → (b ≡ true → t ≡ false) → (b && t) ≡ false
 only_covered true t fails = fails refl
 only_covered false t fails = refl
-
-all_so : (a b t : Bool) → a ≡ true → b ≡ true → t ≡ true → ((a && b) && t) ≡ true
-all_so true true t a b c = c
-all_so true false t a b c = absurd cc
-all_so false b t a c d = absurd cc
 
 pub loop-addr-init : goal.loop-addr-init
 loop-addr-init c a from below = absurd (omega (arith, from, below))
