@@ -3,10 +3,11 @@ use Rattle.std.proofs.Common.{◌≡◌, ℕ, ◌+◌, ◌<◌, nat_lt, Bool, tr
 use Rattle.std.proofs.lemmas.Bool.Decides.{nat_tests}
 use Rattle.std.proofs.lemmas.List.Elements.{All-append, All-nil}
 use Rattle.rv32_image.specs.ImageText.{is_remark, number_in, pieces}
+use Rattle.rv32_image.specs.Parts.{begins_with, lines_above, lines_below}
 use Rattle.trace_text.specs.declared.fault.TraceFault.{TraceFault}
 use Rattle.trace_text.specs.declared.fault.TraceFaultKind.TheVariants.{Line}
 use Rattle.trace_text.specs.TraceText.{◌>>=◌, or_fault, where_ok}
-use Rattle.all_schedules.specs.Turns.{alone, begins_turns, below_image, core_in, joined, line_read, lines_read, schedule_text, word_read, words_read}
+use Rattle.all_schedules.specs.Turns.{alone, core_in, joined, line_read, lines_read, schedule_text, turns_prefix, word_read, words_read}
 
 abbrev AreCores : ℕ → Result (List ℕ) TraceFault → Type 0
 AreCores cores (Ok turns) = All (λ k. k < cores) turns
@@ -52,8 +53,8 @@ unfolding line_read
 of_line cores n line =
     let refused : Result (List ℕ) TraceFault = Err (record { line = n; kind = Line }) in
     let words = words_read cores n (pieces 32 (drop 6 line)) in
-    either cores (is_remark line) (Ok []) (cond (begins_turns line) words refused) (All-nil (λ k. k < cores))
-    (either cores (begins_turns line) words refused (of_words cores n (pieces 32 (drop 6 line))) tt)
+    either cores (is_remark line) (Ok []) (cond (begins_with turns_prefix line) words refused) (All-nil (λ k. k < cores))
+    (either cores (begins_with turns_prefix line) words refused (of_words cores n (pieces 32 (drop 6 line))) tt)
 
 of_lines : (cores n : ℕ) (lines : List (List ℕ)) → AreCores cores (lines_read cores n lines)
 unfolding lines_read
@@ -61,15 +62,9 @@ of_lines cores n [] = All-nil (λ k. k < cores)
 of_lines cores n (line ∷ lines) =
     of_joined cores (line_read cores n line) (lines_read cores (n + 1) lines) (of_line cores n line) (of_lines cores (n + 1) lines)
 
-of_below : (cores n : ℕ) (lines : List (List ℕ)) → AreCores cores (below_image cores n lines)
-unfolding below_image
-of_below cores n [] = All-nil (λ k. k < cores)
-of_below cores n (line ∷ lines) =
-    either cores (begins_turns line) (lines_read cores n (line ∷ lines)) (below_image cores (n + 1) lines) (of_lines cores n (line ∷ lines)) (of_below cores (n + 1) lines)
-
 of_text : (cores : ℕ) (text : List ℕ) → AreCores cores (schedule_text cores text)
 unfolding schedule_text
-of_text cores text = of_below cores 1 (pieces 10 text)
+of_text cores text = of_lines cores (lines_above turns_prefix (pieces 10 text) + 1) (lines_below turns_prefix (pieces 10 text))
 
 -- a core that is there takes each turn
 pub are_cores : (cores : ℕ) (text turns : List ℕ) → schedule_text cores text ≡ Ok turns → All (λ k. k < cores) turns

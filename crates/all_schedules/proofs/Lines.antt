@@ -1,55 +1,12 @@
 -- How reading goes on over one line, and over one word.
-use Rattle.std.proofs.Common.{◌≡◌, ℕ, ◌+◌, ◌≤◌, true, false, arith, List, [], ◌∷◌, ◌++◌, length, take, Result, Ok, Err, refl, ap, sym, ◌∙◌, append_assoc}
-use Rattle.std.proofs.lemmas.List.{take_all}
+use Rattle.std.proofs.Common.{◌≡◌, ℕ, ◌+◌, List, [], ◌∷◌, ◌++◌, Result, Ok, Err, refl, ap, sym, ◌∙◌, append_assoc}
 use Rattle.rv32_image.specs.ImageText.{pieces}
+use Rattle.rv32_image.specs.Parts.{lines_above, lines_below}
 use Rattle.trace_text.specs.declared.fault.TraceFault.{TraceFault}
 use Rattle.trace_text.specs.declared.fault.TraceFaultKind.{TraceFaultKind}
 use Rattle.trace_text.specs.Reading.{IsFaultOf}
 use Rattle.trace_text.proofs.Lines.{same_fault}
-use Rattle.all_schedules.specs.Turns.{begins_turns, below_image, image_length, image_part, joined, line_read, lines_read, schedule_text, word_read, words_read}
-
--- ---- the lines above the turns
-
-pub schedule_text-is : (cores : ℕ) (text : List ℕ) → schedule_text cores text ≡ below_image cores 1 (pieces 10 text)
-unfolding schedule_text
-schedule_text-is cores text = refl
-
-pub below_image-none : (cores n : ℕ) → below_image cores n [] ≡ Ok []
-unfolding below_image
-below_image-none cores n = refl
-
-pub below_image-head : (cores n : ℕ) (line : List ℕ) (lines : List (List ℕ)) → begins_turns line ≡ true
-    → below_image cores n (line ∷ lines) ≡ lines_read cores n (line ∷ lines)
-unfolding below_image
-below_image-head cores n line lines is = rw is refl
-
-pub below_image-more : (cores n : ℕ) (line : List ℕ) (lines : List (List ℕ)) → begins_turns line ≡ false
-    → below_image cores n (line ∷ lines) ≡ below_image cores (n + 1) lines
-unfolding below_image
-below_image-more cores n line lines is = rw is refl
-
-pub image_length-none : image_length [] ≡ 0
-unfolding image_length
-image_length-none = refl
-
-pub image_length-head : (line : List ℕ) (lines : List (List ℕ)) → begins_turns line ≡ true → image_length (line ∷ lines) ≡ 0
-unfolding image_length
-image_length-head line lines is = rw is refl
-
-pub image_length-more : (line : List ℕ) (lines : List (List ℕ)) → begins_turns line ≡ false
-    → image_length (line ∷ lines) ≡ length line + 1 + image_length lines
-unfolding image_length
-image_length-more line lines is = rw is refl
-
--- the image ends there
-pub image_part-is : (text : List ℕ) (start : ℕ) → start ≡ image_length (pieces 10 text) → image_part text ≡ take start text
-unfolding image_part
-image_part-is text start is = ap (λ n. take n text) (sym is)
-
--- the image is the whole text
-pub image_part-all : (text : List ℕ) (start : ℕ) → start ≡ length text → length text ≤ image_length (pieces 10 text) → image_part text ≡ take start text
-unfolding image_part
-image_part-all text start is long = take_all (image_length (pieces 10 text)) text long ∙ sym (take_all start text (omega (arith, is)))
+use Rattle.all_schedules.specs.Turns.{joined, line_read, lines_read, schedule_text, turns_prefix, word_read, words_read}
 
 -- ---- turns
 
@@ -71,9 +28,11 @@ onto_none (Err fault) = refl
 
 -- ---- lines of turns
 
-pub lines_read-nothing : (cores n : ℕ) → lines_read cores n [] ≡ Ok []
-unfolding lines_read
-lines_read-nothing cores n = refl
+-- these are the lines below the image
+pub schedule_text-is : (cores : ℕ) (text : List ℕ) (n : ℕ) (lines : List (List ℕ)) → n ≡ lines_above turns_prefix (pieces 10 text) + 1
+    → lines ≡ lines_below turns_prefix (pieces 10 text) → schedule_text cores text ≡ lines_read cores n lines
+unfolding schedule_text
+schedule_text-is cores text n lines first below = rw (first, below) refl
 
 pub lines_read-none : (cores : ℕ) (old : List ℕ) (n : ℕ) → joined (Ok old) (lines_read cores n []) ≡ Ok (old ++ [])
 unfolding lines_read

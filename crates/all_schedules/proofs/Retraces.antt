@@ -7,6 +7,7 @@ use Rattle.std.proofs.lemmas.Option.{get_or_from_slice_get, slice_get_cases, sli
 use Rattle.std.proofs.Math.Seq.{take-length, take-suc}
 use Rattle.rv32_image.specs.Image.{LoadedImage}
 use Rattle.rv32_image.specs.ImageText.{pieces}
+use Rattle.rv32_image.specs.Parts.{lines_above, lines_below}
 use Rattle.rv32_image.specs.declared.version.Version.{Version}
 use Rattle.rv32_image.specs.declared.version.Version.TheVariants.{One, Two}
 use Rattle.rv32_image.specs.Version.{limits_of}
@@ -14,7 +15,7 @@ use Rattle.spec_history.specs.declared.entry.Entry.{Entry}
 use Rattle.violations.specs.Rule.{IsCoreCount}
 use Rattle.trace_text.specs.declared.fault.TraceFault.{TraceFault}
 use Rattle.trace_text.specs.declared.fault.TraceFaultKind.TheVariants.{Head, TooLong}
-use Rattle.trace_text.specs.TraceText.{◌>>=◌, Trace, begins_trace, below_image, cores_in, is_core_count, lines_read, longest_trace_text, number, of_cores, or_fault, trace_at, trace_text}
+use Rattle.trace_text.specs.TraceText.{◌>>=◌, Trace, cores_in, is_core_count, lines_read, longest_trace_text, number, of_cores, or_fault, trace_at, trace_prefix, trace_text}
 use Rattle.trace_commands.specs.Audit.{IsTracedBy}
 use Rattle.all_schedules.specs.Traced.{PartAt, is_of_own, turn_of, turns_of}
 
@@ -53,21 +54,17 @@ of_head version n (Some k) (Ok entries) is = is
 of_head version n (Some k) (Err fault) is = tt
 of_head version n None entries is = tt
 
-of_trace : (version : Version) (n : ℕ) (head : List ℕ) (lines : List (List ℕ)) → IsAllowedIn version (trace_at version n head lines)
+of_trace : (version : Version) (n : ℕ) (lines : List (List ℕ)) → IsAllowedIn version (trace_at version n lines)
 unfolding trace_at
-of_trace version n head lines = of_head version n (cores_in version (pieces 32 head)) (lines_read (n + 1) lines) (of_words version (pieces 32 head))
-
-of_below : (version : Version) (n : ℕ) (lines : List (List ℕ)) → IsAllowedIn version (below_image version n lines)
-unfolding below_image
-of_below version n [] = tt
-of_below version n (line ∷ lines) =
-    either version (begins_trace line) (trace_at version n line lines) (below_image version (n + 1) lines) (of_trace version n line lines) (of_below version (n + 1) lines)
+of_trace version n [] = tt
+of_trace version n (head ∷ lines) = of_head version n (cores_in version (pieces 32 head)) (lines_read (n + 1) lines) (of_words version (pieces 32 head))
 
 of_text : (version : Version) (text : List ℕ) → IsAllowedIn version (trace_text version text)
 unfolding trace_text
 of_text version text =
-    either version (nat_lt longest_trace_text (length text)) (Err (record { line = 0; kind = TooLong })) (below_image version 1 (pieces 10 text)) tt
-    (of_below version 1 (pieces 10 text))
+    let n = lines_above trace_prefix (pieces 10 text) + 1 in
+    let lines = lines_below trace_prefix (pieces 10 text) in
+    either version (nat_lt longest_trace_text (length text)) (Err (record { line = 0; kind = TooLong })) (trace_at version n lines) tt (of_trace version n lines)
 
 counted : (version : Version) (cores : ℕ) → is_core_count version cores ≡ true → (1 ≤ cores) × (cores ≤ (limits_of version).most_cores)
 counted One cores is = grind (arith, nat_tests)

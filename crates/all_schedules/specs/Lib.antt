@@ -19,4 +19,3 @@ pub mod Work
 -- What the code finds.
 pub mod Longer
 pub mod Adding
-pub mod Parts

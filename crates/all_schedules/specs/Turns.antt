@@ -1,8 +1,8 @@
 -- What the lines of turns below an image say, and which fault is the first. Numbers, words and remarks are spelled as in the image text.
 -- Source: this project.
-use Rattle.std.specs.Prelude.{ℕ, ◌+◌, Bool, ◌==◌, nat_lt, Option, Some, None, Result, Ok, Err, List, [], ◌∷◌, ◌++◌, length, take, drop, codes, if◌then◌else◌}
-use Rattle.std.specs.List.{starts_with}
+use Rattle.std.specs.Prelude.{ℕ, ◌+◌, nat_lt, Option, Some, None, Result, Ok, Err, List, [], ◌∷◌, ◌++◌, drop, codes, if◌then◌else◌}
 use Rattle.rv32_image.specs.ImageText.{is_remark, number_in, pieces}
+use Rattle.rv32_image.specs.Parts.{begins_with, image_above, lines_above, lines_below}
 use Rattle.trace_text.specs.declared.fault.TraceFault.{TraceFault}
 use Rattle.trace_text.specs.declared.fault.TraceFaultKind.TheVariants.{Line}
 use Rattle.trace_text.specs.TraceText.{◌>>=◌, or_fault, where_ok}
@@ -36,15 +36,15 @@ words_read cores n (word ∷ words) = joined (word_read cores n word) (words_rea
 
 -- ---- lines
 
--- a line of turns begins with `turns` and a space
-abbrev pub begins_turns : List ℕ → Bool
-begins_turns line = starts_with (λ a b. a == b) line (codes "turns ")
+-- a line of turns begins so
+abbrev pub turns_prefix : List ℕ
+turns_prefix = codes "turns "
 
 -- `turns K K ..`: whose turns, in order; and none of a remark
 unfoldable pub line_read : ℕ → ℕ → List ℕ → Result (List ℕ) TraceFault
 line_read cores n line =
     if is_remark line then Ok []
-    else if begins_turns line then words_read cores n (pieces 32 (drop 6 line))
+    else if begins_with turns_prefix line then words_read cores n (pieces 32 (drop 6 line))
     else Err (record { line = n; kind = Line })
 
 -- the turns of the lines from line n on
@@ -52,23 +52,12 @@ unfoldable pub lines_read : ℕ → ℕ → List (List ℕ) → Result (List ℕ
 lines_read cores n [] = Ok []
 lines_read cores n (line ∷ lines) = joined (line_read cores n line) (lines_read cores (n + 1) lines)
 
--- the turns below the image, which ends at the first line of turns
-unfoldable pub below_image : ℕ → ℕ → List (List ℕ) → Result (List ℕ) TraceFault
-below_image cores n [] = Ok []
-below_image cores n (line ∷ lines) =
-    if begins_turns line then lines_read cores n (line ∷ lines) else below_image cores (n + 1) lines
-
 -- ---- the text
 
 -- the schedule that a text says for so many cores, or its first fault; lines count from 1, those of the image too
 unfoldable pub schedule_text : ℕ → List ℕ → Result (List ℕ) TraceFault
-schedule_text cores text = below_image cores 1 (pieces 10 text)
+schedule_text cores text = lines_read cores (lines_above turns_prefix (pieces 10 text) + 1) (lines_below turns_prefix (pieces 10 text))
 
--- the bytes of the lines of the image, with their line feeds
-unfoldable pub image_length : List (List ℕ) → ℕ
-image_length [] = 0
-image_length (line ∷ lines) = if begins_turns line then 0 else length line + 1 + image_length lines
-
--- the image of a text: all before the first line of turns, and without such a line the whole text
-unfoldable pub image_part : List ℕ → List ℕ
-image_part text = take (image_length (pieces 10 text)) text
+-- the image of a text: all above the first line of turns, and without such a line the whole text
+abbrev pub image_part : List ℕ → List ℕ
+image_part text = image_above turns_prefix text

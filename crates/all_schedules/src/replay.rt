@@ -13,9 +13,9 @@ ghost use Rattle.all_schedules.specs.Told.{IsHead};
 use crate::detail::Detail;
 use crate::told::{drive_told, print_told};
 use crate::traced::{begins_trace, retrace};
-use crate::turns::{image_part, parts_of, read_turns};
+use crate::turns::read_turns;
 use homefree::TurnFault;
-use rv32_image::{Image, image_of, read_input};
+use rv32_image::{Image, image_of, parts_of, read_input};
 use std::alloc::{AllocError, Global};
 use std::io::{Read, Write};
 use trace_commands::{CommandStop, Outcome, write_whole};
@@ -135,15 +135,15 @@ fn replay_of<S: ShownStore>(
     requires short { length text.now ≤ longest_trace_text }
     ensures { MatchResult result (λ shown. spec.OfText cores room text.now (λ l schedule. spec.IsReplay S.view S.waits (IsHead S.view S.waits S.changes detail) l schedule shown.0 shown.1.items)) (spec.IsNoReplay S.view S.waits cores room text.now) }
 {
-    let parts = parts_of(text);
-    let image = match image_of(alloc, image_part(text, &parts)) {
+    let parts = parts_of(text, b"turns ");
+    let image = match image_of(alloc, parts.image) {
         Ok(image) => image,
         Err(fault) => return Err(Outcome::of_fault(fault)),
     };
     if image.version().limits().most_cores < cores {
         return Err(Outcome::Usage);
     }
-    let schedule = match read_turns(alloc, cores, parts.first as u32, parts.turns) {
+    let schedule = match read_turns(alloc, cores, parts.number as u32, parts.below) {
         Ok(schedule) => schedule,
         Err(fault) => return Err(Outcome::of_turns_fault(fault)),
     };

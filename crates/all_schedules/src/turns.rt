@@ -4,54 +4,10 @@ ghost use Rattle.rv32_image.specs.ImageText.{pieces};
 ghost use Rattle.rv32_image.specs.Cutting.{pieces_after};
 ghost use Rattle.trace_text.specs.Reading.{Answers};
 ghost use Rattle.all_schedules.specs.Turns as spec;
-ghost use Rattle.all_schedules.specs.Parts.{AreParts};
 
 use rv32_image::{NumberedLines, cut, is_remark, number_in};
 use std::alloc::Global;
 use trace_text::{TraceFault, TraceFaultKind};
-
-/// How many bytes of a text its image has, and the lines of turns below it, the first of which has this number. There may be none.
-#[derive(Clone, Copy)]
-pub struct Parts<'a> {
-    pub start: usize,
-    pub first: usize,
-    pub turns: Option<&'a [u8]>,
-}
-
-/// The image is all before the first line that begins with `turns` and a space, and without such a line the whole text.
-pub fn parts_of(text: &[u8]) -> Parts<'_>
-    ensures { AreParts text.now result }
-{
-    let mut start = 0;
-    let mut number = 1;
-    let mut rest = Some(text);
-    while let Some(below) = rest {
-        let (line, next) = cut(below, b'\n');
-        if line.starts_with(b"turns ") {
-            return Parts {
-                start,
-                first: number,
-                turns: Some(below),
-            };
-        }
-        start += line.len() + 1;
-        number += 1;
-        rest = next;
-    }
-    Parts {
-        start: text.len(),
-        first: number,
-        turns: None,
-    }
-}
-
-/// The image of a text with these parts.
-pub fn image_part<'a>(text: &'a [u8], parts: &Parts<'_>) -> &'a [u8]
-    requires { AreParts text.now parts.now }
-    ensures { result.now ≡ spec.image_part text.now }
-{
-    &text[..parts.start]
-}
 
 /// The schedule that the lines of turns say, for so many cores.
 ///

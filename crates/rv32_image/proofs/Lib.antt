@@ -2,6 +2,7 @@ pub mod Kept
 pub mod Cuts
 pub mod Pieces
 pub mod Lines
+pub mod LinesAbove
 pub mod Inputs
 pub mod Printed
 pub mod Settled

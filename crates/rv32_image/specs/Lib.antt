@@ -6,6 +6,7 @@ pub mod Decoded
 pub mod ImageText
 pub mod Reading
 pub mod Cutting
+pub mod Parts
 pub mod Drafts
 pub mod DraftView
 pub mod WordsOf

@@ -1,27 +1,27 @@
 -- No line of an image begins a trace.
-use Rattle.std.proofs.Common.{◌≡◌, ℕ, ◌+◌, ◌≤◌, ◌==◌, Bool, true, false, cond, List, [], ◌∷◌, ◌++◌, length, take, drop, codes, nat_lt, Result, Ok, Err, refl, ap, subst, ◌∙◌, append_assoc, length-append, arith}
+use Rattle.std.proofs.Common.{◌≡◌, ℕ, ◌+◌, ◌≤◌, ◌==◌, Bool, true, false, cond, List, [], ◌∷◌, ◌++◌, length, take, drop, codes, nat_lt, Result, Ok, Err, refl, ap, sym, subst, ◌∙◌, append_assoc, length-append, arith}
 use Rattle.std.proofs.lemmas.Bool.Decides.{Decides-eqb, nat_tests}
 use Rattle.std.proofs.lemmas.List.Splits.{length-slice_split}
-use Rattle.std.proofs.lemmas.List.{take_at}
+use Rattle.std.proofs.lemmas.List.{drop_at, take_at}
 use Rattle.std.proofs.lemmas.Slice.Eq.{starts_is}
 use Rattle.rv32_image.specs.declared.fault.ImageFault.{ImageFault}
 use Rattle.rv32_image.specs.declared.fault.ImageFaultKind.{ImageFaultKind}
 use Rattle.rv32_image.specs.declared.fault.ImageFaultKind.TheVariants as kind
-use Rattle.rv32_image.specs.declared.version.Version.{Version}
 use Rattle.rv32_image.specs.Image.{LoadedImage}
 use Rattle.rv32_image.specs.ImageText.{Draft, blank, image_text, is_remark, line_read, lines_read, longest_image_text, on_line, pieces, then_finished, three_words, two_words, words_read}
+use Rattle.rv32_image.specs.Parts.{begins_with, bytes_of, lines_above, lines_below}
+use Rattle.rv32_image.proofs.LinesAbove.{bytes_above, bytes_of-split, image_above-is, lines_above-head, lines_above-more}
 use Rattle.trace_text.specs.Laws.{ReadsBack}
 use Rattle.trace_text.specs.Printing.{printed_trace}
-use Rattle.trace_text.specs.TraceText.{begins_trace, below_image, image_length, image_part}
-use Rattle.trace_text.proofs.Lengths.{bytes_of, bytes_of-split}
-use Rattle.trace_text.proofs.Lines.{below_image-head, below_image-more, image_length-head, image_length-more, trace_text-is}
+use Rattle.trace_text.specs.TraceText.{image_part, trace_prefix}
+use Rattle.trace_text.proofs.Lines.{trace_text-is}
 use Rattle.trace_text.proofs.Words.{split_append}
 use Rattle.trace_text.proofs.ReadsBack.{few_cores, head_body, pieces_trace, trace_at-printed, trace_lines}
 
 -- ---- a line that begins a trace is no line of an image
 
-trace_first : (line : List ℕ) → begins_trace line ≡ true → line ≡ codes "trace " ++ drop 6 line
-trace_first line is = (starts_is Decides-eqb line (codes "trace ") (begins_trace line) refl).0 is
+trace_first : (line : List ℕ) → begins_with trace_prefix line ≡ true → line ≡ codes "trace " ++ drop 6 line
+trace_first line is = (starts_is Decides-eqb line (codes "trace ") (begins_with trace_prefix line) refl).0 is
 
 words_trace : (draft : Draft) (words : List (List ℕ)) → 1 ≤ length words → words_read draft (codes "trace" ∷ words) ≡ Err kind.Line
 unfolding two_words three_words
@@ -44,10 +44,10 @@ trace_line draft rest =
     let some : 1 ≤ length (pieces 32 rest) = omega (arith, length-slice_split (λ b. b == 32) rest) in
     of_words draft (is_remark (codes "trace " ++ rest)) (pieces 32 (codes "trace " ++ rest)) (pieces 32 rest) (no_remark rest) cut some
 
-refused : (draft : Draft) (line : List ℕ) → begins_trace line ≡ true → line_read draft line ≡ Err kind.Line
+refused : (draft : Draft) (line : List ℕ) → begins_with trace_prefix line ≡ true → line_read draft line ≡ Err kind.Line
 refused draft line is = ap (line_read draft) (trace_first line is) ∙ trace_line draft (drop 6 line)
 
-either_begins : (draft read : Draft) (line : List ℕ) (b : Bool) → begins_trace line ≡ b → line_read draft line ≡ Ok read → b ≡ false
+either_begins : (draft read : Draft) (line : List ℕ) (b : Bool) → begins_with trace_prefix line ≡ b → line_read draft line ≡ Ok read → b ≡ false
 either_begins draft read line true is ok = let no = refused draft line is in absurd cc
 either_begins draft read line false is ok = refl
 
@@ -55,7 +55,7 @@ either_begins draft read line false is ok = refl
 
 abbrev NoTrace : List (List ℕ) → Type 0
 NoTrace [] = Unit {0}
-NoTrace (line ∷ lines) = (begins_trace line ≡ false) × NoTrace lines
+NoTrace (line ∷ lines) = (begins_with trace_prefix line ≡ false) × NoTrace lines
 
 on_line_ok : (n : ℕ) (read : Result Draft ImageFaultKind) (next : Draft → Result Draft ImageFault) (last : Draft) → on_line n read next ≡ Ok last
     → (draft : Draft) × (read ≡ Ok draft) × (next draft ≡ Ok last)
@@ -67,7 +67,7 @@ unfolding lines_read
 no_trace n draft last [] is = tt
 no_trace n draft last (line ∷ lines) is =
     let step = on_line_ok n (line_read draft line) (λ next. lines_read (n + 1) next lines) last is in
-    (either_begins draft step.0 line (begins_trace line) refl step.1, no_trace (n + 1) step.0 last lines step.2)
+    (either_begins draft step.0 line (begins_with trace_prefix line) refl step.1, no_trace (n + 1) step.0 last lines step.2)
 
 short_enough : (b : Bool) (fault : ImageFault) (said : Result LoadedImage ImageFault) (image : LoadedImage) → cond b (Err fault) said ≡ Ok image → said ≡ Ok image
 short_enough true fault said image is = absurd cc
@@ -87,18 +87,11 @@ first_lines : (first others : List (List ℕ)) → NoTrace (first ++ others) →
 first_lines [] others none = tt
 first_lines (line ∷ first) others none = (none.0, first_lines first others none.1)
 
--- ---- the lines of the image are skipped
+-- ---- the image ends above the trace
 
-skipped : (version : Version) (n : ℕ) (first others : List (List ℕ)) → NoTrace first
-    → (m : ℕ) × (below_image version n (first ++ others) ≡ below_image version m others)
-skipped version n [] others none = (n, refl)
-skipped version n (line ∷ first) others none =
-    let rest = skipped version (n + 1) first others none.1 in
-    (rest.0, below_image-more version n line (first ++ others) none.0 ∙ rest.1)
-
-counted : (first others : List (List ℕ)) → NoTrace first → image_length (first ++ others) ≡ bytes_of first + image_length others
-counted [] others none = omega arith
-counted (line ∷ first) others none = omega (arith, image_length-more line (first ++ others) none.0, counted first others none.1)
+skipped : (first others : List (List ℕ)) → NoTrace first → lines_above trace_prefix (first ++ others) ≡ length first + lines_above trace_prefix others
+skipped [] others none = omega arith
+skipped (line ∷ first) others none = omega (arith, lines_above-more trace_prefix line (first ++ others) none.0, skipped first others none.1)
 
 pub reads_back : ReadsBack
 unfolding image_part
@@ -113,11 +106,15 @@ reads_back lines image cores entries is count are short =
     let cut : pieces 10 text ≡ first ++ head ∷ below =
     ap (pieces 10) (append_assoc lines (codes "\n") printed)
     ∙ (split_append (λ b. b == 10) 10 lines printed refl ∙ ap (λ l. first ++ l) (pieces_trace cores entries (few_cores image.version cores count) are)) in
-    let at = skipped image.version 1 first (head ∷ below) none in
-    let whole = ap (below_image image.version 1) cut ∙ (at.1 ∙ (below_image-head image.version at.0 head below refl ∙ trace_at-printed image.version at.0 cores entries count are)) in
-    let bytes : image_length (pieces 10 text) ≡ length lines + 1 =
-    omega (arith, ap image_length cut, counted first (head ∷ below) none, image_length-head head below refl, bytes_of-split (λ b. b == 10) lines) in
+    let at : lines_above trace_prefix (pieces 10 text) ≡ length first =
+    omega (arith, ap (lines_above trace_prefix) cut, skipped first (head ∷ below) none, lines_above-head trace_prefix head below refl) in
+    let from : lines_below trace_prefix (pieces 10 text) ≡ head ∷ below =
+    ap (λ n. drop n (pieces 10 text)) at ∙ (ap (drop (length first)) cut ∙ drop_at first (head ∷ below) (length first) refl) in
+    let bytes : bytes_above trace_prefix (pieces 10 text) ≡ length lines + 1 =
+    ap (λ n. bytes_of (take n (pieces 10 text))) at
+    ∙ (ap (λ l. bytes_of (take (length first) l)) cut ∙ (ap bytes_of (take_at first (head ∷ below) (length first) refl) ∙ bytes_of-split (λ b. b == 10) lines)) in
+    let n = lines_above trace_prefix (pieces 10 text) + 1 in
     record {
-      image = ap (λ n. take n text) bytes ∙ take_at (lines ++ codes "\n") printed (length lines + 1) (omega (arith, length-append lines (codes "\n")));
-      trace = trace_text-is image.version text _ short whole;
+      image = image_above-is trace_prefix text (length lines + 1) bytes ∙ take_at (lines ++ codes "\n") printed (length lines + 1) (omega (arith, length-append lines (codes "\n")));
+      trace = trace_text-is image.version text n (head ∷ below) short refl (sym from) ∙ trace_at-printed image.version n cores entries count are;
     }

@@ -3,9 +3,10 @@ use Rattle.std.proofs.Common.{◌≡◌, ◌≢◌, ℕ, ◌+◌, ◌≤◌, Boo
 use Rattle.spec_history.specs.declared.entry.Entry.{Entry}
 use Rattle.rv32_image.specs.declared.version.Version.{Version}
 use Rattle.rv32_image.specs.ImageText.{is_remark, pieces}
+use Rattle.rv32_image.specs.Parts.{lines_above, lines_below}
 use Rattle.trace_text.specs.declared.fault.TraceFault.{TraceFault}
 use Rattle.trace_text.specs.declared.fault.TraceFaultKind.TheVariants.{Head, Line, TooLong}
-use Rattle.trace_text.specs.TraceText.{alone, begins_trace, below_image, cores_in, entry_in, joined, line_read, lines_read, longest_trace_text, of_cores, or_fault, trace_at, trace_text}
+use Rattle.trace_text.specs.TraceText.{alone, cores_in, entry_in, joined, line_read, lines_read, longest_trace_text, of_cores, or_fault, trace_at, trace_prefix, trace_text}
 use Rattle.trace_text.proofs.Lines.{trace_text-is}
 
 -- no fault is `TooLong`
@@ -40,17 +41,14 @@ of_head (Some cores) n (Ok entries) p = tt
 of_head (Some cores) n (Err fault) p = p
 of_head None n entries p = λ e. cc
 
-of_trace : (version : Version) (n : ℕ) (head : List ℕ) (lines : List (List ℕ)) → NotLong (trace_at version n head lines)
+of_trace : (version : Version) (n : ℕ) (lines : List (List ℕ)) → NotLong (trace_at version n lines)
 unfolding trace_at
-of_trace version n head lines = of_head (cores_in version (pieces 32 head)) n (lines_read (n + 1) lines) (of_lines (n + 1) lines)
-
-of_text : (version : Version) (n : ℕ) (lines : List (List ℕ)) → NotLong (below_image version n lines)
-unfolding below_image
-of_text version n [] = λ e. cc
-of_text version n (line ∷ lines) =
-    either (begins_trace line) (trace_at version n line lines) (below_image version (n + 1) lines) (of_trace version n line lines) (of_text version (n + 1) lines)
+of_trace version n [] = λ e. cc
+of_trace version n (head ∷ lines) = of_head (cores_in version (pieces 32 head)) n (lines_read (n + 1) lines) (of_lines (n + 1) lines)
 
 pub never_too_long : (version : Version) (text : List ℕ) (fault : TraceFault) → length text ≤ longest_trace_text → trace_text version text ≡ Err fault
     → fault.kind ≢ TooLong
 never_too_long version text fault short is =
-    subst NotLong (sym (trace_text-is version text (below_image version 1 (pieces 10 text)) short refl) ∙ is) (of_text version 1 (pieces 10 text))
+    let n = lines_above trace_prefix (pieces 10 text) + 1 in
+    let lines = lines_below trace_prefix (pieces 10 text) in
+    subst NotLong (sym (trace_text-is version text n lines short refl refl) ∙ is) (of_trace version n lines)

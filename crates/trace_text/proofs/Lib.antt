@@ -1,4 +1,3 @@
-pub mod Lengths
 pub mod Numbers
 pub mod Lines
 pub mod FirstWords

@@ -1,5 +1,5 @@
 -- How reading goes on over one line.
-use Rattle.std.proofs.Common.{◌≡◌, ℕ, ◌+◌, ◌≤◌, nat_lt, true, false, List, [], ◌∷◌, ◌++◌, length, Some, None, Result, Ok, Err, refl, ap, sym, ◌∙◌, append_assoc, arith}
+use Rattle.std.proofs.Common.{◌≡◌, ℕ, ◌+◌, ◌≤◌, nat_lt, false, List, [], ◌∷◌, ◌++◌, length, Some, None, Result, Ok, Err, refl, ap, sym, ◌∙◌, append_assoc, arith}
 use Rattle.std.proofs.lemmas.Bool.Decides.{nat_tests}
 use Rattle.spec_history.specs.declared.entry.Entry.{Entry}
 use Rattle.rv32_image.specs.declared.version.Version.{Version}
@@ -7,37 +7,9 @@ use Rattle.trace_text.specs.declared.fault.TraceFault.{TraceFault}
 use Rattle.trace_text.specs.declared.fault.TraceFaultKind.{TraceFaultKind}
 use Rattle.trace_text.specs.declared.fault.TraceFaultKind.TheVariants.{Head, Line, TooLong, Read, NoMemory}
 use Rattle.rv32_image.specs.ImageText.{pieces}
-use Rattle.trace_text.specs.TraceText.{Trace, begins_trace, below_image, cores_in, image_length, joined, line_read, lines_read, longest_trace_text, trace_at, trace_text}
+use Rattle.rv32_image.specs.Parts.{lines_above, lines_below}
+use Rattle.trace_text.specs.TraceText.{Trace, cores_in, joined, line_read, lines_read, longest_trace_text, trace_at, trace_prefix, trace_text}
 use Rattle.trace_text.specs.Reading.{IsFaultOf}
-
--- ---- the lines above the trace
-
-pub below_image-none : (version : Version) (n : ℕ) → below_image version n [] ≡ Err (record { line = 0; kind = Head })
-unfolding below_image
-below_image-none version n = refl
-
-pub below_image-head : (version : Version) (n : ℕ) (line : List ℕ) (lines : List (List ℕ)) → begins_trace line ≡ true
-    → below_image version n (line ∷ lines) ≡ trace_at version n line lines
-unfolding below_image
-below_image-head version n line lines is = rw is refl
-
-pub below_image-more : (version : Version) (n : ℕ) (line : List ℕ) (lines : List (List ℕ)) → begins_trace line ≡ false
-    → below_image version n (line ∷ lines) ≡ below_image version (n + 1) lines
-unfolding below_image
-below_image-more version n line lines is = rw is refl
-
-pub image_length-none : image_length [] ≡ 0
-unfolding image_length
-image_length-none = refl
-
-pub image_length-head : (line : List ℕ) (lines : List (List ℕ)) → begins_trace line ≡ true → image_length (line ∷ lines) ≡ 0
-unfolding image_length
-image_length-head line lines is = rw is refl
-
-pub image_length-more : (line : List ℕ) (lines : List (List ℕ)) → begins_trace line ≡ false
-    → image_length (line ∷ lines) ≡ length line + 1 + image_length lines
-unfolding image_length
-image_length-more line lines is = rw is refl
 
 -- ---- the lines of entries
 
@@ -88,30 +60,35 @@ fault_of_line kind fault old n line lines whole same is =
 
 -- ---- the whole trace
 
--- a text that is not too long
-pub trace_text-is : (version : Version) (text : List ℕ) (said : Result Trace TraceFault) → length text ≤ longest_trace_text
-    → below_image version 1 (pieces 10 text) ≡ said → trace_text version text ≡ said
+-- a text that is not too long, with these lines below its image
+pub trace_text-is : (version : Version) (text : List ℕ) (n : ℕ) (lines : List (List ℕ)) → length text ≤ longest_trace_text
+    → n ≡ lines_above trace_prefix (pieces 10 text) + 1 → lines ≡ lines_below trace_prefix (pieces 10 text) → trace_text version text ≡ trace_at version n lines
 unfolding trace_text
-trace_text-is version text said short is = let fits : nat_lt longest_trace_text (length text) ≡ false = grind (arith, nat_tests) in rw fits is
+trace_text-is version text n lines short first below =
+    let fits : nat_lt longest_trace_text (length text) ≡ false = grind (arith, nat_tests) in rw (fits, first, below) refl
+
+pub trace_at-none : (version : Version) (n : ℕ) → trace_at version n [] ≡ Err (record { line = 0; kind = Head })
+unfolding trace_at
+trace_at-none version n = refl
 
 pub trace_at-head : (version : Version) (n : ℕ) (head : List ℕ) (lines : List (List ℕ)) → cores_in version (pieces 32 head) ≡ None
-    → trace_at version n head lines ≡ Err (record { line = n; kind = Head })
+    → trace_at version n (head ∷ lines) ≡ Err (record { line = n; kind = Head })
 unfolding trace_at
 trace_at-head version n head lines none = rw none refl
 
 pub trace_at-ok : (version : Version) (n : ℕ) (head : List ℕ) (lines : List (List ℕ)) (cores : ℕ) (entries : List Entry)
     → cores_in version (pieces 32 head) ≡ Some cores → lines_read (n + 1) lines ≡ Ok entries
-    → trace_at version n head lines ≡ Ok (record { cores = cores; entries = entries })
+    → trace_at version n (head ∷ lines) ≡ Ok (record { cores = cores; entries = entries })
 unfolding trace_at
 trace_at-ok version n head lines cores entries some is = rw (some, is) refl
 
 trace_at-err : (version : Version) (n : ℕ) (head : List ℕ) (lines : List (List ℕ)) (cores : ℕ) (fault : TraceFault)
-    → cores_in version (pieces 32 head) ≡ Some cores → lines_read (n + 1) lines ≡ Err fault → trace_at version n head lines ≡ Err fault
+    → cores_in version (pieces 32 head) ≡ Some cores → lines_read (n + 1) lines ≡ Err fault → trace_at version n (head ∷ lines) ≡ Err fault
 unfolding trace_at
 trace_at-err version n head lines cores fault some is = rw (some, is) refl
 
 -- the fault of the entries is the fault of the trace
 pub fault_of_entries : (kind : TraceFaultKind) (fault : TraceFault) (version : Version) (n : ℕ) (head : List ℕ) (lines : List (List ℕ)) (cores : ℕ) (whole : Result Trace TraceFault)
-    → whole ≡ trace_at version n head lines → cores_in version (pieces 32 head) ≡ Some cores → IsFaultOf kind fault (lines_read (n + 1) lines) → IsFaultOf kind fault whole
+    → whole ≡ trace_at version n (head ∷ lines) → cores_in version (pieces 32 head) ≡ Some cores → IsFaultOf kind fault (lines_read (n + 1) lines) → IsFaultOf kind fault whole
 fault_of_entries kind fault version n head lines cores whole same some is =
     same_fault kind fault (lines_read (n + 1) lines) whole (λ e. same ∙ trace_at-err version n head lines cores fault some e) is

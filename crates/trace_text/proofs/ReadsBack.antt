@@ -172,6 +172,6 @@ cores_in-head version cores is =
 
 -- the trace at its head
 pub trace_at-printed : (version : Version) (n cores : ℕ) (entries : List Entry) → is_core_count version cores ≡ true → AreEntries entries
-    → trace_at version n (head_body cores) (trace_lines entries) ≡ Ok (record { cores = cores; entries = entries })
+    → trace_at version n (head_body cores ∷ trace_lines entries) ≡ Ok (record { cores = cores; entries = entries })
 trace_at-printed version n cores entries is are =
     trace_at-ok version n (head_body cores) (trace_lines entries) cores entries (cores_in-head version cores is) (lines_read-entries (n + 1) entries are)

@@ -4,7 +4,6 @@ pub mod TraceText
 -- Words of contracts: what the reader answers.
 pub mod Reading
 -- What the code finds.
-pub mod Starts
 pub mod Front
 pub mod Keywords
 pub mod Accesses

@@ -1,13 +1,13 @@
 -- What a trace text says, and which fault is the first. An image stands above the trace; numbers, digits and words are spelled
 -- as in the image text.
 -- Source: this project.
-use Rattle.std.specs.Prelude.{ℕ, ◌+◌, ◌^◌, Bool, ◌==◌, ◌&&◌, nat_lt, nat_le, Option, Some, None, Result, Ok, Err, List, [], ◌∷◌, ◌++◌, length, take, codes, if◌then◌else◌}
+use Rattle.std.specs.Prelude.{ℕ, ◌+◌, ◌^◌, Bool, ◌&&◌, nat_lt, nat_le, Option, Some, None, Result, Ok, Err, List, [], ◌∷◌, ◌++◌, length, codes, if◌then◌else◌}
 use Rattle.std.specs.Str.{bytes_eq}
-use Rattle.std.specs.List.{starts_with}
 use Rattle.rv32_image.specs.declared.fault.ImageFaultKind.{ImageFaultKind}
 use Rattle.rv32_image.specs.declared.version.Version.{Version}
 use Rattle.rv32_image.specs.Version.{limits_of}
 use Rattle.rv32_image.specs.ImageText.{is_remark, number_in, pieces, word_in}
+use Rattle.rv32_image.specs.Parts.{image_above, lines_above, lines_below}
 use Rattle.spec_history.specs.declared.entry.Entry.{Entry}
 use Rattle.spec_history.specs.declared.entry.What.{What}
 use Rattle.spec_history.specs.declared.entry.What.TheVariants.{Start, Load, Store, Hurt, Cancel, Restart, Publish, Commit, Fault}
@@ -125,10 +125,6 @@ unfoldable pub lines_read : ℕ → List (List ℕ) → Result (List Entry) Trac
 lines_read n [] = Ok []
 lines_read n (line ∷ lines) = joined (line_read n line) (lines_read (n + 1) lines)
 
--- a head begins with `trace` and a space
-abbrev pub begins_trace : List ℕ → Bool
-begins_trace line = starts_with (λ a b. a == b) line (codes "trace ")
-
 -- a machine of this version may have so many cores
 abbrev pub is_core_count : Version → ℕ → Bool
 is_core_count version n = nat_lt 0 n && nat_le n (limits_of version).most_cores
@@ -145,29 +141,23 @@ of_cores (Ok cores) (Ok entries) = Ok (record { cores = cores; entries = entries
 of_cores (Ok cores) (Err fault) = Err fault
 of_cores (Err fault) entries = Err fault
 
--- the trace whose head is line n
-unfoldable pub trace_at : Version → ℕ → List ℕ → List (List ℕ) → Result Trace TraceFault
-trace_at version n head lines = of_cores (or_fault (cores_in version (pieces 32 head)) n Head) (lines_read (n + 1) lines)
-
--- the trace below the image, which ends at the first line that begins a trace
-unfoldable pub below_image : Version → ℕ → List (List ℕ) → Result Trace TraceFault
-below_image version n [] = Err (record { line = 0; kind = Head })
-below_image version n (line ∷ lines) =
-    if begins_trace line then trace_at version n line lines else below_image version (n + 1) lines
+-- the trace that these lines say, of which the head is line n
+unfoldable pub trace_at : Version → ℕ → List (List ℕ) → Result Trace TraceFault
+trace_at version n [] = Err (record { line = 0; kind = Head })
+trace_at version n (head ∷ lines) = of_cores (or_fault (cores_in version (pieces 32 head)) n Head) (lines_read (n + 1) lines)
 
 -- ---- the text
+
+-- a head begins so
+abbrev pub trace_prefix : List ℕ
+trace_prefix = codes "trace "
 
 -- the trace that a text says, or its first fault; lines count from 1, those of the image too
 unfoldable pub trace_text : Version → List ℕ → Result Trace TraceFault
 trace_text version text =
     if nat_lt longest_trace_text (length text) then Err (record { line = 0; kind = TooLong })
-    else below_image version 1 (pieces 10 text)
+    else trace_at version (lines_above trace_prefix (pieces 10 text) + 1) (lines_below trace_prefix (pieces 10 text))
 
--- the bytes of the lines of the image, with their line feeds
-unfoldable pub image_length : List (List ℕ) → ℕ
-image_length [] = 0
-image_length (line ∷ lines) = if begins_trace line then 0 else length line + 1 + image_length lines
-
--- the image of a text: all before the first line that begins a trace, and without such a line the whole text
+-- the image of a text: all above the first line that begins with `trace` and a space, and without such a line the whole text
 unfoldable pub image_part : List ℕ → List ℕ
-image_part text = take (image_length (pieces 10 text)) text
+image_part text = image_above trace_prefix text

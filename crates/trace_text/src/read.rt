@@ -1,14 +1,13 @@
-ghost use Rattle.std.specs.Prelude.{◌≡◌, ◌<◌, ◌+◌, ◌^◌, IfOk, MatchOption, length, Ok};
+ghost use Rattle.std.specs.Prelude.{◌≡◌, ◌<◌, ◌+◌, ◌^◌, IfOk, length, Ok};
 ghost use Rattle.rv32_image.specs.ImageText.{is_remark, pieces};
 ghost use Rattle.rv32_image.specs.Cutting.{pieces_after};
 ghost use Rattle.trace_text.specs.TraceText as spec;
 ghost use Rattle.trace_text.specs.Front.{below, first_line};
 ghost use Rattle.trace_text.specs.Reading.{Answers};
-ghost use Rattle.trace_text.specs.Starts.{IsStart, HasNoStart};
 
 use crate::entry::{entry_at, number};
 use crate::fault::{LONGEST_TRACE_TEXT, TraceFault, TraceFaultKind};
-use rv32_image::{Version, Words, cut, words_of};
+use rv32_image::{Version, Words, cut, parts_of, words_of};
 use spec_history::Entry;
 use std::alloc::Global;
 
@@ -17,10 +16,7 @@ use std::alloc::Global;
 pub fn image_part(text: &[u8]) -> &[u8]
     ensures { result.now ≡ spec.image_part text.now }
 {
-    match find_start(text) {
-        Some(at) => &text[..at.start],
-        None => text,
-    }
+    parts_of(text, b"trace ").image
 }
 
 /// The trace below an image of this version: how many cores, and the entries. Lines are counted over the whole text.
@@ -43,53 +39,23 @@ pub fn read_trace(
             kind: TraceFaultKind::TooLong,
         });
     }
-    let Some(at) = find_start(text) else {
+    let parts = parts_of(text, b"trace ");
+    let Some(below) = parts.below else {
         return Err(TraceFault {
             line: 0,
             kind: TraceFaultKind::Head,
         });
     };
-    let line = at.number as u32;
-    let Some(cores) = cores_in(version, at.head) else {
+    let (head, rest) = cut(below, b'\n');
+    let line = parts.number as u32;
+    let Some(cores) = cores_in(version, head) else {
         return Err(TraceFault {
             line,
             kind: TraceFaultKind::Head,
         });
     };
-    let entries = read_lines(alloc, at.rest, line + 1)?;
+    let entries = read_lines(alloc, rest, line + 1)?;
     Ok((cores, entries))
-}
-
-/// The first line of a text that begins with `trace` and a space: where it starts, its number, the line, and what follows it.
-#[derive(Clone, Copy)]
-pub(crate) struct TraceStart<'a> {
-    start: usize,
-    number: usize,
-    head: &'a [u8],
-    rest: Option<&'a [u8]>,
-}
-
-fn find_start(text: &[u8]) -> Option<TraceStart<'_>>
-    ensures { MatchOption result (HasNoStart text.now) (IsStart text.now) }
-{
-    let mut start = 0;
-    let mut number = 1;
-    let mut rest = Some(text);
-    while let Some(text) = rest {
-        let (line, next) = cut(text, b'\n');
-        if line.starts_with(b"trace ") {
-            return Some(TraceStart {
-                start,
-                number,
-                head: line,
-                rest: next,
-            });
-        }
-        start += line.len() + 1;
-        number += 1;
-        rest = next;
-    }
-    None
 }
 
 /// How many cores a head gives, which the version allows.
