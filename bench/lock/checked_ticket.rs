@@ -10,8 +10,8 @@ impl Lock for TicketLock<List> {
         TicketLock::new(list)
     }
 
-    fn add(&self, who: u64, turn: u64) {
-        self.lock_checked().unwrap().add(who, turn);
+    fn with<R>(&self, turn: impl FnOnce(&mut List) -> R) -> R {
+        turn(&mut self.lock_checked().unwrap())
     }
 
     fn into_list(self) -> List {

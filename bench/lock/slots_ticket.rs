@@ -11,8 +11,8 @@ impl Lock for TicketLock<List> {
         TicketLock::new(list)
     }
 
-    fn add(&self, who: u64, turn: u64) {
-        self.lock().unwrap().add(who, turn);
+    fn with<R>(&self, turn: impl FnOnce(&mut List) -> R) -> R {
+        turn(&mut self.lock().unwrap())
     }
 
     fn into_list(self) -> List {

@@ -9,8 +9,8 @@ impl Lock for Mutex<List> {
         Mutex::new(list)
     }
 
-    fn add(&self, who: u64, turn: u64) {
-        self.lock().unwrap().add(who, turn);
+    fn with<R>(&self, turn: impl FnOnce(&mut List) -> R) -> R {
+        turn(&mut self.lock().unwrap())
     }
 
     fn into_list(self) -> List {

@@ -1,5 +1,6 @@
 //! What the peers do behind their locks: `THREADS TURNS [gap]` lets each thread add TURNS entries to one list, and prints how many it has
 //! then; with `gap` the longest time between two turns too, and between two turns of one thread, in microseconds.
+use std::sync::atomic::{AtomicU64, Ordering::SeqCst};
 use std::time::{Duration, Instant};
 
 pub struct List {
@@ -37,11 +38,15 @@ impl List {
     }
 }
 
+/// How often the starting thread looks whether all threads are there, and the sleep between two looks.
+const MOST_LOOKS: u32 = 10_000;
+const BETWEEN_LOOKS: Duration = Duration::from_micros(50);
+
 /// A lock that lends its value for one turn.
 pub trait Lock: Sync {
     fn new(list: List) -> Self;
 
-    fn add(&self, who: u64, turn: u64);
+    fn with<R>(&self, turn: impl FnOnce(&mut List) -> R) -> R;
 
     fn into_list(self) -> List;
 }
@@ -51,11 +56,24 @@ pub fn run<L: Lock>() {
     let (threads, turns): (u64, u64) = (words[0].parse().unwrap(), words[1].parse().unwrap());
     let times = words.get(2).map(|_| Times::new(threads));
     let lock = L::new(List { entries: Vec::with_capacity((threads * turns) as usize), times });
+    let there = AtomicU64::new(0);
     std::thread::scope(|scope| {
-        for who in 0..threads {
-            let lock = &lock;
-            scope.spawn(move || (0..turns).for_each(|turn| lock.add(who, turn)));
-        }
+        let (lock, there) = (&lock, &there);
+        // all threads wait for the lock before one has its first turn
+        lock.with(|_| {
+            for who in 0..threads {
+                scope.spawn(move || {
+                    there.fetch_add(1, SeqCst);
+                    (0..turns).for_each(|turn| lock.with(|list| list.add(who, turn)));
+                });
+            }
+            for _ in 0..MOST_LOOKS {
+                if there.load(SeqCst) == threads {
+                    break;
+                }
+                std::thread::sleep(BETWEEN_LOOKS);
+            }
+        });
     });
     let list = lock.into_list();
     println!("{} entries", list.entries.len());

@@ -18,6 +18,8 @@ mod store;
 use std::io::Read;
 use std::process::ExitCode;
 use std::sync::Mutex;
+use std::sync::atomic::{AtomicUsize, Ordering::SeqCst};
+use std::time::Duration;
 
 use backoff::Backoff;
 use book::{Answer, Book};
@@ -67,9 +69,14 @@ impl<T: Send> Lock<T> for Mutex<T> {
     }
 }
 
+/// How often the starting thread looks whether all cores are there, and sleeps between two looks.
+const MOST_LOOKS: u32 = 10_000;
+const BETWEEN_LOOKS: Duration = Duration::from_micros(50);
+
 /// The turns of one core, until the loop is over or the book is stopped.
-fn core_loop<'a, S: Store>(lock: &impl Lock<Book<'a, S>>, image: &'a Image, core: usize) {
+fn core_loop<'a, S: Store>(lock: &impl Lock<Book<'a, S>>, image: &'a Image, core: usize, there: &AtomicUsize) {
     let mut backoff = Backoff::new();
+    there.fetch_add(1, SeqCst);
     let mut next = None;
     loop {
         match lock.with(|book| book.turn(core, next.as_ref())) {
@@ -84,12 +91,23 @@ fn core_loop<'a, S: Store>(lock: &impl Lock<Book<'a, S>>, image: &'a Image, core
     }
 }
 
+/// One thread for each core. The starting thread holds the book until all are there, but not for long, so that each core has its first
+/// turn early.
 fn run<'a, S: Store>(lock: impl Lock<Book<'a, S>>, image: &'a Image, cores: usize) -> Book<'a, S> {
+    let there = AtomicUsize::new(0);
     std::thread::scope(|scope| {
-        for core in 0..cores {
-            let lock = &lock;
-            scope.spawn(move || core_loop(lock, image, core));
-        }
+        let (lock, there) = (&lock, &there);
+        lock.with(|_| {
+            for core in 0..cores {
+                scope.spawn(move || core_loop(lock, image, core, there));
+            }
+            for _ in 0..MOST_LOOKS {
+                if there.load(SeqCst) == cores {
+                    break;
+                }
+                std::thread::sleep(BETWEEN_LOOKS);
+            }
+        });
     });
     lock.into_value()
 }
