@@ -13,7 +13,7 @@ use run_ledger::{Shares, gather};
 use rv32_exec::Image;
 use std::snapshot::Snapshot;
 use std::sync::Wait;
-use std::thread::{self, Promise, Scope, Threads};
+use std::thread::{self, Promise, PromisedHandle, Scope, Threads};
 use ticket_lock::{Held, Pass, TicketLock};
 use violations::EpochStore;
 
@@ -41,6 +41,12 @@ struct Run<'s, S: EpochStore, G, R> {
 
 /// The starting thread: it holds the book with the last number, or it has let it go.
 type Starter<'s, S> = Result<Held<'s, Book<S>>, Pass<Book<S>>>;
+
+/// The thread of a core, or what its loop gave back, where the thread was refused.
+type Started<S> = Result<
+    PromisedHandle<(Pass<Book<S>>, Shares), Counted<S>>,
+    (Pass<Book<S>>, Shares),
+>;
 
 /// A thread for each core, in a scope of their own, and their passes and shares together once all are joined.
 pub(crate) fn run_threads<'x, S: EpochStore, G: Gate, R: Threads + Wait + Sync>(
@@ -80,8 +86,7 @@ pub(crate) fn run_threads<'x, S: EpochStore, G: Gate, R: Threads + Wait + Sync>(
     )
 }
 
-/// Starts the threads of the cores from this one on, and joins them. Where a thread is refused, the book is stopped, and what the
-/// thread was to run is run here, so that its pass and its shares come back.
+/// Starts the threads of the cores from this one on, and joins them.
 fn start<'s, 'e, S: EpochStore + 's, G: Gate + 's, R: Threads + Wait + Sync>(
     scope: &Scope<'s, &'e ()>,
     run: &'s Run<'s, S, G, R>,
@@ -98,7 +103,30 @@ fn start<'s, 'e, S: EpochStore + 's, G: Gate + 's, R: Threads + Wait + Sync>(
     let Some(pass) = rest else {
         return last_part(run, starter, shares);
     };
-    let (first, ours, rest, theirs) = split_first(run, core, pass, shares);
+    let (first, ours, rest, theirs) = split_first(run.lock, core, run.cores, pass, shares);
+    let (started, starter) = start_core(scope, run, first, ours, starter);
+    let others = start(scope, run, core + 1, rest, theirs, starter);
+    let own = match started {
+        Ok(thread) => thread.join(run.rt),
+        Err(own) => own,
+    };
+    rejoin(run.lock, own, others)
+}
+
+/// Starts the thread of a core. Where it is refused, the book is stopped, and what the thread was to run is run here, so that its pass
+/// and its shares come back.
+fn start_core<'s, 'e, S: EpochStore + 's, G: Gate + 's, R: Wait + Sync>(
+    scope: &Scope<'s, &'e ()>,
+    run: &'s Run<'s, S, G, R>,
+    first: Pass<Book<S>>,
+    ours: Shares,
+    starter: Starter<'s, S>,
+) -> (Started<S>, Starter<'s, S>)
+    requires first { (first.lock ≡ Some run.now.lock.now) × (first.lo < run.now.cores) × IsCounted first ours }
+    requires starter { MatchResult starter (HasBookAs run.now.lock.now run.now.cores) (IsNewOf run.now.lock.now run.now.cores (run.now.cores + 1)) }
+    ensures started { MatchResult result.0 (λ thread. thread.promise.0.value ≡ first) (λ own. IsLater first own.0 × IsCounted own.0 own.1) }
+    ensures starter { MatchResult result.1 (HasBookAs run.now.lock.now run.now.cores) (IsNewOf run.now.lock.now run.now.cores (run.now.cores + 1)) }
+{
     let promise = Counted(Snapshot::of(&first));
     let job = move || -> (Pass<Book<S>>, Shares)
         requires { (first.lock ≡ Some run.now.lock.now) × (first.lo < run.now.cores) × IsCounted first ours }
@@ -107,29 +135,12 @@ fn start<'s, 'e, S: EpochStore + 's, G: Gate + 's, R: Threads + Wait + Sync>(
         let (first, ours, _) = core_loop(run.rt, run.lock, first, ours, run.image, run.gate);
         (first, ours)
     };
-    let started = scope.spawn_with(promise, job);
-    let starter = unless_refused(run, starter, started.is_err());
-    let others = start(scope, run, core + 1, rest, theirs, starter);
-    let own = match started {
-        Ok(thread) => thread.join(run.rt),
-        Err(refused) => (refused.value)(),
-    };
-    rejoin(run.lock, own, others)
-}
-
-/// The starting thread once a thread is started or refused: where it is refused, the book is stopped.
-fn unless_refused<'s, S: EpochStore, G, R>(
-    run: &Run<'_, S, G, R>,
-    starter: Starter<'s, S>,
-    is_refused: bool,
-) -> Starter<'s, S>
-    requires { MatchResult starter (HasBookAs run.now.lock.now run.now.cores) (IsNewOf run.now.lock.now run.now.cores (run.now.cores + 1)) }
-    ensures { MatchResult result (HasBookAs run.now.lock.now run.now.cores) (IsNewOf run.now.lock.now run.now.cores (run.now.cores + 1)) }
-{
-    if is_refused {
-        Err(stop_all(run, starter))
-    } else {
-        starter
+    match scope.spawn_with(promise, job) {
+        Ok(thread) => (Ok(thread), starter),
+        Err(refused) => {
+            let last = stop_all(run, starter);
+            (Err((refused.value)()), Err(last))
+        }
     }
 }
 
@@ -195,23 +206,24 @@ fn stop_all<S: EpochStore, G, R>(run: &Run<'_, S, G, R>, starter: Starter<'_, S>
 }
 
 /// The first number of a pass that has made no entry, with its part of the shares, and the rest of both, if there is more.
-fn split_first<S: EpochStore, G, R>(
-    run: &Run<'_, S, G, R>,
+fn split_first<S: EpochStore>(
+    lock: &TicketLock<Book<S>>,
     core: u64,
+    cores: u32,
     pass: Pass<Book<S>>,
     shares: Shares,
 ) -> (Pass<Book<S>>, Shares, Option<Pass<Book<S>>>, Shares)
-    requires { IsNewOf run.now.lock.now core run.now.cores pass × (shares ≡ no_counts) }
-    ensures first { Covers run.now.lock.now core (core + 1) result.0 }
+    requires { IsNewOf lock.now core cores pass × (shares ≡ no_counts) }
+    ensures first { Covers lock.now core (core + 1) result.0 }
     ensures counted { IsCounted result.0 result.1 }
-    ensures rest { MatchOption result.2 (core + 1 ≡ run.now.cores) (IsNewOf run.now.lock.now (core + 1) run.now.cores) }
+    ensures rest { MatchOption result.2 (core + 1 ≡ cores) (IsNewOf lock.now (core + 1) cores) }
     ensures empty { result.3 ≡ no_counts }
 {
     let (ours, theirs) = shares.split();
-    if core + 1 == run.cores as u64 {
+    if core + 1 == cores as u64 {
         return (pass, ours, None, theirs);
     }
-    let (first, rest) = split_new(run.lock, pass, core + 1);
+    let (first, rest) = split_new(lock, pass, core + 1);
     (first, ours, Some(rest), theirs)
 }
 
