@@ -1,6 +1,6 @@
 -- What of a finding is summed: the kind, the violated epoch, the two instructions that met, the line and the bytes in which they
 -- met, what was lost, what became of it, and how far apart the epochs stood.
-use Rattle.std.specs.Prelude.{ℕ, ◌-◌, List, Option, Some, None, is_some, option_and_then, option_map}
+use Rattle.std.specs.Prelude.{ℕ, ◌-◌, List, Option, is_some, option_and_then, option_map}
 use Rattle.rv32_image.specs.Image.{LoadedImage}
 use Rattle.spec_history.specs.declared.entry.Entry.{Entry}
 use Rattle.conflicts.specs.declared.explanation.Explanation.{Explanation}

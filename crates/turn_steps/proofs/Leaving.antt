@@ -20,7 +20,7 @@ use Rattle.homefree.specs.BookView.{BookView}
 use Rattle.homefree.specs.Hurts.{entry, hurts, cancels}
 use Rattle.homefree.specs.InStep.{InStep}
 use Rattle.homefree.specs.Turned as turn
-use Rattle.homefree.specs.Turned.{Turn, Outcome, Turned, does, publish_of, publishes_unless}
+use Rattle.homefree.specs.Turned.{Turn, Outcome, Turned, does, publish_of}
 use Rattle.homefree.proofs.Books.Turns.{agrees_same}
 use Rattle.turn_steps.specs.Rows.{IsSameRow}
 use Rattle.turn_steps.specs.Laws.{KeepsRows, KeepsMemory, touches, stores_in, commits}
