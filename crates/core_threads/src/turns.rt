@@ -66,7 +66,6 @@ pub fn core_loop<S: EpochStore, G: Gate, R: Wait>(
     ensures stopped { result.2 ≡ LoopEnd.Stopped → IsGoing lock.now.fixed result.0.seen }
     ensures spent { result.2 ≡ LoopEnd.Spent → result.0.out ≡ true }
 {
-    let core = pass.who() as u32;
     let backoff = Backoff::new();
     let mut pass = pass;
     let mut shares = shares;
@@ -75,12 +74,17 @@ pub fn core_loop<S: EpochStore, G: Gate, R: Wait>(
     let mut hart = start(image, 0);
     let mut turn = 0u64;
     for _ in rt.forever() {
-        if gate.pass(core, turn, next.as_ref()).is_err() {
-            let (later, end) = halt(rt, lock, pass, StopCause::Shut);
-            return (later, shares, end);
-        }
+        let (later, after) = gated_turn(
+            rt,
+            lock,
+            gate,
+            turn,
+            pass,
+            &mut shares,
+            next.as_ref(),
+            &mut hart,
+        );
         turn = turn.saturating_add(1);
-        let (later, after) = one_turn(rt, lock, pass, &mut shares, next.as_ref(), &mut hart);
         pass = later;
         match after {
             After::Goes => {
@@ -96,6 +100,35 @@ pub fn core_loop<S: EpochStore, G: Gate, R: Wait>(
         }
     }
     unreachable!()
+}
+
+/// Passes the gate with the number of this turn, and then takes the lock for it. Sets the hart where the core goes on. Where the gate is
+/// shut, the book is stopped.
+fn gated_turn<S: EpochStore, G: Gate, R: Wait>(
+    rt: &R,
+    lock: &TicketLock<Book<S>>,
+    gate: &G,
+    turn: u64,
+    pass: Pass<Book<S>>,
+    shares: &mut Shares,
+    next: Option<&Arrived>,
+    hart: &mut Hart,
+) -> (Pass<Book<S>>, After)
+    requires own { pass.lock ≡ Some lock.now }
+    requires core { (pass.lo < lock.now.fixed.cores) × (lock.now.fixed.cores ≤ 16) }
+    requires next { IfArrived lock.now.fixed.image (option_copied next) }
+    requires counted { IsCounted pass shares.old }
+    ensures later { IsLater pass result.0 }
+    ensures counted { IsCounted result.0 shares.new }
+    ensures over { result.1 ≡ After.Ends LoopEnd.Over → IsOver lock.now.fixed result.0.seen }
+    ensures stopped { result.1 ≡ After.Ends LoopEnd.Stopped → IsGoing lock.now.fixed result.0.seen }
+    ensures spent { result.1 ≡ After.Ends LoopEnd.Spent → result.0.out ≡ true }
+{
+    if gate.pass(pass.who() as u32, turn, next).is_err() {
+        let (later, end) = halt(rt, lock, pass, StopCause::Shut);
+        return (later, After::Ends(end));
+    }
+    one_turn(rt, lock, pass, shares, next, hart)
 }
 
 /// Takes the lock for one turn. Sets the hart where the core goes on.
