@@ -63,7 +63,7 @@ fn requested(matches: &ArgMatches<'_>) -> Result<Request, WordsFault>
     }
 }
 
-/// A run on so many cores. That they are 1 to 16 is what the command line promises too.
+/// A run on so many cores, if these are 1 to 16.
 fn run_requested(cores: Option<u32>, trace: bool) -> Result<Request, WordsFault>
     ensures { IfOk result IsRequest }
 {
@@ -73,17 +73,33 @@ fn run_requested(cores: Option<u32>, trace: bool) -> Result<Request, WordsFault>
     }
 }
 
+/// The command line of the program.
 fn command<'a>(alloc: Global) -> Result<Command<'a>, AllocError> {
-    let cores = Arg::new(alloc, "cores")
+    Command::new(alloc, "trace_cli")
+        .subcommand(Command::new(alloc, "seq"))?
+        .subcommand(run_subcommand(alloc)?)?
+        .subcommand(Command::new(alloc, "audit"))
+}
+
+/// `run --cores N [--trace]`.
+fn run_subcommand<'a>(alloc: Global) -> Result<Command<'a>, AllocError> {
+    Command::new(alloc, "run")
+        .arg(cores_option(alloc))?
+        .arg(trace_flag(alloc))
+}
+
+/// `--cores N`, which `run` needs.
+fn cores_option<'a>(alloc: Global) -> Arg<'a> {
+    Arg::new(alloc, "cores")
         .long("cores")
         .required(true)
         .action(ArgAction::Set)
-        .value_parser(clap::value_parser!(u32).range(1..=16));
-    let trace = Arg::new(alloc, "trace")
+        .value_parser(clap::value_parser!(u32))
+}
+
+/// `--trace`, with which `run` prints the trace.
+fn trace_flag<'a>(alloc: Global) -> Arg<'a> {
+    Arg::new(alloc, "trace")
         .long("trace")
-        .action(ArgAction::SetTrue);
-    Command::new(alloc, "trace_cli")
-        .subcommand(Command::new(alloc, "seq"))?
-        .subcommand(Command::new(alloc, "run").arg(cores)?.arg(trace)?)?
-        .subcommand(Command::new(alloc, "audit"))
+        .action(ArgAction::SetTrue)
 }
