@@ -28,7 +28,7 @@ use Rattle.bus_states.proofs.Heard.{message-gives_way, unviolated}
 use Rattle.bus_states.proofs.Quiet
 use Rattle.bus_states.proofs.Quiet.{ChangesQuietly, quietly, quiet-with}
 use Rattle.bus_states.proofs.Sending
-use Rattle.bus_states.proofs.Sending.{Sends, sent, sent_lines, sent-committed}
+use Rattle.bus_states.proofs.Sending.{Sends, sent, sent-committed}
 use Rattle.bus_states.proofs.Showing.{Shows, Shows-same, Shows-reply, ShowsSame, bytes_after-own, spared}
 use Rattle.bus_states.proofs.StraightAccesses.{IsFirst, enters-speculates}
 

@@ -20,7 +20,6 @@ use Rattle.homefree.specs.Arms.{RunsEpoch, Arrives, MayHurt}
 use Rattle.homefree.specs.AtStop.{IsAtStop}
 use Rattle.homefree.specs.Kept.{Fits, running_at, kept_of}
 use Rattle.homefree.specs.Turned as turn
-use Rattle.homefree.specs.Turned.{Turn}
 use Rattle.homefree.specs.Acted.{turn_of}
 use Rattle.homefree.proofs.State.Arms as arm
 use Rattle.homefree.proofs.State.HurtsReplay.{CanBeHurt}
