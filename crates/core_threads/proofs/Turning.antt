@@ -1,5 +1,6 @@
 -- A turn under the lock: what the shares are before and after it, and what may be released.
 use Rattle.std.proofs.Common.{◌≡◌, ℕ, ◌<◌, ◌≤◌, Bool, true, false, cond, List, [], ◌∷◌, ◌++◌, All, Some, None, Option, is_some, length, sym, ap, ◌∙◌, subst, arith}
+use Rattle.std.proofs.lemmas.List.{append-nil}
 use Rattle.std.proofs.lemmas.List.Elements.{All-nil, All-cons, All-head, All-tail}
 use Rattle.rv32_image.specs.Image.{LoadedImage}
 use Rattle.rv32_exec.specs.declared.sequential.End.{End}
@@ -14,7 +15,7 @@ use Rattle.spec_history.specs.FlatState.{FlatState}
 use Rattle.spec_history.specs.Replay.{replay}
 use Rattle.ticket_lock.specs.Past.{GrowsBy, entries_of}
 use Rattle.ticket_lock.specs.Known.{mine}
-use Rattle.ticket_lock.proofs.Turns.{mine-grown, grows-none}
+use Rattle.ticket_lock.proofs.Turns.{mine-grown}
 use Rattle.homefree.specs.Acted.{IfArrived}
 use Rattle.homefree.specs.declared.answer.StopCause.{StopCause}
 use Rattle.homefree.specs.BookView.{BookView, IsOfSameLoop}
@@ -22,7 +23,7 @@ use Rattle.homefree.specs.Counted.{counted_in, IsNoMore}
 use Rattle.homefree.specs.LockView.{loop_of, past_of}
 use Rattle.core_threads.specs.Adds.{Adds}
 use Rattle.core_threads.specs.Passes.{Knows, IsCounted, IsOver, counts_in}
-use Rattle.core_threads.proofs.Counting.{own_no_more, counts-append, counts-past, past-append, past-length, history-past}
+use Rattle.core_threads.proofs.Counting.{none_more, own_no_more, counts-append, counts-past, past-append, past-length, history-past}
 
 abbrev Past : Type 0
 Past = List (ℕ × What)
@@ -102,10 +103,14 @@ module _ {S : Type 0} where
 
   -- ---- stopping the book adds nothing
 
-  pub stopped_grows : (p hp : Knows) (v b n : BookView S) → hp ≡ record p { seen = past_of v.history } → b ≡ v → n.history ≡ b.history → GrowsBy hp.lo hp.seen (past_of n.history)
-  stopped_grows p hp v b n pass shows same =
-      let seen : hp.seen ≡ past_of n.history = ap (λ (k : Knows). k.seen) pass ∙ (ap (λ (x : BookView S). past_of x.history) (sym shows) ∙ ap (λ h. past_of h) (sym same)) in
-      subst (λ (l : Past). GrowsBy hp.lo l (past_of n.history)) (sym seen) (grows-none hp.lo (past_of n.history))
+  pub adds_none : (core : ℕ) (old new : BookView S) (s : Counts) → IsOfSameLoop old new → new.history ≡ old.history → Adds core old new s s
+  adds_none core old new s same history = record {
+    same = same;
+    entries = [];
+    history = history ∙ sym (append-nil old.history);
+    by = All-nil (λ (e : Entry). e.by ≡ core);
+    held = none_more s;
+  }
 
   -- whether or not it is stopped, the book is of the same loop and has the same history
   pub stopped_same : (b n : BookView S) (stops : Bool) (cause : StopCause) → n ≡ cond stops (record b { stopped = Some cause }) b → IsOfSameLoop b n × (n.history ≡ b.history)

@@ -1,8 +1,7 @@
 //! The turns of one core.
-ghost use Rattle.std.specs.Prelude.{◌≡◌, ◌≢◌, ◌<◌, ◌≤◌, Some, true, length, option_copied, is_none, ◌&&◌, if◌then◌else◌};
+ghost use Rattle.std.specs.Prelude.{◌≡◌, ◌≢◌, ◌<◌, ◌≤◌, Some, true, length, IsErr, option_copied, is_none, ◌&&◌, if◌then◌else◌};
 ghost use Rattle.spec_history.specs.FlatState.{FlatState};
 ghost use Rattle.spec_history.specs.Replay.{replay};
-ghost use Rattle.ticket_lock.specs.Known.{mine};
 ghost use Rattle.homefree.specs.Acted.{IfArrived};
 ghost use Rattle.homefree.specs.BookView.{IsFull, IsOfSameLoop};
 ghost use Rattle.homefree.specs.Counted.{IsNoMore, counted_in};
@@ -11,7 +10,7 @@ ghost use Rattle.core_threads.specs.Adds.{Adds};
 ghost use Rattle.core_threads.specs.Answered.{Takes, after_answer, cause_for, hart_after};
 ghost use Rattle.core_threads.specs.Passes.{IsLater, IsCounted, IsOver, IsGoing};
 
-use crate::gate::Gate;
+use crate::gate::{Gate, Shut};
 use crossbeam_utils::Backoff;
 use homefree::{Answer, Book, StopCause, TurnFault};
 use run_ledger::Shares;
@@ -66,6 +65,7 @@ pub fn core_loop<S: EpochStore, G: Gate, R: Wait>(
     ensures stopped { result.2 ≡ LoopEnd.Stopped → IsGoing lock.now.fixed result.0.seen }
     ensures spent { result.2 ≡ LoopEnd.Spent → result.0.out ≡ true }
 {
+    let core = pass.who() as u32;
     let backoff = Backoff::new();
     let mut pass = pass;
     let mut shares = shares;
@@ -74,12 +74,12 @@ pub fn core_loop<S: EpochStore, G: Gate, R: Wait>(
     let mut hart = start(image, 0);
     let mut turn = 0u64;
     for _ in rt.forever() {
-        let (later, after) = gated_turn(
+        let passed = gate.pass(core, turn, next.as_ref());
+        let (later, after) = one_turn(
             rt,
             lock,
-            gate,
-            turn,
             pass,
+            passed,
             &mut shares,
             next.as_ref(),
             &mut hart,
@@ -102,40 +102,12 @@ pub fn core_loop<S: EpochStore, G: Gate, R: Wait>(
     unreachable!()
 }
 
-/// Passes the gate with the number of this turn, and then takes the lock for it. Sets the hart where the core goes on. Where the gate is
-/// shut, the book is stopped.
-fn gated_turn<S: EpochStore, G: Gate, R: Wait>(
-    rt: &R,
-    lock: &TicketLock<Book<S>>,
-    gate: &G,
-    turn: u64,
-    pass: Pass<Book<S>>,
-    shares: &mut Shares,
-    next: Option<&Arrived>,
-    hart: &mut Hart,
-) -> (Pass<Book<S>>, After)
-    requires own { pass.lock ≡ Some lock.now }
-    requires core { (pass.lo < lock.now.fixed.cores) × (lock.now.fixed.cores ≤ 16) }
-    requires next { IfArrived lock.now.fixed.image (option_copied next) }
-    requires counted { IsCounted pass shares.old }
-    ensures later { IsLater pass result.0 }
-    ensures counted { IsCounted result.0 shares.new }
-    ensures over { result.1 ≡ After.Ends LoopEnd.Over → IsOver lock.now.fixed result.0.seen }
-    ensures stopped { result.1 ≡ After.Ends LoopEnd.Stopped → IsGoing lock.now.fixed result.0.seen }
-    ensures spent { result.1 ≡ After.Ends LoopEnd.Spent → result.0.out ≡ true }
-{
-    if gate.pass(pass.who() as u32, turn, next).is_err() {
-        let (later, end) = halt(rt, lock, pass, StopCause::Shut);
-        return (later, After::Ends(end));
-    }
-    one_turn(rt, lock, pass, shares, next, hart)
-}
-
-/// Takes the lock for one turn. Sets the hart where the core goes on.
+/// Takes the lock for one turn, or to stop the book where the gate is shut. Sets the hart where the core goes on.
 fn one_turn<S: EpochStore, R: Wait>(
     rt: &R,
     lock: &TicketLock<Book<S>>,
     pass: Pass<Book<S>>,
+    passed: Result<(), Shut>,
     shares: &mut Shares,
     next: Option<&Arrived>,
     hart: &mut Hart,
@@ -153,10 +125,36 @@ fn one_turn<S: EpochStore, R: Wait>(
     let core = pass.who() as u32;
     match lock.lock(rt, pass) {
         Ok(mut held) => {
-            let after = take_turn(held.value(), core, next, shares, hart);
+            let after = act(held.value(), core, passed, next, shares, hart);
             (held.release(), after)
         }
         Err((_, pass)) => (pass, After::Ends(LoopEnd::Spent)),
+    }
+}
+
+/// What a core does while it has the book: its turn, or where its gate is shut, it stops the book.
+fn act<S: EpochStore>(
+    book: &mut Book<S>,
+    core: u32,
+    passed: Result<(), Shut>,
+    next: Option<&Arrived>,
+    shares: &mut Shares,
+    hart: &mut Hart,
+) -> After
+    requires core { core < book.old.cores }
+    requires next { IfArrived book.old.image (option_copied next) }
+    requires shares { IsNoMore shares.old (counted_in book.old.history) }
+    ensures adds { Adds core book.old book.new shares.old shares.new }
+    ensures few { length book.new.history ≤ 1048576 }
+    ensures shut { IsErr passed → (s : FlatState) → replay book.old.image book.old.cores book.old.history ≡ Some s
+        → book.new ≡ (if is_none s.end && is_none book.old.stopped then record book.old { stopped = Some StopCause.Shut } else book.old) }
+    ensures over { result ≡ After.Ends LoopEnd.Over → IsOver (loop_of book.new) (past_of book.new.history) }
+    ensures stopped { result ≡ After.Ends LoopEnd.Stopped → IsGoing (loop_of book.new) (past_of book.new.history) }
+    ensures spent { result ≢ After.Ends LoopEnd.Spent }
+{
+    match passed {
+        Ok(()) => take_turn(book, core, next, shares, hart),
+        Err(_) => After::Ends(stop(book, StopCause::Shut)),
     }
 }
 
@@ -220,32 +218,6 @@ fn stop_for<S: EpochStore>(book: &mut Book<S>, fault: TurnFault)
         TurnFault::HistoryFull => book.stop(StopCause::HistoryFull),
         TurnFault::NoMemory => book.stop(StopCause::NoMemory),
     };
-}
-
-/// Takes the lock once more to stop the book, and adds no entry.
-fn halt<S: EpochStore, R: Wait>(
-    rt: &R,
-    lock: &TicketLock<Book<S>>,
-    pass: Pass<Book<S>>,
-    cause: StopCause,
-) -> (Pass<Book<S>>, LoopEnd)
-    requires own { pass.lock ≡ Some lock.now }
-    requires few { length pass.seen ≤ 1048576 }
-    requires cause { cause ≢ StopCause.HistoryFull }
-    ensures later { IsLater pass result.0 }
-    ensures same { mine result.0 ≡ mine pass }
-    ensures few { length result.0.seen ≤ 1048576 }
-    ensures over { result.1 ≡ LoopEnd.Over → IsOver lock.now.fixed result.0.seen }
-    ensures stopped { result.1 ≡ LoopEnd.Stopped → IsGoing lock.now.fixed result.0.seen }
-    ensures spent { result.1 ≡ LoopEnd.Spent → result.0.out ≡ true }
-{
-    match lock.lock(rt, pass) {
-        Ok(mut held) => {
-            let end = stop(held.value(), cause);
-            (held.release(), end)
-        }
-        Err((_, pass)) => (pass, LoopEnd::Spent),
-    }
 }
 
 /// Stops the book for this cause, unless its loop is over or it is stopped already.
