@@ -13,18 +13,24 @@ use run_ledger::{Shares, gather};
 use rv32_exec::Image;
 use std::snapshot::Snapshot;
 use std::sync::Wait;
+use std::sync::atomic::{AtomicBool, Ordering};
 use std::thread::{self, Promise, PromisedHandle, Scope, Threads};
 use ticket_lock::{Held, Pass, TicketLock};
 use violations::EpochStore;
 
-/// What the thread of a core gives back: its pass, later, and shares that are the counts of the pass's own entries.
+/// A core before or after its turns: its pass, and shares that are the counts of the pass's own entries.
 #[derive(Drop)]
-struct Counted<S: EpochStore>(Snapshot<Pass<Book<S>>>);
+pub(crate) struct Core<S: EpochStore> {
+    pub(crate) pass: Pass<Book<S>>,
+    pub(crate) shares: Shares,
+    ghost counted: { IsCounted pass shares },
+}
 
-impl<S: EpochStore> Promise<(Pass<Book<S>>, Shares)> for Counted<S> {
-    ghost use Rattle.core_threads.specs.Passes.{IsLater, IsCounted};
+/// The core that a thread gives back is the one that it began with, later.
+impl<S: EpochStore> Promise<Core<S>> for Snapshot<Core<S>> {
+    ghost use Rattle.core_threads.specs.Passes.{IsLater};
 
-    ghost kept_by = { λ p r. IsLater p.0.value r.0 × IsCounted r.0 r.1 };
+    ghost kept_by = { λ began core. IsLater began.value.pass core.pass };
 }
 
 /// What the threads of a run have in common: the image and the number of cores are the book's.
@@ -35,18 +41,17 @@ struct Run<'s, S: EpochStore, G, R> {
     image: &'s Image,
     gate: &'s G,
     cores: u32,
+    /// Whether a thread was refused. Then no core begins its turns any more.
+    refused: AtomicBool,
     ghost same_image: { lock.now.fixed.image ≡ image.now },
     ghost all_cores: { (cores ≡ lock.now.fixed.cores) × (cores ≤ 16) },
 }
 
-/// The starting thread: it holds the book with the last number, or it has let it go.
+/// The starting thread: it holds the book with the last number. Err: no ticket was left for it.
 type Starter<'s, S> = Result<Held<'s, Book<S>>, Pass<Book<S>>>;
 
-/// The thread of a core, or what its loop gave back, where the thread was refused.
-type Started<S> = Result<
-    PromisedHandle<(Pass<Book<S>>, Shares), Counted<S>>,
-    (Pass<Book<S>>, Shares),
->;
+/// A core whose thread runs. Err: its thread was refused.
+type Started<S> = Result<PromisedHandle<Core<S>, Snapshot<Core<S>>>, Core<S>>;
 
 /// A thread for each core, in a scope of their own, and their passes and shares together once all are joined.
 pub(crate) fn run_threads<'x, S: EpochStore, G: Gate, R: Threads + Wait + Sync>(
@@ -57,12 +62,11 @@ pub(crate) fn run_threads<'x, S: EpochStore, G: Gate, R: Threads + Wait + Sync>(
     image: &'x Image,
     gate: &'x G,
     cores: u32,
-) -> (Pass<Book<S>>, Shares)
+) -> Core<S>
     requires new { IsNewOf lock.now 0 (cores + 1) pass × (shares ≡ no_counts) }
     requires image { lock.now.fixed.image ≡ image.now }
     requires cores { (0 < cores) × (cores ≡ lock.now.fixed.cores) × (cores ≤ 16) }
-    ensures covers { Covers lock.now 0 (cores + 1) result.0 }
-    ensures counted { IsCounted result.0 result.1 }
+    ensures { Covers lock.now 0 (cores + 1) result.pass }
 {
     let (rest, last) = split_new(lock, pass, cores as u64);
     let run = Run {
@@ -71,17 +75,17 @@ pub(crate) fn run_threads<'x, S: EpochStore, G: Gate, R: Threads + Wait + Sync>(
         image,
         gate,
         cores,
+        refused: AtomicBool::new(false),
     };
     let run = &run;
     thread::scope(
         thread::scope_env(),
         rt,
-        move |scope| -> (Pass<Book<S>>, Shares)
+        move |scope| -> Core<S>
             requires rest { IsNewOf run.now.lock.now 0 run.now.cores rest × (shares ≡ no_counts) }
             requires last { IsNewOf run.now.lock.now run.now.cores (run.now.cores + 1) last }
             requires sync { IsSync R.row × IsSync G.row × IsSend S.row }
-            ensures covers { Covers run.entry.now.lock.now 0 (run.entry.now.cores + 1) result.0 }
-            ensures counted { IsCounted result.0 result.1 }
+            ensures { Covers run.entry.now.lock.now 0 (run.entry.now.cores + 1) result.pass }
         { start(scope, run, 0, Some(rest), shares, take_book(run, last)) },
     )
 }
@@ -94,17 +98,16 @@ fn start<'s, 'e, S: EpochStore + 's, G: Gate + 's, R: Threads + Wait + Sync>(
     rest: Option<Pass<Book<S>>>,
     shares: Shares,
     starter: Starter<'s, S>,
-) -> (Pass<Book<S>>, Shares)
+) -> Core<S>
     requires rest { MatchOption rest (core ≡ run.now.cores) (IsNewOf run.now.lock.now core run.now.cores) × (shares ≡ no_counts) }
     requires starter { MatchResult starter (HasBookAs run.now.lock.now run.now.cores) (IsNewOf run.now.lock.now run.now.cores (run.now.cores + 1)) }
-    ensures covers { Covers run.now.lock.now core (run.now.cores + 1) result.0 }
-    ensures counted { IsCounted result.0 result.1 }
+    ensures { Covers run.now.lock.now core (run.now.cores + 1) result.pass }
 {
     let Some(pass) = rest else {
         return last_part(run, starter, shares);
     };
-    let (first, ours, rest, theirs) = split_first(run.lock, core, run.cores, pass, shares);
-    let (started, starter) = start_core(scope, run, first, ours, starter);
+    let (first, rest, theirs) = split_first(run.lock, core, run.cores, pass, shares);
+    let started = start_core(scope, run, first);
     let others = start(scope, run, core + 1, rest, theirs, starter);
     let own = match started {
         Ok(thread) => thread.join(run.rt),
@@ -113,35 +116,40 @@ fn start<'s, 'e, S: EpochStore + 's, G: Gate + 's, R: Threads + Wait + Sync>(
     rejoin(run.lock, own, others)
 }
 
-/// Starts the thread of a core. Where it is refused, the book is stopped, and what the thread was to run is run here, so that its pass
-/// and its shares come back.
+/// Starts the thread of a core. Where it is refused, the core comes back with no turn.
 fn start_core<'s, 'e, S: EpochStore + 's, G: Gate + 's, R: Wait + Sync>(
     scope: &Scope<'s, &'e ()>,
     run: &'s Run<'s, S, G, R>,
-    first: Pass<Book<S>>,
-    ours: Shares,
-    starter: Starter<'s, S>,
-) -> (Started<S>, Starter<'s, S>)
-    requires first { (first.lock ≡ Some run.now.lock.now) × (first.lo < run.now.cores) × IsCounted first ours }
-    requires starter { MatchResult starter (HasBookAs run.now.lock.now run.now.cores) (IsNewOf run.now.lock.now run.now.cores (run.now.cores + 1)) }
-    ensures started { MatchResult result.0 (λ thread. thread.promise.0.value ≡ first) (λ own. IsLater first own.0 × IsCounted own.0 own.1) }
-    ensures starter { MatchResult result.1 (HasBookAs run.now.lock.now run.now.cores) (IsNewOf run.now.lock.now run.now.cores (run.now.cores + 1)) }
+    first: Core<S>,
+) -> Started<S>
+    requires { (first.pass.lock ≡ Some run.now.lock.now) × (first.pass.lo < run.now.cores) }
+    ensures { MatchResult result (λ thread. thread.promise.value ≡ first) (λ own. IsLater first.pass own.pass) }
 {
-    let promise = Counted(Snapshot::of(&first));
-    let job = move || -> (Pass<Book<S>>, Shares)
-        requires { (first.lock ≡ Some run.now.lock.now) × (first.lo < run.now.cores) × IsCounted first ours }
-        ensures { IsLater first result.0 × IsCounted result.0 result.1 }
-    {
-        let (first, ours, _) = core_loop(run.rt, run.lock, first, ours, run.image, run.gate);
-        (first, ours)
-    };
+    let promise = Snapshot::of(&first);
+    let job = move || -> Core<S>
+        requires { (first.pass.lock ≡ Some run.now.lock.now) × (first.pass.lo < run.now.cores) }
+        ensures { IsLater first.pass result.pass }
+    { run_core(run, first) };
     match scope.spawn_with(promise, job) {
-        Ok(thread) => (Ok(thread), starter),
+        Ok(thread) => Ok(thread),
         Err(refused) => {
-            let last = stop_all(run, starter);
-            (Err((refused.value)()), Err(last))
+            run.refused.store(true, Ordering::SeqCst);
+            Err((refused.value)())
         }
     }
+}
+
+/// The turns of a core, or none where a thread was refused.
+fn run_core<S: EpochStore, G: Gate, R: Wait>(run: &Run<'_, S, G, R>, core: Core<S>) -> Core<S>
+    requires { (core.pass.lock ≡ Some run.now.lock.now) × (core.pass.lo < run.now.cores) }
+    ensures { IsLater core.pass result.pass }
+{
+    if run.refused.load(Ordering::SeqCst) {
+        return core;
+    }
+    let Core { pass, shares } = core;
+    let (pass, shares, _) = core_loop(run.rt, run.lock, pass, shares, run.image, run.gate);
+    Core { pass, shares }
 }
 
 /// Takes the book with the last number. Err: no ticket is left.
@@ -163,17 +171,17 @@ fn last_part<S: EpochStore, G, R: Wait>(
     run: &Run<'_, S, G, R>,
     starter: Starter<'_, S>,
     shares: Shares,
-) -> (Pass<Book<S>>, Shares)
+) -> Core<S>
     requires starter { MatchResult starter (HasBookAs run.now.lock.now run.now.cores) (IsNewOf run.now.lock.now run.now.cores (run.now.cores + 1)) }
     requires empty { shares ≡ no_counts }
-    ensures covers { Covers run.now.lock.now run.now.cores (run.now.cores + 1) result.0 }
-    ensures counted { IsCounted result.0 result.1 }
+    ensures { Covers run.now.lock.now run.now.cores (run.now.cores + 1) result.pass }
 {
-    let last = let_go(run, starter);
-    (last, shares)
+    let pass = let_go(run, starter);
+    Core { pass, shares }
 }
 
-/// Waits for as many threads as there are cores, but not for long, and gives the book back as it was.
+/// Waits for as many threads as there are cores, but not for long, and gives the book back as it was. Where a thread was refused, the
+/// book is stopped for that.
 fn let_go<S: EpochStore, G, R: Wait>(
     run: &Run<'_, S, G, R>,
     starter: Starter<'_, S>,
@@ -183,22 +191,12 @@ fn let_go<S: EpochStore, G, R: Wait>(
 {
     match starter {
         Ok(mut held) => {
+            if run.refused.load(Ordering::SeqCst) {
+                stop(held.value(), StopCause::NoThread);
+                return held.release();
+            }
             held.wait_for_others(run.rt, run.cores as u64);
             held.value().look();
-            held.release()
-        }
-        Err(last) => last,
-    }
-}
-
-/// Stops the book, since a thread was refused, and gives it back. Where it isn't held any more, it is stopped, or no ticket is left.
-fn stop_all<S: EpochStore, G, R>(run: &Run<'_, S, G, R>, starter: Starter<'_, S>) -> Pass<Book<S>>
-    requires { MatchResult starter (HasBookAs run.now.lock.now run.now.cores) (IsNewOf run.now.lock.now run.now.cores (run.now.cores + 1)) }
-    ensures { IsNewOf run.now.lock.now run.now.cores (run.now.cores + 1) result }
-{
-    match starter {
-        Ok(mut held) => {
-            stop(held.value(), StopCause::NoThread);
             held.release()
         }
         Err(last) => last,
@@ -212,19 +210,18 @@ fn split_first<S: EpochStore>(
     cores: u32,
     pass: Pass<Book<S>>,
     shares: Shares,
-) -> (Pass<Book<S>>, Shares, Option<Pass<Book<S>>>, Shares)
+) -> (Core<S>, Option<Pass<Book<S>>>, Shares)
     requires { IsNewOf lock.now core cores pass × (shares ≡ no_counts) }
-    ensures first { Covers lock.now core (core + 1) result.0 }
-    ensures counted { IsCounted result.0 result.1 }
-    ensures rest { MatchOption result.2 (core + 1 ≡ cores) (IsNewOf lock.now (core + 1) cores) }
-    ensures empty { result.3 ≡ no_counts }
+    ensures first { Covers lock.now core (core + 1) result.0.pass }
+    ensures rest { MatchOption result.1 (core + 1 ≡ cores) (IsNewOf lock.now (core + 1) cores) }
+    ensures empty { result.2 ≡ no_counts }
 {
-    let (ours, theirs) = shares.split();
+    let (shares, theirs) = shares.split();
     if core + 1 == cores as u64 {
-        return (pass, ours, None, theirs);
+        return (Core { pass, shares }, None, theirs);
     }
-    let (first, rest) = split_new(lock, pass, core + 1);
-    (first, ours, Some(rest), theirs)
+    let (pass, rest) = split_new(lock, pass, core + 1);
+    (Core { pass, shares }, Some(rest), theirs)
 }
 
 /// Two passes in place of one that has made no entry.
@@ -241,20 +238,13 @@ fn split_new<S: EpochStore>(
     lock.split(pass, at)
 }
 
-/// Two passes side by side, each with what it has counted, in one.
-fn rejoin<S: EpochStore>(
-    lock: &TicketLock<Book<S>>,
-    first: (Pass<Book<S>>, Shares),
-    rest: (Pass<Book<S>>, Shares),
-) -> (Pass<Book<S>>, Shares)
-    requires own { (first.0.lock ≡ Some lock.now) × (rest.0.lock ≡ Some lock.now) }
-    requires beside { (first.0.hi ≡ rest.0.lo) × (first.0.lo ≤ first.0.hi) × (rest.0.lo ≤ rest.0.hi) }
-    requires counted { IsCounted first.0 first.1 × IsCounted rest.0 rest.1 }
-    ensures covers { Covers lock.now first.0.lo rest.0.hi result.0 }
-    ensures counted { IsCounted result.0 result.1 }
+/// Two cores side by side in one.
+fn rejoin<S: EpochStore>(lock: &TicketLock<Book<S>>, first: Core<S>, rest: Core<S>) -> Core<S>
+    requires own { (first.pass.lock ≡ Some lock.now) × (rest.pass.lock ≡ Some lock.now) }
+    requires beside { (first.pass.hi ≡ rest.pass.lo) × (first.pass.lo ≤ first.pass.hi) × (rest.pass.lo ≤ rest.pass.hi) }
+    ensures { Covers lock.now first.pass.lo rest.pass.hi result.pass }
 {
-    let (first, ours) = first;
-    let (rest, theirs) = rest;
-    let pass = lock.join(first, rest);
-    (pass, gather(ours, theirs))
+    let pass = lock.join(first.pass, rest.pass);
+    let shares = gather(first.shares, rest.shares);
+    Core { pass, shares }
 }

@@ -5,7 +5,7 @@ ghost use Rattle.homefree.specs.LockView.{loop_of};
 ghost use Rattle.violations.specs.Rule.{IsCoreCount};
 ghost use Rattle.core_threads.specs.Sentence.{Explains, Finishes, HaltsWith};
 
-use crate::cores::run_threads;
+use crate::cores::{Core, run_threads};
 use crate::fault::RunFault;
 use crate::gate::Gate;
 use homefree::Book;
@@ -81,7 +81,7 @@ pub fn run_cores<S: EpochStore, G: Gate, R: Threads + Wait + Sync>(
     let Ok((lock, pass)) = TicketLock::open(alloc, book, cores as u64 + 1) else {
         return Err(without_book());
     };
-    let (pass, shares) = run_threads(rt, &lock, pass, shares, image, gate, cores);
+    let Core { pass, shares } = run_threads(rt, &lock, pass, shares, image, gate, cores);
     let (book, _) = lock.close(pass);
     book.look();
     outcome(book, shares.counts())
