@@ -65,7 +65,6 @@ pub fn core_loop<S: EpochStore, G: Gate, R: Wait>(
     ensures stopped { result.2 ≡ LoopEnd.Stopped → IsGoing lock.now.fixed result.0.seen }
     ensures spent { result.2 ≡ LoopEnd.Spent → result.0.out ≡ true }
 {
-    let core = pass.who() as u32;
     let backoff = Backoff::new();
     let mut pass = pass;
     let mut shares = shares;
@@ -74,12 +73,12 @@ pub fn core_loop<S: EpochStore, G: Gate, R: Wait>(
     let mut hart = start(image, 0);
     let mut turn = 0u64;
     for _ in rt.forever() {
-        let passed = gate.pass(core, turn, next.as_ref());
         let (later, after) = one_turn(
             rt,
             lock,
+            gate,
+            turn,
             pass,
-            passed,
             &mut shares,
             next.as_ref(),
             &mut hart,
@@ -102,12 +101,14 @@ pub fn core_loop<S: EpochStore, G: Gate, R: Wait>(
     unreachable!()
 }
 
-/// Takes the lock for one turn, or to stop the book where the gate is shut. Sets the hart where the core goes on.
-fn one_turn<S: EpochStore, R: Wait>(
+/// Passes the gate with the number of this turn, and then takes the lock for it, or to stop the book where the gate is shut. Sets the hart
+/// where the core goes on.
+fn one_turn<S: EpochStore, G: Gate, R: Wait>(
     rt: &R,
     lock: &TicketLock<Book<S>>,
+    gate: &G,
+    turn: u64,
     pass: Pass<Book<S>>,
-    passed: Result<(), Shut>,
     shares: &mut Shares,
     next: Option<&Arrived>,
     hart: &mut Hart,
@@ -123,6 +124,7 @@ fn one_turn<S: EpochStore, R: Wait>(
     ensures spent { result.1 ≡ After.Ends LoopEnd.Spent → result.0.out ≡ true }
 {
     let core = pass.who() as u32;
+    let passed = gate.pass(core, turn, next);
     match lock.lock(rt, pass) {
         Ok(mut held) => {
             let after = act(held.value(), core, passed, next, shares, hart);
