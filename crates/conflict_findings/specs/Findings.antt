@@ -1,7 +1,7 @@
 -- What is found of a violation: all that is told and summed of it. Its explanation has whom to blame; here stand the two accesses
 -- with their instructions, where they met, what it cost, and what became of it.
 -- Source: this project.
-use Rattle.std.specs.Prelude.{ℕ, ◌*◌, List, Option, Some, None, is_some, map, slice_get, option_and_then, option_map}
+use Rattle.std.specs.Prelude.{ℕ, ◌*◌, ◌-◌, List, Option, Some, None, is_some, map, slice_get, option_and_then, option_map}
 use Rattle.rv32_image.specs.Image.{LoadedImage}
 use Rattle.rv32_image.specs.Version.{limits_of}
 use Rattle.spec_history.specs.declared.entry.Entry.{Entry}
@@ -9,6 +9,7 @@ use Rattle.spec_history.specs.FlatState.{FlatState}
 use Rattle.conflicts.specs.declared.explanation.Blame.{Blame}
 use Rattle.conflicts.specs.declared.explanation.ByteRange.{ByteRange}
 use Rattle.conflicts.specs.declared.explanation.Explanation.{Explanation}
+use Rattle.conflicts.specs.declared.explanation.Runner.{Runner}
 use Rattle.spec_history.specs.declared.kind.Kind.{Kind}
 use Rattle.spec_history.specs.declared.kind.Kind.TheVariants.{FullBuffer}
 use Rattle.conflicts.specs.declared.standing.Site.{Site}
@@ -88,6 +89,11 @@ met_bytes image entries e = met_bytes_by e.blame (asked_bytes image entries e)
 
 -- ---- findings
 
+-- by how many epochs the victim stands after the causer; 0 where it does not, which is so of no violation that the flat machine
+-- accepts (`sum_laws::violated_epochs_come_after`)
+abbrev pub distance_of : Runner → Runner → ℕ
+distance_of victim causer = victim.epoch - causer.epoch
+
 abbrev pub finding_of : LoadedImage → List Entry → List (Option Site) → Explanation → Finding
 finding_of image entries sites e = record {
   place = e.place;
@@ -98,6 +104,7 @@ finding_of image entries sites e = record {
   entered = e.entered;
   since = since sites e;
   causer = e.causer;
+  distance = distance_of e.victim e.causer;
   cause = e.cause;
   act = what_at entries e.cause;
   victim_access = option_map (access_at sites) (victim_place image entries e);

@@ -1,10 +1,9 @@
 -- What of a finding is summed: the kind, the violated epoch, the two instructions that met, the line and the bytes in which they
 -- met, what was lost, what became of it, and how far apart the epochs stood.
-use Rattle.std.specs.Prelude.{ℕ, ◌-◌, List, Option, is_some, option_and_then, option_map}
+use Rattle.std.specs.Prelude.{ℕ, List, Option, is_some, option_and_then, option_map}
 use Rattle.rv32_image.specs.Image.{LoadedImage}
 use Rattle.spec_history.specs.declared.entry.Entry.{Entry}
 use Rattle.conflicts.specs.declared.explanation.Explanation.{Explanation}
-use Rattle.conflicts.specs.declared.explanation.Runner.{Runner}
 use Rattle.conflicts.specs.declared.standing.Site.{Site}
 use Rattle.conflict_findings.specs.declared.finding.Access.{Access}
 use Rattle.conflict_findings.specs.declared.finding.Finding.{Finding}
@@ -20,11 +19,6 @@ pc_of access = option_and_then (λ (a : Access). a.pc) access
 abbrev pub pair_of : Option Access → Option Access → Option Pair
 pair_of causer victim = option_and_then (λ s. option_map (λ l. record { store = s; load = l }) (pc_of victim)) (pc_of causer)
 
--- by how many epochs the victim stands after the causer; 0 where it does not, which is so of no violation that the flat machine
--- accepts (`sum_laws::violated_epochs_come_after`)
-abbrev pub distance_of : Runner → Runner → ℕ
-distance_of victim causer = victim.epoch - causer.epoch
-
 abbrev pub rollback_of : Finding → Rollback
 rollback_of f = record {
   kind = f.kind;
@@ -35,7 +29,7 @@ rollback_of f = record {
   stale = f.stale;
   vain = is_some f.undoing;
   came_true = is_some f.later;
-  distance = distance_of f.victim f.causer;
+  distance = f.distance;
   bytes = f.bytes;
 }
 

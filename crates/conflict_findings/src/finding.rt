@@ -41,6 +41,8 @@ pub struct Finding {
     pub since: Option<u64>,
     /// Who made the violation.
     pub causer: Runner,
+    /// By how many epochs the victim stands after the causer: at least 1 of a violation that the flat machine accepts.
+    pub distance: u32,
     /// The place of the entry that it was made for, if there is one.
     pub cause: Option<usize>,
     /// What that entry says.
@@ -101,6 +103,7 @@ pub fn finding_of(
         entered: e.entered,
         since: e.since(sites),
         causer: e.causer,
+        distance: e.victim.epoch.saturating_sub(e.causer.epoch),
         cause: e.cause,
         act: what_at(entries, e.cause),
         victim_access: accessed(sites, victim_place(image, entries, e)),

@@ -70,7 +70,7 @@ impl Finding {
             stale: self.stale,
             vain: self.undoing.is_some(),
             came_true: self.later.is_some(),
-            distance: self.victim.epoch.saturating_sub(self.causer.epoch),
+            distance: self.distance,
             bytes: self.bytes,
         }
     }

@@ -13,7 +13,7 @@ ghost use Rattle.conflict_findings.specs.declared.part.Part.TheVariants.{Whole, 
 ghost use Rattle.conflict_findings.specs.declared.rollback.Pair.{Pair};
 ghost use Rattle.conflict_findings.specs.declared.rollback.Rollback.{Rollback};
 ghost use Rattle.conflict_findings.specs.Pairs.{pairs_in};
-ghost use Rattle.conflict_findings.specs.Rollbacks.{distance_of};
+ghost use Rattle.conflict_findings.specs.Findings.{distance_of};
 ghost use Rattle.conflict_findings.specs.Sums.{count_in, lost_in};
 
 /// The violations of the five kinds are all, and so is what they lost.

@@ -181,7 +181,8 @@ fn is_access(access: Option<Access>, row: &str, place: usize, pc: usize) -> bool
         })
 }
 
-/// Whether what is found names the load, the store and the bytes of a row, with their instructions, and how many the attempt executed from the load on.
+/// Whether what is found names the load, the store and the bytes of a row, with their instructions, how many the attempt executed from the load on,
+/// and how far apart the epochs stand.
 fn is_met(found: &Finding, row: &str) -> bool {
     let bytes = ByteRange {
         first: number(row, 25),
@@ -191,6 +192,7 @@ fn is_met(found: &Finding, row: &str) -> bool {
         && is_access(found.causer_access, row, 16, 21)
         && found.bytes == Some(bytes)
         && found.since == Some(u64::from(number(row, 23)))
+        && number(row, 4).checked_add(found.distance) == Some(number(row, 7))
 }
 
 /// Whether the row names the addresses of the two instructions of its pair, and how many the attempt executed from the load on.
