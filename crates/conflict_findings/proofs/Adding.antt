@@ -1,18 +1,11 @@
 -- The sum of a part is that of the list of its violations.
-use Rattle.std.proofs.Common.{◌≡◌, ℕ, ◌+◌, Bool, true, false, cond, List, [], ◌∷◌, Option, filter, sum_by, refl, ap, ◌∙◌, arith, ap₂}
+use Rattle.std.proofs.Common.{◌≡◌, ℕ, ◌+◌, Bool, true, false, cond, List, [], ◌∷◌, filter, sum_by, refl, ◌∙◌, arith, ap₂}
 use Rattle.std.proofs.lemmas.List.Sums.{sum_by-cons}
-use Rattle.conflict_findings.specs.declared.kinds.CountsByKind.{CountsByKind}
-use Rattle.conflict_findings.specs.declared.pair_sums.Bounds.{Bounds}
-use Rattle.conflict_findings.specs.declared.pair_sums.Fates.{Fates}
-use Rattle.conflict_findings.specs.declared.pair_sums.Measure.TheVariants.{Distance, Bytes}
-use Rattle.conflict_findings.specs.declared.pair_sums.PairSum.{PairSum}
 use Rattle.conflict_findings.specs.declared.part.Part.{Part}
-use Rattle.conflict_findings.specs.declared.part.Part.TheVariants.{Whole, OfPair}
-use Rattle.conflict_findings.specs.declared.rollback.Pair.{Pair}
+use Rattle.conflict_findings.specs.declared.part.Part.TheVariants.{Whole}
 use Rattle.conflict_findings.specs.declared.rollback.Rollback.{Rollback}
 use Rattle.conflict_findings.specs.declared.sum.Sum.{Sum}
 use Rattle.conflict_findings.specs.Parts.{belongs}
-use Rattle.conflict_findings.specs.PairSums.{bounds_in, fates_in, kinds_in, pair_sum}
 use Rattle.conflict_findings.specs.Sums.{sum_in}
 
 passed : {X : Type 0} (f : X → ℕ) (b : Bool) (x : X) (xs : List X) (n : ℕ) → sum_by f xs ≡ n → sum_by f (cond b (x ∷ xs) xs) ≡ cond b (f x) 0 + n
@@ -33,13 +26,3 @@ sum n m = record { count = n; lost = m }
 
 pub part_sum : (part : Part) (rs : List Rollback) → sum_in Whole (filter (belongs part) rs) ≡ sum_in part rs
 part_sum part rs = ap₂ sum (sum_passing (λ (r : Rollback). 1) (belongs part) rs) (sum_passing (λ (r : Rollback). r.lost) (belongs part) rs)
-
-abbrev all_of : Pair → Sum → CountsByKind → Fates → Option Bounds → Option Bounds → PairSum
-all_of p s k f d b = record { pair = p; sum = s; counts = k; fates = f; distance = d; bytes = b }
-
--- what was found of the list is that of the pair
-pub pair_found : (p : Pair) (rs those : List Rollback) (s : Sum) (k : CountsByKind) (f : Fates) (d b : Option Bounds) → those ≡ filter (belongs (OfPair p)) rs
-    → s ≡ sum_in Whole those → k ≡ kinds_in those → f ≡ fates_in those → d ≡ bounds_in Distance those → b ≡ bounds_in Bytes those → all_of p s k f d b ≡ pair_sum rs p
-pair_found p rs those s k f d b are one two three four five =
-    let those_of = filter (belongs (OfPair p)) rs in
-    rw (one, two, three, four, five, are) (ap (λ x. all_of p x (kinds_in those_of) (fates_in those_of) (bounds_in Distance those_of) (bounds_in Bytes those_of)) (part_sum (OfPair p) rs))

@@ -20,10 +20,10 @@ some_count (suc n) lost = refl
 one_count : (sums : BTreeMap ℕ Sum) (rs : List Rollback) (at : ℕ) → get nat_cmp sums at ≡ sum_at Line rs at → count_at sums at ≡ count_in (OfLine at) rs
 one_count sums rs at is = ap (λ o. (sum_or o).count) is ∙ some_count (count_in (OfLine at) rs) (lost_in (OfLine at) rs)
 
-abbrev counts : ℕ → ℕ → ℕ → ℕ → CountsByKind
+abbrev pub counts : ℕ → ℕ → ℕ → ℕ → CountsByKind
 counts a b c d = record { true_sharing = a; silent_store = b; false_sharing = c; full_buffer = d }
 
-same_counts : (a b c d a' b' c' d' : ℕ) → a ≡ a' → b ≡ b' → c ≡ c' → d ≡ d' → counts a b c d ≡ counts a' b' c' d'
+pub same_counts : (a b c d a' b' c' d' : ℕ) → a ≡ a' → b ≡ b' → c ≡ c' → d ≡ d' → counts a b c d ≡ counts a' b' c' d'
 same_counts a b c d a' b' c' d' one two three four = rw (one, two, three, four) refl
 
 pub line_counts : (rs : List Rollback) (lines : LinesByKind) (at : ℕ) → AreLines rs lines → counts_at lines at ≡ counts_in (OfLine at) rs

@@ -1,16 +1,12 @@
--- Pairs that are noted in a set, and when two pairs have the same addresses.
-use Rattle.std.proofs.Common.{◌≡◌, ℕ, ◌==◌, ◌&&◌, ◌||◌, Bool, true, false, cond, List, [], ◌∷◌, ◌++◌, nat_lt, refl, sym, ap, ◌∙◌, arith, eq-eqb, eqb-true, ltb-true}
+-- When two pairs have the same addresses.
+use Rattle.std.proofs.Common.{◌≡◌, ℕ, ◌==◌, ◌&&◌, Bool, true, false, cond, nat_lt, refl, sym, ap, ◌∙◌, arith, eq-eqb, eqb-true, ltb-true}
 use Rattle.std.proofs.lemmas.Bool.{false_from_ne_true}
-use Rattle.std.specs.List.{list_any}
 use Rattle.std.specs.Ordering.{is_eq, nat_cmp, ordering_then}
 use Rattle.std.specs.declared.cmp.Ordering.{Ordering}
 use Rattle.std.specs.declared.cmp.Ordering.TheVariants.{Less, Equal, Greater}
-use Rattle.std.proofs.lemmas.List.Folds.{list_any-append}
 use Rattle.conflict_findings.specs.declared.rollback.Pair.{Pair}
-use Rattle.conflict_findings.specs.Grouped.{by_addresses}
+use Rattle.conflict_findings.specs.ByPair.{by_addresses}
 use Rattle.conflict_findings.specs.Parts.{is_pair}
-
--- ---- equal by addresses
 
 first_so : (t e : Bool) (o : Ordering) → (t ≡ true → e ≡ false) → is_eq (ordering_then (cond t Less (cond e Equal Greater)) o) ≡ (e && is_eq o)
 first_so true true o no_both = let clash : true ≡ false = no_both refl in absurd cc
@@ -27,7 +23,7 @@ second_so false false no_both = refl
 apart : (a b : ℕ) → nat_lt a b ≡ true → (a == b) ≡ false
 apart a b less = false_from_ne_true (a == b) (λ same. omega (arith, ltb-true a b less, eqb-true a b same))
 
-at_pair : (p q : Pair) → is_eq (by_addresses (p.store, p.load) (q.store, q.load)) ≡ is_pair p q
+pub at_pair : (p q : Pair) → is_eq (by_addresses (p.store, p.load) (q.store, q.load)) ≡ is_pair p q
 at_pair p q =
     first_so (nat_lt p.store q.store) (p.store == q.store) (nat_cmp p.load q.load) (apart p.store q.store)
     ∙ ap (λ b. (p.store == q.store) && b) (second_so (nat_lt p.load q.load) (p.load == q.load) (apart p.load q.load))
@@ -36,20 +32,6 @@ flip_eq : (a b : ℕ) (t : Bool) → (a == b) ≡ t → (b == a) ≡ t
 flip_eq a b true is = eq-eqb b a (sym (eqb-true a b is))
 flip_eq a b false is = false_from_ne_true (b == a) (λ same. let so : (a == b) ≡ true = eq-eqb a b (sym (eqb-true b a same)) in absurd cc)
 
-flip_pair : (p q : Pair) → is_pair p q ≡ is_pair q p
+pub flip_pair : (p q : Pair) → is_pair p q ≡ is_pair q p
 flip_pair p q =
     sym (ap (λ b. b && (q.load == p.load)) (flip_eq p.store q.store (p.store == q.store) refl) ∙ ap (λ b. (p.store == q.store) && b) (flip_eq p.load q.load (p.load == q.load) refl))
-
--- ---- pairs that are noted
-
-or_by : (b s : Bool) → cond b true s ≡ (s || (b || false))
-or_by true true = refl
-or_by true false = refl
-or_by false true = refl
-or_by false false = refl
-
--- one pair more in the set, and in the list
-pub seen_more : (pairs : List Pair) (p : Pair) (old new : Pair → Bool) → ((q : Pair) → old q ≡ list_any (is_pair q) pairs)
-    → ((q : Pair) → new q ≡ cond (is_eq (by_addresses (p.store, p.load) (q.store, q.load))) true (old q)) → (q : Pair) → new q ≡ list_any (is_pair q) (pairs ++ p ∷ [])
-seen_more pairs p old new was is q =
-    is q ∙ (ap (λ b. cond b true (old q)) (at_pair p q ∙ flip_pair p q) ∙ (or_by (is_pair q p) (old q) ∙ (ap (λ s. s || (is_pair q p || false)) (was q) ∙ sym (list_any-append (is_pair q) pairs (p ∷ [])))))

@@ -1,19 +1,18 @@
 -- Sums by a number that take in one violation more.
-use Rattle.std.proofs.Common.{◌≡◌, ℕ, zero, suc, ◌+◌, ◌<◌, ◌≤◌, ◌==◌, Bool, true, false, cond, List, [], ◌∷◌, length, get_or, take, Option, Some, None, refl, sym, ap, ◌∙◌, inl, inr, arith, eqb-true, eq-eqb, ap₂}
+use Rattle.std.proofs.Common.{◌≡◌, ℕ, zero, suc, ◌+◌, ◌<◌, ◌≤◌, ◌^◌, ◌==◌, Bool, true, false, cond, List, [], ◌∷◌, ◌++◌, Option, Some, None, refl, sym, ap, ◌∙◌, inl, inr, arith, eqb-true, eq-eqb, ap₂}
 use Rattle.std.proofs.lemmas.Bool.{cases_eq}
-use Rattle.std.proofs.lemmas.List.Sums.{count_by-le-length, sum_by-cons, sum_by_more, sum_by_more_le_part}
-use Rattle.std.proofs.lemmas.List.{length-take-le}
+use Rattle.std.proofs.lemmas.List.Sums.{sum_by-cons}
 use Rattle.conflict_findings.specs.declared.keys.Key.{Key}
 use Rattle.conflict_findings.specs.declared.keys.Key.TheVariants.{Store, Load, Line, Epoch}
 use Rattle.conflict_findings.specs.declared.part.Part.{Part}
-use Rattle.conflict_findings.specs.declared.part.Part.TheVariants.{Whole}
 use Rattle.conflict_findings.specs.declared.rollback.Pair.{Pair}
 use Rattle.conflict_findings.specs.declared.rollback.Rollback.{Rollback}
 use Rattle.conflict_findings.specs.declared.sum.Sum.{Sum}
 use Rattle.conflict_findings.specs.Keys.{key_of, more, part_at, some_sum, sum_at, sum_or}
 use Rattle.conflict_findings.specs.Parts.{belongs}
-use Rattle.conflict_findings.specs.Sums.{count_in, lost_by, lost_in}
+use Rattle.conflict_findings.specs.Sums.{HasRoom, count_in, lost_by, lost_in}
 use Rattle.conflict_findings.proofs.Counting.{some_count}
+use Rattle.conflict_findings.proofs.Pushing.{count_le, count_no, count_yes, lost_le, lost_no, lost_yes}
 
 -- ---- one violation more
 
@@ -31,11 +30,9 @@ one_more (suc n) m w k l none is lost =
     let next : k ≡ suc (suc n) = omega (arith, is) in
     ap (λ x. some_sum x l) next ∙ ap Some (same_sum (suc (suc n)) (suc n + 1) l (m + w) (omega arith) lost)
 
-not_one_more : (n m k l : ℕ) → k ≡ n + 0 → l ≡ m + 0 → some_sum n m ≡ some_sum k l
+not_one_more : (n m k l : ℕ) → k ≡ n → l ≡ m → some_sum n m ≡ some_sum k l
 not_one_more n m k l is lost =
-    let a : n ≡ k = omega (arith, is) in
-    let b : m ≡ l = omega (arith, lost) in
-    ap (λ x. some_sum x m) a ∙ ap (λ x. some_sum k x) b
+    sym (ap (λ x. some_sum x l) is ∙ ap (λ x. some_sum n x) lost)
 
 -- what nobody belongs to lost nothing
 pub lost_step : (b : Bool) (w n s : ℕ) → cond b 1 0 + n ≡ 0 → (n ≡ 0 → s ≡ 0) → cond b w 0 + s ≡ 0
@@ -81,39 +78,31 @@ apart a b differ = go (a == b) refl
 
 -- ---- the sums of one violation more
 
-sum_same : (key : Key) (rs : List Rollback) (i : ℕ) (d : Rollback) (at : ℕ) → i < length rs → belongs (part_at key at) (get_or rs i d) ≡ false
-    → sum_at key (take i rs) at ≡ sum_at key (take (i + 1) rs) at
-sum_same key rs i d at below fails =
-    let part = part_at key at in
-    not_one_more (count_in part (take i rs)) (lost_in part (take i rs)) (count_in part (take (i + 1) rs)) (lost_in part (take (i + 1) rs))
-    (sum_by_more (λ (x : Rollback). cond (belongs part x) 1 0) rs i d below ∙ ap (λ (b : Bool). count_in part (take i rs) + cond b 1 0) fails)
-    (sum_by_more (lost_by part) rs i d below ∙ ap (λ (b : Bool). lost_in part (take i rs) + cond b (get_or rs i d).lost 0) fails)
+sum_same : (key : Key) (rs : List Rollback) (r : Rollback) (at : ℕ) → belongs (part_at key at) r ≡ false → sum_at key rs at ≡ sum_at key (rs ++ r ∷ []) at
+sum_same key rs r at fails = not_one_more _ _ _ _ (count_no (part_at key at) rs r fails) (lost_no (part_at key at) rs r fails)
 
-sum_more : (key : Key) (rs : List Rollback) (i : ℕ) (d : Rollback) (at : ℕ) → i < length rs → belongs (part_at key at) (get_or rs i d) ≡ true
-    → sum_at key (take (i + 1) rs) at ≡ Some (more (sum_or (sum_at key (take i rs) at)) (get_or rs i d).lost)
-sum_more key rs i d at below passes =
+sum_more : (key : Key) (rs : List Rollback) (r : Rollback) (at : ℕ) → belongs (part_at key at) r ≡ true
+    → sum_at key (rs ++ r ∷ []) at ≡ Some (more (sum_or (sum_at key rs at)) r.lost)
+sum_more key rs r at passes =
     let part = part_at key at in
-    one_more (count_in part (take i rs)) (lost_in part (take i rs)) (get_or rs i d).lost (count_in part (take (i + 1) rs)) (lost_in part (take (i + 1) rs)) (none_lost part (take i rs))
-    (sum_by_more (λ (x : Rollback). cond (belongs part x) 1 0) rs i d below ∙ ap (λ (b : Bool). count_in part (take i rs) + cond b 1 0) passes)
-    (sum_by_more (lost_by part) rs i d below ∙ ap (λ (b : Bool). lost_in part (take i rs) + cond b (get_or rs i d).lost 0) passes)
+    one_more (count_in part rs) (lost_in part rs) r.lost (count_in part (rs ++ r ∷ [])) (lost_in part (rs ++ r ∷ [])) (none_lost part rs) (count_yes part rs r passes) (lost_yes part rs r passes)
 
 -- a violation without a number changes no sum
-pub unkeyed : (key : Key) (rs : List Rollback) (i : ℕ) (d : Rollback) (old : ℕ → Option Sum) → i < length rs → key_of key (get_or rs i d) ≡ None
-    → ((q : ℕ) → old q ≡ sum_at key (take i rs) q) → (q : ℕ) → old q ≡ sum_at key (take (i + 1) rs) q
-unkeyed key rs i d old below none was q = was q ∙ sum_same key rs i d q below (belongs_at key (get_or rs i d) q ∙ ap (λ (o : Option ℕ). has_key o q) none)
+pub unkeyed : (key : Key) (rs : List Rollback) (r : Rollback) (old : ℕ → Option Sum) → key_of key r ≡ None
+    → ((q : ℕ) → old q ≡ sum_at key rs q) → (q : ℕ) → old q ≡ sum_at key (rs ++ r ∷ []) q
+unkeyed key rs r old none was q = was q ∙ sum_same key rs r q (belongs_at key r q ∙ ap (λ (o : Option ℕ). has_key o q) none)
 
 -- one with a number changes the sum at that
-pub keyed : (key : Key) (rs : List Rollback) (i : ℕ) (d : Rollback) (at : ℕ) (old new : ℕ → Option Sum) → i < length rs → key_of key (get_or rs i d) ≡ Some at
-    → ((q : ℕ) → old q ≡ sum_at key (take i rs) q)
-    → new at ≡ Some (more (sum_or (old at)) (get_or rs i d).lost) → ((q : ℕ) → (q ≡ at → ⊥) → new q ≡ old q)
-    → (q : ℕ) → new q ≡ sum_at key (take (i + 1) rs) q
-keyed key rs i d at old new below is was here others q =
-    let has = belongs_at key (get_or rs i d) q ∙ ap (λ (o : Option ℕ). has_key o q) is in
+pub keyed : (key : Key) (rs : List Rollback) (r : Rollback) (at : ℕ) (old new : ℕ → Option Sum) → key_of key r ≡ Some at
+    → new at ≡ Some (more (sum_or (old at)) r.lost) → ((q : ℕ) → (q ≡ at → ⊥) → new q ≡ old q)
+    → ((q : ℕ) → old q ≡ sum_at key rs q) → (q : ℕ) → new q ≡ sum_at key (rs ++ r ∷ []) q
+keyed key rs r at old new is here others was q =
+    let has = belongs_at key r q ∙ ap (λ (o : Option ℕ). has_key o q) is in
     elim (cases_eq q at) [
       | inl e ↦ ap new e
-          ∙ (here ∙ (ap (λ (o : Option Sum). Some (more (sum_or o) (get_or rs i d).lost)) (was at)
-          ∙ (ap (λ (n : ℕ). Some (more (sum_or (sum_at key (take i rs) n)) (get_or rs i d).lost)) (sym e) ∙ sym (sum_more key rs i d q below (has ∙ eq-eqb at q (sym e))))))
-      | inr differ ↦ others q differ ∙ (was q ∙ sum_same key rs i d q below (has ∙ apart at q differ))
+          ∙ (here ∙ (ap (λ (o : Option Sum). Some (more (sum_or o) r.lost)) (was at)
+          ∙ (ap (λ (n : ℕ). Some (more (sum_or (sum_at key rs n)) r.lost)) (sym e) ∙ sym (sum_more key rs r q (has ∙ eq-eqb at q (sym e))))))
+      | inr differ ↦ others q differ ∙ (was q ∙ sum_same key rs r q (has ∙ apart at q differ))
     ]
 
 -- ---- the sums fit
@@ -122,16 +111,12 @@ or_lost : (n m : ℕ) → (sum_or (some_sum n m)).lost ≤ m
 or_lost zero m = omega arith
 or_lost (suc n) m = omega arith
 
-pub count_fits : (key : Key) (rs : List Rollback) (i at : ℕ) (old : Option Sum) → i ≤ length rs → old ≡ sum_at key (take i rs) at → (sum_or old).count ≤ i
-count_fits key rs i at old below is =
-    omega (arith, ap (λ (o : Option Sum). (sum_or o).count) is, some_count (count_in (part_at key at) (take i rs)) (lost_in (part_at key at) (take i rs)), count_by-le-length (belongs (part_at key at)) (take i rs), length-take-le i rs below)
-
-part_le : (b : Bool) (w : ℕ) → cond b w 0 ≤ w
-part_le true w = omega arith
-part_le false w = omega arith
-
-pub lost_fits : (key : Key) (rs : List Rollback) (i : ℕ) (d : Rollback) (at : ℕ) (old : Option Sum) → i < length rs → old ≡ sum_at key (take i rs) at
-    → (whole : Sum) → whole ≡ sum (count_in Whole rs) (lost_in Whole rs) → (sum_or old).lost + (get_or rs i d).lost ≤ whole.lost
-lost_fits key rs i d at old below is whole all =
+pub counts_fit : (key : Key) (rs : List Rollback) (n at : ℕ) (old : Option Sum) → HasRoom rs n → old ≡ sum_at key rs at → (sum_or old).count + 1 < 2 ^ 32
+counts_fit key rs n at old room is =
     let part = part_at key at in
-    omega (arith, ap (λ (o : Option Sum). (sum_or o).lost) is, or_lost (count_in part (take i rs)) (lost_in part (take i rs)), sum_by_more_le_part (lost_by part) (lost_by Whole) rs i d below (λ (r : Rollback). part_le (belongs part r) r.lost), ap (λ (s : Sum). s.lost) all)
+    omega (arith, ap (λ (o : Option Sum). (sum_or o).count) is, some_count (count_in part rs) (lost_in part rs), count_le part rs, room.count)
+
+pub lost_fits : (key : Key) (rs : List Rollback) (n at : ℕ) (old : Option Sum) → HasRoom rs n → old ≡ sum_at key rs at → (sum_or old).lost + n < 2 ^ 128
+lost_fits key rs n at old room is =
+    let part = part_at key at in
+    omega (arith, ap (λ (o : Option Sum). (sum_or o).lost) is, or_lost (count_in part rs) (lost_in part rs), lost_le part rs, room.lost)

@@ -18,5 +18,8 @@ mod Parting
 mod Listing
 mod Keyed
 mod Grouping
-mod Numbering
-mod Pairless
+mod Pushing
+mod Kinded
+mod Placing
+mod Pairing
+mod BothRoles

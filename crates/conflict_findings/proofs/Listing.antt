@@ -15,7 +15,7 @@ not_step : (b t : Bool) (n : ℕ) → (b || t) ≡ false → (t ≡ false → n 
 not_step true t n is more = absurd cc
 not_step false t n is more = omega (arith, more is)
 
-not_any : {X : Type 0} (test : X → Bool) (xs : List X) → list_any test xs ≡ false → count_by test xs ≡ 0
+pub not_any : {X : Type 0} (test : X → Bool) (xs : List X) → list_any test xs ≡ false → count_by test xs ≡ 0
 not_any test [] is = refl
 not_any test (x ∷ xs) is = sum_by-cons (λ y. cond (test y) 1 0) x xs ∙ not_step (test x) (list_any test xs) (count_by test xs) is (not_any test xs)
 
@@ -35,12 +35,12 @@ pair s l = record { store = s; load = l }
 same_fields : (s t l m : ℕ) → s ≡ t → l ≡ m → pair s l ≡ pair t m
 same_fields s t l m first second = ap (λ x. pair x l) first ∙ ap (λ x. pair t x) second
 
-same_pair : (a b : Pair) → is_pair a b ≡ true → a ≡ b
+pub same_pair : (a b : Pair) → is_pair a b ≡ true → a ≡ b
 same_pair a b is =
     let e = and_parts (a.store == b.store) (a.load == b.load) is in
     same_fields a.store b.store a.load b.load (eqb-true a.store b.store e.0) (eqb-true a.load b.load e.1)
 
-own_pair : (p : Pair) → is_pair p p ≡ true
+pub own_pair : (p : Pair) → is_pair p p ≡ true
 own_pair p = ap (λ b. b && (p.load == p.load)) (eq-eqb p.store p.store refl) ∙ eq-eqb p.load p.load refl
 
 -- ---- a pair that is noted
@@ -104,3 +104,7 @@ listed_after (r ∷ rs) ps once = (listed_one r.pair ps rs once, listed_after rs
 
 pub all_listed : (rs : List Rollback) → AreListed (after [] rs) rs
 all_listed rs = listed_after rs [] (λ q. omega arith)
+
+-- each pair stands at most once in the list
+pub listed_once : (rs : List Rollback) (q : Pair) → count_by (is_pair q) (after [] rs) ≤ 1
+listed_once rs q = once_after rs [] (λ p. omega arith) q

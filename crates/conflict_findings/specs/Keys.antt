@@ -41,7 +41,11 @@ sum_or sum = unwrap_or sum (record { count = 0; lost = 0 })
 abbrev pub more : Sum → ℕ → Sum
 more sum lost = record { count = sum.count + 1; lost = sum.lost + lost }
 
--- for each number, what the violations that have it cost; the numbers ascend
+-- for each number, what the violations that have it cost
+abbrev pub AreSumsBy : Key → List Rollback → BTreeMap ℕ Sum → Type 0
+AreSumsBy key rollbacks sums = (at : ℕ) → get nat_cmp sums at ≡ sum_at key rollbacks at
+
+-- and the numbers ascend
 pub record AreSums (key : Key) (rollbacks : List Rollback) (sums : BTreeMap ℕ Sum) : Type 0 where
-  pub each : (at : ℕ) → get nat_cmp sums at ≡ sum_at key rollbacks at
+  pub each : AreSumsBy key rollbacks sums
   pub ascending : IsOrdered nat_cmp sums

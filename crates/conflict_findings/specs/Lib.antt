@@ -16,7 +16,8 @@ pub mod Order
 pub mod Roles
 -- Words of contracts: what the entries say of attempts that have been violated.
 pub mod Violated
--- What is kept of the numbers and the ends of attempts, and of pairs.
+-- What is kept of the numbers and the ends of attempts, of pairs, and of all sums.
 pub mod Followed
 pub mod KnownEnds
-pub mod Grouped
+pub mod ByPair
+pub mod AllSums

@@ -1,5 +1,5 @@
 -- Violations in which an instruction of a pair stands as the load, whichever it was.
-use Rattle.std.specs.Prelude.{Bool, List, ◌++◌, is_some, map, option_map}
+use Rattle.std.specs.Prelude.{List, ◌++◌, map, option_map}
 use Rattle.conflict_findings.specs.declared.rollback.Pair.{Pair}
 use Rattle.conflict_findings.specs.declared.rollback.Rollback.{Rollback}
 
@@ -10,7 +10,3 @@ swapped r = record r { pair = option_map (λ (p : Pair). record { store = p.load
 -- the violations, and the same with their instructions in each other's role: the loads are now all instructions of pairs
 abbrev pub in_both_roles : List Rollback → List Rollback
 in_both_roles rollbacks = rollbacks ++ map swapped rollbacks
-
--- its two instructions are known
-abbrev pub is_paired : Rollback → Bool
-is_paired r = is_some r.pair

@@ -1,14 +1,15 @@
 //! Sums of all violations that are told apart by a number.
 
-ghost use Rattle.std.specs.Prelude.{◌≡◌, ◌≢◌, ◌<◌, ◌≤◌, ◌+◌, ◌^◌, ℕ, IfOk, OnOk, Some};
+ghost use Rattle.std.specs.Prelude.{◌≡◌, ◌≢◌, ◌<◌, ◌+◌, ◌^◌, ◌++◌, ◌∷◌, [], ℕ, List, OnOk, Some};
 ghost use Rattle.std.specs.BTreeMap.{get};
 ghost use Rattle.std.specs.Ordering.{nat_cmp};
+ghost use Rattle.conflict_findings.specs.declared.rollback.Rollback.{Rollback};
 ghost use Rattle.conflict_findings.specs.Keys as spec;
+ghost use Rattle.conflict_findings.specs.Sums.{HasRoom};
 
-use crate::part::Part;
 use crate::rollback::Rollback;
-use crate::sum::{Sum, sum_of};
-use std::alloc::{AllocError, Global};
+use crate::sum::Sum;
+use std::alloc::AllocError;
 use std::collections::BTreeMap;
 
 /// A number by which violations are told apart.
@@ -38,34 +39,31 @@ impl Key {
     }
 }
 
-/// What violations cost, for each number that some of them have.
-pub fn sums_by(
-    alloc: Global,
-    rollbacks: &[Rollback],
+/// Adds a violation to what those of each number cost, at the number that it has, if it has one.
+pub(crate) fn add_by(
+    sums: &mut BTreeMap<u32, Sum>,
     key: Key,
-) -> Result<BTreeMap<u32, Sum>, AllocError>
-    ensures { IfOk result (λ sums. (at : ℕ) → get nat_cmp sums at ≡ spec.sum_at key rollbacks.now at) }
+    rollback: &Rollback,
+) -> Result<(), AllocError>
+    requires { (rollbacks : List Rollback) × spec.AreSumsBy key rollbacks sums.old × HasRoom rollbacks rollback.now.lost }
+    ensures { OnOk result ((rollbacks : List Rollback) → spec.AreSumsBy key rollbacks sums.old
+        → spec.AreSumsBy key (rollbacks ++ rollback.now ∷ []) sums.new) }
 {
-    let mut sums = BTreeMap::new(alloc);
-    let whole = sum_of(rollbacks, Part::Whole);
-    for rollback in rollbacks {
-        if let Some(at) = key.of(rollback) {
-            add(&mut sums, at, rollback.lost, whole.lost)?;
-        }
-    }
-    Ok(sums)
+    let Some(at) = key.of(rollback) else {
+        return Ok(());
+    };
+    add(sums, at, rollback.lost)?;
+    Ok(())
 }
 
-/// Adds a violation that lost so many instructions, of those of the whole, to the sum at a number.
-fn add(sums: &mut BTreeMap<u32, Sum>, at: u32, lost: u64, whole: u128) -> Result<(), AllocError>
-    requires count { (spec.sum_or (get nat_cmp sums.old at)).count + 1 < 2 ^ 64 }
-    requires lost { (spec.sum_or (get nat_cmp sums.old at)).lost + lost ≤ whole }
+/// Adds a violation that lost so many instructions to the sum at a number.
+fn add(sums: &mut BTreeMap<u32, Sum>, at: u32, lost: u64) -> Result<(), AllocError>
+    requires count { (spec.sum_or (get nat_cmp sums.old at)).count + 1 < 2 ^ 32 }
+    requires lost { (spec.sum_or (get nat_cmp sums.old at)).lost + lost < 2 ^ 128 }
     ensures here { OnOk result (get nat_cmp sums.new at ≡ Some (spec.more (spec.sum_or (get nat_cmp sums.old at)) lost)) }
     ensures others { OnOk result ((other : ℕ) → other ≢ at → get nat_cmp sums.new other ≡ get nat_cmp sums.old other) }
 {
     let sum = sums.get(&at).copied().unwrap_or(Sum { count: 0, lost: 0 });
-    let count = sum.count + 1;
-    let lost = sum.lost + lost as u128;
-    sums.insert(at, Sum { count, lost })?;
+    sums.insert(at, sum.more(lost))?;
     Ok(())
 }

@@ -1,17 +1,19 @@
 //! Violations parted by kind.
 
-ghost use Rattle.std.specs.Prelude.{◌≡◌, ℕ, IfOk, filter};
+ghost use Rattle.std.specs.Prelude.{◌≡◌, ◌++◌, ◌∷◌, [], List, OnOk};
 ghost use Rattle.std.specs.BTreeMap.{get};
 ghost use Rattle.std.specs.Ordering.{nat_cmp};
-ghost use Rattle.conflict_findings.specs.declared.keys.Key.TheVariants.{Line};
-ghost use Rattle.conflict_findings.specs.Keys.{sum_at, sum_or};
+ghost use Rattle.conflict_findings.specs.declared.part.Part.TheVariants.{OfKind};
+ghost use Rattle.conflict_findings.specs.declared.rollback.Rollback.{Rollback};
+ghost use Rattle.conflict_findings.specs.Keys.{sum_or};
 ghost use Rattle.conflict_findings.specs.Kinds as spec;
-ghost use Rattle.conflict_findings.specs.Parts.{belongs};
+ghost use Rattle.conflict_findings.specs.PairSums.{kinds_in};
+ghost use Rattle.conflict_findings.specs.Sums.{HasRoom, count_in};
 
-use crate::keys::{Key, sums_by};
+use crate::keys::{Key, add_by};
 use crate::part::Part;
 use crate::rollback::Rollback;
-use crate::sum::Sum;
+use crate::sum::{Sum, sum_more};
 use conflicts::Kind;
 use std::alloc::{AllocError, Global};
 use std::collections::BTreeMap;
@@ -20,13 +22,28 @@ use std::collections::BTreeMap;
 #[derive(Clone, Copy, Debug, PartialEq, Eq)]
 pub struct CountsByKind {
     /// True sharing.
-    pub true_sharing: usize,
+    pub true_sharing: u32,
     /// Silent stores.
-    pub silent_store: usize,
+    pub silent_store: u32,
     /// False sharing.
-    pub false_sharing: usize,
+    pub false_sharing: u32,
     /// Full buffers.
-    pub full_buffer: usize,
+    pub full_buffer: u32,
+}
+
+/// What the violations of each kind cost.
+#[derive(Clone, Copy, Debug, PartialEq, Eq)]
+pub struct SumsByKind {
+    /// True sharing.
+    pub true_sharing: Sum,
+    /// Silent stores.
+    pub silent_store: Sum,
+    /// False sharing.
+    pub false_sharing: Sum,
+    /// Full buffers.
+    pub full_buffer: Sum,
+    /// Those without a cause.
+    pub unexplained: Sum,
 }
 
 /// What the violations of each kind cost, for each line of the caches.
@@ -42,45 +59,8 @@ pub struct LinesByKind {
     pub full_buffer: BTreeMap<u32, Sum>,
 }
 
-/// The violations of a part, in order.
-fn part_of(alloc: Global, rollbacks: &[Rollback], part: Part) -> Result<Vec<Rollback>, AllocError>
-    ensures { IfOk result (λ found. found.items ≡ filter (belongs part) rollbacks.now) }
-{
-    let mut found = Vec::new(alloc);
-    for rollback in rollbacks {
-        if part.has(rollback) {
-            found.push(*rollback)?;
-        }
-    }
-    Ok(found)
-}
-
-/// What the violations of a kind cost, for each line.
-fn lines_of(
-    alloc: Global,
-    rollbacks: &[Rollback],
-    kind: Kind,
-) -> Result<BTreeMap<u32, Sum>, AllocError>
-    ensures { IfOk result (λ sums. (at : ℕ) → get nat_cmp sums at ≡ sum_at Line (spec.of_kind kind rollbacks.now) at) }
-{
-    let those = part_of(alloc, rollbacks, Part::OfKind(kind))?;
-    sums_by(alloc, those.as_slice(), Key::Line)
-}
-
-/// What the violations of each kind cost, for each line.
-pub fn lines_by_kind(alloc: Global, rollbacks: &[Rollback]) -> Result<LinesByKind, AllocError>
-    ensures { IfOk result (spec.AreLines rollbacks.now) }
-{
-    Ok(LinesByKind {
-        true_sharing: lines_of(alloc, rollbacks, Kind::TrueSharing)?,
-        silent_store: lines_of(alloc, rollbacks, Kind::SilentStore)?,
-        false_sharing: lines_of(alloc, rollbacks, Kind::FalseSharing)?,
-        full_buffer: lines_of(alloc, rollbacks, Kind::FullBuffer)?,
-    })
-}
-
 /// How many violations there are at a number.
-fn count_at(sums: &BTreeMap<u32, Sum>, at: u32) -> usize
+fn count_at(sums: &BTreeMap<u32, Sum>, at: u32) -> u32
     ensures { result ≡ (sum_or (get nat_cmp sums.now at)).count }
 {
     match sums.get(&at) {
@@ -89,7 +69,102 @@ fn count_at(sums: &BTreeMap<u32, Sum>, at: u32) -> usize
     }
 }
 
+impl CountsByKind {
+    /// Of no violation.
+    pub(crate) fn none() -> CountsByKind
+        ensures { result ≡ kinds_in [] }
+    {
+        CountsByKind {
+            true_sharing: 0,
+            silent_store: 0,
+            false_sharing: 0,
+            full_buffer: 0,
+        }
+    }
+
+    /// With one violation more.
+    pub(crate) fn more(self, rollback: &Rollback) -> CountsByKind
+        requires { (rollbacks : List Rollback) × (self ≡ kinds_in rollbacks) × HasRoom rollbacks rollback.now.lost }
+        ensures { (rollbacks : List Rollback) → self ≡ kinds_in rollbacks → result ≡ kinds_in (rollbacks ++ rollback.now ∷ []) }
+    {
+        CountsByKind {
+            true_sharing: count_more(self.true_sharing, Kind::TrueSharing, rollback),
+            silent_store: count_more(self.silent_store, Kind::SilentStore, rollback),
+            false_sharing: count_more(self.false_sharing, Kind::FalseSharing, rollback),
+            full_buffer: count_more(self.full_buffer, Kind::FullBuffer, rollback),
+        }
+    }
+}
+
+/// How many violations are of a kind, with one violation more.
+fn count_more(count: u32, kind: Kind, rollback: &Rollback) -> u32
+    requires { (rollbacks : List Rollback) × (count ≡ count_in (OfKind kind) rollbacks) × HasRoom rollbacks rollback.now.lost }
+    ensures { (rollbacks : List Rollback) → count ≡ count_in (OfKind kind) rollbacks
+        → result ≡ count_in (OfKind kind) (rollbacks ++ rollback.now ∷ []) }
+{
+    count + Part::OfKind(kind).has(rollback) as u32
+}
+
+impl SumsByKind {
+    /// Of no violation.
+    pub(crate) fn none() -> SumsByKind
+        ensures { result ≡ spec.sums_in [] }
+    {
+        SumsByKind {
+            true_sharing: Sum::none(),
+            silent_store: Sum::none(),
+            false_sharing: Sum::none(),
+            full_buffer: Sum::none(),
+            unexplained: Sum::none(),
+        }
+    }
+
+    /// With one violation more.
+    pub(crate) fn more(self, rollback: &Rollback) -> SumsByKind
+        requires { (rollbacks : List Rollback) × (self ≡ spec.sums_in rollbacks) × HasRoom rollbacks rollback.now.lost }
+        ensures { (rollbacks : List Rollback) → self ≡ spec.sums_in rollbacks → result ≡ spec.sums_in (rollbacks ++ rollback.now ∷ []) }
+    {
+        SumsByKind {
+            true_sharing: sum_more(self.true_sharing, Part::OfKind(Kind::TrueSharing), rollback),
+            silent_store: sum_more(self.silent_store, Part::OfKind(Kind::SilentStore), rollback),
+            false_sharing: sum_more(
+                self.false_sharing,
+                Part::OfKind(Kind::FalseSharing),
+                rollback,
+            ),
+            full_buffer: sum_more(self.full_buffer, Part::OfKind(Kind::FullBuffer), rollback),
+            unexplained: sum_more(self.unexplained, Part::OfKind(Kind::Unexplained), rollback),
+        }
+    }
+}
+
 impl LinesByKind {
+    /// Of no violation.
+    pub(crate) fn new(alloc: Global) -> LinesByKind
+        ensures { spec.AreLines [] result }
+    {
+        LinesByKind {
+            true_sharing: BTreeMap::new(alloc),
+            silent_store: BTreeMap::new(alloc),
+            false_sharing: BTreeMap::new(alloc),
+            full_buffer: BTreeMap::new(alloc),
+        }
+    }
+
+    /// Adds a violation to what those of its kind cost in its line, if it has a line.
+    pub(crate) fn add(&mut self, rollback: &Rollback) -> Result<(), AllocError>
+        requires { (rollbacks : List Rollback) × spec.AreLines rollbacks self.old × HasRoom rollbacks rollback.now.lost }
+        ensures { OnOk result ((rollbacks : List Rollback) → spec.AreLines rollbacks self.old → spec.AreLines (rollbacks ++ rollback.now ∷ []) self.new) }
+    {
+        match rollback.kind {
+            Kind::TrueSharing => add_by(&mut self.true_sharing, Key::Line, rollback),
+            Kind::SilentStore => add_by(&mut self.silent_store, Key::Line, rollback),
+            Kind::FalseSharing => add_by(&mut self.false_sharing, Key::Line, rollback),
+            Kind::FullBuffer => add_by(&mut self.full_buffer, Key::Line, rollback),
+            Kind::Unexplained => Ok(()),
+        }
+    }
+
     /// How many in a line there are of each kind.
     pub fn counts(&self, line: u32) -> CountsByKind
         ensures { result ≡ spec.counts_at self.now line }

@@ -1,37 +1,19 @@
 //! Sums in order, the heaviest first.
 
-ghost use Rattle.std.specs.Prelude.{◌≡◌, IfOk, map};
+ghost use Rattle.std.specs.Prelude.{◌≡◌, IfOk, List, reverse};
 ghost use Rattle.std.specs.BTreeMap.{IsOrdered};
 ghost use Rattle.std.specs.List.Sorted.{IsPermutation, IsSorted};
 ghost use Rattle.std.specs.Ordering.{nat_cmp};
+ghost use Rattle.conflict_findings.specs.declared.rollback.Rollback.{Rollback};
+ghost use Rattle.conflict_findings.specs.ByPair.{AreByPair};
 ghost use Rattle.conflict_findings.specs.Order as spec;
-ghost use Rattle.conflict_findings.specs.Pairs as pairs;
-ghost use Rattle.conflict_findings.specs.PairSums.{pair_sum};
 
-use crate::groups::{groups_of, sum_in};
 use crate::pair_sums::PairSum;
-use crate::pairs::pairs_of;
-use crate::rollback::{Pair, Rollback};
+use crate::pairs::SumsByPair;
 use crate::sum::Sum;
 use std::alloc::{AllocError, Global};
 use std::cmp::Reverse;
 use std::collections::BTreeMap;
-
-/// What the violations of each pair cost.
-fn sums_of_pairs(
-    alloc: Global,
-    rollbacks: &[Rollback],
-    pairs: &[Pair],
-) -> Result<Vec<PairSum>, AllocError>
-    ensures { IfOk result (λ found. found.items ≡ map (pair_sum rollbacks.now) pairs.now) }
-{
-    let groups = groups_of(alloc, rollbacks)?;
-    let mut found = Vec::new(alloc);
-    for pair in pairs {
-        found.push(sum_in(groups.as_slice(), *pair))?;
-    }
-    Ok(found)
-}
 
 /// Puts pairs in order: by what they lost, descending, then by how many violations they have, descending, then by the addresses
 /// of the store and of the load.
@@ -57,15 +39,16 @@ fn order_numbers(sums: &mut Vec<(u32, Sum)>)
     sums.sort_unstable_by_key(|s| (Reverse(s.1.lost), Reverse(s.1.count), s.0));
 }
 
-/// For each pair of instructions at which some of the violations met, what those cost, heaviest first: by what they lost, then by
-/// how many they are, then by the addresses of the store and of the load, ascending.
-pub fn heaviest_pairs(alloc: Global, rollbacks: &[Rollback]) -> Result<Vec<PairSum>, AllocError>
-    ensures { IfOk result (λ found. spec.ArePairSums rollbacks.now found.items) }
+/// For each pair of instructions at which some violations met, what those cost, heaviest last, so that the list can be given back from
+/// its end: by what they lost, then by how many they are, then by the addresses of the store and of the load, descending.
+pub fn pairs_by_weight(sums: SumsByPair) -> Vec<PairSum>
+    ensures { (rollbacks : List Rollback) → AreByPair rollbacks sums → spec.ArePairSums rollbacks (reverse result.items) }
 {
-    let pairs = pairs_of(alloc, rollbacks)?;
-    let mut found = sums_of_pairs(alloc, rollbacks, pairs.as_slice())?;
+    let SumsByPair { sums, .. } = sums;
+    let mut found = sums;
     order_pairs(&mut found);
-    Ok(found)
+    found.reverse();
+    found
 }
 
 /// The sums of a map with their numbers.

@@ -1,24 +1,25 @@
 //! What the violations of each pair of instructions cost, and what became of them.
 
-ghost use Rattle.std.specs.Prelude.{◌≡◌, List};
+ghost use Rattle.std.specs.Prelude.{◌≡◌, ◌++◌, ◌∷◌, [], List, true};
+ghost use Rattle.conflict_findings.specs.declared.rollback.Pair.{Pair};
 ghost use Rattle.conflict_findings.specs.declared.rollback.Rollback.{Rollback};
+ghost use Rattle.conflict_findings.specs.Parts.{has_pair};
 ghost use Rattle.conflict_findings.specs.PairSums as spec;
+ghost use Rattle.conflict_findings.specs.Sums.{HasRoom};
 
 use crate::kinds::CountsByKind;
-use crate::part::Part;
 use crate::rollback::{Pair, Rollback};
-use crate::sum::{Sum, sum_of};
-use conflicts::Kind;
+use crate::sum::Sum;
 
 /// How many violations were stale, in vain, and came true later.
 #[derive(Clone, Copy, Debug, PartialEq, Eq)]
 pub struct Fates {
     /// The blamed store stood before the blamed load.
-    pub stale: usize,
+    pub stale: u32,
     /// The causer's attempt was itself violated or cancelled.
-    pub vain: usize,
+    pub vain: u32,
     /// False sharing by an attempt that afterwards stored to a byte that the victim had read.
-    pub came_true: usize,
+    pub came_true: u32,
 }
 
 /// The least and the greatest of some numbers.
@@ -91,59 +92,59 @@ fn joined(one: Option<Bounds>, other: Option<Bounds>) -> Option<Bounds>
     }
 }
 
-/// The bounds of those of some violations.
-fn bounds_of(rollbacks: &[Rollback], measure: Measure) -> Option<Bounds>
-    ensures { result ≡ spec.bounds_in measure rollbacks.now }
-{
-    let mut bounds = None;
-    for rollback in rollbacks {
-        bounds = joined(bounds, measure.of(rollback));
+impl Fates {
+    /// Of no violation.
+    fn none() -> Fates
+        ensures { result ≡ spec.fates_in [] }
+    {
+        Fates {
+            stale: 0,
+            vain: 0,
+            came_true: 0,
+        }
     }
-    bounds
-}
 
-/// How many violations were stale, in vain, and came true later.
-fn fates_of(rollbacks: &[Rollback]) -> Fates
-    ensures { result ≡ spec.fates_in rollbacks.now }
-{
-    let mut stale = 0;
-    let mut vain = 0;
-    let mut came_true = 0;
-    for rollback in rollbacks {
-        stale += rollback.stale as usize;
-        vain += rollback.vain as usize;
-        came_true += rollback.came_true as usize;
-    }
-    Fates {
-        stale,
-        vain,
-        came_true,
+    /// With one violation more.
+    fn more(self, rollback: &Rollback) -> Fates
+        requires { (rollbacks : List Rollback) × (self ≡ spec.fates_in rollbacks) × HasRoom rollbacks rollback.now.lost }
+        ensures { (rollbacks : List Rollback) → self ≡ spec.fates_in rollbacks → result ≡ spec.fates_in (rollbacks ++ rollback.now ∷ []) }
+    {
+        Fates {
+            stale: self.stale + rollback.stale as u32,
+            vain: self.vain + rollback.vain as u32,
+            came_true: self.came_true + rollback.came_true as u32,
+        }
     }
 }
 
-/// How many violations are of each kind.
-fn counts_of(rollbacks: &[Rollback]) -> CountsByKind
-    ensures { result ≡ spec.kinds_in rollbacks.now }
-{
-    CountsByKind {
-        true_sharing: sum_of(rollbacks, Part::OfKind(Kind::TrueSharing)).count,
-        silent_store: sum_of(rollbacks, Part::OfKind(Kind::SilentStore)).count,
-        false_sharing: sum_of(rollbacks, Part::OfKind(Kind::FalseSharing)).count,
-        full_buffer: sum_of(rollbacks, Part::OfKind(Kind::FullBuffer)).count,
+impl PairSum {
+    /// Of a pair at which no violation met.
+    pub(crate) fn none(pair: Pair) -> PairSum
+        ensures { result ≡ spec.pair_sum [] pair }
+    {
+        PairSum {
+            sum: Sum::none(),
+            counts: CountsByKind::none(),
+            fates: Fates::none(),
+            distance: None,
+            bytes: None,
+            pair,
+        }
     }
-}
 
-/// What the violations of a pair, which are these, cost, and what became of them.
-pub(crate) fn pair_sum(those: &[Rollback], pair: Pair) -> PairSum
-    ensures pair { result.pair ≡ pair }
-    ensures sum { (rollbacks : List Rollback) → those.now ≡ spec.of_pair pair rollbacks → result ≡ spec.pair_sum rollbacks pair }
-{
-    PairSum {
-        pair,
-        sum: sum_of(those, Part::Whole),
-        counts: counts_of(those),
-        fates: fates_of(those),
-        distance: bounds_of(those, Measure::Distance),
-        bytes: bounds_of(those, Measure::Bytes),
+    /// With one violation of its pair more.
+    pub(crate) fn more(self, rollback: &Rollback) -> PairSum
+        requires { (rollbacks : List Rollback) × (pair : Pair) × (self ≡ spec.pair_sum rollbacks pair) × HasRoom rollbacks rollback.now.lost }
+        ensures { (rollbacks : List Rollback) (pair : Pair) → self ≡ spec.pair_sum rollbacks pair → has_pair rollback.now.pair pair ≡ true
+            → result ≡ spec.pair_sum (rollbacks ++ rollback.now ∷ []) pair }
+    {
+        PairSum {
+            sum: self.sum.more(rollback.lost),
+            counts: self.counts.more(rollback),
+            fates: self.fates.more(rollback),
+            distance: joined(self.distance, Measure::Distance.of(rollback)),
+            bytes: joined(self.bytes, Measure::Bytes.of(rollback)),
+            pair: self.pair,
+        }
     }
 }

@@ -8,13 +8,14 @@ use crate::rows::{
 };
 use crate::words::{count_of, index, number, place_in, word};
 use conflict_findings::{
-    Access, Bounds, Fates, Finding, Followed, Key, Pair, PairSum, Part, Rollback, Sum, finding_of,
-    heaviest_pairs, pairs_of, sum_of, sums_by,
+    Access, Bounds, Fates, Finding, Followed, Pair, PairSum, Part, Rollback, Sum, Sums, SumsByKind,
+    finding_of, pairs_by_weight,
 };
 use conflicts::{Blame, ByteRange, Explanation, Kind, Runner, Site, explain, sites};
 use rv32_exec::{Image, image_of};
 use spec_history::{Entry, What};
-use std::alloc::{AllocError, Global};
+use std::alloc::Global;
+use std::collections::BTreeMap;
 use std::process::Abort;
 use std::test::Fail;
 use trace_text::{image_part, read_trace};
@@ -93,6 +94,16 @@ impl Worked {
         }
         Ok(summed)
     }
+}
+
+/// The sums over violations.
+fn sums_over(alloc: Global, found: &[Finding]) -> Result<Sums, Fail> {
+    let mut sums = Sums::new(alloc);
+    for finding in found {
+        let rollback = finding.rollback();
+        sums.add(&rollback)?;
+    }
+    Ok(sums)
 }
 
 fn kind_of(word: &str) -> Option<Kind> {
@@ -344,23 +355,24 @@ fn part_of(row: &str) -> Option<Part> {
     }
 }
 
-/// What tells the violations of a row of sums apart, where a number does.
-fn key_of(row: &str) -> Option<Key> {
-    match word(row, 2) {
-        "stored" => Some(Key::Store),
-        "loaded" => Some(Key::Load),
-        "line" => Some(Key::Line),
-        "epoch" => Some(Key::Epoch),
-        _ => None,
-    }
-}
-
 /// The sum of a row of sums.
 fn wanted_of(row: &str) -> Sum {
     Sum {
-        count: index(row, 0),
+        count: number(row, 0),
         lost: u128::from(number(row, 1)),
     }
+}
+
+/// What the violations of a part cost, one by one.
+fn sum_of(summed: &[Rollback], part: Part) -> Sum {
+    let mut sum = Sum { count: 0, lost: 0 };
+    for rollback in summed {
+        if part.has(rollback) {
+            sum.count = sum.count.wrapping_add(1);
+            sum.lost = sum.lost.wrapping_add(u128::from(rollback.lost));
+        }
+    }
+    sum
 }
 
 /// Whether the part of a row has its sum.
@@ -371,16 +383,37 @@ fn has_sum(summed: &[Rollback], row: &str) -> bool {
     }
 }
 
-/// Whether the sums that go by the row's key have its sum too, or none where it is none.
-fn has_keyed(alloc: Global, summed: &[Rollback], row: &str) -> Result<bool, AllocError> {
-    let Some(key) = key_of(row) else {
-        return Ok(true);
-    };
-    let sums = sums_by(alloc, summed, key)?;
+/// The sum of a kind.
+fn of_kind(sums: SumsByKind, kind: Kind) -> Sum {
+    match kind {
+        Kind::TrueSharing => sums.true_sharing,
+        Kind::SilentStore => sums.silent_store,
+        Kind::FalseSharing => sums.false_sharing,
+        Kind::FullBuffer => sums.full_buffer,
+        Kind::Unexplained => sums.unexplained,
+    }
+}
+
+/// Whether sums have that of a row at its number, or none where it is none.
+fn has_at(sums: &BTreeMap<u32, Sum>, row: &str) -> bool {
     let wanted = wanted_of(row);
     match sums.get(&number(row, 3)) {
-        Some(told) => Ok(wanted.count > 0 && *told == wanted),
-        None => Ok(wanted.count == 0),
+        Some(told) => wanted.count > 0 && *told == wanted,
+        None => wanted.count == 0,
+    }
+}
+
+/// Whether the sums have that of a row, if they keep such a one.
+fn has_kept(sums: &Sums, row: &str) -> bool {
+    match part_of(row) {
+        Some(Part::Whole) => sums.whole == wanted_of(row),
+        Some(Part::OfKind(kind)) => of_kind(sums.kinds, kind) == wanted_of(row),
+        Some(Part::StoredAt(_)) => has_at(&sums.stores, row),
+        Some(Part::LoadedAt(_)) => has_at(&sums.loads, row),
+        Some(Part::OfLine(_)) => has_at(&sums.lines, row),
+        Some(Part::OfEpoch(_)) => has_at(&sums.epochs, row),
+        Some(Part::OfPair(_)) | Some(Part::Unpaired) => true,
+        None => false,
     }
 }
 
@@ -391,9 +424,9 @@ fn is_pair_of(sum: &PairSum, row: &str) -> bool {
         load: number(row, 1),
     };
     let fates = Fates {
-        stale: index(row, 2),
-        vain: index(row, 3),
-        came_true: index(row, 4),
+        stale: number(row, 2),
+        vain: number(row, 3),
+        came_true: number(row, 4),
     };
     sum.pair == pair && sum.fates == fates && has_bounds(sum, row)
 }
@@ -413,11 +446,14 @@ fn has_bounds(sum: &PairSum, row: &str) -> bool {
 
 /// The violations of a worked history cost what the rows of sums say.
 fn has_sums(rt: &impl Abort, alloc: Global, text: &str, rows: &str) -> Result<(), Fail> {
-    let summed = Worked::of(alloc, text)?.summed(alloc)?;
+    let worked = Worked::of(alloc, text)?;
+    let summed = worked.summed(alloc)?;
+    let found = worked.found(alloc)?;
+    let sums = sums_over(alloc, found.as_slice())?;
     for row in rows.split('\n') {
         if !row.is_empty() {
             assert!(rt; has_sum(summed.as_slice(), row), "{row}");
-            assert!(rt; has_keyed(alloc, summed.as_slice(), row)?, "{row}");
+            assert!(rt; has_kept(&sums, row), "{row}");
         }
     }
     Ok(())
@@ -425,10 +461,12 @@ fn has_sums(rt: &impl Abort, alloc: Global, text: &str, rows: &str) -> Result<()
 
 /// Its pairs are those of the rows, heaviest first.
 fn has_pairs(rt: &impl Abort, alloc: Global, text: &str, rows: &str) -> Result<(), Fail> {
-    let summed = Worked::of(alloc, text)?.summed(alloc)?;
-    let told = heaviest_pairs(alloc, summed.as_slice())?;
-    let pairs = pairs_of(alloc, summed.as_slice())?;
-    assert!(rt; told.len() == count_of(rows) && pairs.len() == count_of(rows));
+    let found = Worked::of(alloc, text)?.found(alloc)?;
+    let Sums { pairs, .. } = sums_over(alloc, found.as_slice())?;
+    let count = pairs.sums.len();
+    let mut told = pairs_by_weight(pairs);
+    told.reverse();
+    assert!(rt; told.len() == count_of(rows) && count == count_of(rows));
     for (sum, row) in told.iter().zip(rows.split('\n')) {
         assert!(rt; is_pair_of(sum, row), "{row}");
     }

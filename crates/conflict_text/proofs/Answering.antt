@@ -1,11 +1,11 @@
 -- What `why` comes to, from what its parts answer.
-use Rattle.std.proofs.Common.{◌≡◌, ◌≢◌, ◌+◌, ◌++◌, ℕ, List, [], ◌∷◌, refl, Option, Some, length, map, take, drop, inl, inr, subst, sym, ap, ◌∙◌}
+use Rattle.std.proofs.Common.{◌≡◌, ◌≢◌, ◌+◌, ◌++◌, ℕ, List, [], ◌∷◌, refl, Option, length, map, take, drop, inl, inr, subst, sym, ap, ◌∙◌}
 use Rattle.std.proofs.Math.Seq.{take-append-add, take-append_seam}
 use Rattle.std.specs.Io.KnownBytes.{Appends}
 use Rattle.std.proofs.KnownBytes.{Appends-trans}
 use Rattle.trace_commands.specs.Outcome.{AppendsPrefix}
 use Rattle.std.proofs.lemmas.List.{append_assoc, take-append-drop}
-use Rattle.rv32_image.specs.Image.{LoadedImage, IsImage}
+use Rattle.rv32_image.specs.Image.{LoadedImage}
 use Rattle.spec_history.specs.declared.entry.Entry.{Entry}
 use Rattle.trace_commands.specs.declared.outcome.Outcome.{Outcome}
 use Rattle.trace_commands.specs.declared.outcome.Outcome.TheVariants.{Audited, Stopped}
@@ -17,9 +17,7 @@ use Rattle.spec_history.specs.declared.illegal.Illegal.{Illegal}
 use Rattle.spec_history.specs.declared.illegal.Illegal.TheVariants as why
 use Rattle.spec_history.specs.View.{IsAuditFault}
 use Rattle.trace_commands.proofs.Audits.{keeps_itself}
-use Rattle.spec_history.specs.FlatState.{FlatState}
-use Rattle.spec_history.specs.Replay.{replay}
-use Rattle.conflicts.specs.declared.explanation.Explanation.{Explanation}
+use Rattle.conflicts.specs.declared.standing.Site.{Site}
 use Rattle.conflicts.specs.Sites.{sites_before}
 use Rattle.conflict_findings.specs.declared.finding.Finding.{Finding}
 use Rattle.conflict_findings.specs.declared.finding.FurtherRun.{FurtherRun}
@@ -27,10 +25,11 @@ use Rattle.conflict_findings.specs.Rollbacks.{rollback_at, rollback_of}
 use Rattle.conflict_findings.specs.Ends.{ended_before, running_after}
 use Rattle.conflict_text.specs.Ends.{attempt_lines}
 use Rattle.conflict_text.specs.Lines.{told_lines}
+use Rattle.conflict_text.specs.declared.report.Totals.{Totals}
 use Rattle.conflict_text.specs.Report.{IsSummary}
 use Rattle.conflict_text.specs.Explaining.{IsReport, found_of}
-use Rattle.conflict_text.specs.Why.{AreTold, IsAnswer, IsRest, IsToldBy, IsTracedOutcome, IsWhyOutcome}
-use Rattle.conflict_text.proofs.Same.{same_found}
+use Rattle.conflict_text.specs.Totals.{IsSummed}
+use Rattle.conflict_text.specs.Why.{AreCounted, IsAnswer, IsToldBy, IsTracedOutcome, IsWhyOutcome}
 
 -- the trace that the input says was explained
 pub traced_outcome : (text : List ℕ) (image : LoadedImage) (cores : ℕ) (history : List Entry) (old new : Option (List ℕ)) (outcome : Outcome)
@@ -73,28 +72,29 @@ map-map : {X Y Z : Type 0} (f : Y → Z) (g : X → Y) (xs : List X) → map (λ
 map-map f g [] = refl
 map-map f g (x ∷ xs) = ap (λ l. f (g x) ∷ l) (map-map f g xs)
 
--- the lines of the violations, with the rest below them, are the report
-pub is_report : (image : LoadedImage) (cores : ℕ) (history : List Entry) (homefree : ℕ) (violations rest text : List ℕ) (last : FlatState) → IsImage image → replay image cores history ≡ Some last
-    → AreTold image cores history (sites_before image cores history (length history)) (length history) violations → IsRest image cores history homefree rest → text ≡ violations ++ rest
-    → IsReport image cores history homefree text
-is_report image cores history homefree violations rest text last is replays told below whole =
-    let sites = sites_before image cores history (length history) in
-    let lines = λ (found : List Explanation). told_lines (map (found_of image cores history sites) found) in
+-- the lines of the violations, with those of attempts and of the sums below them, are the report
+pub is_report : (image : LoadedImage) (cores : ℕ) (history : List Entry) (sites : List (Option Site)) (homefree : ℕ) (lines attempts rest : List ℕ) (totals : Totals)
+    → sites ≡ sites_before image cores history (length history) → (counted : AreCounted image cores history sites homefree lines attempts totals)
+    → IsSummed image homefree (map (rollback_at image history sites) counted.found) (ended_before image cores history (length history)) (running_after image cores history) attempts rest
+    → IsReport image cores history homefree (lines ++ rest)
+is_report image cores history sites homefree lines attempts rest totals is counted printed =
     let ended = ended_before image cores history (length history) in
     let running = running_after image cores history in
-    let attempts = attempt_lines history ended running in
-    let same = same_found image cores history last told.found below.found is replays told.are.explained below.are.explained (told.are.each_once ∙ sym below.are.each_once) in
-    let of_findings : map (rollback_at image history sites) below.found ≡ map (λ (v : Finding × List FurtherRun). rollback_of v.0) (map (found_of image cores history sites) below.found) =
-    map-map (λ (v : Finding × List FurtherRun). rollback_of v.0) (found_of image cores history sites) below.found in
+    let attempts_told = attempt_lines history ended running in
+    let known = sites_before image cores history (length history) in
+    let found = found_of image cores history known in
+    let told : lines ≡ told_lines (map found counted.found) = counted.told ∙ ap (λ (xs : List (Option Site)). told_lines (map (found_of image cores history xs) counted.found)) is in
+    let summed : map (rollback_at image history sites) counted.found ≡ map (λ (v : Finding × List FurtherRun). rollback_of v.0) (map found counted.found) =
+    ap (λ (xs : List (Option Site)). map (rollback_at image history xs) counted.found) is
+    ∙ map-map (λ (v : Finding × List FurtherRun). rollback_of v.0) found counted.found in
     record {
-      found = below.found;
-      each_once = below.are.each_once;
-      explained = below.are.explained;
+      found = counted.found;
+      each_once = counted.are.each_once;
+      explained = counted.are.explained;
       printed = record {
-        sums = below.sums;
-        summed = subst (λ rollbacks. IsSummary image homefree rollbacks ended running below.sums) of_findings below.summed;
-        printed = whole
-            ∙ (ap (λ t. t ++ rest) (told.told ∙ ap lines same)
-            ∙ (ap (λ t. lines below.found ++ t) below.printed ∙ sym (append_assoc (lines below.found) attempts below.sums)));
+        sums = printed.sums;
+        summed = subst (λ rollbacks. IsSummary image homefree rollbacks ended running printed.sums) summed printed.summed;
+        printed = ap (λ t. lines ++ t) (printed.printed ∙ ap (λ t. t ++ printed.sums) counted.printed)
+            ∙ (ap (λ t. t ++ (attempts_told ++ printed.sums)) told ∙ sym (append_assoc (told_lines (map found counted.found)) attempts_told printed.sums));
       };
     }

@@ -1,5 +1,5 @@
--- What grows by one entry of the history: what is summed of its violations, and their lines.
-use Rattle.std.proofs.Common.{◌≡◌, ℕ, ◌+◌, List, [], ◌∷◌, ◌++◌, take, map, Option, Some, None, IfSome, is_some, option_map, option_to_list, sym, ap, ◌∙◌, arith}
+-- What grows by one entry of the history: the lines of its violations, and what is summed of them.
+use Rattle.std.proofs.Common.{◌≡◌, ℕ, ◌+◌, List, [], ◌∷◌, ◌++◌, take, map, Option, Some, None, IfSome, is_some, option_map, option_to_list, sym, ap, subst, ◌∙◌, arith}
 use Rattle.std.proofs.lemmas.List.{append-nil, append_assoc, map-append}
 use Rattle.rv32_image.specs.Image.{LoadedImage}
 use Rattle.spec_history.specs.declared.entry.Entry.{Entry}
@@ -14,10 +14,12 @@ use Rattle.conflict_findings.specs.declared.finding.Finding.{Finding}
 use Rattle.conflict_findings.specs.declared.finding.FurtherRun.{FurtherRun}
 use Rattle.conflict_findings.specs.Findings.{finding_of, further_in, further_of}
 use Rattle.conflict_findings.specs.declared.rollback.Rollback.{Rollback}
+use Rattle.conflict_findings.specs.declared.sums.Sums.{Sums}
+use Rattle.conflict_findings.specs.AllSums.{AreAllSums}
 use Rattle.conflict_findings.specs.Rollbacks.{rollback_at}
 use Rattle.conflict_text.specs.Explaining.{found_of}
 use Rattle.conflict_text.specs.Lines.{told_lines, violation_lines}
-use Rattle.conflict_text.specs.Why.{AreExplained, AreSummed, AreTold, lines_of}
+use Rattle.conflict_text.specs.Why.{AreExplained, AreFound, lines_of}
 
 -- ---- explanations
 
@@ -36,30 +38,11 @@ more_explained image count s entries place xs found replays shown explained was 
 -- ---- what is summed of them
 
 -- one more at the end of a list
-pub kept : {A B : Type 0} (f : A → B) (found : Option A) (x : A) (made : B) (old new : List B) → found ≡ Some x → made ≡ f x → new ≡ old ++ made ∷ [] → new ≡ old ++ option_to_list (option_map f found)
-kept f found x made old new is by grown = grown ∙ (ap (λ y. old ++ y ∷ []) by ∙ ap (λ o. old ++ option_to_list (option_map f o)) (sym is))
-
-pub none_summed : (image : LoadedImage) (count : ℕ) (entries : List Entry) (sites : List (Option Site)) (rollbacks : List Rollback) → rollbacks ≡ [] → AreSummed image count entries sites 0 rollbacks
-none_summed image count entries sites rollbacks none = record { found = []; are = none_explained image count entries; summed = none }
-
-mapped : {A B : Type 0} (f : A → B) (xs : List A) (found : Option A) (old new : List B) → old ≡ map f xs → new ≡ old ++ option_to_list (option_map f found) → new ≡ map f (xs ++ option_to_list found)
-mapped f xs None old new was grown = grown ∙ (append-nil old ∙ (was ∙ sym (ap (map f) (append-nil xs))))
-mapped f xs (Some x) old new was grown = grown ∙ (ap (λ ys. ys ++ f x ∷ []) was ∙ sym (map-append f xs (x ∷ [])))
-
-pub more_summed : (image : LoadedImage) (count : ℕ) (s : FlatState) (entries : List Entry) (sites : List (Option Site)) (place : ℕ) (found : Option Explanation) (old new : List Rollback)
-    → replay image count (take place entries) ≡ Some s → is_some found ≡ entry_is entries place (λ e. is_hurt e.what)
-    → IfSome found (λ e. (e.place ≡ place) × IsExplainedIn image s entries e) → AreSummed image count entries sites place old
-    → new ≡ old ++ option_to_list (option_map (rollback_at image entries sites) found) → AreSummed image count entries sites (place + 1) new
-more_summed image count s entries sites place found old new replays shown explained was grown = record {
-  found = was.found ++ option_to_list found;
-  are = more_explained image count s entries place was.found found replays shown explained was.are;
-  summed = mapped (rollback_at image entries sites) was.found found old new was.summed grown;
-}
+mapped : {A B : Type 0} (f : A → B) (xs : List A) (found : Option A) → map f xs ++ option_to_list (option_map f found) ≡ map f (xs ++ option_to_list found)
+mapped f xs None = append-nil (map f xs) ∙ sym (ap (map f) (append-nil xs))
+mapped f xs (Some x) = sym (map-append f xs (x ∷ []))
 
 -- ---- their lines
-
-pub none_told : (image : LoadedImage) (count : ℕ) (entries : List Entry) (sites : List (Option Site)) (text : List ℕ) → text ≡ [] → AreTold image count entries sites 0 text
-none_told image count entries sites text none = record { found = []; are = none_explained image count entries; told = none }
 
 -- one more at the end of a list
 told_push : {X : Type 0} (f : X → Finding × List FurtherRun) (xs : List X) (x : X) → told_lines (map f (xs ++ x ∷ [])) ≡ told_lines (map f xs) ++ violation_lines (f x).0 (f x).1
@@ -86,12 +69,21 @@ told_by image count s entries sites place xs (Some e) old new replays is was gro
     ∙ (ap (λ runs. told ++ violation_lines (finding_of image entries sites e) runs) (sym (at_place image count s entries sites place e replays is.0))
     ∙ sym (told_push (found_of image count entries sites) xs e)))
 
-pub more_told : (image : LoadedImage) (count : ℕ) (s : FlatState) (entries : List Entry) (sites : List (Option Site)) (place : ℕ) (found : Option Explanation) (old new : List ℕ)
+-- ---- both
+
+pub none_found : (image : LoadedImage) (count : ℕ) (entries : List Entry) (sites : List (Option Site)) (lines : List ℕ) (sums : Sums) → lines ≡ [] → AreAllSums [] sums
+    → AreFound image count entries sites 0 lines sums
+none_found image count entries sites lines sums told summed = record { found = []; are = none_explained image count entries; told = told; summed = summed }
+
+pub more_found : (image : LoadedImage) (count : ℕ) (s : FlatState) (entries : List Entry) (sites : List (Option Site)) (place : ℕ) (found : Option Explanation) (old new : List ℕ) (before after : Sums)
     → replay image count (take place entries) ≡ Some s → is_some found ≡ entry_is entries place (λ e. is_hurt e.what)
-    → IfSome found (λ e. (e.place ≡ place) × IsExplainedIn image s entries e) → AreTold image count entries sites place old
-    → new ≡ old ++ lines_of image s entries sites found → AreTold image count entries sites (place + 1) new
-more_told image count s entries sites place found old new replays shown explained was grown = record {
+    → IfSome found (λ e. (e.place ≡ place) × IsExplainedIn image s entries e) → AreFound image count entries sites place old before
+    → new ≡ old ++ lines_of image s entries sites found
+    → ((rollbacks : List Rollback) → AreAllSums rollbacks before → AreAllSums (rollbacks ++ option_to_list (option_map (rollback_at image entries sites) found)) after)
+    → AreFound image count entries sites (place + 1) new after
+more_found image count s entries sites place found old new before after replays shown explained was told summed = record {
   found = was.found ++ option_to_list found;
   are = more_explained image count s entries place was.found found replays shown explained was.are;
-  told = told_by image count s entries sites place was.found found old new replays explained was.told grown;
+  told = told_by image count s entries sites place was.found found old new replays explained was.told told;
+  summed = subst (λ (rs : List Rollback). AreAllSums rs after) (mapped (rollback_at image entries sites) was.found found) (summed _ was.summed);
 }

@@ -1,5 +1,5 @@
 pub mod Summing
 pub mod Answering
 pub mod Gathering
-pub mod Same
+mod Telling
 pub mod Works

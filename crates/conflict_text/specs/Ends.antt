@@ -1,6 +1,6 @@
 -- The lines of attempts that were cancelled and of those that go on, and what the total says of attempts.
 -- Source: this project.
-use Rattle.std.specs.Prelude.{ℕ, List, [], ◌++◌, codes, length}
+use Rattle.std.specs.Prelude.{ℕ, Bool, not, List, [], ◌++◌, codes, length}
 use Rattle.std.specs.Fmt.{decimal}
 use Rattle.std.specs.List.{flat_map}
 use Rattle.spec_history.specs.declared.entry.Entry.{Entry}
@@ -8,10 +8,10 @@ use Rattle.conflicts.specs.declared.explanation.Runner.{Runner}
 use Rattle.conflicts.specs.Attempts.{attempt_number}
 use Rattle.conflict_findings.specs.declared.ended.Ended.{Ended}
 use Rattle.conflict_findings.specs.declared.ended.Ending.{Ending}
-use Rattle.conflict_findings.specs.declared.ended.Ending.TheVariants.{Cancelled, Committed}
+use Rattle.conflict_findings.specs.declared.ended.Ending.TheVariants.{Cancelled, Committed, Violated}
 use Rattle.conflict_findings.specs.declared.ended.Running.{Running}
 use Rattle.conflict_findings.specs.declared.tally.Tally.{Tally}
-use Rattle.conflict_findings.specs.Tallies.{done_in, tally_in, tally_of_running}
+use Rattle.conflict_findings.specs.Tallies.{done_in, is_ended, tally_in, tally_of_running}
 
 -- whose attempt it is before a place, and which run of its epoch
 abbrev pub runner_text : List Entry → ℕ → Runner → List ℕ
@@ -35,6 +35,10 @@ ended_line entries e = line_by entries e e.ending
 -- an attempt that goes on after the history: whose it is, and what it has executed
 unfoldable pub open_line : List Entry → Running → List ℕ
 open_line entries o = codes "open" ++ runner_text entries (length entries) o.runner ++ codes " done " ++ decimal o.done ++ codes "\n"
+
+-- of an attempt that was violated its violation tells
+abbrev pub is_told : Ended → Bool
+is_told e = not (is_ended Violated e)
 
 -- the lines of both, in order
 abbrev pub attempt_lines : List Entry → List Ended → List Running → List ℕ

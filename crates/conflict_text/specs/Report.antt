@@ -15,19 +15,20 @@ use Rattle.spec_history.specs.declared.kind.Kind.{Kind}
 use Rattle.spec_history.specs.declared.kind.Kind.TheVariants.{TrueSharing, SilentStore, FalseSharing, FullBuffer, Unexplained}
 use Rattle.conflict_findings.specs.declared.keys.Key.TheVariants.{Epoch, Line, Load, Store}
 use Rattle.conflict_findings.specs.declared.kinds.CountsByKind.{CountsByKind}
+use Rattle.conflict_findings.specs.declared.kinds.SumsByKind.{SumsByKind}
 use Rattle.conflict_findings.specs.declared.pair_sums.Bounds.{Bounds}
 use Rattle.conflict_findings.specs.declared.pair_sums.Fates.{Fates}
 use Rattle.conflict_findings.specs.declared.pair_sums.PairSum.{PairSum}
-use Rattle.conflict_findings.specs.declared.part.Part.TheVariants.{OfKind, OfLine, Whole}
+use Rattle.conflict_findings.specs.declared.part.Part.TheVariants.{OfLine, Whole}
 use Rattle.conflict_findings.specs.declared.rollback.Pair.{Pair}
 use Rattle.conflict_findings.specs.declared.rollback.Rollback.{Rollback}
 use Rattle.conflict_findings.specs.declared.sum.Sum.{Sum}
 use Rattle.conflict_findings.specs.Keys.{AreSums, sum_at, sum_or}
-use Rattle.conflict_findings.specs.Kinds.{counts_in}
+use Rattle.conflict_findings.specs.Kinds.{counts_in, sums_in}
 use Rattle.conflict_findings.specs.Order.{AreHeaviest, ArePairSums}
 use Rattle.conflict_findings.specs.Roles.{in_both_roles}
 use Rattle.conflict_findings.specs.Rollbacks.{rollback_of}
-use Rattle.conflict_findings.specs.Sums.{count_in, lost_in, sum_in}
+use Rattle.conflict_findings.specs.Sums.{sum_in}
 use Rattle.conflict_text.specs.Ends.{attempt_lines, rest_text, useful_text}
 use Rattle.conflict_text.specs.Lines.{address_or_dash, kind_name, told_lines}
 use Rattle.trace_text.specs.Printing.{hex_word}
@@ -100,16 +101,19 @@ pc_text pc victim causer = codes "pc " ++ hex_word pc ++ codes " victim " ++ rol
 abbrev pub pc_line : List Rollback → ℕ × Sum → List ℕ
 pc_line rollbacks e = pc_text e.0 (sum_or (sum_at Load rollbacks e.0)) (sum_or (sum_at Store rollbacks e.0))
 
--- the sums of a kind, if it occurs
-unfoldable pub kind_line : List Rollback → Kind → List ℕ
-kind_line rollbacks kind =
-    if count_in (OfKind kind) rollbacks == 0 then []
-    else codes "kind " ++ kind_name kind ++ sum_text (count_in (OfKind kind) rollbacks) (lost_in (OfKind kind) rollbacks) ++ codes "\n"
+-- what the violations of a kind cost, if it occurs
+unfoldable pub kind_text : Kind → Sum → List ℕ
+kind_text kind sum =
+    if sum.count == 0 then [] else codes "kind " ++ kind_name kind ++ sum_text sum.count sum.lost ++ codes "\n"
 
-unfoldable pub kind_lines : List Rollback → List ℕ
-kind_lines rollbacks =
-    kind_line rollbacks TrueSharing ++ kind_line rollbacks SilentStore ++ kind_line rollbacks FalseSharing
-    ++ kind_line rollbacks FullBuffer ++ kind_line rollbacks Unexplained
+unfoldable pub kinds_text : SumsByKind → List ℕ
+kinds_text sums =
+    kind_text TrueSharing sums.true_sharing ++ kind_text SilentStore sums.silent_store ++ kind_text FalseSharing sums.false_sharing
+    ++ kind_text FullBuffer sums.full_buffer ++ kind_text Unexplained sums.unexplained
+
+-- the sums of the kinds that occur
+abbrev pub kind_lines : List Rollback → List ℕ
+kind_lines rollbacks = kinds_text (sums_in rollbacks)
 
 unfoldable pub total_text : ℕ → ℕ → Sum → List Ended → List Running → List ℕ
 total_text epochs committed sum ended running =

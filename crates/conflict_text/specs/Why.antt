@@ -1,5 +1,5 @@
 -- What `why` comes to, and what it wrote.
-use Rattle.std.specs.Prelude.{◌≡◌, ◌⊎◌, ℕ, List, [], ◌++◌, Option, None, Some, length, map, All}
+use Rattle.std.specs.Prelude.{◌≡◌, ◌⊎◌, ℕ, List, [], Option, None, Some, length, map, All}
 use Rattle.std.specs.Io.KnownBytes.{Appends, Keeps}
 use Rattle.rv32_image.specs.Image.{LoadedImage}
 use Rattle.spec_history.specs.declared.entry.Entry.{Entry}
@@ -14,14 +14,13 @@ use Rattle.trace_commands.specs.Outcome.{AppendsPrefix, Conclusion}
 use Rattle.conflicts.specs.declared.explanation.Explanation.{Explanation}
 use Rattle.conflicts.specs.declared.standing.Site.{Site}
 use Rattle.conflicts.specs.Explained.{IsExplained, places_of, violations_before}
-use Rattle.conflicts.specs.Sites.{sites_before}
 use Rattle.conflict_findings.specs.Ends.{ended_before, running_after}
 use Rattle.conflict_findings.specs.Findings.{finding_of, further_in}
-use Rattle.conflict_findings.specs.declared.rollback.Rollback.{Rollback}
+use Rattle.conflict_findings.specs.declared.sums.Sums.{Sums}
+use Rattle.conflict_findings.specs.AllSums.{AreAllSums}
 use Rattle.conflict_findings.specs.Rollbacks.{rollback_at}
 use Rattle.conflict_text.specs.Ends.{attempt_lines}
 use Rattle.conflict_text.specs.Lines.{told_lines, violation_lines}
-use Rattle.conflict_text.specs.Report.{IsSummary}
 use Rattle.conflict_text.specs.declared.report.Totals.{Totals}
 use Rattle.conflict_text.specs.Totals.{AreTotals}
 use Rattle.conflict_text.specs.Explaining.{IsReport, found_of}
@@ -31,39 +30,25 @@ pub record AreExplained (image : LoadedImage) (cores : ℕ) (history : List Entr
   pub each_once : places_of found ≡ violations_before history place
   pub explained : All (IsExplained image cores history) found
 
--- this is what is summed of their explanations, with these sites
-pub record AreSummed (image : LoadedImage) (cores : ℕ) (history : List Entry) (sites : List (Option Site)) (place : ℕ) (rollbacks : List Rollback) : Type 0 where
+-- of one right explanation for each of those violations, with these sites, these are the lines and the sums
+pub record AreFound (image : LoadedImage) (cores : ℕ) (history : List Entry) (sites : List (Option Site)) (place : ℕ) (lines : List ℕ) (sums : Sums) : Type 0 where
   pub found : List Explanation
   pub are : AreExplained image cores history place found
-  pub summed : rollbacks ≡ map (rollback_at image history sites) found
-
--- these are their lines
-pub record AreTold (image : LoadedImage) (cores : ℕ) (history : List Entry) (sites : List (Option Site)) (place : ℕ) (text : List ℕ) : Type 0 where
-  pub found : List Explanation
-  pub are : AreExplained image cores history place found
-  pub told : text ≡ told_lines (map (found_of image cores history sites) found)
+  pub told : lines ≡ told_lines (map (found_of image cores history sites) found)
+  pub summed : AreAllSums (map (rollback_at image history sites) found) sums
 
 -- the lines of an explanation, in the state before the violation, if there is one
 abbrev pub lines_of : LoadedImage → FlatState → List Entry → List (Option Site) → Option Explanation → List ℕ
 lines_of image s history sites None = []
 lines_of image s history sites (Some e) = violation_lines (finding_of image history sites e) (further_in image history sites e (Some s))
 
--- the lines of attempts, and the sums over the violations of the history
-pub record AreCounted (image : LoadedImage) (cores : ℕ) (history : List Entry) (homefree : ℕ) (text : List ℕ) (sums : Totals) : Type 0 where
+-- the lines of the violations of the history, those of its attempts, and the sums over its violations
+pub record AreCounted (image : LoadedImage) (cores : ℕ) (history : List Entry) (sites : List (Option Site)) (homefree : ℕ) (lines attempts : List ℕ) (sums : Totals) : Type 0 where
   pub found : List Explanation
   pub are : AreExplained image cores history (length history) found
-  pub counted : AreTotals image homefree (map (rollback_at image history (sites_before image cores history (length history))) found)
-      (ended_before image cores history (length history)) (running_after image cores history) sums
-  pub printed : text ≡ attempt_lines history (ended_before image cores history (length history)) (running_after image cores history)
-
--- the lines of attempts, and those of the sums over the violations of the history
-pub record IsRest (image : LoadedImage) (cores : ℕ) (history : List Entry) (homefree : ℕ) (text : List ℕ) : Type 0 where
-  pub found : List Explanation
-  pub are : AreExplained image cores history (length history) found
-  pub sums : List ℕ
-  pub summed : IsSummary image homefree (map (rollback_at image history (sites_before image cores history (length history))) found)
-      (ended_before image cores history (length history)) (running_after image cores history) sums
-  pub printed : text ≡ attempt_lines history (ended_before image cores history (length history)) (running_after image cores history) ++ sums
+  pub told : lines ≡ told_lines (map (found_of image cores history sites) found)
+  pub counted : AreTotals image homefree (map (rollback_at image history sites) found) (ended_before image cores history (length history)) (running_after image cores history) sums
+  pub printed : attempts ≡ attempt_lines history (ended_before image cores history (length history)) (running_after image cores history)
 
 -- what is written of a history by the verdict of its audit: the report, or the line of the entry that is refused
 abbrev pub IsTold : LoadedImage → ℕ → List Entry → Verdict → List ℕ → Type 0

@@ -37,18 +37,19 @@ fn run_why<R: Read, W: Write>(alloc: Global, reader: &mut R, writer: &mut W) -> 
     ensures taken { TakesAtMost (R.remaining reader.old) (R.remaining reader.new) (longest_trace_text + 1) }
 {
     match read_traced(alloc, reader) {
-        Ok(traced) => explain_traced(alloc, &traced, writer),
+        Ok(traced) => explain_traced(alloc, traced, writer),
         Err(outcome) => outcome,
     }
 }
 
-fn explain_traced<W: Write>(alloc: Global, traced: &Traced, writer: &mut W) -> Outcome
-    ensures { spec.IsTracedOutcome traced.now.image traced.now.cores traced.now.entries.items (W.contents writer.old) (W.contents writer.new) result }
+fn explain_traced<W: Write>(alloc: Global, traced: Traced, writer: &mut W) -> Outcome
+    ensures { spec.IsTracedOutcome traced.image traced.cores traced.entries.items (W.contents writer.old) (W.contents writer.new) result }
 {
+    let entries = traced.entries.len();
     match report_of(alloc, traced) {
         Ok(report) => {
             let verdict = Verdict::Legal {
-                entries: traced.entries.len(),
+                entries,
                 homefree: report.homefree,
             };
             tell(

@@ -1,5 +1,5 @@
 //! The sums of pairs, lines and instructions.
-ghost use Rattle.std.specs.Prelude.{◌≡◌, ◌++◌, OnOk};
+ghost use Rattle.std.specs.Prelude.{◌≡◌, ◌++◌, OnOk, reverse};
 ghost use Rattle.std.specs.BTreeMap.{IsOrdered, get};
 ghost use Rattle.std.specs.List.{flat_map};
 ghost use Rattle.std.specs.Ordering.{nat_cmp};
@@ -16,7 +16,7 @@ use std::collections::BTreeMap;
 use trace_text::push_hex;
 
 /// The two instructions of a pair, of which so many violations are full buffers.
-fn push_pair_name(text: &mut Vec<u8>, full: usize, pair: Pair) -> Result<(), AllocError>
+fn push_pair_name(text: &mut Vec<u8>, full: u32, pair: Pair) -> Result<(), AllocError>
     ensures { OnOk result (text.new.items ≡ text.old.items ++ spec.pair_name full pair) }
 {
     if full == 0 {
@@ -79,14 +79,26 @@ fn push_pair(text: &mut Vec<u8>, sum: PairSum) -> Result<(), AllocError>
     text.extend_from_slice(b"\n")
 }
 
-/// What those of each pair cost.
-pub(crate) fn push_pairs(text: &mut Vec<u8>, sums: &[PairSum]) -> Result<(), AllocError>
-    ensures { OnOk result (text.new.items ≡ text.old.items ++ flat_map spec.pair_line sums.now) }
+/// What those of each pair cost, from the last on.
+pub(crate) fn push_pairs(text: &mut Vec<u8>, sums: Vec<PairSum>) -> Result<(), AllocError>
+    ensures { OnOk result (text.new.items ≡ text.old.items ++ flat_map spec.pair_line (reverse sums.items)) }
 {
-    for sum in sums {
-        push_pair(text, *sum)?;
+    let mut sums = sums;
+    while let Some(sum) = sums.pop() {
+        push_pair(text, sum)?;
+        give_back(&mut sums);
     }
     Ok(())
+}
+
+/// Gives back the memory that a list no longer needs, once that is an eighth of what it has.
+fn give_back(sums: &mut Vec<PairSum>)
+    ensures { sums.new.items ≡ sums.old.items }
+{
+    let capacity = sums.capacity();
+    if sums.len() < capacity - capacity / 8 {
+        sums.shrink_to_fit();
+    }
 }
 
 /// The address of the line that has this number.

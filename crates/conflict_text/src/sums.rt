@@ -7,7 +7,7 @@ ghost use Rattle.conflict_text.specs.Report as spec;
 
 use crate::ends::{push_rest, push_useful};
 use crate::words::{kind_name, push_named};
-use conflict_findings::{CountsByKind, Ends, Part, Rollback, Sum, sum_of};
+use conflict_findings::{CountsByKind, Ends, Sum, SumsByKind};
 use conflicts::Kind;
 use std::alloc::AllocError;
 use std::collections::BTreeMap;
@@ -50,12 +50,11 @@ pub(crate) fn push_epochs(text: &mut Vec<u8>, sums: &BTreeMap<u32, Sum>) -> Resu
     Ok(())
 }
 
-/// The sums of a kind, if it occurs.
-#[tactic(auto, unfolding(crate::specs::Report::kind_line))]
-fn push_kind(text: &mut Vec<u8>, rollbacks: &[Rollback], kind: Kind) -> Result<(), AllocError>
-    ensures { OnOk result (text.new.items ≡ text.old.items ++ spec.kind_line rollbacks.now kind) }
+/// What the violations of a kind cost, if it occurs.
+#[tactic(auto, unfolding(crate::specs::Report::kind_text))]
+fn push_kind(text: &mut Vec<u8>, kind: Kind, sum: Sum) -> Result<(), AllocError>
+    ensures { OnOk result (text.new.items ≡ text.old.items ++ spec.kind_text kind sum) }
 {
-    let sum = sum_of(rollbacks, Part::OfKind(kind));
     if sum.count == 0 {
         return Ok(());
     }
@@ -65,16 +64,16 @@ fn push_kind(text: &mut Vec<u8>, rollbacks: &[Rollback], kind: Kind) -> Result<(
     text.extend_from_slice(b"\n")
 }
 
-/// The sums of the kinds that occur.
-#[tactic(auto, unfolding(crate::specs::Report::kind_lines))]
-pub(crate) fn push_kinds(text: &mut Vec<u8>, rollbacks: &[Rollback]) -> Result<(), AllocError>
-    ensures { OnOk result (text.new.items ≡ text.old.items ++ spec.kind_lines rollbacks.now) }
+/// What the violations of each kind cost that occurs.
+#[tactic(auto, unfolding(crate::specs::Report::kinds_text))]
+pub(crate) fn push_kinds(text: &mut Vec<u8>, sums: SumsByKind) -> Result<(), AllocError>
+    ensures { OnOk result (text.new.items ≡ text.old.items ++ spec.kinds_text sums) }
 {
-    push_kind(text, rollbacks, Kind::TrueSharing)?;
-    push_kind(text, rollbacks, Kind::SilentStore)?;
-    push_kind(text, rollbacks, Kind::FalseSharing)?;
-    push_kind(text, rollbacks, Kind::FullBuffer)?;
-    push_kind(text, rollbacks, Kind::Unexplained)
+    push_kind(text, Kind::TrueSharing, sums.true_sharing)?;
+    push_kind(text, Kind::SilentStore, sums.silent_store)?;
+    push_kind(text, Kind::FalseSharing, sums.false_sharing)?;
+    push_kind(text, Kind::FullBuffer, sums.full_buffer)?;
+    push_kind(text, Kind::Unexplained, sums.unexplained)
 }
 
 /// The epochs of the loop, those that committed, what all violations cost, and how the attempts ended.

@@ -1,4 +1,4 @@
-use Rattle.std.proofs.Common.{◌≡◌, ◌<◌, ◌∙◌, length, take, refl, sym, ap, subst, arith}
+use Rattle.std.proofs.Common.{◌≡◌, ◌<◌, ◌∙◌, filter, length, map, take, refl, sym, ap, subst, arith}
 use Rattle.std.proofs.lemmas.Option.{slice_get-get_or}
 use Rattle.std.proofs.lemmas.List.{take_all}
 use Rattle.spec_history.specs.FlatState.{FlatState}
@@ -7,11 +7,14 @@ use Rattle.spec_history.specs.View.{state_in, cores_in}
 use Rattle.spec_history.proofs.Replay.Reaching.{no_entries, audited_more}
 use Rattle.conflicts.proofs.Explaining.{legal_in}
 use Rattle.conflict_findings.specs.Ends.{ended_before, running_below, running_from}
+use Rattle.conflict_findings.specs.Rollbacks.{rollback_at}
 use Rattle.conflict_findings.specs.Violated.{AreMarked}
 use Rattle.conflict_findings.proofs.Growing.{ended_more, none_ended}
 use Rattle.conflict_findings.proofs.Marking.{marked_first, marked_in}
-use Rattle.conflict_text.specs.Why.{AreSummed}
-use Rattle.conflict_text.proofs.Gathering.{more_summed, none_summed}
+use Rattle.conflict_text.specs.Ends.{is_told}
+use Rattle.conflict_text.specs.Why.{AreFound}
+use Rattle.conflict_text.proofs.Gathering.{more_found, none_found}
+use Rattle.conflict_text.proofs.Telling.{told_more}
 use Rattle.conflict_text.proofs.finding.gather.Goals as goal
 
 pub loop-place-init : goal.loop-place-init
@@ -23,11 +26,14 @@ loop-place-init c =
       cores = c.in-Ok.ensures.cores;
       replays = rw c.in-Ok.ensures.state (no_entries image cores);
       marked = subst (λ (s : FlatState). AreMarked entries 0 s.cores) (sym c.in-Ok.ensures.state) (marked_first image entries 0);
-      summed = none_summed image cores entries c.args.sites.now c.new-rollbacks.result.items c.new-rollbacks.ensures.items;
-      ended = c.new-ended.ensures.items ∙ none_ended image cores entries;
+      found = none_found image cores entries c.args.sites.now _ _ c.new-findings.ensures.lines c.new-findings.ensures.sums;
+      ended = c.new-ended.ensures.items ∙ ap (filter is_told) (none_ended image cores entries);
       known = c.new-known.ensures image.size entries;
-      followed = c.new-followed.ensures entries;
+      followed = c.new-findings.ensures.followed entries;
     }
+
+pub keep-requires-clause-summed : goal.keep-requires-clause-summed
+keep-requires-clause-summed c = (map (rollback_at c.args.image.now c.args.entries.now c.args.sites.now) c.loop-place.invariant.found.found, c.loop-place.invariant.found.summed)
 
 pub loop-place-preserved : goal.loop-place-preserved
 loop-place-preserved c =
@@ -48,11 +54,12 @@ loop-place-preserved c =
       cores = same.cores ∙ was.cores;
       replays = audited_more image cores entries place _ flat c.apply.new.self was.image was.cores was.replays below applied;
       marked = marked_in flat c.apply.new.self entries place _ there applied was.marked;
-      summed = more_summed image cores (state_in flat) entries c.args.sites.now place c.in_ok-explained.explained c.loop-place.rollbacks.items _ was.replays shown found.explained was.summed
-          c.in_ok-keep_summed.ensures.rollbacks;
-      ended = ended_more image flat.image cores entries place (state_in flat) _ _ c.loop-place.ended.items _ was.image was.replays there c.ended_by.ensures was.ended c.in_ok-keep_ended.ensures;
+      found = more_found image cores (state_in flat) entries c.args.sites.now place c.in_ok-explained.explained _ _ _ _ was.replays shown found.explained was.found
+          c.in_ok-keep.ensures.told c.in_ok-keep.ensures.summed;
+      ended = told_more c.ended_by.result (ended_before image cores entries place) _ c.loop-place.ended.items _
+          (ended_more image flat.image cores entries place (state_in flat) _ _ _ _ was.image was.replays there c.ended_by.ensures refl refl) was.ended c.in_ok-keep_ended.ensures;
       known = found.known;
-      followed = c.in_ok-keep_summed.ensures.followed;
+      followed = c.in_ok-keep.ensures.followed;
     }
 
 pub returns : goal.returns
@@ -66,8 +73,8 @@ returns c =
     let last : place ≡ length entries = omega (arith, c.loop-place-test.false, c.loop-place.auto.place-end) in
     let whole : take place entries ≡ entries = take_all place entries (omega (arith, last)) in
     let replays = sym (ap (replay image cores) whole) ∙ was.replays in record {
-      summed = subst (λ n. AreSummed image cores entries c.args.sites.now n c.loop-place.rollbacks.items) last was.summed;
-      ended = was.ended ∙ ap (ended_before image cores entries) last;
+      found = subst (λ n. AreFound image cores entries c.args.sites.now n c.loop-place.findings.lines.items c.loop-place.findings.sums) last was.found;
+      ended = was.ended ∙ ap (λ n. filter is_told (ended_before image cores entries n)) last;
       running = c.in_ok-running.ensures ∙ (ap (λ i. running_below i (state_in flat) cores) was.image ∙ sym (ap (running_from image cores) replays));
       verdict = (state_in flat, replays, c.homefree.ensures, refl);
     }
