@@ -8,6 +8,7 @@ The checker is a stub that works for a second, so nothing is proved. Exits with 
 import subprocess
 import sys
 import tempfile
+import time
 from pathlib import Path
 
 TOOL = Path(__file__).resolve().parent / "gate-time"
@@ -45,6 +46,27 @@ def noted(folder):
     return {(part, crate): float(seconds) for part, crate, seconds in rows}, ran.returncode
 
 
+def runs(pid):
+    """Whether a process runs."""
+    try:
+        return Path("/proc", pid, "stat").read_text().rpartition(")")[2].split()[0] != "Z"
+    except OSError:
+        return False
+
+
+def goes_on():
+    """Whether what a command started still runs once a SIGTERM has ended it."""
+    command = [TOOL, "note", "/dev/null", "bash", "-c", "sleep 60 & echo $!; wait"]
+    with subprocess.Popen(command, stdout=subprocess.PIPE, text=True) as it:
+        started = it.stdout.readline().strip()
+        it.terminate()
+    for _ in range(50):
+        if not runs(started):
+            return False
+        time.sleep(0.1)
+    return True
+
+
 def main():
     failed = []
     with tempfile.TemporaryDirectory() as folder:
@@ -62,9 +84,11 @@ def main():
         wrong = subprocess.run([TOOL, "note"], capture_output=True, text=True, check=False)
         if wrong.stdout or "tests/gate-time FILE" not in wrong.stderr or wrong.returncode != 2:
             failed.append(f"other words: {wrong.stdout!r}, status {wrong.returncode}")
+    if goes_on():
+        failed.append("what the command started goes on after a SIGTERM")
     for text in failed:
         print(f"FAILED {text}")
-    print(f"{3 - len(failed)} checks passed, {len(failed)} failed")
+    print(f"{4 - len(failed)} checks passed, {len(failed)} failed")
     return 1 if failed else 0
 
 
