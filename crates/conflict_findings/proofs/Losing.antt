@@ -23,13 +23,13 @@ use Rattle.spec_history.proofs.Replay.Replays.{replayed}
 use Rattle.conflicts.specs.declared.explanation.Explanation.{Explanation}
 use Rattle.conflicts.specs.declared.explanation.Runner.{Runner}
 use Rattle.spec_history.specs.Conflict.{entry_is, passes, is_hurt}
-use Rattle.conflicts.specs.Attempts.{state_before}
+use Rattle.conflicts.specs.Attempts.{core_at, state_before}
 use Rattle.conflicts.specs.Explained.{IsExplained, places_of, violations_before}
 use Rattle.spec_history.proofs.Searches.Tests.{first_at}
 use Rattle.conflict_findings.specs.declared.ended.Ended.{Ended}
 use Rattle.conflict_findings.specs.declared.ended.Ending.{Ending}
 use Rattle.conflict_findings.specs.declared.ended.Ending.TheVariants.{Committed, Violated, Cancelled}
-use Rattle.conflict_findings.specs.Ends.{core_at, ended_as, ended_at, ended_before, ended_by, ended_with, runner_in}
+use Rattle.conflict_findings.specs.Ends.{ended_as, ended_at, ended_before, ended_by, ended_with, runner_in}
 use Rattle.conflict_findings.specs.Tallies as tallies
 use Rattle.conflict_findings.specs.Tallies.{is_ended}
 use Rattle.conflict_findings.proofs.Growing.{ended_is, none_ended, one_ended}
@@ -49,7 +49,7 @@ pub first_legal : (image : LoadedImage) (count : ℕ) (s last : FlatState) (entr
 unfolding replay_from
 first_legal image count s last entry later is = no_refusal (refusal_of image count s entry) _ last is
 
-pub legal_at : (image : LoadedImage) (count : ℕ) (entries : List Entry) (last s : FlatState) (place : ℕ) (entry : Entry) → replay image count entries ≡ Some last
+legal_at : (image : LoadedImage) (count : ℕ) (entries : List Entry) (last s : FlatState) (place : ℕ) (entry : Entry) → replay image count entries ≡ Some last
     → replay image count (take place entries) ≡ Some s → slice_get entries place ≡ Some entry → refusal_of image count s entry ≡ None
 legal_at image count entries last s place entry replays before there =
     let rest = rest_at entries place entry there in

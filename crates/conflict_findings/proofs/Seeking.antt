@@ -6,11 +6,11 @@ use Rattle.spec_history.specs.FlatState.{CoreState, FlatState}
 use Rattle.spec_history.specs.Refusal.{has}
 use Rattle.conflicts.specs.declared.explanation.Runner.{Runner}
 use Rattle.spec_history.specs.Conflict.{entry_is}
-use Rattle.conflicts.specs.Attempts.{core_does, is_begin}
+use Rattle.conflicts.specs.Attempts.{core_at, core_does, is_begin}
 use Rattle.conflict_findings.specs.declared.ended.Ended.{Ended}
 use Rattle.conflict_findings.specs.declared.ended.Ending.TheVariants.{Cancelled}
 use Rattle.conflict_findings.specs.declared.ended.Running.{Running}
-use Rattle.conflict_findings.specs.Ends.{cancelled, core_at, done_by, ended_as, is_faulted, runner_in, running_in}
+use Rattle.conflict_findings.specs.Ends.{cancelled, done_by, ended_as, is_faulted, runner_in, running_in}
 use Rattle.conflict_findings.specs.Violated.{AreMarked, is_violated, is_violation}
 
 -- ---- going back

@@ -10,11 +10,10 @@ use Rattle.spec_history.specs.declared.entry.Entry.{Entry}
 use Rattle.spec_history.specs.declared.entry.What.{What}
 use Rattle.spec_history.specs.declared.entry.What.TheVariants.{Hurt, Cancel, Commit, Fault}
 use Rattle.spec_history.specs.FlatState.{CoreState, FlatState}
-use Rattle.spec_history.specs.Refusal.{has, is_at}
+use Rattle.spec_history.specs.Refusal.{has}
 use Rattle.spec_history.specs.Replay.{replay}
 use Rattle.conflicts.specs.declared.explanation.Runner.{Runner}
-use Rattle.conflicts.specs.Attempts.{state_before}
-use Rattle.spec_history.specs.Searches.{first_below}
+use Rattle.conflicts.specs.Attempts.{core_at, state_before}
 use Rattle.conflict_findings.specs.declared.ended.Ended.{Ended}
 use Rattle.conflict_findings.specs.declared.ended.Ending.{Ending}
 use Rattle.conflict_findings.specs.declared.ended.Ending.TheVariants.{Committed, Violated, Cancelled}
@@ -29,10 +28,6 @@ runner_in s core = option_map (λ (c : CoreState). record { core = core; epoch =
 -- how many instructions its attempt has executed, up to its next event
 abbrev pub done_by : LoadedImage → CoreState → ℕ
 done_by image c = (next_event image c.hart).now.done
-
--- the core that runs this epoch
-abbrev pub core_at : ℕ → FlatState → ℕ → Option ℕ
-core_at count s epoch = first_below count (λ k. is_at epoch (s.cores k))
 
 -- ---- those that have ended
 

@@ -1,14 +1,13 @@
 //! Which attempt an entry ends.
 
 ghost use Rattle.std.specs.Prelude.{◌≡◌, option_map};
-ghost use Rattle.spec_history.specs.Refusal as refusal;
 ghost use Rattle.spec_history.specs.View.{state_in};
 ghost use Rattle.conflict_findings.specs.Ends as spec;
 ghost use Rattle.conflict_findings.specs.Violated.{AreMarked};
 
 use crate::ended::{Ended, Ending};
 use crate::violated::is_violated;
-use conflicts::Runner;
+use conflicts::{Runner, core_at};
 use spec_history::{Entry, Flat, What};
 
 /// A core with the epoch that it runs.
@@ -26,25 +25,6 @@ pub(crate) fn done_at(flat: &Flat, core: u32) -> Option<u64>
     let next = flat.next_event(core)?;
     let hart = next.now();
     Some(hart.done())
-}
-
-/// A core runs this epoch.
-fn is_at(flat: &Flat, core: u32, epoch: u32) -> bool
-    ensures { result ≡ refusal.is_at epoch ((state_in flat.now).cores core) }
-{
-    flat.epoch(core) == Some(epoch)
-}
-
-/// The core that runs this epoch.
-fn core_at(flat: &Flat, cores: u32, epoch: u32) -> Option<u32>
-    ensures { result ≡ spec.core_at cores (state_in flat.now) epoch }
-{
-    for core in 0..cores {
-        if is_at(flat, core, epoch) {
-            return Some(core);
-        }
-    }
-    None
 }
 
 /// The attempt of a core, which ends so by an entry at a place.

@@ -3,20 +3,9 @@
 ghost use Rattle.std.specs.Prelude.{◌≡◌};
 ghost use Rattle.conflict_findings.specs.Violated as spec;
 ghost use Rattle.spec_history.specs.Conflict.{entry_is};
-ghost use Rattle.conflicts.specs.Attempts.{core_does, is_begin};
 
-use conflicts::Runner;
+use conflicts::{Runner, begins};
 use spec_history::{Entry, What};
-
-/// A core begins an attempt at a place.
-fn begins(entries: &[Entry], core: u32, place: usize) -> bool
-    ensures { result ≡ core_does entries.now core place is_begin }
-{
-    match entries.get(place) {
-        Some(entry) => entry.by == core && matches!(entry.what, What::Start(_) | What::Restart),
-        None => false,
-    }
-}
 
 /// An epoch is violated at a place.
 fn violates(entries: &[Entry], epoch: u32, place: usize) -> bool

@@ -8,8 +8,13 @@ use Rattle.spec_history.specs.declared.entry.What.{What}
 use Rattle.spec_history.specs.declared.entry.What.TheVariants.{Start, Load, Store, Restart}
 use Rattle.spec_history.specs.Conflict.{entry_is}
 use Rattle.spec_history.specs.FlatState.{FlatState}
+use Rattle.spec_history.specs.Refusal.{is_at}
 use Rattle.spec_history.specs.Replay.{replay}
 use Rattle.spec_history.specs.Searches.{first_below, last_below, count_below}
+
+-- the core that runs this epoch
+abbrev pub core_at : ℕ → FlatState → ℕ → Option ℕ
+core_at count s epoch = first_below count (λ k. is_at epoch (s.cores k))
 
 -- there is one of this core
 abbrev pub core_does : List Entry → ℕ → ℕ → (What → Bool) → Bool

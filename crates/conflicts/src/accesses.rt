@@ -7,7 +7,7 @@ use rv32_exec::Image;
 use spec_history::{Entry, What};
 
 /// A core begins an attempt at a place.
-pub(crate) fn begins(entries: &[Entry], core: u32, place: usize) -> bool
+pub fn begins(entries: &[Entry], core: u32, place: usize) -> bool
     ensures { result ≡ spec.core_does entries.now core place spec.is_begin }
 {
     match entries.get(place) {

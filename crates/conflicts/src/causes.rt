@@ -5,16 +5,25 @@ ghost use Rattle.spec_history.specs.Refusal.{any_below, is_at};
 ghost use Rattle.spec_history.specs.View as view;
 ghost use Rattle.spec_history.specs.Conflict.{entry_is};
 ghost use Rattle.spec_history.specs.Conflict as spec;
+ghost use Rattle.conflicts.specs.Attempts as attempts;
 
 use spec_history::{Entry, Flat, What};
 
-/// The core that runs this epoch.
-pub(crate) fn core_at(flat: &Flat, cores: u32, epoch: u32) -> Option<u32>
-    ensures { MatchOption result (any_below cores (λ k. is_at epoch ((view.state_in flat.now).cores k)) ≡ false)
+/// A core runs this epoch.
+fn runs(flat: &Flat, core: u32, epoch: u32) -> bool
+    ensures { result ≡ is_at epoch ((view.state_in flat.now).cores core) }
+{
+    flat.epoch(core) == Some(epoch)
+}
+
+/// The core that runs this epoch: of so many cores, the first.
+pub fn core_at(flat: &Flat, cores: u32, epoch: u32) -> Option<u32>
+    ensures first { result ≡ attempts.core_at cores (view.state_in flat.now) epoch }
+    ensures there { MatchOption result (any_below cores (λ k. is_at epoch ((view.state_in flat.now).cores k)) ≡ false)
         (λ core. is_at epoch ((view.state_in flat.now).cores core) ≡ true) }
 {
     for core in 0..cores {
-        if flat.epoch(core) == Some(epoch) {
+        if runs(flat, core, epoch) {
             return Some(core);
         }
     }

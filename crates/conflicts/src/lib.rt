@@ -17,10 +17,11 @@ pub mod laws;
 mod meeting;
 mod standing;
 
-pub use accesses::{attempt_number, attempt_place, reads_outside};
+pub use accesses::{attempt_number, attempt_place, begins, reads_outside};
 pub use alike::BlamedByte;
 pub use behind::Behind;
 pub use blame::Violated;
+pub use causes::core_at;
 pub use explanation::{Blame, ByteRange, Explanation, Runner};
 pub use held::accessed_line;
 pub use history::{explain, explanation_at};

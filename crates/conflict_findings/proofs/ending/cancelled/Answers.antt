@@ -11,7 +11,7 @@ returns-then-is_violated c =
     let image = c.args.flat.now.image in
     sym (ap (λ b. if b then None else ended_as image s c.args.place Cancelled c.args.by c.in_ok-core.core) c.if-is_violated.true)
     ∙ cancelled_is image c.args.cores s c.args.entries.now c.args.place c.args.by c.args.epoch c.in_ok-core.core c.in_ok-runner.runner c.is_violated.result
-    c.in_ok-core.ensures c.in_ok-runner.ensures c.is_violated.ensures c.requires
+    c.in_ok-core.ensures.first c.in_ok-runner.ensures c.is_violated.ensures c.requires
 
 pub returns : goal.returns
 returns c =
@@ -20,4 +20,4 @@ returns c =
     c.ended_as.ensures
     ∙ (sym (ap (λ b. if b then None else ended_as image s c.args.place Cancelled c.args.by c.in_ok-core.core) c.if-is_violated.false)
     ∙ cancelled_is image c.args.cores s c.args.entries.now c.args.place c.args.by c.args.epoch c.in_ok-core.core c.in_ok-runner.runner c.is_violated.result
-    c.in_ok-core.ensures c.in_ok-runner.ensures c.is_violated.ensures c.requires)
+    c.in_ok-core.ensures.first c.in_ok-runner.ensures c.is_violated.ensures c.requires)

@@ -18,7 +18,7 @@ returns-in_default-core_at-clause-found c entry at legal =
     let here = get_or c.args.entries.now c.args.place none in
     let there = slice_get-get_or c.args.entries.now c.args.place none c.requires.place in
     let legal_here = subst (λ e. refusal_of c.args.image.now c.args.cores (state_in c.args.flat.now) e ≡ None) (one_value _ entry here at there) legal in
-    let clash : false ≡ true = no_victim c.args.image.now c.args.cores (state_in c.args.flat.now) here c.in-Hurt.epoch c.in-Hurt.is legal_here c.in_default-core_at.ensures in
+    let clash : false ≡ true = no_victim c.args.image.now c.args.cores (state_in c.args.flat.now) here c.in-Hurt.epoch c.in-Hurt.is legal_here c.in_default-core_at.ensures.there in
     absurd cc
 
 pub returns-in_default-epoch-clause-found : goal.returns-in_default-epoch-clause-found
@@ -36,7 +36,7 @@ returns-clause-explained c = (
   refl,
   explained_by c.args.image.now c.args.flat.now.image (state_in c.args.flat.now) c.args.entries.now c.args.place (get_or c.args.entries.now c.args.place none) c.in-Hurt.epoch
       c.in-Some-epoch.causing c.in-Some.victim c.in-Some-next_event.next c.cause_of-cause.result c.conflict_of-kind.result.0 c.conflict_of-kind.result.1 c.in_ok-later.later c.done.result c.done-2.result c.requires.image
-      (slice_get-get_or c.args.entries.now c.args.place none c.requires.place) c.in-Hurt.is (sym c.in-Some-epoch.ensures) c.in-Some.ensures (sym c.in-Some-next_event.ensures)
+      (slice_get-get_or c.args.entries.now c.args.place none c.requires.place) c.in-Hurt.is (sym c.in-Some-epoch.ensures) c.in-Some.ensures.there (sym c.in-Some-next_event.ensures)
       c.cause_of-cause.ensures.cause c.conflict_of-kind.ensures.kind c.conflict_of-kind.ensures.blame c.in_ok-later.ensures.later (c.done.ensures ∙ ap (λ (h : HartState). h.done) c.now-stop.ensures) (c.done-2.ensures ∙ ap (λ (h : HartState). h.done) c.base-last.ensures),
 )
 
