@@ -35,6 +35,9 @@ pub record IsAlone (s : FlatState) : Type 0 where
   pub runs : (c : CoreState) → s.cores 0 ≡ Some c → (c.epoch ≡ s.homefree) × (s.next_epoch ≡ s.homefree + 1) × (c.hurt ≡ false)
   pub others : (k : ℕ) → s.cores (suc k) ≡ None
 
+pub the_first : (core cores : ℕ) → core < cores → cores ≡ 1 → core ≡ 0
+the_first core cores below one = omega (arith, below, one)
+
 suc_isnt : (k : ℕ) → suc k ≢ 0
 suc_isnt k is = omega (arith, is)
 

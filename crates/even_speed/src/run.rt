@@ -17,7 +17,7 @@ use crate::account::Account;
 use crate::clocks::{account_of, clock_of, first_clocks, next_turn, set_clock, wake_all};
 use homefree::{Answer, Book, TurnFault};
 use run_ledger::Shares;
-use rv32_exec::{Arrived, End, Image, advance};
+use rv32_exec::{Arrived, End, Image};
 use std::alloc::Global;
 use violations::{EpochStore, MAX_CORES};
 
@@ -76,7 +76,7 @@ pub fn drive_evenly<S: EpochStore>(
         };
         let clock = clock_of(&clocks, turn.core);
         let restarts = book.totals().restarts;
-        let answer = step(book, &mut held, turn.core, image, shares)?;
+        let answer = step(book, &mut held, turn.core, shares)?;
         let restarted = book.totals().restarts != restarts;
         let executed = executed_by(image, &held, turn.core, &answer);
         let clock = clock.answered(turn.at, restarted, executed, &answer);
@@ -100,15 +100,13 @@ pub fn drive_evenly<S: EpochStore>(
     Ok(None)
 }
 
-/// One turn of a core with what it has in hand, and what it has in hand then.
+/// One turn of a core, as `homefree::step` takes it, and what is known of the book before and after it.
 fn step<S: EpochStore>(
     book: &mut Book<S>,
     held: &mut [Option<Arrived>; MAX_CORES],
     core: u32,
-    image: &Image,
     shares: &mut Shares,
 ) -> Result<Answer, TurnFault>
-    requires image { book.old.image ≡ image.now }
     requires core { core < book.old.cores }
     requires held { HaveArrived book.old.image held.old }
     requires shares { IsNoMore shares.old book.old.totals }
@@ -122,33 +120,9 @@ fn step<S: EpochStore>(
     ensures leads { Leads (driver book.old shares.old) (driver book.new shares.new) core (harts_of held.old core) result }
 {
     book.look();
-    let answer = book.turn(core, held[core as usize].as_ref(), shares);
+    let answer = homefree::step(book, held, core, shares);
     book.look();
-    let answer = answer?;
-    take(held, core, image, &answer);
-    Ok(answer)
-}
-
-/// What a core has in hand after an answer.
-fn take(held: &mut [Option<Arrived>; MAX_CORES], core: u32, image: &Image, answer: &Answer)
-    requires core { core < 16 }
-    requires held { HaveArrived image.now held.old }
-    ensures held { HaveArrived image.now held.new }
-    ensures harts { (k : ℕ) → harts_of held.new k ≡ with_held (harts_of held.old) core (held_by (Ok answer.now) (harts_of held.old core)) k }
-{
-    match answer {
-        Answer::Go(hart) => hold(held, core, Some(advance(image, *hart))),
-        Answer::Again(_) => (),
-        _ => hold(held, core, None),
-    }
-}
-
-/// Sets what a core has in hand.
-fn hold(held: &mut [Option<Arrived>; MAX_CORES], core: u32, now: Option<Arrived>)
-    requires { core < 16 }
-    ensures { (k : ℕ) → held_at held.new k ≡ (if k == core then now else held_at held.old k) }
-{
-    held[core as usize] = now;
+    answer
 }
 
 /// What a core has in hand.

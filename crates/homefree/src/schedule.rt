@@ -1,11 +1,13 @@
 //! Turns by a list of core numbers, on one thread.
-ghost use Rattle.std.specs.Prelude.{◌≡◌, ◌<◌, ◌==◌, ℕ, All, None, Some, length, if◌then◌else◌};
+ghost use Rattle.std.specs.Prelude.{◌≡◌, ◌<◌, ◌==◌, ℕ, All, None, Some, length, option_map, if◌then◌else◌};
 ghost use Rattle.spec_history.specs.FlatState.{FlatState};
+ghost use Rattle.homefree.specs.Again.{IfAgain, IsWhy};
 ghost use Rattle.homefree.specs.Counted.{IsNoMore};
-ghost use Rattle.homefree.specs.Driven.{Driven, TurnedWith, IfEnded, IsInOrder, driver, held_after, with_held};
+ghost use Rattle.homefree.specs.Driven.{Driven, TurnedWith, IfEnded, IsInOrder, arrival_of, driver, held_after, with_held};
 ghost use Rattle.homefree.specs.BookView.{IsOfSameLoop, ReplaysTo};
 ghost use Rattle.homefree.specs.Grown.{GrowsBy};
 ghost use Rattle.homefree.specs.Held.{HaveArrived, harts_of, held_at, held_by};
+ghost use Rattle.homefree.specs.Turned.{turn_at};
 
 use crate::answer::Answer;
 use crate::book::Book;
@@ -59,6 +61,8 @@ pub fn step<S: EpochStore>(
     requires held { HaveArrived book.old.image held.old }
     requires shares { IsNoMore shares.old book.old.totals }
     ensures turned { TurnedWith S.view S.waits (driver book.old shares.old) core (harts_of held.old core) result (driver book.new shares.new) }
+    ensures again { (s : FlatState) → ReplaysTo book.old s
+        → IfAgain result (IsWhy (turn_at S.waits book.old s core (option_map (arrival_of book.old.image) (harts_of held.old core)))) }
     ensures grows { GrowsBy core book.old book.new shares.old shares.new }
     ensures same { IsOfSameLoop book.old book.new }
     ensures shares { IsNoMore shares.new book.new.totals }

@@ -19,7 +19,7 @@ use Rattle.even_speed.specs.Even.{Pace, at_first, clocks_after, executed_by, res
 use Rattle.even_speed.specs.InOrder.{steps_in_order}
 use Rattle.even_speed.specs.Timed.{IsNeverIdle, Leads}
 use Rattle.even_speed.specs.Kept.{AreSound, IsAloneClock, IsSound, NeverWaits}
-use Rattle.even_speed.proofs.Alone.{no_restarts_in}
+use Rattle.even_speed.proofs.Alone.{no_restarts_in, the_first}
 use Rattle.even_speed.proofs.OneCore.{first_alone, over_none, turn_alone}
 use Rattle.even_speed.proofs.Sounding.{all_first, turned_all, turned_end, turned_sound, woken_all}
 use Rattle.even_speed.proofs.OnTime.{busy_on, first_busy, over_steps, over_timed, start_on_time, timed_on}
@@ -42,9 +42,6 @@ again_not_over answer cause end is over = absurd cc
 
 again_not_stopped : (answer : Answer) (cause : Cause) (stop : StopCause) → answer ≡ Again cause → answer ≢ Stopped stop
 again_not_stopped answer cause stop is stopped = absurd cc
-
-the_first : (core cores : ℕ) → core < cores → cores ≡ 1 → core ≡ 0
-the_first core cores below one = omega (arith, below, one)
 
 no_restart : (before after : ℕ) → before ≡ 0 → after ≡ 0 → not (after == before) ≡ false
 no_restart before after none still = rw (none, still) refl
