@@ -14,7 +14,7 @@ use Rattle.trace_commands.specs.Outcome.{AppendsPrefix, error_line, outcome_of_f
 use Rattle.trace_commands.proofs.Audits.{keeps_itself}
 use Rattle.all_schedules.specs.Made.{loop_on}
 use Rattle.all_schedules.specs.AllSchedules.{AllAnswers, IsUnwritten, IsUnwrittenOf, IsWritten, IsWrittenOf}
-use Rattle.all_schedules.specs.Streams.{Stream}
+use Rattle.trace_commands.specs.Program.{Stream}
 
 module _ {S : Type 0} (view : S → StoreView) (waits : S → Waits) (cores room turns : ℕ) (text : List ℕ) (image : LoadedImage) (old new : Option (List ℕ)) (said : image_text text ≡ Ok image) where
   by_image : (P : LoadedImage → Type 0) → P image → MatchResult (image_text text) P (λ fault. ⊥)

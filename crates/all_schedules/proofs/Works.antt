@@ -1,23 +1,18 @@
 -- What the program answers, from what its parts do.
-use Rattle.std.proofs.Common.{◌≡◌, ℕ, List, [], Option, Some, None, refl, inr}
+use Rattle.std.proofs.Common.{◌≡◌, ℕ, List, Option, Some, None, refl, inr}
 use Rattle.rv32_image.specs.Reading.{ForText}
 use Rattle.trace_commands.specs.declared.outcome.Outcome.TheVariants.{Usage}
 use Rattle.trace_commands.specs.Outcome.{AppendsPrefix, error_line, status_of}
-use Rattle.trace_commands.proofs.Audits.{keeps_itself}
-use Rattle.all_schedules.specs.Streams.{Stream}
+use Rattle.trace_commands.proofs.Programs.{kept, unread_answers}
+use Rattle.trace_commands.specs.Program.{Stream}
 use Rattle.all_schedules.specs.Work.{WorkAnswers}
-
-abbrev kept : Option (List ℕ) → Stream
-kept known = record { old = known; new = known }
 
 -- the words ask for nothing
 pub refused_answers : (room : ℕ) (input output : Option (List ℕ)) (errors : Stream) (status : ℕ)
     → status ≡ status_of Usage → AppendsPrefix errors.old errors.new (error_line Usage)
     → ForText input (λ text. WorkAnswers room text (kept input) (kept output) errors status)
-refused_answers room None output errors status is line =
-    ([], inr (record { outcome = Usage; output = (refl, keeps_itself None, keeps_itself output); status = is; line = line }))
-refused_answers room (Some text) output errors status is line =
-    inr (record { outcome = Usage; output = (refl, keeps_itself (Some text), keeps_itself output); status = is; line = line })
+refused_answers room input output errors status is line =
+    unread_answers (λ it. it ≡ Usage) (λ text. WorkAnswers room text (kept input) (kept output) errors status) input output errors Usage status refl is line (λ text so. inr so)
 
 -- what holds of each text that is read, with what holds besides
 pub for_both : (known : Option (List ℕ)) (P : List ℕ → Type 0) (Q : Type 0) → ForText known P → Q → ForText known (λ text. P text × Q)

@@ -17,7 +17,7 @@ use Rattle.all_schedules.specs.Made.{IsFull, loop_on}
 use Rattle.all_schedules.specs.Schedules.{AreAllSchedules}
 use Rattle.all_schedules.specs.Survey.{Surveys}
 use Rattle.all_schedules.specs.SurveyText.{survey_text}
-use Rattle.all_schedules.specs.Streams.{Stream}
+use Rattle.trace_commands.specs.Program.{Stream}
 
 -- the text is that of a survey of every schedule of so many turns
 pub record IsAll {S : Type 0} (view : S → StoreView) (waits : S → Waits) (l : Loop) (turns : ℕ) (text : List ℕ) : Type 0 where

@@ -11,7 +11,6 @@ pub mod Shown
 pub mod Told
 pub mod Traced
 pub mod Replay
-pub mod Streams
 pub mod AllSchedules
 pub mod Paced
 -- Words of contracts: what the program answers.

@@ -1,6 +1,5 @@
 -- What the program answers.
-use Rattle.std.specs.Prelude.{◌≡◌, ◌⊎◌, ℕ, ◌+◌, ◌^◌, ◌≤◌, List, IfSome}
-use Rattle.std.specs.Io.KnownBytes.{Keeps}
+use Rattle.std.specs.Prelude.{◌⊎◌, ℕ, ◌+◌, ◌^◌, ◌≤◌, List, IfSome}
 use Rattle.rv32_image.specs.ImageText.{longest_image_text}
 use Rattle.rv32_image.specs.Input.{TakesAtMost}
 use Rattle.violations.specs.View.{StoreView, Waits, never_waits}
@@ -9,7 +8,6 @@ use Rattle.spec_bus.specs.Cached as caches
 use Rattle.trace_text.specs.TraceText.{longest_trace_text}
 use Rattle.turn_steps.specs.Caches.{cached_changes}
 use Rattle.turn_steps.specs.KeptCores.{plain_changes}
-use Rattle.trace_commands.specs.declared.outcome.Outcome.TheVariants.{Usage}
 use Rattle.trace_commands.specs.Outcome.{Conclusion}
 use Rattle.all_schedules.specs.declared.words.Store.{Store}
 use Rattle.all_schedules.specs.declared.words.Store.TheVariants.{Caches, Plain}
@@ -19,11 +17,8 @@ use Rattle.all_schedules.specs.declared.words.Request.{Request}
 use Rattle.all_schedules.specs.AllSchedules.{AllAnswers}
 use Rattle.all_schedules.specs.Paced.{IsPacedOutcome}
 use Rattle.all_schedules.specs.Replay.{IsReplayOutcome}
-use Rattle.all_schedules.specs.Streams.{Stream}
+use Rattle.trace_commands.specs.Program.{IsRefused, IsUpTo16, Stream}
 use Rattle.all_schedules.specs.Told.{IsHead}
-
-abbrev pub IsUpTo16 : ℕ → Type 0
-IsUpTo16 n = (1 ≤ n) × (n ≤ 16)
 
 -- 1 to 16 cores, and at most 65,536 schedules of 1 to 16 turns
 abbrev pub AreTurns : Turns → Type 0
@@ -52,11 +47,7 @@ abbrev pub IsDone : ℕ → List ℕ → Stream → Stream → Stream → ℕ �
 IsDone room text input output errors status = (request : Request) × AreTurns request.turns
     × StoreAnswers request.store room request.turns text input output errors status
 
--- the words ask for nothing: nothing was read, and nothing written but the error line
-abbrev pub IsRefused : Stream → Stream → Stream → ℕ → Type 0
-IsRefused input output errors status =
-    Conclusion (λ outcome. (outcome ≡ Usage) × Keeps input.old input.new × Keeps output.old output.new) errors.old errors.new status
-
 -- what the program answers for a text, with so much room for a history
 abbrev pub WorkAnswers : ℕ → List ℕ → Stream → Stream → Stream → ℕ → Type 0
-WorkAnswers room text input output errors status = IsDone room text input output errors status ⊎ IsRefused input output errors status
+WorkAnswers room text input output errors status =
+    IsDone room text input output errors status ⊎ Conclusion (IsRefused input output) errors.old errors.new status

@@ -1,10 +1,10 @@
 ghost use Rattle.std.specs.Prelude.{◌≡◌, ◌≤◌, ◌↔◌, ◌^◌, IfSome, IsTrue};
-ghost use Rattle.all_schedules.specs.Work.{AreTurns, IsUpTo16};
+ghost use Rattle.all_schedules.specs.Work.{AreTurns};
 
 use crate::detail::Detail;
 use crate::paced::Pace;
-use rv32_image::number_in;
 use std::convert::AsStr;
+use trace_commands::number_up_to_16;
 
 /// The store that a schedule runs over.
 #[derive(Clone, Copy, Debug, PartialEq, Eq)]
@@ -99,16 +99,6 @@ fn store_named(word: &str) -> Option<Store> {
     match word {
         "caches" => Some(Store::Caches),
         "plain" => Some(Store::Plain),
-        _ => None,
-    }
-}
-
-/// A number of cores or of turns, 1 to 16.
-fn number_up_to_16(word: &str) -> Option<u32>
-    ensures { IfSome result IsUpTo16 }
-{
-    match number_in(word.as_bytes()) {
-        Ok(n) if 1 <= n && n <= 16 => Some(n as u32),
         _ => None,
     }
 }

@@ -1,25 +1,15 @@
 -- What the program answers.
-use Rattle.std.specs.Prelude.{◌≡◌, ◌⊎◌, ℕ, ◌+◌, List, Option}
-use Rattle.std.specs.Io.KnownBytes.{Keeps}
+use Rattle.std.specs.Prelude.{◌⊎◌, ℕ, ◌+◌, List}
 use Rattle.rv32_image.specs.Input.{TakesAtMost}
 use Rattle.trace_text.specs.TraceText.{longest_trace_text}
 use Rattle.trace_commands.specs.declared.outcome.Outcome.{Outcome}
-use Rattle.trace_commands.specs.declared.outcome.Outcome.TheVariants.{Usage}
 use Rattle.trace_commands.specs.Outcome.{Conclusion}
+use Rattle.trace_commands.specs.Program.{IsRefused, Stream}
 use Rattle.conflict_text.specs.Why.{IsWhyOutcome}
-
--- the bytes of a stream before and after a call, where it tells them
-pub record Stream : Type 0 where
-  pub old : Option (List ℕ)
-  pub new : Option (List ℕ)
 
 -- the trace was explained, and of the input no more than it may be long, and one byte, was taken
 abbrev pub IsDone : List ℕ → Stream → Stream → Outcome → Type 0
 IsDone text input output outcome = IsWhyOutcome text output.old output.new outcome × TakesAtMost input.old input.new (longest_trace_text + 1)
-
--- there are words: nothing was read, and nothing written but the error line
-abbrev pub IsRefused : Stream → Stream → Outcome → Type 0
-IsRefused input output outcome = (outcome ≡ Usage) × Keeps input.old input.new × Keeps output.old output.new
 
 -- what the program answers for a text
 abbrev pub WorkAnswers : List ℕ → Stream → Stream → Stream → ℕ → Type 0

@@ -1,5 +1,5 @@
 -- What the program answers, from what its parts do.
-use Rattle.std.proofs.Common.{◌≡◌, ℕ, ◌+◌, List, [], Option, Some, None, Result, Ok, Err, MatchResult, refl, sym, subst, inl, inr}
+use Rattle.std.proofs.Common.{◌≡◌, ℕ, ◌+◌, List, Option, Result, Ok, Err, MatchResult, refl, sym, subst, inl, inr}
 use Rattle.rv32_image.specs.declared.fault.ImageFault.{ImageFault}
 use Rattle.rv32_image.specs.declared.fault.ImageFaultKind.{ImageFaultKind}
 use Rattle.rv32_image.specs.declared.fault.ImageFaultKind.TheVariants as kind
@@ -12,8 +12,10 @@ use Rattle.trace_commands.specs.declared.outcome.Outcome.TheVariants.{BadImage, 
 use Rattle.trace_commands.specs.declared.outcome.CommandStop.TheVariants.{NoMemory}
 use Rattle.trace_commands.specs.Outcome.{AppendsPrefix, error_line, outcome_of_fault, status_of}
 use Rattle.trace_commands.proofs.Audits.{for_each, keeps_itself}
-use Rattle.gain.specs.Gains.{GainAnswers, IsUnwritten, IsUnwrittenOf, IsWritten, IsWrittenOf, Stream}
-use Rattle.gain.specs.Work.{IsUpTo16, WorkAnswers}
+use Rattle.trace_commands.specs.Program.{IsUpTo16, Stream}
+use Rattle.trace_commands.proofs.Programs.{kept, unread_answers}
+use Rattle.gain.specs.Gains.{GainAnswers, IsUnwritten, IsUnwrittenOf, IsWritten, IsWrittenOf}
+use Rattle.gain.specs.Work.{WorkAnswers}
 
 -- ---- of an image
 
@@ -52,14 +54,9 @@ gain_answers cores room input output errors status few taken =
     for_each (λ text. GainAnswers cores room text output errors status) (λ text. WorkAnswers room text input output errors status) input.old
     (λ text answers. inl (cores, few, answers, taken))
 
-abbrev kept : Option (List ℕ) → Stream
-kept known = record { old = known; new = known }
-
 -- they ask for nothing
 pub refused_answers : (room : ℕ) (input output : Option (List ℕ)) (errors : Stream) (status : ℕ)
     → status ≡ status_of Usage → AppendsPrefix errors.old errors.new (error_line Usage)
     → ForText input (λ text. WorkAnswers room text (kept input) (kept output) errors status)
-refused_answers room None output errors status is line =
-    ([], inr (record { outcome = Usage; output = (refl, keeps_itself None, keeps_itself output); status = is; line = line }))
-refused_answers room (Some text) output errors status is line =
-    inr (record { outcome = Usage; output = (refl, keeps_itself (Some text), keeps_itself output); status = is; line = line })
+refused_answers room input output errors status is line =
+    unread_answers (λ it. it ≡ Usage) (λ text. WorkAnswers room text (kept input) (kept output) errors status) input output errors Usage status refl is line (λ text so. inr so)

@@ -13,12 +13,8 @@ use Rattle.trace_commands.specs.declared.outcome.Outcome.{Outcome}
 use Rattle.trace_commands.specs.declared.outcome.Outcome.TheVariants.{Usage, BadImage, Stopped}
 use Rattle.trace_commands.specs.declared.outcome.CommandStop.TheVariants.{Write, NoMemory}
 use Rattle.trace_commands.specs.Outcome.{AppendsPrefix, Conclusion, IsRefusal}
+use Rattle.trace_commands.specs.Program.{Stream}
 use Rattle.gain.specs.Lines.{AddLines}
-
--- the bytes of a stream before and after a call, where it tells them
-pub record Stream : Type 0 where
-  pub old : Option (List ℕ)
-  pub new : Option (List ℕ)
 
 -- the lines over caches, and then those over the plain store
 abbrev pub AreGains : LoadedImage → ℕ → ℕ → List ℕ → Type 0

@@ -1,13 +1,13 @@
 ghost use Rattle.std.specs.Prelude.{◌≤◌, IfSome};
 ghost use Rattle.rv32_image.specs.Reading.{ForText};
+ghost use Rattle.trace_commands.specs.Program.{IsUpTo16};
 ghost use Rattle.gain.specs.Work as spec;
 
 use crate::gains::do_gain;
-use rv32_image::number_in;
 use std::alloc::Global;
 use std::convert::AsStr;
 use std::io::{Read, Write};
-use trace_commands::Outcome;
+use trace_commands::{Outcome, number_up_to_16};
 
 /// The whole program: what the loop gains on as many cores as the words ask for, the first of which is the program's name.
 ///
@@ -35,13 +35,10 @@ pub fn work<S: AsStr, R: Read, W: Write, E: Write>(
 
 /// How many cores these words ask for, 1 to 16. None: other words.
 fn cores_asked<S: AsStr>(words: &[S]) -> Option<u32>
-    ensures { IfSome result spec.IsUpTo16 }
+    ensures { IfSome result IsUpTo16 }
 {
     if words.len() != 2 {
         return None;
     }
-    match number_in(words[1].as_str().as_bytes()) {
-        Ok(n) if 1 <= n && n <= 16 => Some(n as u32),
-        _ => None,
-    }
+    number_up_to_16(words[1].as_str())
 }

@@ -1,26 +1,23 @@
 -- What the program answers, from what its commands do.
-use Rattle.std.proofs.Common.{◌≡◌, ◌⊎◌, ℕ, List, [], Option, Some, None, inl, inr}
+use Rattle.std.proofs.Common.{◌≡◌, ◌⊎◌, ℕ, List, Option, Some, None, inl, inr}
 use Rattle.rv32_image.specs.Reading.{ForText}
 use Rattle.trace_commands.specs.declared.outcome.Outcome.{Outcome}
 use Rattle.trace_commands.specs.declared.outcome.Outcome.TheVariants.{Usage, Stopped}
 use Rattle.trace_commands.specs.declared.outcome.CommandStop.TheVariants.{NoMemory}
 use Rattle.trace_commands.specs.Outcome.{Conclusion, AppendsPrefix, error_line, status_of}
-use Rattle.trace_commands.proofs.Audits.{keeps_itself}
+use Rattle.trace_commands.specs.Program.{Stream}
+use Rattle.trace_commands.proofs.Programs.{kept, unread_answers}
 use Rattle.trace_cli.specs.declared.words.Request.{Request}
 use Rattle.trace_cli.specs.Request.{IsRequest}
-use Rattle.trace_cli.specs.Work.{Stream, IsDone, WorkAnswers}
-
-abbrev kept : Option (List ℕ) → Stream
-kept known = record { old = known; new = known }
+use Rattle.trace_cli.specs.Work.{IsDone, WorkAnswers}
 
 -- no command was run
 pub no_command_answers : (room : ℕ) (input output : Option (List ℕ)) (errors : Stream) (outcome : Outcome) (status : ℕ)
     → (outcome ≡ Usage) ⊎ (outcome ≡ Stopped NoMemory) → status ≡ status_of outcome → AppendsPrefix errors.old errors.new (error_line outcome)
     → ForText input (λ text. WorkAnswers room text (kept input) (kept output) errors status)
-no_command_answers room None output errors outcome status which is line =
-    ([], record { outcome = outcome; output = inr (which, keeps_itself None, keeps_itself output); status = is; line = line })
-no_command_answers room (Some text) output errors outcome status which is line =
-    record { outcome = outcome; output = inr (which, keeps_itself (Some text), keeps_itself output); status = is; line = line }
+no_command_answers room input output errors outcome status which is line =
+    unread_answers (λ it. (it ≡ Usage) ⊎ (it ≡ Stopped NoMemory)) (λ text. WorkAnswers room text (kept input) (kept output) errors status) input output errors outcome status
+    which is line (λ text so. record { outcome = so.outcome; output = inr so.output; status = so.status; line = so.line })
 
 -- a command that was run answers for what it did
 answers_for : (P : Outcome → Type 0) (room : ℕ) (request : Request) (input output errors : Stream) (text : List ℕ) (status : ℕ) → IsRequest request

@@ -1,6 +1,5 @@
 -- What the program answers.
-use Rattle.std.specs.Prelude.{◌≡◌, ◌⊎◌, ℕ, ◌+◌, List, Option}
-use Rattle.std.specs.Io.KnownBytes.{Keeps}
+use Rattle.std.specs.Prelude.{◌≡◌, ◌⊎◌, ℕ, ◌+◌, List}
 use Rattle.rv32_image.specs.ImageText.{longest_image_text}
 use Rattle.rv32_image.specs.Input.{TakesAtMost}
 use Rattle.trace_text.specs.TraceText.{longest_trace_text}
@@ -9,15 +8,11 @@ use Rattle.trace_commands.specs.declared.outcome.Outcome.TheVariants.{Usage, Sto
 use Rattle.trace_commands.specs.declared.outcome.CommandStop.TheVariants.{NoMemory}
 use Rattle.trace_commands.specs.Audit.{IsAuditOutcome}
 use Rattle.trace_commands.specs.Outcome.{Conclusion, IsSeqOutcome}
+use Rattle.trace_commands.specs.Program.{IsUnread, Stream}
 use Rattle.run_command.specs.Run.{IsRunOutcome}
 use Rattle.trace_cli.specs.declared.words.Request.{Request}
 use Rattle.trace_cli.specs.declared.words.Request.TheVariants.{Seq, Run, Audit}
 use Rattle.trace_cli.specs.Request.{IsRequest}
-
--- the bytes of a stream before and after a call, where it tells them
-pub record Stream : Type 0 where
-  pub old : Option (List ℕ)
-  pub new : Option (List ℕ)
 
 -- a command was run: what it came to is right for the text, and of the input no more than it may be long, and one byte, was taken
 abbrev pub IsDone : Request → ℕ → List ℕ → Stream → Stream → Outcome → Type 0
@@ -35,7 +30,7 @@ IsCommand room text input output outcome = (request : Request) × IsRequest requ
 
 -- no command was run, as the words are none or memory ran out: nothing was read, and nothing written but the error line
 abbrev pub IsNoCommand : Stream → Stream → Outcome → Type 0
-IsNoCommand input output outcome = ((outcome ≡ Usage) ⊎ (outcome ≡ Stopped NoMemory)) × Keeps input.old input.new × Keeps output.old output.new
+IsNoCommand input output outcome = IsUnread (λ it. (it ≡ Usage) ⊎ (it ≡ Stopped NoMemory)) input output outcome
 
 -- what the program answers for a text, with so much room for a history
 abbrev pub WorkAnswers : ℕ → List ℕ → Stream → Stream → Stream → ℕ → Type 0

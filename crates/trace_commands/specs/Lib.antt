@@ -1,7 +1,8 @@
 -- Definitions to believe: the report of a run.
 pub mod Report
--- Words of contracts: what a command comes to, and what it reads.
+-- Words of contracts: what a command comes to, what it reads, and the edge of a program.
 pub mod Outcome
 pub mod Audit
+pub mod Program
 -- What the law says.
 pub mod Laws

@@ -1,6 +1,6 @@
 use Rattle.run_command.proofs.Outcomes.{for_text}
 use Rattle.all_schedules.specs.AllSchedules.{AllAnswers, IsUnwritten}
-use Rattle.all_schedules.specs.Streams.{Stream}
+use Rattle.trace_commands.specs.Program.{Stream}
 use Rattle.all_schedules.proofs.Alls.{unwritten_answers}
 use Rattle.all_schedules.proofs.all.do_all.Goals as goal
 

@@ -8,7 +8,7 @@ use Rattle.all_schedules.specs.declared.words.Turns.{Turns}
 use Rattle.all_schedules.specs.AllSchedules.{AllAnswers}
 use Rattle.all_schedules.specs.Paced.{IsPacedOutcome}
 use Rattle.all_schedules.specs.Replay.{IsReplayOutcome}
-use Rattle.all_schedules.specs.Streams.{Stream}
+use Rattle.trace_commands.specs.Program.{Stream}
 use Rattle.all_schedules.specs.Told.{IsHead}
 use Rattle.all_schedules.specs.Work.{TurnsAnswer}
 use Rattle.all_schedules.proofs.Works.{for_both}

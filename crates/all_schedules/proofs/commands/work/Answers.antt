@@ -6,7 +6,7 @@ use Rattle.turn_steps.specs.Caches.{cached_changes}
 use Rattle.turn_steps.specs.KeptCores.{plain_changes}
 use Rattle.run_command.proofs.Outcomes.{for_text}
 use Rattle.all_schedules.specs.declared.words.Store.{Store}
-use Rattle.all_schedules.specs.Streams.{Stream}
+use Rattle.trace_commands.specs.Program.{Stream}
 use Rattle.all_schedules.specs.Work.{StoreAnswers, TurnsAnswer, WorkAnswers}
 use Rattle.all_schedules.proofs.Works.{refused_answers}
 use Rattle.all_schedules.proofs.commands.work.Goals as goal

@@ -1,5 +1,6 @@
 use Rattle.trace_commands.proofs.Audits.{for_each}
-use Rattle.gain.specs.Gains.{GainAnswers, IsUnwritten, Stream}
+use Rattle.trace_commands.specs.Program.{Stream}
+use Rattle.gain.specs.Gains.{GainAnswers, IsUnwritten}
 use Rattle.gain.proofs.Answering.{unwritten_answers}
 use Rattle.gain.proofs.gains.do_gain.Goals as goal
 
