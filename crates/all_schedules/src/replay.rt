@@ -143,7 +143,7 @@ fn replay_of<S: ShownStore>(
     if image.version().limits().most_cores < cores {
         return Err(Outcome::Usage);
     }
-    let schedule = match read_turns(alloc, cores, parts.number as u32, parts.below) {
+    let schedule = match read_turns(alloc, cores, parts.below) {
         Ok(schedule) => schedule,
         Err(fault) => return Err(Outcome::of_turns_fault(fault)),
     };

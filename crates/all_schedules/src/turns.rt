@@ -16,19 +16,14 @@ use trace_text::{TraceFault, TraceFaultKind};
 pub fn read_turns(
     alloc: Global,
     cores: u32,
-    first: u32,
-    lines: Option<&[u8]>,
+    mut lines: NumberedLines,
 ) -> Result<Vec<u32>, TraceFault>
-    requires { first + length (pieces_after 10 lines) < 2 ^ 32 }
-    ensures { Answers (λ schedule. schedule.items) result (spec.lines_read cores first (pieces_after 10 lines.entry)) }
+    requires { lines.number + length (pieces_after 10 lines.rest) < 2 ^ 32 }
+    ensures { Answers (λ schedule. schedule.items) result (spec.lines_read cores lines.entry.number (pieces_after 10 lines.entry.rest)) }
 {
     let mut schedule = Vec::new(alloc);
-    let mut numbered = NumberedLines {
-        number: first,
-        rest: lines,
-    };
-    while let Some((number, line)) = numbered.next() {
-        push_line(&mut schedule, cores, number, line)?;
+    while let Some((number, line)) = lines.next() {
+        push_line(&mut schedule, cores, number as u32, line)?;
     }
     Ok(schedule)
 }

@@ -47,12 +47,9 @@ fn read_lines(alloc: Global, text: &[u8]) -> Result<Draft, ImageFault>
     ensures { Answers (λ draft. draft) result (spec.lines_read 1 spec.blank (spec.pieces 10 text.now)) }
 {
     let mut draft = Draft::blank(alloc);
-    let mut lines = NumberedLines {
-        number: 1,
-        rest: Some(text),
-    };
+    let mut lines = NumberedLines::of(text);
     while let Some((number, line)) = lines.next() {
-        read_numbered(alloc, &mut draft, number, line)?;
+        read_numbered(alloc, &mut draft, number as u32, line)?;
     }
     Ok(draft)
 }

@@ -7,7 +7,7 @@ ghost use Rattle.trace_text.specs.Reading.{Answers};
 
 use crate::entry::{entry_at, number};
 use crate::fault::{LONGEST_TRACE_TEXT, TraceFault, TraceFaultKind};
-use rv32_image::{Version, Words, cut, parts_of, words_of};
+use rv32_image::{NumberedLines, Version, Words, cut, parts_of, words_of};
 use spec_history::Entry;
 use std::alloc::Global;
 
@@ -39,22 +39,20 @@ pub fn read_trace(
             kind: TraceFaultKind::TooLong,
         });
     }
-    let parts = parts_of(text, b"trace ");
-    let Some(below) = parts.below else {
+    let mut lines = parts_of(text, b"trace ").below;
+    let Some((number, head)) = lines.next() else {
         return Err(TraceFault {
             line: 0,
             kind: TraceFaultKind::Head,
         });
     };
-    let (head, rest) = cut(below, b'\n');
-    let line = parts.number as u32;
     let Some(cores) = cores_in(version, head) else {
         return Err(TraceFault {
-            line,
+            line: number as u32,
             kind: TraceFaultKind::Head,
         });
     };
-    let entries = read_lines(alloc, rest, line + 1)?;
+    let entries = read_lines(alloc, lines)?;
     Ok((cores, entries))
 }
 
@@ -74,18 +72,16 @@ fn cores_in(version: Version, head: &[u8]) -> Option<u32>
     }
 }
 
-/// The entries of the lines from this one on.
+/// The entries of the lines that are left.
 #[inline(never)]
-fn read_lines(alloc: Global, lines: Option<&[u8]>, first: u32) -> Result<Vec<Entry>, TraceFault>
-    requires { first + length (pieces_after 10 lines) < 2 ^ 32 }
-    ensures { Answers (λ entries. entries.items) result (spec.lines_read first (pieces_after 10 lines.entry)) }
+fn read_lines(alloc: Global, mut lines: NumberedLines) -> Result<Vec<Entry>, TraceFault>
+    requires { lines.number + length (pieces_after 10 lines.rest) < 2 ^ 32 }
+    ensures { Answers (λ entries. entries.items) result (spec.lines_read lines.entry.number (pieces_after 10 lines.entry.rest)) }
 {
     let mut entries = Vec::new(alloc);
-    let mut number = first;
-    let mut rest = lines;
-    while let Some(text) = rest {
-        rest = push_line(&mut entries, number, text)?;
-        number += 1;
+    while let Some((number, text)) = lines.ahead() {
+        let rest = push_line(&mut entries, number as u32, text)?;
+        lines.pass(rest);
     }
     Ok(entries)
 }

@@ -6,10 +6,15 @@ use Rattle.rv32_image.proofs.Lines.{lines_read-ok, lines_read-none, fault_of_lin
 use Rattle.rv32_image.proofs.text.read_lines.Goals as goal
 
 pub loop-number-init : goal.loop-number-init
-loop-number-init c = record {
-  same = ap (λ d. lines_read 1 d (pieces 10 c.args.text.now)) c.blank-draft.ensures;
-  few = omega (arith, few_lines c.args.text.now, c.requires);
-}
+loop-number-init c =
+    let text = c.args.text.now in
+    let draft = c.blank-draft.result in
+    let all : pieces_after 10 c.of-lines.result.rest ≡ pieces 10 text = ap (pieces_after 10) c.of-lines.ensures.rest in
+    record {
+      same = ap (λ n. lines_read n draft (pieces_after 10 c.of-lines.result.rest)) c.of-lines.ensures.number
+          ∙ (ap (lines_read 1 draft) all ∙ ap (λ d. lines_read 1 d (pieces 10 text)) c.blank-draft.ensures);
+      few = omega (arith, c.of-lines.ensures.number, ap length all, few_lines text, c.requires);
+    }
 
 pub loop-number-preserved : goal.loop-number-preserved
 loop-number-preserved c =

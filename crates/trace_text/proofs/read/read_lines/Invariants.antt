@@ -4,11 +4,11 @@ use Rattle.trace_text.specs.TraceText.{joined, lines_read}
 use Rattle.trace_text.proofs.read.read_lines.Given as goal
 
 -- the entries so far, and those of the lines that are left
-abbrev pub invariant-loop-rest : goal.invariant-loop-rest
-invariant-loop-rest l = record {
-  same : joined (Ok l.entries.items) (lines_read l.number (pieces_after 10 l.rest)) ≡ lines_read l.fn.first (pieces_after 10 l.fn.lines);
-  few : l.number + length (pieces_after 10 l.rest) < 2 ^ 32;
+abbrev pub invariant-loop-number : goal.invariant-loop-number
+invariant-loop-number l = record {
+  same : joined (Ok l.entries.items) (lines_read l.lines.number (pieces_after 10 l.lines.rest)) ≡ lines_read l.fn.lines.number (pieces_after 10 l.fn.lines.rest);
+  few : l.lines.number + length (pieces_after 10 l.lines.rest) < 2 ^ 32;
 }
 
-abbrev pub decreases-loop-rest : goal.decreases-loop-rest
-decreases-loop-rest l = length (pieces_after 10 l.rest)
+abbrev pub decreases-loop-number : goal.decreases-loop-number
+decreases-loop-number l = length (pieces_after 10 l.lines.rest)
