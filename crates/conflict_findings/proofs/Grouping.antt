@@ -1,4 +1,4 @@
--- When two pairs have the same addresses.
+-- When two numbers are the same, and when two pairs have the same addresses.
 use Rattle.std.proofs.Common.{◌≡◌, ℕ, ◌==◌, ◌&&◌, Bool, true, false, cond, nat_lt, refl, sym, ap, ◌∙◌, arith, eq-eqb, eqb-true, ltb-true}
 use Rattle.std.proofs.lemmas.Bool.{false_from_ne_true}
 use Rattle.std.specs.Ordering.{is_eq, nat_cmp, ordering_then}
@@ -23,10 +23,13 @@ second_so false false no_both = refl
 apart : (a b : ℕ) → nat_lt a b ≡ true → (a == b) ≡ false
 apart a b less = false_from_ne_true (a == b) (λ same. omega (arith, ltb-true a b less, eqb-true a b same))
 
+pub same_number : (a b : ℕ) → is_eq (nat_cmp a b) ≡ (a == b)
+same_number a b = second_so (nat_lt a b) (a == b) (apart a b)
+
 pub at_pair : (p q : Pair) → is_eq (by_addresses (p.store, p.load) (q.store, q.load)) ≡ is_pair p q
 at_pair p q =
     first_so (nat_lt p.store q.store) (p.store == q.store) (nat_cmp p.load q.load) (apart p.store q.store)
-    ∙ ap (λ b. (p.store == q.store) && b) (second_so (nat_lt p.load q.load) (p.load == q.load) (apart p.load q.load))
+    ∙ ap (λ b. (p.store == q.store) && b) (same_number p.load q.load)
 
 flip_eq : (a b : ℕ) (t : Bool) → (a == b) ≡ t → (b == a) ≡ t
 flip_eq a b true is = eq-eqb b a (sym (eqb-true a b is))

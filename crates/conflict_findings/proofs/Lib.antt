@@ -2,7 +2,7 @@ pub mod Marking
 pub mod Growing
 pub mod Losing
 pub mod Ahead
-pub mod Following
+pub mod Noting
 pub mod Counting
 mod Beginning
 mod RunsBelow

@@ -84,11 +84,11 @@ lost_at image count entries place = lost_of (option_to_list (ended_at image coun
 
 -- ---- a violation
 
-ended_victim : (image : LoadedImage) (s : FlatState) (place by core : ℕ) (a c : CoreState) → s.cores by ≡ Some a → s.cores core ≡ Some c
-    → ended_as image s place Violated by core ≡ Some (ended_with image place Violated (record { core = by; epoch = a.epoch }) core c)
-ended_victim image s place by core a c causer victim =
-    ap (λ (o : Option CoreState). option_and_then (λ (r : Runner). option_map (ended_with image place Violated r core) (s.cores core)) (option_map (λ (x : CoreState). record { core = by; epoch = x.epoch }) o)) causer
-    ∙ ap (option_map (ended_with image place Violated (record { core = by; epoch = a.epoch }) core)) victim
+ended_victim : (image : LoadedImage) (entries : List Entry) (s : FlatState) (place by core : ℕ) (a c : CoreState) → s.cores by ≡ Some a → s.cores core ≡ Some c
+    → ended_as image entries s place Violated by core ≡ Some (ended_with image entries place Violated (record { core = by; epoch = a.epoch }) core c)
+ended_victim image entries s place by core a c causer victim =
+    ap (λ (o : Option CoreState). option_and_then (λ (r : Runner). option_map (ended_with image entries place Violated r core) (s.cores core)) (option_map (λ (x : CoreState). record { core = by; epoch = x.epoch }) o)) causer
+    ∙ ap (option_map (ended_with image entries place Violated (record { core = by; epoch = a.epoch }) core)) victim
 
 lost_there : (image : LoadedImage) (count : ℕ) (entries : List Entry) (last : FlatState) (e : Explanation) → IsImage image → replay image count entries ≡ Some last → IsExplained image count entries e
     → lost_at image count entries e.place ≡ e.lost ∷ []
@@ -100,8 +100,8 @@ lost_there image count entries last e is replays so =
     let found = found_core image count s e.victim.core e.victim.epoch x.violated kept x.victim_runs x.victim_epoch in
     ap (λ (o : Option Ended). lost_of (option_to_list o))
     (ended_is image count entries e.place s _ so.replays x.entry
-    ∙ (ap (option_and_then (ended_as image s e.place Violated e.causer.core)) found
-    ∙ ended_victim image s e.place e.causer.core e.victim.core x.causing x.violated x.causer_runs x.victim_runs))
+    ∙ (ap (option_and_then (ended_as image entries s e.place Violated e.causer.core)) found
+    ∙ ended_victim image entries s e.place e.causer.core e.victim.core x.causing x.violated x.causer_runs x.victim_runs))
     ∙ ap (λ n. n ∷ []) (sym x.lost)
 
 all_there : (image : LoadedImage) (count : ℕ) (entries : List Entry) (last : FlatState) (found : List Explanation) → IsImage image → replay image count entries ≡ Some last
@@ -114,39 +114,39 @@ all_there image count entries last (e ∷ es) is replays all =
 
 -- ---- another entry violates nothing
 
-other_end : (image : LoadedImage) (place core : ℕ) (ending : Ending) (r : Option Runner) (o : Option CoreState) → ending ≢ Violated
-    → lost_of (option_to_list (option_and_then (λ (x : Runner). option_map (ended_with image place ending x core) o) r)) ≡ []
-other_end image place core ending None o other = refl
-other_end image place core ending (Some x) None other = refl
-other_end image place core Committed (Some x) (Some c) other = refl
-other_end image place core Violated (Some x) (Some c) other = absurd (other refl)
-other_end image place core Cancelled (Some x) (Some c) other = refl
+other_end : (image : LoadedImage) (entries : List Entry) (place core : ℕ) (ending : Ending) (r : Option Runner) (o : Option CoreState) → ending ≢ Violated
+    → lost_of (option_to_list (option_and_then (λ (x : Runner). option_map (ended_with image entries place ending x core) o) r)) ≡ []
+other_end image entries place core ending None o other = refl
+other_end image entries place core ending (Some x) None other = refl
+other_end image entries place core Committed (Some x) (Some c) other = refl
+other_end image entries place core Violated (Some x) (Some c) other = absurd (other refl)
+other_end image entries place core Cancelled (Some x) (Some c) other = refl
 
-pick_none : (image : LoadedImage) (s : FlatState) (place by core : ℕ) (b : Bool) → lost_of (option_to_list (cond b None (ended_as image s place Cancelled by core))) ≡ []
-pick_none image s place by core true = refl
-pick_none image s place by core false = other_end image place core Cancelled (runner_in s by) (s.cores core) (λ e. cc)
+pick_none : (image : LoadedImage) (entries : List Entry) (s : FlatState) (place by core : ℕ) (b : Bool) → lost_of (option_to_list (cond b None (ended_as image entries s place Cancelled by core))) ≡ []
+pick_none image entries s place by core true = refl
+pick_none image entries s place by core false = other_end image entries place core Cancelled (runner_in s by) (s.cores core) (λ e. cc)
 
-cancels_none : (image : LoadedImage) (s : FlatState) (place by : ℕ) (o : Option ℕ)
-    → lost_of (option_to_list (option_and_then (λ k. cond (has (s.cores k) (λ c. c.hurt)) None (ended_as image s place Cancelled by k)) o)) ≡ []
-cancels_none image s place by None = refl
-cancels_none image s place by (Some core) = pick_none image s place by core (has (s.cores core) (λ c. c.hurt))
+cancels_none : (image : LoadedImage) (entries : List Entry) (s : FlatState) (place by : ℕ) (o : Option ℕ)
+    → lost_of (option_to_list (option_and_then (λ k. cond (has (s.cores k) (λ c. c.hurt)) None (ended_as image entries s place Cancelled by k)) o)) ≡ []
+cancels_none image entries s place by None = refl
+cancels_none image entries s place by (Some core) = pick_none image entries s place by core (has (s.cores core) (λ c. c.hurt))
 
-quiet : (image : LoadedImage) (count : ℕ) (s : FlatState) (place by : ℕ) (what : What) → is_hurt what ≡ false → lost_of (option_to_list (ended_by image count s place by what)) ≡ []
-quiet image count s place by (Start epoch) calm = refl
-quiet image count s place by (Load address width value) calm = refl
-quiet image count s place by (Store address width value) calm = refl
-quiet image count s place by (Hurt epoch) calm = absurd cc
-quiet image count s place by (Cancel epoch) calm = cancels_none image s place by (core_at count s epoch)
-quiet image count s place by Restart calm = refl
-quiet image count s place by Publish calm = refl
-quiet image count s place by Commit calm = other_end image place by Committed (runner_in s by) (s.cores by) (λ e. cc)
-quiet image count s place by (Fault cause pc) calm = other_end image place by Committed (runner_in s by) (s.cores by) (λ e. cc)
+quiet : (image : LoadedImage) (count : ℕ) (entries : List Entry) (s : FlatState) (place by : ℕ) (what : What) → is_hurt what ≡ false → lost_of (option_to_list (ended_by image count entries s place by what)) ≡ []
+quiet image count entries s place by (Start epoch) calm = refl
+quiet image count entries s place by (Load address width value) calm = refl
+quiet image count entries s place by (Store address width value) calm = refl
+quiet image count entries s place by (Hurt epoch) calm = absurd cc
+quiet image count entries s place by (Cancel epoch) calm = cancels_none image entries s place by (core_at count s epoch)
+quiet image count entries s place by Restart calm = refl
+quiet image count entries s place by Publish calm = refl
+quiet image count entries s place by Commit calm = other_end image entries place by Committed (runner_in s by) (s.cores by) (λ e. cc)
+quiet image count entries s place by (Fault cause pc) calm = other_end image entries place by Committed (runner_in s by) (s.cores by) (λ e. cc)
 
-quiet_by : (image : LoadedImage) (count : ℕ) (place : ℕ) (o : Option FlatState) (entry : Option Entry) → passes entry (λ e. is_hurt e.what) ≡ false
-    → lost_of (option_to_list (option_and_then (λ (s : FlatState). option_and_then (λ (e : Entry). ended_by image count s place e.by e.what) entry) o)) ≡ []
-quiet_by image count place None entry calm = refl
-quiet_by image count place (Some s) None calm = refl
-quiet_by image count place (Some s) (Some entry) calm = quiet image count s place entry.by entry.what calm
+quiet_by : (image : LoadedImage) (count : ℕ) (entries : List Entry) (place : ℕ) (o : Option FlatState) (entry : Option Entry) → passes entry (λ e. is_hurt e.what) ≡ false
+    → lost_of (option_to_list (option_and_then (λ (s : FlatState). option_and_then (λ (e : Entry). ended_by image count entries s place e.by e.what) entry) o)) ≡ []
+quiet_by image count entries place None entry calm = refl
+quiet_by image count entries place (Some s) None calm = refl
+quiet_by image count entries place (Some s) (Some entry) calm = quiet image count entries s place entry.by entry.what calm
 
 -- ---- all places
 
@@ -168,7 +168,7 @@ one_place image count entries place true is =
     ∙ ap (λ ns. flat_map f (violations_before entries place) ++ ns) (flat_map-cons f place [] ∙ append-nil (f place)))
 one_place image count entries place false is =
     let f = lost_at image count entries in
-    ap (λ ns. flat_map f (violations_before entries place) ++ ns) (quiet_by image count place (state_before image count entries place) (slice_get entries place) is)
+    ap (λ ns. flat_map f (violations_before entries place) ++ ns) (quiet_by image count entries place (state_before image count entries place) (slice_get entries place) is)
     ∙ append-nil (flat_map f (violations_before entries place))
 
 by_places : (image : LoadedImage) (count : ℕ) (entries : List Entry) (place : ℕ) → lost_of (ended_before image count entries place) ≡ flat_map (lost_at image count entries) (violations_before entries place)

@@ -18,6 +18,7 @@ pub mod Roles
 pub mod Violated
 -- What is kept of the numbers and the ends of attempts, of pairs, and of all sums.
 pub mod Followed
+pub mod Numbers
 pub mod KnownEnds
 pub mod ByPair
 pub mod AllSums

@@ -1,5 +1,5 @@
 -- How many violations belong to a part, and what they lost.
-use Rattle.std.specs.Prelude.{ℕ, ◌+◌, ◌*◌, ◌^◌, ◌<◌, ◌≤◌, List, if◌then◌else◌, count_by, sum_by}
+use Rattle.std.specs.Prelude.{ℕ, ◌+◌, ◌^◌, ◌<◌, List, if◌then◌else◌, count_by, sum_by}
 use Rattle.conflict_findings.specs.declared.part.Part.{Part}
 use Rattle.conflict_findings.specs.declared.part.Part.TheVariants.{Whole}
 use Rattle.conflict_findings.specs.declared.rollback.Rollback.{Rollback}
@@ -20,10 +20,10 @@ lost_in part rollbacks = sum_by (lost_by part) rollbacks
 abbrev pub sum_in : Part → List Rollback → Sum
 sum_in part rollbacks = record { count = count_in part rollbacks; lost = lost_in part rollbacks }
 
--- one violation more can be counted twice with what this cost
+-- one violation more can be counted with what this cost, and an instruction may count it twice
 pub record IsRoomy (sum : Sum) : Type 0 where
-  pub count : 2 * (sum.count + 1) < 2 ^ 32
-  pub lost : 2 * (sum.lost + 2 ^ 64) ≤ 2 ^ 128
+  pub count : sum.count + 1 < 2 ^ 31
+  pub lost : sum.lost < 2 ^ 126
 
 -- one violation more, which lost so much, can be counted with these
 pub record HasRoom (rollbacks : List Rollback) (more : ℕ) : Type 0 where

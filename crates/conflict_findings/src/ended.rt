@@ -24,6 +24,8 @@ pub struct Ended {
     pub by: Runner,
     /// Whose attempt it was, and at which epoch.
     pub runner: Runner,
+    /// Which run of its epoch it was, counted from 1.
+    pub attempt: usize,
     /// How many instructions it had executed when it learnt of its end: up to its next event.
     pub done: u64,
 }
@@ -33,6 +35,8 @@ pub struct Ended {
 pub struct Running {
     /// Whose attempt it is, and at which epoch.
     pub runner: Runner,
+    /// Which run of its epoch it is, counted from 1.
+    pub attempt: usize,
     /// How many instructions it has executed, up to its next event.
     pub done: u64,
 }

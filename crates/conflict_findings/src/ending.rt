@@ -3,9 +3,11 @@
 ghost use Rattle.std.specs.Prelude.{◌≡◌, option_map};
 ghost use Rattle.spec_history.specs.View.{state_in};
 ghost use Rattle.conflict_findings.specs.Ends as spec;
+ghost use Rattle.conflict_findings.specs.Followed.{IsFollowed};
 ghost use Rattle.conflict_findings.specs.Violated.{AreMarked};
 
 use crate::ended::{Ended, Ending};
+use crate::followed::Followed;
 use crate::violated::is_violated;
 use conflicts::{Runner, core_at};
 use spec_history::{Entry, Flat, What};
@@ -28,8 +30,17 @@ pub(crate) fn done_at(flat: &Flat, core: u32) -> Option<u64>
 }
 
 /// The attempt of a core, which ends so by an entry at a place.
-fn ended_as(flat: &Flat, place: usize, ending: Ending, by: u32, core: u32) -> Option<Ended>
-    ensures { result ≡ spec.ended_as flat.now.image (state_in flat.now) place ending by core }
+fn ended_as(
+    flat: &Flat,
+    entries: &[Entry],
+    followed: &Followed,
+    place: usize,
+    ending: Ending,
+    by: u32,
+    core: u32,
+) -> Option<Ended>
+    requires { IsFollowed entries.now followed.now }
+    ensures { result ≡ spec.ended_as flat.now.image entries.now (state_in flat.now) place ending by core }
 {
     let by = runner_at(flat, by)?;
     let runner = runner_at(flat, core)?;
@@ -39,6 +50,7 @@ fn ended_as(flat: &Flat, place: usize, ending: Ending, by: u32, core: u32) -> Op
         ending,
         by,
         runner,
+        attempt: followed.attempt_number(entries, core, place),
         done,
     })
 }
@@ -48,42 +60,48 @@ fn cancelled(
     flat: &Flat,
     cores: u32,
     entries: &[Entry],
+    followed: &Followed,
     place: usize,
     by: u32,
     epoch: u32,
 ) -> Option<Ended>
-    requires { AreMarked entries.now place (state_in flat.now).cores }
-    ensures { result ≡ spec.cancelled flat.now.image cores (state_in flat.now) place by epoch }
+    requires marked { AreMarked entries.now place (state_in flat.now).cores }
+    requires followed { IsFollowed entries.now followed.now }
+    ensures { result ≡ spec.cancelled flat.now.image cores entries.now (state_in flat.now) place by epoch }
 {
     let core = core_at(flat, cores, epoch)?;
     let runner = runner_at(flat, core)?;
     if is_violated(entries, runner, place) {
         return None;
     }
-    ended_as(flat, place, Ending::Cancelled, by, core)
+    ended_as(flat, entries, followed, place, Ending::Cancelled, by, core)
 }
 
-/// The attempt that the entry at a place ends, if it ends one. It takes the machine before the entry, and the whole history.
+/// The attempt that the entry at a place ends, if it ends one. It takes the machine before the entry, the whole history, and what is kept
+/// of its attempts.
 ///
 /// The entries before the place have to say which attempts are violated, as those do that the machine has replayed.
 pub fn ended_by(
     flat: &Flat,
     cores: u32,
     entries: &[Entry],
+    followed: &Followed,
     place: usize,
     entry: Entry,
 ) -> Option<Ended>
-    requires { AreMarked entries.now place (state_in flat.now).cores }
-    ensures { result ≡ spec.ended_by flat.now.image cores (state_in flat.now) place entry.by entry.what }
+    requires marked { AreMarked entries.now place (state_in flat.now).cores }
+    requires followed { IsFollowed entries.now followed.now }
+    ensures { result ≡ spec.ended_by flat.now.image cores entries.now (state_in flat.now) place entry.by entry.what }
 {
+    let by = entry.by;
     match entry.what {
         What::Hurt(epoch) => {
             let core = core_at(flat, cores, epoch)?;
-            ended_as(flat, place, Ending::Violated, entry.by, core)
+            ended_as(flat, entries, followed, place, Ending::Violated, by, core)
         }
-        What::Cancel(epoch) => cancelled(flat, cores, entries, place, entry.by, epoch),
+        What::Cancel(epoch) => cancelled(flat, cores, entries, followed, place, by, epoch),
         What::Commit | What::Fault { .. } => {
-            ended_as(flat, place, Ending::Committed, entry.by, entry.by)
+            ended_as(flat, entries, followed, place, Ending::Committed, by, by)
         }
         What::Start(_) | What::Load { .. } | What::Store { .. } | What::Restart | What::Publish =>
             None,

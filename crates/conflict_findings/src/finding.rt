@@ -92,7 +92,7 @@ pub fn finding_of(
     ensures found { result ≡ spec.finding_of image.now entries.now sites.now e.now }
     ensures followed { IsFollowed entries.now followed.new }
 {
-    let attempt = followed.attempt(entries, *e);
+    let attempt = followed.attempt_number(entries, e.victim.core, e.place);
     let undone = followed.undone_at(entries, *e);
     Finding {
         place: e.place,

@@ -34,7 +34,8 @@ impl Sum {
 
     /// Whether no violation is added any more.
     pub(crate) fn is_full(self) -> bool
-        ensures { result ≡ false → spec.IsRoomy self }
+        ensures roomy { result ≡ false → spec.IsRoomy self }
+        ensures full { spec.IsRoomy self → result ≡ false }
     {
         self.count >= MOST || self.lost >= MOST_LOST
     }

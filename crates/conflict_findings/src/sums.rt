@@ -57,7 +57,8 @@ impl Sums {
 
     /// Adds a violation to each sum that it belongs to.
     ///
-    /// An Err says that memory was refused, or that 2,147,483,647 violations are summed, or what lost 2^126 instructions.
+    /// An Err says that memory was refused, or that 2,147,483,647 violations are summed, or what lost 2^126 instructions. The sums are
+    /// of no use after it: some have the violation, and others have not.
     pub fn add(&mut self, rollback: &Rollback) -> Result<(), AllocError>
         requires { (rollbacks : List Rollback) × spec.AreAllSums rollbacks self.old }
         ensures { OnOk result ((rollbacks : List Rollback) → spec.AreAllSums rollbacks self.old

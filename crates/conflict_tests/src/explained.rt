@@ -1,5 +1,8 @@
 //! Worked histories and what explains their violations.
 
+ghost use Rattle.std.specs.Prelude.{OnOk};
+ghost use Rattle.conflict_findings.specs.Followed.{IsFollowed};
+
 use crate::rows::{
     BUFFER_FULL, BUFFER_FULL_FATES, BUFFER_FULL_PAIRS, BUFFER_FULL_SUMS, BUFFER_FULL_VIOLATIONS,
     COMMITTED_BYTES, COMMITTED_BYTES_VIOLATIONS, HISTOGRAM, HISTOGRAM_FATES, HISTOGRAM_PAIRS,
@@ -11,14 +14,27 @@ use conflict_findings::{
     Access, Bounds, Fates, Finding, Followed, Pair, PairSum, Part, Rollback, Sum, Sums, SumsByKind,
     finding_of, pairs_by_weight,
 };
-use conflicts::{Blame, ByteRange, Explanation, Kind, Runner, Site, explain, sites};
+use conflicts::{
+    Blame, ByteRange, Explanation, Kind, Runner, Site, attempt_number, explain, sites,
+};
 use rv32_exec::{Image, image_of};
 use spec_history::{Entry, What};
-use std::alloc::Global;
+use std::alloc::{AllocError, Global};
 use std::collections::BTreeMap;
 use std::process::Abort;
 use std::test::Fail;
 use trace_text::{image_part, read_trace};
+
+/// Notes the entries before a place.
+fn note_before(followed: &mut Followed, entries: &[Entry], place: usize) -> Result<(), AllocError>
+    requires { IsFollowed entries.now followed.old }
+    ensures { OnOk result (IsFollowed entries.now followed.new) }
+{
+    for _ in followed.numbers.place..place {
+        followed.note(entries)?;
+    }
+    Ok(())
+}
 
 /// A worked history.
 #[derive(Drop)]
@@ -60,9 +76,10 @@ impl Worked {
     fn found(&self, alloc: Global) -> Result<Vec<Finding>, Fail> {
         let explained = self.explained(alloc)?;
         let stood = self.sites(alloc)?;
-        let mut followed = Followed::new();
+        let mut followed = Followed::new(alloc);
         let mut found = Vec::new(alloc);
         for e in explained {
+            note_before(&mut followed, self.entries.as_slice(), e.place)?;
             found.push(finding_of(
                 &self.image,
                 self.entries.as_slice(),
@@ -75,8 +92,8 @@ impl Worked {
     }
 
     /// What is found of one violation, where nothing is kept of attempts before.
-    fn found_alone(&self, stood: &[Option<Site>], e: &Explanation) -> Finding {
-        let mut followed = Followed::new();
+    fn found_alone(&self, alloc: Global, stood: &[Option<Site>], e: &Explanation) -> Finding {
+        let mut followed = Followed::new(alloc);
         finding_of(
             &self.image,
             self.entries.as_slice(),
@@ -257,7 +274,7 @@ fn are_found_alone(rt: &impl Abort, alloc: Global, text: &str) -> Result<(), Fai
     let found = worked.found(alloc)?;
     assert!(rt; !found.is_empty() && found.len() == explained.len());
     for (explanation, finding) in explained.iter().zip(found.iter()) {
-        let alone = worked.found_alone(stood.as_slice(), explanation);
+        let alone = worked.found_alone(alloc, stood.as_slice(), explanation);
         assert!(rt; alone == *finding, "{}", finding.place);
     }
     Ok(())
@@ -276,8 +293,9 @@ fn finds_in_order_what_it_finds_alone(rt: HostRuntime) -> Result<(), Fail> {
 /// Whether a row tells the place and the attempt of a violation, and at which places the causer's attempt was undone and the victim's epoch was
 /// cancelled.
 fn has_ends(explanation: &Explanation, entries: &[Entry], row: &str) -> bool {
+    let number = attempt_number(entries, explanation.victim.core, explanation.place);
     explanation.place == index(row, 0)
-        && explanation.attempt(entries) == index(row, 2)
+        && number == index(row, 2)
         && is_over_there(explanation, entries, row)
         && explanation.moot_at(entries) == place_in(row, 6)
 }

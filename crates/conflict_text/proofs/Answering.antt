@@ -80,7 +80,7 @@ pub is_report : (image : LoadedImage) (cores : ℕ) (history : List Entry) (site
 is_report image cores history sites homefree lines attempts rest totals is counted printed =
     let ended = ended_before image cores history (length history) in
     let running = running_after image cores history in
-    let attempts_told = attempt_lines history ended running in
+    let attempts_told = attempt_lines ended running in
     let known = sites_before image cores history (length history) in
     let found = found_of image cores history known in
     let told : lines ≡ told_lines (map found counted.found) = counted.told ∙ ap (λ (xs : List (Option Site)). told_lines (map (found_of image cores history xs) counted.found)) is in

@@ -56,23 +56,23 @@ told_count ending apart es = filtered (λ (e : Ended). cond (is_ended ending e) 
 
 -- ---- lines
 
-line_step : (entries : List Entry) (e : Ended) (ending : Ending) (rest : List ℕ) → cond (not (is_same ending Violated)) (line_by entries e ending ++ rest) rest ≡ line_by entries e ending ++ rest
-line_step entries e Committed rest = refl
-line_step entries e Violated rest = refl
-line_step entries e Cancelled rest = refl
+line_step : (e : Ended) (ending : Ending) (rest : List ℕ) → cond (not (is_same ending Violated)) (line_by e ending ++ rest) rest ≡ line_by e ending ++ rest
+line_step e Committed rest = refl
+line_step e Violated rest = refl
+line_step e Cancelled rest = refl
 
 out_lines : (f : Ended → List ℕ) (e : Ended) (es : List Ended) (b : Bool) → flat_map f (cond b (e ∷ es) es) ≡ cond b (f e ++ flat_map f es) (flat_map f es)
 out_lines f e es true = refl
 out_lines f e es false = refl
 
-told_lines : (entries : List Entry) (es : List Ended) → flat_map (ended_line entries) (filter is_told es) ≡ flat_map (ended_line entries) es
-told_lines entries [] = refl
-told_lines entries (e ∷ es) =
-    out_lines (ended_line entries) e (filter is_told es) (is_told e)
-    ∙ (line_step entries e e.ending (flat_map (ended_line entries) (filter is_told es)) ∙ ap (λ t. ended_line entries e ++ t) (told_lines entries es))
+told_lines : (es : List Ended) → flat_map ended_line (filter is_told es) ≡ flat_map ended_line es
+told_lines [] = refl
+told_lines (e ∷ es) =
+    out_lines ended_line e (filter is_told es) (is_told e)
+    ∙ (line_step e e.ending (flat_map ended_line (filter is_told es)) ∙ ap (λ t. ended_line e ++ t) (told_lines es))
 
-told_attempts : (entries : List Entry) (es : List Ended) (os : List Running) → attempt_lines entries (filter is_told es) os ≡ attempt_lines entries es os
-told_attempts entries es os = ap (λ t. t ++ attempt_lines entries [] os) (told_lines entries es)
+told_attempts : (es : List Ended) (os : List Running) → attempt_lines (filter is_told es) os ≡ attempt_lines es os
+told_attempts es os = ap (λ t. t ++ attempt_lines [] os) (told_lines es)
 
 -- ---- the total
 
@@ -115,7 +115,7 @@ told_totals image homefree rs es os sums are = record {
 
 counted_in : (image : LoadedImage) (cores : ℕ) (history : List Entry) (sites : List (Option Site)) (homefree : ℕ) (lines attempts : List ℕ) (sums : Sums) (es : List Ended) (os : List Running) (totals : Totals)
     → AreFound image cores history sites (length history) lines sums → es ≡ filter is_told (ended_before image cores history (length history)) → os ≡ running_after image cores history
-    → attempts ≡ attempt_lines history es os → ((rs : List Rollback) → AreAllSums rs sums → AreTotals image homefree rs es os totals)
+    → attempts ≡ attempt_lines es os → ((rs : List Rollback) → AreAllSums rs sums → AreTotals image homefree rs es os totals)
     → AreCounted image cores history sites homefree lines attempts totals
 counted_in image cores history sites homefree lines attempts sums es os totals found ended running told summed =
     let all = ended_before image cores history (length history) in
@@ -127,14 +127,14 @@ counted_in image cores history sites homefree lines attempts sums es os totals f
       counted = told_totals image homefree rs all after totals
           (subst (λ (xs : List Ended). AreTotals image homefree rs xs after totals) ended
           (subst (λ (xs : List Running). AreTotals image homefree rs es xs totals) running (summed rs found.summed)));
-      printed = told ∙ (ap₂ (attempt_lines history) ended running ∙ told_attempts history all after);
+      printed = told ∙ (ap₂ attempt_lines ended running ∙ told_attempts all after);
     }
 
 -- the slices are the lists that own them
 pub counted_of : (image : LoadedImage) (cores : ℕ) (part history : List Entry) (given sites : List (Option Site)) (homefree : ℕ) (lines attempts : List ℕ) (sums : Sums) (es : List Ended) (os : List Running) (totals : Totals)
     → part ≡ history → given ≡ sites
     → AreFound image cores part given (length part) lines sums → es ≡ filter is_told (ended_before image cores part (length part)) → os ≡ running_after image cores part
-    → attempts ≡ attempt_lines part es os → ((rs : List Rollback) → AreAllSums rs sums → AreTotals image homefree rs es os totals)
+    → attempts ≡ attempt_lines es os → ((rs : List Rollback) → AreAllSums rs sums → AreTotals image homefree rs es os totals)
     → AreCounted image cores history sites homefree lines attempts totals
 counted_of image cores part history given sites homefree lines attempts sums es os totals same stood found ended running told summed =
     subst (λ (xs : List (Option Site)). AreCounted image cores history xs homefree lines attempts totals) stood

@@ -1,11 +1,9 @@
 -- The lines of attempts that were cancelled and of those that go on, and what the total says of attempts.
 -- Source: this project.
-use Rattle.std.specs.Prelude.{ℕ, Bool, not, List, [], ◌++◌, codes, length}
+use Rattle.std.specs.Prelude.{ℕ, Bool, not, List, [], ◌++◌, codes}
 use Rattle.std.specs.Fmt.{decimal}
 use Rattle.std.specs.List.{flat_map}
-use Rattle.spec_history.specs.declared.entry.Entry.{Entry}
 use Rattle.conflicts.specs.declared.explanation.Runner.{Runner}
-use Rattle.conflicts.specs.Attempts.{attempt_number}
 use Rattle.conflict_findings.specs.declared.ended.Ended.{Ended}
 use Rattle.conflict_findings.specs.declared.ended.Ending.{Ending}
 use Rattle.conflict_findings.specs.declared.ended.Ending.TheVariants.{Cancelled, Committed, Violated}
@@ -13,36 +11,35 @@ use Rattle.conflict_findings.specs.declared.ended.Running.{Running}
 use Rattle.conflict_findings.specs.declared.tally.Tally.{Tally}
 use Rattle.conflict_findings.specs.Tallies.{done_in, is_ended, tally_in, tally_of_running}
 
--- whose attempt it is before a place, and which run of its epoch
-abbrev pub runner_text : List Entry → ℕ → Runner → List ℕ
-runner_text entries place r =
-    codes " epoch " ++ decimal r.epoch ++ codes " try " ++ decimal (attempt_number entries r.core place) ++ codes " core " ++ decimal r.core
+-- whose attempt it is, and which run of its epoch
+abbrev pub runner_text : Runner → ℕ → List ℕ
+runner_text r attempt = codes " epoch " ++ decimal r.epoch ++ codes " try " ++ decimal attempt ++ codes " core " ++ decimal r.core
 
 -- an attempt that was cancelled: whose it was, what it had executed, and by whom
-unfoldable pub cancel_line : List Entry → Ended → List ℕ
-cancel_line entries e =
-    codes "cancel " ++ decimal e.place ++ runner_text entries e.place e.runner ++ codes " lost " ++ decimal e.done
+unfoldable pub cancel_line : Ended → List ℕ
+cancel_line e =
+    codes "cancel " ++ decimal e.place ++ runner_text e.runner e.attempt ++ codes " lost " ++ decimal e.done
     ++ codes " by " ++ decimal e.by.epoch ++ codes " core " ++ decimal e.by.core ++ codes "\n"
 
-abbrev pub line_by : List Entry → Ended → Ending → List ℕ
-line_by entries e Cancelled = cancel_line entries e
-line_by entries e ending = []
+abbrev pub line_by : Ended → Ending → List ℕ
+line_by e Cancelled = cancel_line e
+line_by e ending = []
 
 -- of the attempts that ended, those that were cancelled have a line
-abbrev pub ended_line : List Entry → Ended → List ℕ
-ended_line entries e = line_by entries e e.ending
+abbrev pub ended_line : Ended → List ℕ
+ended_line e = line_by e e.ending
 
 -- an attempt that goes on after the history: whose it is, and what it has executed
-unfoldable pub open_line : List Entry → Running → List ℕ
-open_line entries o = codes "open" ++ runner_text entries (length entries) o.runner ++ codes " done " ++ decimal o.done ++ codes "\n"
+unfoldable pub open_line : Running → List ℕ
+open_line o = codes "open" ++ runner_text o.runner o.attempt ++ codes " done " ++ decimal o.done ++ codes "\n"
 
 -- of an attempt that was violated its violation tells
 abbrev pub is_told : Ended → Bool
 is_told e = not (is_ended Violated e)
 
 -- the lines of both, in order
-abbrev pub attempt_lines : List Entry → List Ended → List Running → List ℕ
-attempt_lines entries ended running = flat_map (ended_line entries) ended ++ flat_map (open_line entries) running
+abbrev pub attempt_lines : List Ended → List Running → List ℕ
+attempt_lines ended running = flat_map ended_line ended ++ flat_map open_line running
 
 -- ---- in the total
 

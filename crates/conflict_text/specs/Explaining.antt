@@ -21,5 +21,5 @@ pub record IsReport (image : LoadedImage) (cores : ℕ) (history : List Entry) (
   pub found : List Explanation
   pub each_once : places_of found ≡ violations_before history (length history)
   pub explained : All (IsExplained image cores history) found
-  pub printed : IsPrinted image homefree history (map (found_of image cores history (sites_before image cores history (length history))) found)
+  pub printed : IsPrinted image homefree (map (found_of image cores history (sites_before image cores history (length history))) found)
       (ended_before image cores history (length history)) (running_after image cores history) text

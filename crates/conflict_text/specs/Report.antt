@@ -6,7 +6,6 @@ use Rattle.std.specs.Fmt.{decimal}
 use Rattle.std.specs.List.{flat_map}
 use Rattle.rv32_image.specs.Image.{LoadedImage}
 use Rattle.rv32_image.specs.Version.{limits_of}
-use Rattle.spec_history.specs.declared.entry.Entry.{Entry}
 use Rattle.conflict_findings.specs.declared.ended.Ended.{Ended}
 use Rattle.conflict_findings.specs.declared.ended.Running.{Running}
 use Rattle.conflict_findings.specs.declared.finding.Finding.{Finding}
@@ -143,7 +142,7 @@ pub record IsSummary (image : LoadedImage) (homefree : ℕ) (rollbacks : List Ro
       ++ flat_map (pc_line rollbacks) instructions.entries ++ kind_lines rollbacks ++ total_line image homefree rollbacks ended running
 
 -- the violations in order, each with its further runs, the attempts that were cancelled and those that go on, and the sums
-pub record IsPrinted (image : LoadedImage) (homefree : ℕ) (entries : List Entry) (found : List (Finding × List FurtherRun)) (ended : List Ended) (running : List Running) (text : List ℕ) : Type 0 where
+pub record IsPrinted (image : LoadedImage) (homefree : ℕ) (found : List (Finding × List FurtherRun)) (ended : List Ended) (running : List Running) (text : List ℕ) : Type 0 where
   pub sums : List ℕ
   pub summed : IsSummary image homefree (map (λ (v : Finding × List FurtherRun). rollback_of v.0) found) ended running sums
-  pub printed : text ≡ told_lines found ++ attempt_lines entries ended running ++ sums
+  pub printed : text ≡ told_lines found ++ attempt_lines ended running ++ sums

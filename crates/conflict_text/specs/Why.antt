@@ -48,7 +48,7 @@ pub record AreCounted (image : LoadedImage) (cores : ℕ) (history : List Entry)
   pub are : AreExplained image cores history (length history) found
   pub told : lines ≡ told_lines (map (found_of image cores history sites) found)
   pub counted : AreTotals image homefree (map (rollback_at image history sites) found) (ended_before image cores history (length history)) (running_after image cores history) sums
-  pub printed : attempts ≡ attempt_lines history (ended_before image cores history (length history)) (running_after image cores history)
+  pub printed : attempts ≡ attempt_lines (ended_before image cores history (length history)) (running_after image cores history)
 
 -- what is written of a history by the verdict of its audit: the report, or the line of the entry that is refused
 abbrev pub IsTold : LoadedImage → ℕ → List Entry → Verdict → List ℕ → Type 0

@@ -5,20 +5,13 @@ ghost use Rattle.conflict_text.specs.Ends as spec;
 
 use crate::words::push_named;
 use conflict_findings::{Ended, Ending, Ends, Running, Tally, tally_as, tally_running};
-use conflicts::{Runner, attempt_number};
-use spec_history::Entry;
+use conflicts::Runner;
 use std::alloc::{AllocError, Global};
 
-/// Whose attempt it is before a place, and which run of its epoch.
-fn push_runner(
-    text: &mut Vec<u8>,
-    entries: &[Entry],
-    place: usize,
-    runner: Runner,
-) -> Result<(), AllocError>
-    ensures { OnOk result (text.new.items ≡ text.old.items ++ spec.runner_text entries.now place runner) }
+/// Whose attempt it is, and which run of its epoch.
+fn push_runner(text: &mut Vec<u8>, runner: Runner, attempt: usize) -> Result<(), AllocError>
+    ensures { OnOk result (text.new.items ≡ text.old.items ++ spec.runner_text runner attempt) }
 {
-    let attempt = attempt_number(entries, runner.core, place);
     push_named(text, b" epoch ", runner.epoch as u128)?;
     push_named(text, b" try ", attempt as u128)?;
     push_named(text, b" core ", runner.core as u128)
@@ -26,11 +19,11 @@ fn push_runner(
 
 /// The line of an attempt that was cancelled.
 #[tactic(auto, unfolding(crate::specs::Ends::cancel_line))]
-fn push_cancelled(text: &mut Vec<u8>, entries: &[Entry], e: Ended) -> Result<(), AllocError>
-    ensures { OnOk result (text.new.items ≡ text.old.items ++ spec.cancel_line entries.now e) }
+fn push_cancelled(text: &mut Vec<u8>, e: Ended) -> Result<(), AllocError>
+    ensures { OnOk result (text.new.items ≡ text.old.items ++ spec.cancel_line e) }
 {
     push_named(text, b"cancel ", e.place as u128)?;
-    push_runner(text, entries, e.place, e.runner)?;
+    push_runner(text, e.runner, e.attempt)?;
     push_named(text, b" lost ", e.done as u128)?;
     push_named(text, b" by ", e.by.epoch as u128)?;
     push_named(text, b" core ", e.by.core as u128)?;
@@ -38,61 +31,53 @@ fn push_cancelled(text: &mut Vec<u8>, entries: &[Entry], e: Ended) -> Result<(),
 }
 
 /// The line of an attempt that ended, if it was cancelled.
-fn push_ended(text: &mut Vec<u8>, entries: &[Entry], e: Ended) -> Result<(), AllocError>
-    ensures { OnOk result (text.new.items ≡ text.old.items ++ spec.ended_line entries.now e) }
+fn push_ended(text: &mut Vec<u8>, e: Ended) -> Result<(), AllocError>
+    ensures { OnOk result (text.new.items ≡ text.old.items ++ spec.ended_line e) }
 {
     match e.ending {
-        Ending::Cancelled => push_cancelled(text, entries, e),
+        Ending::Cancelled => push_cancelled(text, e),
         Ending::Committed | Ending::Violated => Ok(()),
     }
 }
 
 /// The lines of those that were cancelled.
-fn push_all_ended(text: &mut Vec<u8>, entries: &[Entry], ended: &[Ended]) -> Result<(), AllocError>
-    ensures { OnOk result (text.new.items ≡ text.old.items ++ flat_map (spec.ended_line entries.now) ended.now) }
+fn push_all_ended(text: &mut Vec<u8>, ended: &[Ended]) -> Result<(), AllocError>
+    ensures { OnOk result (text.new.items ≡ text.old.items ++ flat_map spec.ended_line ended.now) }
 {
     for e in ended {
-        push_ended(text, entries, *e)?;
+        push_ended(text, *e)?;
     }
     Ok(())
 }
 
 /// The line of an attempt that goes on.
 #[tactic(auto, unfolding(crate::specs::Ends::open_line))]
-fn push_open(text: &mut Vec<u8>, entries: &[Entry], running: Running) -> Result<(), AllocError>
-    ensures { OnOk result (text.new.items ≡ text.old.items ++ spec.open_line entries.now running) }
+fn push_open(text: &mut Vec<u8>, running: Running) -> Result<(), AllocError>
+    ensures { OnOk result (text.new.items ≡ text.old.items ++ spec.open_line running) }
 {
     text.extend_from_slice(b"open")?;
-    push_runner(text, entries, entries.len(), running.runner)?;
+    push_runner(text, running.runner, running.attempt)?;
     push_named(text, b" done ", running.done as u128)?;
     text.extend_from_slice(b"\n")
 }
 
 /// The lines of those that go on.
-fn push_all_open(
-    text: &mut Vec<u8>,
-    entries: &[Entry],
-    running: &[Running],
-) -> Result<(), AllocError>
-    ensures { OnOk result (text.new.items ≡ text.old.items ++ flat_map (spec.open_line entries.now) running.now) }
+fn push_all_open(text: &mut Vec<u8>, running: &[Running]) -> Result<(), AllocError>
+    ensures { OnOk result (text.new.items ≡ text.old.items ++ flat_map spec.open_line running.now) }
 {
     for attempt in running {
-        push_open(text, entries, *attempt)?;
+        push_open(text, *attempt)?;
     }
     Ok(())
 }
 
 /// The lines of attempts that were cancelled, in order, and of those that go on.
-pub(crate) fn attempt_lines(
-    alloc: Global,
-    entries: &[Entry],
-    ends: &Ends,
-) -> Result<Vec<u8>, AllocError>
-    ensures { IfOk result (λ text. text.items ≡ spec.attempt_lines entries.now ends.now.ended.items ends.now.running.items) }
+pub(crate) fn attempt_lines(alloc: Global, ends: &Ends) -> Result<Vec<u8>, AllocError>
+    ensures { IfOk result (λ text. text.items ≡ spec.attempt_lines ends.now.ended.items ends.now.running.items) }
 {
     let mut text = Vec::new(alloc);
-    push_all_ended(&mut text, entries, ends.ended.as_slice())?;
-    push_all_open(&mut text, entries, ends.running.as_slice())?;
+    push_all_ended(&mut text, ends.ended.as_slice())?;
+    push_all_open(&mut text, ends.running.as_slice())?;
     Ok(text)
 }
 

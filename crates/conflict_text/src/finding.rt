@@ -119,7 +119,7 @@ fn before_sums(
         homefree,
     } = gather(alloc, &image, cores, entries, sites.as_slice())?;
     let Findings { lines, sums, .. } = findings;
-    let attempts = attempt_lines(alloc, entries, &ends)?;
+    let attempts = attempt_lines(alloc, &ends)?;
     let totals = totals_of(alloc, &image, homefree, sums, &ends)?;
     let report = Report {
         violations: lines,
@@ -159,12 +159,15 @@ fn gather(
             &known.behind,
             explained,
         )?;
-        keep_ended(&mut ended, ended_by(&flat, cores, entries, place, *entry))?;
+        let followed = &findings.followed;
+        let found = ended_by(&flat, cores, entries, followed, place, *entry);
+        keep_ended(&mut ended, found)?;
+        findings.followed.note(entries)?;
         let Ok(_) = flat.apply(*entry) else {
             return Err(AllocError);
         };
     }
-    let running = running_in(alloc, &flat, cores, entries)?;
+    let running = running_in(alloc, &flat, cores, entries, &findings.followed)?;
     Ok(Gathered {
         findings,
         ends: Ends { ended, running },
@@ -182,7 +185,7 @@ impl Findings {
         Findings {
             lines: Vec::new(alloc),
             sums: Sums::new(alloc),
-            followed: Followed::new(),
+            followed: Followed::new(alloc),
         }
     }
 

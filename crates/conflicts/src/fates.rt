@@ -1,11 +1,9 @@
 //! What became of a violation.
 
 ghost use Rattle.std.specs.Prelude.{◌≡◌, ◌&&◌, nat_lt};
-ghost use Rattle.conflicts.specs.Attempts as attempts;
 ghost use Rattle.spec_history.specs.Conflict.{entry_is};
 ghost use Rattle.conflicts.specs.Fates as spec;
 
-use crate::accesses::attempt_number;
 use crate::explanation::{Explanation, Runner};
 use crate::standing::Site;
 use spec_history::{Entry, What};
@@ -78,13 +76,6 @@ fn first_after(entries: &[Entry], place: usize, sign: Sign, runner: Runner) -> O
 }
 
 impl Explanation {
-    /// Which run of its epoch the violated attempt was, counted from 1. It looks back to the start of the epoch.
-    pub fn attempt(&self, entries: &[Entry]) -> usize
-        ensures { result ≡ attempts.attempt_number entries.now self.now.victim.core self.now.place }
-    {
-        attempt_number(entries, self.victim.core, self.place)
-    }
-
     /// Over: the place of the entry after this violation that ends the causer's attempt: it violates or cancels its epoch, or
     /// commits it.
     ///

@@ -5,4 +5,4 @@ use Rattle.conflict_findings.proofs.running.running_in.Given as goal
 
 -- those of the cores so far
 abbrev pub invariant-loop-core : goal.invariant-loop-core
-invariant-loop-core l = l.running.items ≡ running_below l.flat.image (state_in l.flat) l.core
+invariant-loop-core l = l.running.items ≡ running_below l.flat.image l.entries (state_in l.flat) l.core

@@ -5,4 +5,4 @@ use Rattle.conflict_text.proofs.ends.push_all_ended.Given as goal
 
 -- those so far are told
 abbrev pub invariant-loop-e : goal.invariant-loop-e
-invariant-loop-e l = l.text.items ≡ l.initial.text.items ++ flat_map (ended_line l.entries) (take l.e-index l.ended)
+invariant-loop-e l = l.text.items ≡ l.initial.text.items ++ flat_map ended_line (take l.e-index l.ended)

@@ -5,4 +5,4 @@ use Rattle.conflict_text.proofs.ends.push_all_open.Given as goal
 
 -- those so far are told
 abbrev pub invariant-loop-attempt : goal.invariant-loop-attempt
-invariant-loop-attempt l = l.text.items ≡ l.initial.text.items ++ flat_map (open_line l.entries) (take l.attempt-index l.running)
+invariant-loop-attempt l = l.text.items ≡ l.initial.text.items ++ flat_map open_line (take l.attempt-index l.running)

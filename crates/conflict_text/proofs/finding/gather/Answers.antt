@@ -56,11 +56,17 @@ loop-place-preserved c =
       marked = marked_in flat c.apply.new.self entries place _ there applied was.marked;
       found = more_found image cores (state_in flat) entries c.args.sites.now place c.in_ok-explained.explained _ _ _ _ was.replays shown found.explained was.found
           c.in_ok-keep.ensures.told c.in_ok-keep.ensures.summed;
-      ended = told_more c.ended_by.result (ended_before image cores entries place) _ c.loop-place.ended.items _
-          (ended_more image flat.image cores entries place (state_in flat) _ _ _ _ was.image was.replays there c.ended_by.ensures refl refl) was.ended c.in_ok-keep_ended.ensures;
+      ended = told_more c.ended_by-found.result (ended_before image cores entries place) _ c.loop-place.ended.items _
+          (ended_more image flat.image cores entries place (state_in flat) _ _ _ _ was.image was.replays there c.ended_by-found.ensures refl refl) was.ended c.in_ok-keep_ended.ensures;
       known = found.known;
-      followed = c.in_ok-keep.ensures.followed;
+      followed = c.in_ok-note.ensures.known;
     }
+
+pub running_in-requires-clause-marked : goal.running_in-requires-clause-marked
+running_in-requires-clause-marked c =
+    let entries = c.args.entries.now in
+    let last : c.loop-place.place ≡ length entries = omega (arith, c.loop-place-test.false, c.loop-place.auto.place-end) in
+    subst (λ n. AreMarked entries n (state_in c.loop-place.flat).cores) last c.loop-place.invariant.marked
 
 pub returns : goal.returns
 returns c =
@@ -75,6 +81,6 @@ returns c =
     let replays = sym (ap (replay image cores) whole) ∙ was.replays in record {
       found = subst (λ n. AreFound image cores entries c.args.sites.now n c.loop-place.findings.lines.items c.loop-place.findings.sums) last was.found;
       ended = was.ended ∙ ap (λ n. filter is_told (ended_before image cores entries n)) last;
-      running = c.in_ok-running.ensures ∙ (ap (λ i. running_below i (state_in flat) cores) was.image ∙ sym (ap (running_from image cores) replays));
+      running = c.in_ok-running.ensures ∙ (ap (λ i. running_below i entries (state_in flat) cores) was.image ∙ sym (ap (running_from image cores entries) replays));
       verdict = (state_in flat, replays, c.homefree.ensures, refl);
     }

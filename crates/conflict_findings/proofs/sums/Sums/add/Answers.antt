@@ -5,28 +5,28 @@ use Rattle.conflict_findings.proofs.Pushing.{sum_yes}
 use Rattle.conflict_findings.proofs.sums.Sums.add.Goals as goal
 
 pub more-self-requires-2 : goal.more-self-requires-2
-more-self-requires-2 c = (c.requires.0, c.requires.1.kinds_are, own_room c.requires.0 c.args.rollback.now c.args.self.now.whole c.requires.1.whole_is (c.is_full.ensures c.if-is_full.false) (omega arith))
+more-self-requires-2 c = (c.requires.0, c.requires.1.kinds_are, own_room c.requires.0 c.args.rollback.now c.args.self.now.whole c.requires.1.whole_is (c.is_full.ensures.roomy c.if-is_full.false) (omega arith))
 
 pub add_by-requires : goal.add_by-requires
-add_by-requires c = (c.requires.0, c.requires.1.epochs_are, own_room c.requires.0 c.args.rollback.now c.args.self.now.whole c.requires.1.whole_is (c.is_full.ensures c.if-is_full.false) (omega arith))
+add_by-requires c = (c.requires.0, c.requires.1.epochs_are, own_room c.requires.0 c.args.rollback.now c.args.self.now.whole c.requires.1.whole_is (c.is_full.ensures.roomy c.if-is_full.false) (omega arith))
 
 pub add_by-requires-2 : goal.add_by-requires-2
-add_by-requires-2 c = (c.requires.0, c.requires.1.lines_are, own_room c.requires.0 c.args.rollback.now c.args.self.now.whole c.requires.1.whole_is (c.is_full.ensures c.if-is_full.false) (omega arith))
+add_by-requires-2 c = (c.requires.0, c.requires.1.lines_are, own_room c.requires.0 c.args.rollback.now c.args.self.now.whole c.requires.1.whole_is (c.is_full.ensures.roomy c.if-is_full.false) (omega arith))
 
 pub add-requires : goal.add-requires
-add-requires c = (c.requires.0, c.requires.1.kind_lines_are, own_room c.requires.0 c.args.rollback.now c.args.self.now.whole c.requires.1.whole_is (c.is_full.ensures c.if-is_full.false) (omega arith))
+add-requires c = (c.requires.0, c.requires.1.kind_lines_are, own_room c.requires.0 c.args.rollback.now c.args.self.now.whole c.requires.1.whole_is (c.is_full.ensures.roomy c.if-is_full.false) (omega arith))
 
 pub add_by-requires-3 : goal.add_by-requires-3
-add_by-requires-3 c = (c.requires.0, c.requires.1.loads_are, own_room c.requires.0 c.args.rollback.now c.args.self.now.whole c.requires.1.whole_is (c.is_full.ensures c.if-is_full.false) (omega arith))
+add_by-requires-3 c = (c.requires.0, c.requires.1.loads_are, own_room c.requires.0 c.args.rollback.now c.args.self.now.whole c.requires.1.whole_is (c.is_full.ensures.roomy c.if-is_full.false) (omega arith))
 
 pub add_by-requires-4 : goal.add_by-requires-4
-add_by-requires-4 c = (c.requires.0, c.requires.1.stores_are, own_room c.requires.0 c.args.rollback.now c.args.self.now.whole c.requires.1.whole_is (c.is_full.ensures c.if-is_full.false) (omega arith))
+add_by-requires-4 c = (c.requires.0, c.requires.1.stores_are, own_room c.requires.0 c.args.rollback.now c.args.self.now.whole c.requires.1.whole_is (c.is_full.ensures.roomy c.if-is_full.false) (omega arith))
 
 pub add-requires-2 : goal.add-requires-2
-add-requires-2 c = (c.requires.0, c.requires.1.pairs_are, own_room c.requires.0 c.args.rollback.now c.args.self.now.whole c.requires.1.whole_is (c.is_full.ensures c.if-is_full.false) (omega arith))
+add-requires-2 c = (c.requires.0, c.requires.1.pairs_are, own_room c.requires.0 c.args.rollback.now c.args.self.now.whole c.requires.1.whole_is (c.is_full.ensures.roomy c.if-is_full.false) (omega arith))
 
 pub add_in_roles-requires : goal.add_in_roles-requires
-add_in_roles-requires c = (c.requires.0, c.requires.1.instructions_are, roles_room c.requires.0 c.args.rollback.now c.args.self.now.whole c.requires.1.whole_is (c.is_full.ensures c.if-is_full.false) (omega arith))
+add_in_roles-requires c = (c.requires.0, c.requires.1.instructions_are, roles_room c.requires.0 c.args.rollback.now c.args.self.now.whole c.requires.1.whole_is (c.is_full.ensures.roomy c.if-is_full.false) (omega arith))
 
 pub returns : goal.returns
 returns c rs was = record {
