@@ -1,10 +1,8 @@
 -- What the program answers, from what its commands do.
-use Rattle.std.proofs.Common.{◌≡◌, ◌⊎◌, ℕ, List, Option, Some, None, inl, inr}
+use Rattle.std.proofs.Common.{◌≡◌, ℕ, List, Option, Some, None, inl, inr}
 use Rattle.rv32_image.specs.Reading.{ForText}
 use Rattle.trace_commands.specs.declared.outcome.Outcome.{Outcome}
-use Rattle.trace_commands.specs.declared.outcome.Outcome.TheVariants.{Usage, Stopped}
-use Rattle.trace_commands.specs.declared.outcome.CommandStop.TheVariants.{NoMemory}
-use Rattle.trace_commands.specs.Outcome.{Conclusion, AppendsPrefix, error_line, status_of}
+use Rattle.trace_commands.specs.Outcome.{Conclusion, AppendsPrefix, IsNoWords, error_line, status_of}
 use Rattle.trace_commands.specs.Program.{Stream}
 use Rattle.trace_commands.proofs.Programs.{kept, unread_answers}
 use Rattle.trace_cli.specs.declared.words.Request.{Request}
@@ -13,10 +11,10 @@ use Rattle.trace_cli.specs.Work.{IsDone, WorkAnswers}
 
 -- no command was run
 pub no_command_answers : (room : ℕ) (input output : Option (List ℕ)) (errors : Stream) (outcome : Outcome) (status : ℕ)
-    → (outcome ≡ Usage) ⊎ (outcome ≡ Stopped NoMemory) → status ≡ status_of outcome → AppendsPrefix errors.old errors.new (error_line outcome)
+    → IsNoWords outcome → status ≡ status_of outcome → AppendsPrefix errors.old errors.new (error_line outcome)
     → ForText input (λ text. WorkAnswers room text (kept input) (kept output) errors status)
 no_command_answers room input output errors outcome status which is line =
-    unread_answers (λ it. (it ≡ Usage) ⊎ (it ≡ Stopped NoMemory)) (λ text. WorkAnswers room text (kept input) (kept output) errors status) input output errors outcome status
+    unread_answers IsNoWords (λ text. WorkAnswers room text (kept input) (kept output) errors status) input output errors outcome status
     which is line (λ text so. record { outcome = so.outcome; output = inr so.output; status = so.status; line = so.line })
 
 -- a command that was run answers for what it did

@@ -1,13 +1,11 @@
 -- What the program answers.
-use Rattle.std.specs.Prelude.{◌≡◌, ◌⊎◌, ℕ, ◌+◌, List}
+use Rattle.std.specs.Prelude.{◌⊎◌, ℕ, ◌+◌, List}
 use Rattle.rv32_image.specs.ImageText.{longest_image_text}
 use Rattle.rv32_image.specs.Input.{TakesAtMost}
 use Rattle.trace_text.specs.TraceText.{longest_trace_text}
 use Rattle.trace_commands.specs.declared.outcome.Outcome.{Outcome}
-use Rattle.trace_commands.specs.declared.outcome.Outcome.TheVariants.{Usage, Stopped}
-use Rattle.trace_commands.specs.declared.outcome.CommandStop.TheVariants.{NoMemory}
 use Rattle.trace_commands.specs.Audit.{IsAuditOutcome}
-use Rattle.trace_commands.specs.Outcome.{Conclusion, IsSeqOutcome}
+use Rattle.trace_commands.specs.Outcome.{Conclusion, IsNoWords, IsSeqOutcome}
 use Rattle.trace_commands.specs.Program.{IsUnread, Stream}
 use Rattle.run_command.specs.Run.{IsRunOutcome}
 use Rattle.trace_cli.specs.declared.words.Request.{Request}
@@ -30,7 +28,7 @@ IsCommand room text input output outcome = (request : Request) × IsRequest requ
 
 -- no command was run, as the words are none or memory ran out: nothing was read, and nothing written but the error line
 abbrev pub IsNoCommand : Stream → Stream → Outcome → Type 0
-IsNoCommand input output outcome = IsUnread (λ it. (it ≡ Usage) ⊎ (it ≡ Stopped NoMemory)) input output outcome
+IsNoCommand input output outcome = IsUnread IsNoWords input output outcome
 
 -- what the program answers for a text, with so much room for a history
 abbrev pub WorkAnswers : ℕ → List ℕ → Stream → Stream → Stream → ℕ → Type 0

@@ -1,4 +1,4 @@
-use Rattle.std.proofs.Common.{refl, inl, inr, rules}
+use Rattle.std.proofs.Common.{rules}
 use Rattle.trace_commands.specs.declared.outcome.Outcome.TheVariants.{Usage, Stopped}
 use Rattle.trace_commands.specs.declared.outcome.CommandStop.TheVariants.{NoMemory}
 use Rattle.trace_commands.specs.Audit.{IsAuditOutcome}
@@ -44,10 +44,10 @@ pub returns-in-Err-Usage : goal.returns-in-Err-Usage
 returns-in-Err-Usage g c =
     no_command_answers c.args.room (g.R.Read.remaining c.args.reader.now) (g.W.Write.contents c.args.writer.now)
     (record { old = g.E.Write.contents c.args.errors.now; new = g.E.Write.contents c.conclude.new.errors })
-    Usage c.conclude.result (inl refl) c.conclude.ensures.status c.conclude.ensures.line
+    Usage c.conclude.result tt c.conclude.ensures.status c.conclude.ensures.line
 
 pub returns-in-Err-NoMemory : goal.returns-in-Err-NoMemory
 returns-in-Err-NoMemory g c =
     no_command_answers c.args.room (g.R.Read.remaining c.args.reader.now) (g.W.Write.contents c.args.writer.now)
     (record { old = g.E.Write.contents c.args.errors.now; new = g.E.Write.contents c.conclude-in-Err-NoMemory.new.errors })
-    (Stopped NoMemory) c.conclude-in-Err-NoMemory.result (inr refl) c.conclude-in-Err-NoMemory.ensures.status c.conclude-in-Err-NoMemory.ensures.line
+    (Stopped NoMemory) c.conclude-in-Err-NoMemory.result tt c.conclude-in-Err-NoMemory.ensures.status c.conclude-in-Err-NoMemory.ensures.line
