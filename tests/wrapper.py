@@ -48,8 +48,9 @@ echo "said of $crate"
 case $last in
     --*) ;;
     *.o) printf '#!/bin/sh\\necho "words $*"\\ncat\\nexit 3\\n' >"$last"; chmod +x "$last" ;;
-    *) mkdir -p "$last" ;;
-esac
+    *) mkdir -p "$last/lang/antt/proofs"; cat src/* specs/* >"$last/interface" 2>/dev/null; cp -r proofs/* "$last/lang/antt/proofs"
+        cat src/* proofs/* | sed "s/^/sum /" >"$last/format" ;;
+esac 2>/dev/null
 """
 LINKER = """\
 #!/bin/sh
@@ -112,7 +113,7 @@ def rows():
         output, errors, status, calls = tree.run()
         log = (tree.top / "out" / "trace_cli.log").read_text()
         good = (output, status, calls, len(errors)) == ("words seq b c\ngiven\n", 3, BUILD, 2)
-        good = good and errors[0].startswith("trace_cli: not built for these sources yet; 3 of its 3 crates are to be proved, on ")
+        good = good and errors[0].startswith("trace_cli: not built for these sources yet; 3 of 3 crates are to be proved, on ")
         good = good and errors[1] == "trace_cli: proved and built in 0 min 00 s"
         if not good:
             return f"got {output!r}, {errors!r}, {status}, {calls!r}"
@@ -177,6 +178,21 @@ def rows():
         return (tree.is_run(["bench build", *BUILD[:2]], tree.top / "bench") or tree.is_run([], tree.top / "bench")
                 or tree.is_run(BUILD[2:]))
 
+    def all_programs(tree):
+        (tree.top / "bench").symlink_to("trace_cli")
+        output, errors, status, calls = tree.run(tree.top / "tools/build", words=())
+        good = (output, status, calls, len(errors)) == ("", 0, ["bench build", *BUILD], 2)
+        if not (good and errors[0].startswith("programs: not built for these sources yet; 4 of 4 crates are to be proved, on ")):
+            return f"got {output!r}, {errors!r}, {status}, {calls!r}"
+        again = tree.run(tree.top / "tools/build", words=())
+        return tree.is_run([]) or tree.is_run([], tree.top / "bench") or (None if again == ("", [], 0, []) else f"again: got {again}")
+
+    def all_programs_with_one_refused(tree):
+        (tree.top / "bench").symlink_to("trace_cli")
+        output, errors, status, _ = tree.run(tree.top / "tools/build", words=(), REFUSED="bench")
+        wanted = "programs: bench is not proved and built; out/programs.log has what the checker says, which ends so:"
+        return None if (output, status) == ("", 1) and wanted in errors and "said of bench" in errors else f"got {output!r}, {errors!r}, {status}"
+
     def from_its_folder(tree):
         tree.is_run(BUILD)
         done = subprocess.run(["sh", "trace_cli", "seq"], cwd=tree.top, input="", text=True, capture_output=True, check=False)
@@ -224,7 +240,8 @@ def rows():
         ("second run", after(lambda tree: None, [])),
         ("a source that changed", after(lambda tree: tree.write("crates/low/src/lib.rt", "LOW"), BUILD)),
         ("a source that changed, with an old time", after(with_an_old_time, BUILD)),
-        ("a proof that changed", after(lambda tree: tree.write("crates/low/proofs/Lib.antt", "PROOF"), BUILD)),
+        ("a proof that changed", after(lambda tree: tree.write("crates/low/proofs/Lib.antt", "PROOF"), BUILD[:1])),
+        ("a promise that changed", after(lambda tree: tree.write("crates/low/specs/Lib.antt", "PROMISE"), BUILD)),
         ("a new specification", after(lambda tree: tree.write("crates/middle/specs/Lib.antt", "new"), BUILD[1:])),
         ("a source that went", after(lambda tree: (tree.top / "crates/middle/src/lib.rt").unlink(), BUILD[1:])),
         ("a source that was touched", after(touched, [])),
@@ -238,6 +255,8 @@ def rows():
         ("a library went", after(lambda tree: shutil.rmtree(tree.top / "crates/low/out/statements"), [])),
         ("symbolic links", links),
         ("a link of another program's name", another_program),
+        ("all programs", all_programs),
+        ("all programs, of which one is refused", all_programs_with_one_refused),
         ("from its own folder", from_its_folder),
         ("a crate that is refused", refused),
         ("no program was made", no_program),

@@ -1,11 +1,15 @@
 #!/usr/bin/env python3
 """Tests tests/wrong-bodies/run, which tries wrong bodies on the prover: a small repository with one crate, and edits that have to
-be told as refused, and others, one in each form that says nothing of a contract, that have to be told as not refused.
+be told as refused, and others, one in each form that says nothing of a contract, that have to be told as not refused. In another
+crate with one edit its refusal has to be kept, and the edit be tried again where anything that was read has changed by a byte.
 
 Usage: tests/wrong_bodies.py
 
-Needs the command `rt` of the Rattle kit, and is skipped without it. It takes about a minute. Exits with 1 where a check failed.
+Needs the command `rt` of the Rattle kit, and is skipped without it. It takes about two minutes. Exits with 1 where a check failed.
 """
+import contextlib
+import json
+import os
 import re
 import shutil
 import subprocess
@@ -173,9 +177,56 @@ EDITS = {
 }
 
 
+# A crate over another one, and its edit.
+LOW = """\
+//! The number one.
+#![tactic(auto)]
+ghost use Rattle.std.specs.Prelude.{◌≡◌};
+
+/// One.
+pub fn one() -> u32
+    ensures { result ≡ 1 }
+{
+    1
+}
+"""
+OVER = """\
+//! The number two.
+#![tactic(auto)]
+ghost use Rattle.std.specs.Prelude.{◌≡◌};
+ghost use Rattle.over.specs.Two.{two};
+
+use low::one;
+
+/// Two.
+pub fn next_to_one() -> u32
+    ensures { result ≡ two }
+{
+    one() + 1
+}
+"""
+TWO = """\
+-- The number two.
+use Rattle.std.specs.Prelude.{ℕ}
+
+abbrev pub two : ℕ
+two = 2
+"""
+OVER_ANSWERS = """\
+use Rattle.std.proofs.Common.{arith}
+use Rattle.over.proofs.next_to_one.Goals as goal
+
+pub returns : goal.returns
+returns c = let one = c.one.ensures in omega (arith, one)
+"""
+OVER_EDIT = [("    one() + 1", "    one() + 2")]
+NOTES = "rattle-kept/wrong-bodies"
+
+
 def write(path, text):
     path.parent.mkdir(parents=True, exist_ok=True)
     path.write_text(text)
+    return path
 
 
 def edit_text(pairs):
@@ -190,7 +241,13 @@ def edit_text(pairs):
 def repository(top):
     """Lays out a repository with the crate `steps`, its edits and the tool."""
     subprocess.run(["git", "init", "--quiet", str(top)], check=True)
-    write(top / "crates.txt", "steps:\n")
+    write(top / "crates.txt", "steps:\nlow:\nover: low\n")
+    write(top / "crates/low/src/lib.rt", LOW)
+    write(top / "crates/over/src/lib.rt", OVER)
+    write(top / "crates/over/specs/Lib.antt", "pub mod Two\n")
+    write(top / "crates/over/specs/Two.antt", TWO)
+    write(top / "crates/over/proofs/next_to_one/Answers.antt", OVER_ANSWERS)
+    write(top / "tests/wrong-bodies/over/next_to_one_is_three.edit", edit_text(OVER_EDIT))
     write(top / "crates/steps/src/lib.rt", SOURCE)
     write(top / "crates/steps/proofs/next_but_one/Answers.antt", ANSWERS)
     long_answers = ANSWERS.replace("next_but_one", LONG_NAME).replace("next-one", f"next-{LONG_STEP}")
@@ -202,23 +259,93 @@ def repository(top):
         shutil.copy(file, top / file.relative_to(TOP))
 
 
-def told(top):
-    """What the tool prints of each edit, its last line and its status."""
-    ran = subprocess.run([top / "tests/wrong-bodies/run", "steps"], capture_output=True, text=True, check=False)
-    lines = ran.stdout.splitlines()
-    return dict(re.findall(r"(?m)^steps/(\w+): (.*)$", ran.stdout)), lines[-1] if lines else ran.stderr, ran.returncode
+def kit_of_its_own(folder):
+    """A folder with links to all that the kit has, beside which nothing is kept yet, and an `rt` that names it: the path on which it stands."""
+    rt = shutil.which("rt")
+    page = Path(subprocess.run(["rt", "doc"], capture_output=True, text=True, check=True).stdout.strip())
+    (folder / "kit").mkdir()
+    for it in page.parent.iterdir():
+        (folder / "kit" / it.name).symlink_to(it)
+    write(folder / "bin/rt", f'#!/bin/sh\n[ "$1" != doc ] || {{ echo {folder}/kit/{page.name}; exit; }}\nexec {rt} "$@"\n').chmod(0o755)
+    return f"{folder}/bin:{os.environ['PATH']}"
+
+
+def told(top, path, *words):
+    """What the tool prints of each edit, its lines and its status."""
+    ran = subprocess.run([top / "tests/wrong-bodies/run", *words], capture_output=True, text=True, check=False, env={**os.environ, "PATH": path})
+    return dict(re.findall(r"(?m)^\w+/(\w+): (.*)$", ran.stdout)), ran.stdout.splitlines() or [ran.stderr], ran.returncode
+
+
+@contextlib.contextmanager
+def changed(path, aside):
+    """A time in which a file has a line feed more, or what a crate promises is written otherwise; meanwhile it lies aside. One of the kit is
+    a link."""
+    path.rename(aside)
+    text = aside.read_bytes()
+    path.write_bytes(text.replace(b"result", b"(result)", 1) if path.parts[-3:] == ("low", "src", "lib.rt") else text + b"\n")
+    path.chmod(aside.stat().st_mode)
+    yield
+    aside.rename(path)
+
+
+def what_is_read(top, folder):
+    """The files that a trial of the edit of the crate `over` reads, one of each kind."""
+    scripts = [*sorted((top / "tests/wrong-bodies").glob("*.py")), top / "tests/wrong-bodies/run", top / "tools/crates.py"]
+    crate = [top / "crates/over" / it for it in ("src/lib.rt", "specs/Two.antt", "proofs/next_to_one/Answers.antt")]
+    return [top / "tests/wrong-bodies/over/next_to_one_is_three.edit", *crate, folder / "kit/KIT-ID", *scripts]
+
+
+def keeping(top, folder, path):
+    """What is told of the edit of `over`, with what has to be told: of trials that find a refusal kept, and of those that may not take it."""
+    notes = folder / NOTES
+    yield "first", tried(top, path), "tried"
+    yield "again", tried(top, path), "kept"
+    for it in what_is_read(top, folder):
+        with changed(it, folder / "aside"):
+            yield f"{it.relative_to(folder)} changed", left(top, path), "1 to be tried, 0 kept"
+    yield "with each as it was", left(top, path), "0 to be tried, 1 kept"
+    with changed(top / "crates/low/src/lib.rt", folder / "aside"):
+        yield "the crate below changed", tried(top, path), "tried"
+    write(top / "crates.txt", (top / "crates.txt").read_text().replace("over: low", "over: low hex"))
+    yield "a line of crates.txt changed", tried(top, path), "tried"
+    yield "again after that", left(top, path), "0 to be tried, 1 kept"
+    yield "with --anew", left(top, path, "--anew"), "1 to be tried, 0 kept"
+    for it in notes.iterdir():
+        note = json.loads(it.read_text())
+        it.write_text(json.dumps({**note, "why": note["why"] + "."}))
+    yield "with notes of another text", tried(top, path), "tried"
+    notes.chmod(0o755)
+    yield "with notes that others can read", left(top, path), "1 to be tried, 0 kept"
+
+
+def tried(top, path):
+    """Whether the edit of `over` was tried, or a note taken; what was told, where that is neither."""
+    said, lines, status = told(top, path, "over")
+    why = said.get("next_to_one_is_three", "nothing")
+    for word, start, counts in (("tried", "refused: ", "1 tried, 0 kept"), ("kept", "kept, refused: ", "0 tried, 1 kept")):
+        if why.startswith(start) and lines[-2].startswith(counts) and lines[-1] == "1 refused, 0 failed" and status == 0:
+            return word
+    return "\n".join(lines)
+
+
+def left(top, path, *words):
+    """The last line of what is told of the edits that would be tried."""
+    return told(top, path, "--left", *words, "over")[1][-1]
 
 
 def main():
     if not shutil.which("rt"):
         print("skipped: the command rt of the Rattle kit is not installed")
         return 0
-    with tempfile.TemporaryDirectory() as folder:
-        repository(Path(folder))
-        said, last, status = told(Path(folder))
+    with tempfile.TemporaryDirectory() as name:
+        folder, top = Path(name), Path(name, "repository")
+        repository(top)
+        path = kit_of_its_own(folder)
+        said, lines, status = told(top, path, "steps")
+        kept = [*keeping(top, folder, path)]
     refused = sum(wanted.startswith("refused") for _, wanted in EDITS.values())
     checks = [(name, said.get(name, "nothing"), wanted) for name, (_, wanted) in EDITS.items()]
-    checks += [("the last line", last, f"{refused} refused, {len(EDITS) - refused} failed"), ("the status", str(status), "1")]
+    checks += [("the last line", lines[-1], f"{refused} refused, {len(EDITS) - refused} failed"), ("the status", str(status), "1"), *kept]
     failed = [it for it in checks if not it[1].startswith(it[2])]
     for name, got, wanted in failed:
         print(f"FAILED {name}: got {got!r}, wanted {wanted!r}")

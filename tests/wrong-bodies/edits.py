@@ -177,10 +177,9 @@ def lines_outside(text, function):
     return [*lines[: function.first - 1], *lines[function.last :]]
 
 
-def read_edit(path, sources):
-    """The edit in a file. It changes at least one function; what it changes outside of functions comes along."""
-    with open(path, encoding="utf-8") as it:
-        changes = changes_of(it.read())
+def read_edit(name, text, sources):
+    """The edit with this name and text. It changes at least one function; what it changes outside of functions comes along."""
+    changes = changes_of(text)
     texts, in_bodies = {}, True
     for it in changes:
         before = texts.get(it.file, sources.texts.get(it.file, ""))
@@ -193,7 +192,7 @@ def read_edit(path, sources):
         raise BadEdit("it changes nothing")
     if not functions:
         raise BadEdit("it changes no function")
-    return Edit(os.path.basename(path).removesuffix(".edit"), changes, frozenset(functions), in_bodies)
+    return Edit(name, changes, frozenset(functions), in_bodies)
 
 
 def changed_functions(sources, file, text):

@@ -1,0 +1,103 @@
+#!/usr/bin/env python3
+"""Tells each lemma that nothing reaches: tests/lemmas.py [FOLDER]
+
+A definition in a file of proofs/ is reached where a source, a definition in specs/, or an answer, an invariant or a proof of a function names it,
+or a definition that is itself reached. Names are compared and not what they stand for: one that is named anywhere counts as reached wherever it
+stands. So what is told is never needed, and `rt check` still decides. FOLDER has the crates; without it they are those of this repository.
+Exits with 1 where there is such a lemma.
+"""
+import re
+import sys
+from dataclasses import dataclass, field
+from pathlib import Path
+
+TOP = Path(__file__).resolve().parent.parent
+TOKEN = re.compile(r"[^\s(){}\[\],;⟨⟩\"]+")
+PARTS = re.compile(r"::|[.◌]")
+KINDS = r"(?:(?:pub|abbrev|unfoldable|private|opaque|data|record|codata) +)*"
+HEAD = re.compile(rf"{KINDS}([^\s(){{}}:=,;]+)")
+IN_MODULE = re.compile(rf"  {KINDS}([^\s(){{}}:=,;]+) :")
+IMPORT = re.compile(r"(?:pub )?(?:use|mod)\b")
+DIRECTIVE = re.compile(r"(?:infix\w*|syntax|open|#)")
+OF_FUNCTIONS = ("Answers.antt", "Invariants.antt", "Proof.antt")
+
+
+@dataclass
+class Definition:
+    """A definition of a file of proofs/: its name, the number of its first line, how many lines it has, and the words in them."""
+
+    file: Path
+    name: str
+    line: int
+    lines: int = 0
+    words: set[str] = field(default_factory=set)
+
+
+def words_of(line: str) -> set[str]:
+    """The words of a line, and the parts of those that are paths or operators."""
+    found = set(TOKEN.findall(line))
+    return found | {part for word in found for part in PARTS.split(word)}
+
+
+def without_remark(line: str, mark: str) -> str:
+    return line.partition(mark)[0].rstrip()
+
+
+def definitions_of(file: Path, roots: set[str]) -> list[Definition]:
+    """The definitions of a file, in order; what stands outside of each goes to the roots."""
+    found: dict[str, Definition] = {}
+    current, in_module = None, False
+    for number, whole in enumerate(file.read_text(encoding="utf-8").split("\n"), 1):
+        line = without_remark(whole, "--")
+        if not line or IMPORT.match(line):
+            continue
+        if line[0] not in " )}]":
+            in_module = line.startswith("module")
+            outside = in_module or DIRECTIVE.match(line)
+            head = None if outside else HEAD.match(line)
+            current = found.setdefault(head[1], Definition(file, head[1], number)) if head else None
+        elif in_module and (head := IN_MODULE.match(line)):
+            current = found.setdefault(head[1], Definition(file, head[1], number))
+        if current:
+            current.lines += 1
+            current.words |= words_of(line)
+        else:
+            roots |= words_of(line)
+    return [*found.values()]
+
+
+def unreached(folder: Path) -> tuple[list[Definition], int]:
+    """The definitions that nothing reaches, and how many there are in all."""
+    roots: set[str] = set()
+    all_of_them = []
+    for file in sorted(folder.glob("crates/*/proofs/**/*.antt")):
+        if file.name in OF_FUNCTIONS:
+            roots |= {it for line in file.read_text(encoding="utf-8").split("\n") for it in words_of(without_remark(line, "--"))}
+        elif file.name != "Lib.antt":
+            all_of_them += definitions_of(file, roots)
+    for file in folder.glob("crates/*/specs/**/*.antt"):
+        roots |= {it for line in file.read_text(encoding="utf-8").split("\n") for it in words_of(without_remark(line, "--"))}
+    for file in folder.glob("crates/*/src/**/*.rt"):
+        roots |= {it for line in file.read_text(encoding="utf-8").split("\n") for it in words_of(without_remark(line, "//"))}
+    by_name: dict[str, list[Definition]] = {}
+    for it in all_of_them:
+        by_name.setdefault(it.name, []).append(it)
+    seen: set[str] = set()
+    new = roots & by_name.keys()
+    while new:
+        seen |= new
+        new = {word for name in new for it in by_name[name] for word in it.words if word in by_name} - seen
+    return [it for it in all_of_them if it.name not in seen], len(all_of_them)
+
+
+def main() -> int:
+    folder = Path(sys.argv[1]) if len(sys.argv) > 1 else TOP
+    left, count = unreached(folder)
+    for it in left:
+        print(f"FAILED {it.file.relative_to(folder)}:{it.line}: nothing reaches {it.name}")
+    print(f"{count - len(left)} checks passed, {len(left)} failed")
+    return 1 if left else 0
+
+
+if __name__ == "__main__":
+    sys.exit(main())
