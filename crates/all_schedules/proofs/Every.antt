@@ -2,10 +2,9 @@
 use Rattle.std.proofs.Common.{◌≡◌, inl, inr, ℕ, zero, suc, ◌+◌, ◌*◌, ◌<◌, ◌≤◌, List, [], ◌∷◌, ◌++◌, All, length, get_or, take, Vec, refl, sym, ap, subst, ◌∙◌, arith, add-one}
 use Rattle.std.specs.List.{Contains}
 use Rattle.std.proofs.lemmas.Bool.{cases_eq}
-use Rattle.std.proofs.lemmas.List.{append-nil, length-append, length_push, length-take-le, map_push, take_all, take_more, append_assoc}
-use Rattle.std.proofs.lemmas.List.Concat.{flat_map-append}
-use Rattle.std.proofs.lemmas.List.Elements.{All-nil, All-append, All-push, All-head, All-tail, All-take, All-weaker, All-get_or, Contains-append_left, Contains-append_right, Contains-append_cases, Contains-push, Contains-push_cases}
-use native.Mathlib.Nat.{pow-suc, pow-zero}
+use Rattle.std.proofs.lemmas.List.{length-append, length_push, length-take-le, map_push, take_all, take_more, append_assoc}
+use Rattle.std.proofs.lemmas.List.Elements.{All-nil, All-append, All-push, All-head, All-tail, All-take, All-get_or, Contains-append_left, Contains-append_right, Contains-append_cases, Contains-push, Contains-push_cases}
+use native.Mathlib.Nat.{pow-suc}
 use Rattle.std.specs.declared.alloc.Global.{Global}
 use Rattle.all_schedules.specs.Schedules.{AreAllSchedules, IsSchedule, lists_of}
 use Rattle.all_schedules.specs.Longer.{going_on, longer}
@@ -115,18 +114,6 @@ all_more cores turns schedules all = record {
   every = λ schedule is. found cores turns schedule is schedules all.every;
 }
 
-no_turns : (schedule : List ℕ) → length schedule ≡ 0 → Contains ([] ∷ []) schedule
-no_turns [] none = Contains-push [] []
-no_turns (core ∷ schedule) none = absurd (omega (arith, none))
-
--- no turns at all
-pub all_none : (cores : ℕ) → AreAllSchedules cores 0 ([] ∷ [])
-all_none cores = record {
-  count = sym (pow-zero cores);
-  each = All-push (IsSchedule cores 0) [] [] (All-nil (IsSchedule cores 0)) (record { long = refl; by_cores = All-nil (λ k. k < cores) });
-  every = λ schedule is. no_turns schedule is.long;
-}
-
 -- ---- in vectors
 
 pub lists_of-push : (vectors : List (Vec ℕ Global)) (v : Vec ℕ Global) → lists_of (vectors ++ v ∷ []) ≡ lists_of vectors ++ v.items ∷ []
@@ -141,18 +128,3 @@ push_more old now new schedule core v so is grown =
     ∙ (ap (λ s. (lists_of old ++ going_on schedule core) ++ s ∷ []) is
     ∙ (append_assoc (lists_of old) (going_on schedule core) ((schedule ++ core ∷ []) ∷ [])
     ∙ ap (λ l. lists_of old ++ l) (sym (going_on-more schedule core))))))
-
--- all schedules up to one more
-pub longer_more : (cores : ℕ) (schedules : List (Vec ℕ Global)) (i : ℕ) (d : Vec ℕ Global) → i < length schedules
-    → longer cores (lists_of (take (i + 1) schedules)) ≡ longer cores (lists_of (take i schedules)) ++ going_on (get_or schedules i d).items cores
-longer_more cores schedules i d below =
-    let s = (get_or schedules i d).items in
-    ap (λ l. longer cores (lists_of l)) (take_more schedules i d below)
-    ∙ (ap (longer cores) (lists_of-push (take i schedules) (get_or schedules i d))
-    ∙ (flat_map-append (λ l. going_on l cores) (lists_of (take i schedules)) (s ∷ [])
-    ∙ ap (λ l. longer cores (lists_of (take i schedules)) ++ l) (append-nil (going_on s cores))))
-
--- each of them is of the cores
-pub all_by_cores : (cores turns : ℕ) (schedules : List (List ℕ)) → AreAllSchedules cores turns schedules → All (All (λ core. core < cores)) schedules
-all_by_cores cores turns schedules all =
-    All-weaker (IsSchedule cores turns) (All (λ core. core < cores)) (λ schedule is. is.by_cores) schedules all.each

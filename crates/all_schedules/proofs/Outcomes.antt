@@ -1,7 +1,6 @@
 -- What the replay of a text comes to, from what its parts answer.
-use Rattle.std.proofs.Common.{◌≡◌, ℕ, ◌+◌, ◌<◌, List, length, replicate, Option, Some, None, Result, Ok, Err, IfSome, MatchResult, Bool, true, false, inl, inr, refl, sym, subst, arith}
+use Rattle.std.proofs.Common.{◌≡◌, ℕ, ◌+◌, ◌<◌, List, length, replicate, Option, Some, None, Result, Ok, Err, IfSome, MatchResult, inl, refl, sym, subst, arith}
 use Rattle.std.proofs.lemmas.List.{length-replicate}
-use Rattle.std.specs.Io.KnownBytes.{Appends, Keeps}
 use Rattle.rv32_image.specs.declared.fault.ImageFault.{ImageFault}
 use Rattle.rv32_image.specs.declared.input.InputFault.{InputFault}
 use Rattle.rv32_image.specs.declared.input.InputFault.TheVariants as input
@@ -19,15 +18,14 @@ use Rattle.trace_text.specs.declared.fault.TraceFaultKind.TheVariants.{Read, NoM
 use Rattle.trace_text.specs.Reading.{IsFaultOf, input_fault}
 use Rattle.trace_text.specs.TraceText.{longest_trace_text}
 use Rattle.trace_commands.specs.declared.outcome.Outcome.{Outcome}
-use Rattle.trace_commands.specs.declared.outcome.Outcome.TheVariants.{Reported, Open, BadTurns, Stopped}
+use Rattle.trace_commands.specs.declared.outcome.Outcome.TheVariants.{Stopped}
 use Rattle.trace_commands.specs.declared.outcome.CommandStop.{CommandStop}
 use Rattle.trace_commands.specs.declared.outcome.CommandStop.TheVariants as cause
 use Rattle.trace_commands.specs.Outcome.{outcome_of_turns_fault}
 use Rattle.trace_commands.proofs.Audits.{keeps_itself}
 use Rattle.all_schedules.specs.Made.{IsFull, loop_on}
-use Rattle.all_schedules.specs.Replay.{IsNoReplay, IsPrinted, IsReplay, IsReplayOutcome, IsStop, IsUnprinted, OfText}
+use Rattle.all_schedules.specs.Replay.{IsNoReplay, IsReplay, IsReplayOutcome, IsStop, OfText}
 use Rattle.all_schedules.specs.Shown.{outcome_at}
-use Rattle.all_schedules.specs.Traced.{has_trace}
 use Rattle.all_schedules.specs.Turns.{image_part, schedule_text}
 
 -- what holds of the image that the text says
@@ -65,22 +63,6 @@ module _ {S : Type 0} (view : S → StoreView) (waits : S → Waits) (cores room
 -- ---- a trace, or lines of turns
 
 module _ {S : Type 0} (view : S → StoreView) (waits : S → Waits) (heads : Loop → List ℕ → List Entry → List ℕ → Type 0) (room : ℕ) (text : List ℕ) where
-  -- what isn't printed is neither a report nor a failed write
-  no_report : (form : Bool) (cores : Option ℕ) (end : End) → IsUnprinted view waits form cores room text (Reported end) → ⊥
-  no_report true cores end is = is
-  no_report false (Some k) end is = is
-  no_report false None end is = is
-
-  no_open : (form : Bool) (cores : Option ℕ) (homefree : ℕ) → IsUnprinted view waits form cores room text (Open homefree) → ⊥
-  no_open true cores homefree is = is
-  no_open false (Some k) homefree is = is
-  no_open false None homefree is = is
-
-  no_write : (form : Bool) (cores : Option ℕ) → IsUnprinted view waits form cores room text (Stopped cause.Write) → ⊥
-  no_write true cores is = is
-  no_write false (Some k) is = is
-  no_write false None is = is
-
   -- what is shown is reported or open
   of_turns : (cores : ℕ) (outcome : Outcome) (printed : List ℕ) (r : Result LoadedImage ImageFault) (q : Result (List ℕ) TraceFault)
       → MatchResult r (λ image. IsCoreCount image cores × MatchResult q (λ schedule. IsReplay view waits heads (loop_on image cores room) schedule outcome printed) (λ fault. ⊥)) (λ fault. ⊥)
@@ -88,35 +70,6 @@ module _ {S : Type 0} (view : S → StoreView) (waits : S → Waits) (heads : Lo
   of_turns cores outcome printed (Ok image) (Ok schedule) is = let show = is.1.shown in (show.state.end, show.state.homefree, show.outcome_is)
   of_turns cores outcome printed (Ok image) (Err fault) is = absurd is.1
   of_turns cores outcome printed (Err fault) q is = absurd is
-
-  shown_at : (form : Bool) (cores : Option ℕ) (outcome : Outcome) (printed : List ℕ) → IsPrinted view waits heads form cores room text outcome printed
-      → (end : Option End) × (homefree : ℕ) × (outcome ≡ outcome_at end homefree)
-  shown_at true cores outcome printed is = let show = is.holds.shown in (show.state.end, show.state.homefree, show.outcome_is)
-  shown_at false (Some k) outcome printed is = of_turns k outcome printed (image_text (image_part text)) (schedule_text k text) is
-  shown_at false None outcome printed is = absurd is
-
-  module _ (cores : Option ℕ) (old new : Option (List ℕ)) where
-    -- nothing is printed
-    pub unprinted : (outcome : Outcome) → IsUnprinted view waits (has_trace text) cores room text outcome → Keeps old new
-        → IsReplayOutcome view waits heads cores room text old new outcome
-    unprinted (Reported end) is keeps = absurd (no_report (has_trace text) cores end is)
-    unprinted (Open homefree) is keeps = absurd (no_open (has_trace text) cores homefree is)
-    unprinted (Stopped cause.Write) is keeps = absurd (no_write (has_trace text) cores is)
-    unprinted (Stopped cause.NoMemory) is keeps = keeps
-    unprinted (BadTurns fault) is keeps = (inr is, keeps)
-    unprinted outcome is keeps = (is, keeps)
-
-    printed_at : (end : Option End) (homefree : ℕ) (printed : List ℕ) → IsPrinted view waits heads (has_trace text) cores room text (outcome_at end homefree) printed
-        → Appends old new printed → IsReplayOutcome view waits heads cores room text old new (outcome_at end homefree)
-    printed_at (Some end) homefree printed is grows = (printed, is, grows)
-    printed_at None homefree printed is grows = (printed, is, grows)
-
-    pub printed_whole : (outcome : Outcome) (printed : List ℕ) → IsPrinted view waits heads (has_trace text) cores room text outcome printed → Appends old new printed
-        → IsReplayOutcome view waits heads cores room text old new outcome
-    printed_whole outcome printed is grows =
-        let at = shown_at (has_trace text) cores outcome printed is in
-        subst (λ (o : Outcome). IsReplayOutcome view waits heads cores room text old new o) (sym at.2)
-        (printed_at at.0 at.1 printed (subst (λ (o : Outcome). IsPrinted view waits heads (has_trace text) cores room text o printed) at.2 is) grows)
 
 module _ {S : Type 0} (view : S → StoreView) (waits : S → Waits) (heads : Loop → List ℕ → List Entry → List ℕ → Type 0) (cores : Option ℕ) (room : ℕ) where
   refused : (fault : InputFault) (text : List ℕ) (output : Option (List ℕ)) → (fault ≡ input.TooLong → longest_trace_text < length text)

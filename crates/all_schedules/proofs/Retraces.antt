@@ -1,9 +1,8 @@
 -- The schedule of a trace, and where two histories part.
-use Rattle.std.proofs.Common.{◌≡◌, ◌≢◌, ℕ, ◌+◌, ◌<◌, ◌≤◌, nat_lt, Bool, true, false, cond, ◌&&◌, List, [], ◌∷◌, ◌++◌, ◌⊎◌, length, take, get_or, All, slice_get, inl, inr, Option, Some, None, Result, Ok, Err, refl, sym, ap, subst, ◌∙◌, arith, add-one}
+use Rattle.std.proofs.Common.{◌≡◌, ℕ, ◌+◌, ◌<◌, ◌≤◌, nat_lt, Bool, true, false, cond, ◌&&◌, List, [], ◌∷◌, ◌++◌, ◌⊎◌, length, take, get_or, All, slice_get, inl, inr, Option, Some, None, Result, Ok, Err, refl, sym, ap, subst, ◌∙◌, arith, add-one}
 use Rattle.std.proofs.lemmas.Bool.Decides.{nat_tests}
 use Rattle.std.proofs.lemmas.List.Elements.{All-append, All-nil}
-use Rattle.std.proofs.lemmas.List.{take_all}
-use Rattle.std.proofs.lemmas.Option.{get_or_from_slice_get, slice_get_cases, slice_get_past, slice_get_within}
+use Rattle.std.proofs.lemmas.Option.{get_or_from_slice_get, slice_get_within}
 use Rattle.std.proofs.Math.Seq.{take-length, take-suc}
 use Rattle.rv32_image.specs.Image.{LoadedImage}
 use Rattle.rv32_image.specs.ImageText.{pieces}
@@ -17,7 +16,7 @@ use Rattle.trace_text.specs.declared.fault.TraceFault.{TraceFault}
 use Rattle.trace_text.specs.declared.fault.TraceFaultKind.TheVariants.{Head, TooLong}
 use Rattle.trace_text.specs.TraceText.{◌>>=◌, Trace, cores_in, is_core_count, lines_read, longest_trace_text, number, of_cores, or_fault, trace_at, trace_prefix, trace_text}
 use Rattle.trace_commands.specs.Audit.{IsTracedBy}
-use Rattle.all_schedules.specs.Traced.{PartAt, is_of_own, turn_of, turns_of}
+use Rattle.all_schedules.specs.Traced.{is_of_own, turn_of, turns_of}
 
 -- ---- the cores of a trace are as many as the version allows
 
@@ -93,11 +92,6 @@ one_more : (xs : List Entry) (n : ℕ) (x : Entry) → slice_get xs n ≡ Some x
 one_more xs n x is =
     ap (λ k. take k xs) (add-one n) ∙ (take-suc xs n x (slice_get_within xs n x is) ∙ ap (λ y. take n xs ++ y ∷ []) (get_or_from_slice_get xs n x x is))
 
--- they are the same at this place too
-pub same_on : (made given : List Entry) (n : ℕ) (x : Entry) → take n made ≡ take n given → slice_get made n ≡ Some x → slice_get given n ≡ Some x
-    → take (n + 1) made ≡ take (n + 1) given
-same_on made given n x same here there = one_more made n x here ∙ (ap (λ l. l ++ x ∷ []) same ∙ sym (one_more given n x there))
-
 -- they are the same up to the end of both
 pub same_all : (made given : List Entry) → take (length made) made ≡ take (length made) given → length made ≡ length given → made ≡ given
 same_all made given same long = sym (take-length made) ∙ (same ∙ (ap (λ n. take n given) long ∙ take-length given))
@@ -108,13 +102,3 @@ HasCases xs n = ((x : Entry) × (n < length xs) × (slice_get xs n ≡ Some x) �
 past : (xs : List Entry) (n : ℕ) → slice_get xs n ≡ None → HasCases xs n → length xs ≤ n
 past xs n is (inl so) = let no : Some so.0 ≡ None = sym so.2 ∙ is in absurd cc
 past xs n is (inr so) = so.0
-
--- they are the same up to the end of the one that was made, and the other goes on
-pub part_at_end : (made given : List Entry) → take (length made) made ≡ take (length made) given → length made ≢ length given → PartAt made given (length made)
-part_at_end made given same long = record {
-  same = same;
-  other = λ is.
-      let none = slice_get_past made (length made) (omega arith) in
-      let short : length given ≤ length made = past given (length made) (sym is ∙ none) (slice_get_cases given (length made)).1 in
-      long (ap length (sym (take-length made) ∙ (same ∙ take_all (length made) given short)));
-}

@@ -1,11 +1,10 @@
 -- The run of a book that its schedule has made, and a survey with it.
-use Rattle.std.proofs.Common.{◌≡◌, ℕ, ◌+◌, ◌<◌, ◌≤◌, List, [], ◌∷◌, ◌++◌, All, length, get_or, take, Option, Some, None, IfSome, Result, Err, IfErr, Vec, refl, sym, ap, subst, ◌∙◌, arith}
+use Rattle.std.proofs.Common.{◌≡◌, ℕ, ◌+◌, ◌<◌, ◌≤◌, List, [], ◌∷◌, ◌++◌, All, length, get_or, take, Option, Some, None, Result, Err, IfErr, Vec, refl, sym, ap, subst, ◌∙◌, arith}
 use Rattle.std.specs.declared.alloc.Global.{Global}
 use Rattle.std.specs.List.{Contains}
 use Rattle.std.proofs.lemmas.List.{get_or-map, length-map, length-take-le, map_push, take_more}
 use Rattle.std.proofs.lemmas.List.Elements.{All-get_or, All-nil, All-push, Contains-get_or}
 use Rattle.std.proofs.lemmas.List.Sums.{count_by-le-length}
-use Rattle.std.proofs.lemmas.Option.{slice_get_within}
 use Rattle.rv32_exec.specs.declared.sequential.End.{End}
 use Rattle.spec_history.specs.Replay.{replay}
 use Rattle.spec_history.proofs.Replay.Replays.{replayed}
@@ -16,12 +15,11 @@ use Rattle.homefree.specs.declared.fault.TurnFault.TheVariants.{HistoryFull, NoM
 use Rattle.homefree.specs.BookView.{BookView}
 use Rattle.homefree.specs.InStep.{InStep}
 use Rattle.homefree.specs.LockView.{loop_of}
-use Rattle.all_schedules.specs.declared.survey.Extreme.{Extreme}
 use Rattle.all_schedules.specs.declared.survey.Survey.{Survey}
 use Rattle.all_schedules.specs.Schedules.{lists_of}
 use Rattle.all_schedules.specs.Made.{IsFault, IsMade}
 use Rattle.all_schedules.specs.Adding.{AddsBook}
-use Rattle.all_schedules.specs.Survey.{IsEnd, IsExtreme, IsFaultOfOne, IsLeast, IsMost, IsRun, Run, Surveys, is_over}
+use Rattle.all_schedules.specs.Survey.{IsEnd, IsFaultOfOne, IsRun, Run, Surveys, is_over}
 use Rattle.all_schedules.proofs.Every.{lists_of-push}
 use Rattle.all_schedules.proofs.Surveying.{none_surveyed, surveyed_more}
 
@@ -112,28 +110,3 @@ module _ (schedules : List (Vec ℕ Global)) (i : ℕ) (v : Vec ℕ Global) (sch
   faults_of_one view waits l fault told result failed same is_fault =
       subst (λ (r : Result Survey TurnFault). IfErr r (IsFaultOfOne view waits l (lists_of schedules))) (sym failed)
       (subst (IsFaultOfOne view waits l (lists_of schedules)) (sym same) (fault_of_one view waits l fault is_fault))
-
--- ---- the places that a survey names
-
-extreme_within : (runs : List Run) (e : Extreme) → IsExtreme runs e → e.place < length runs
-extreme_within runs e is = slice_get_within runs e.place is.run is.there
-
-least_at : (runs : List Run) (n : ℕ) (least : Option Extreme) → length runs ≡ n → IsLeast runs least → IfSome least (λ e. e.place < n)
-least_at runs n (Some e) same is = let below = extreme_within runs e is.0 in omega (arith, below, same)
-least_at runs n None same is = tt
-
-most_at : (runs : List Run) (n : ℕ) (most : Option Extreme) → length runs ≡ n → IsMost runs most → IfSome most (λ e. e.place < n)
-most_at runs n (Some e) same is = let below = extreme_within runs e is.0 in omega (arith, below, same)
-most_at runs n None same is = tt
-
-module _ {S : Type 0} (view : S → StoreView) (waits : S → Waits) (l : Loop) (schedules : List (Vec ℕ Global)) (survey : Survey) (so : Surveys view waits l (lists_of schedules) survey) where
-  as_many : length so.runs ≡ length schedules
-  as_many =
-      sym (length-map so.runs (λ (run : Run). run.schedule))
-      ∙ (ap length so.schedules_are ∙ length-map schedules (λ (v : Vec ℕ Global). v.items))
-
-  pub least_within : IfSome survey.least (λ e. e.place < length schedules)
-  least_within = least_at so.runs (length schedules) survey.least as_many so.come_to.least
-
-  pub most_within : IfSome survey.most (λ e. e.place < length schedules)
-  most_within = most_at so.runs (length schedules) survey.most as_many so.come_to.most

@@ -7,7 +7,7 @@ use Rattle.rv32_image.proofs.SmallFacts.{none_and_some}
 use Rattle.cache_lines.specs.Lines.{is_line_length}
 use Rattle.violations.specs.declared.attempt.Attempt.{Attempt}
 use Rattle.violations.specs.View.{Shape, attempt_of, MayBegin, Runs}
-use Rattle.violations.specs.Rule.{IsFresh, IsSameCore, IsSameView, Begins, Ends, shape_of}
+use Rattle.violations.specs.Rule.{IsFresh, IsSameCore, Begins, Ends, shape_of}
 use Rattle.bus_states.specs.Bus.{CoreState, Bus, no_core, committed, line_of, offset_of, memory_line}
 use Rattle.bus_states.specs.Coherent.{IsCoherent, speculates}
 use Rattle.bus_states.specs.Messages.{dropped_core}
@@ -22,17 +22,6 @@ use Rattle.bus_states.proofs.Ordered.{clear-of, runs-there}
 use Rattle.bus_states.proofs.Quiet
 use Rattle.bus_states.proofs.QuietCalls.{begin-with, leave-with, cancel-with}
 use Rattle.bus_states.proofs.Showing.{Shows, Shows-same, ShowsSame, committed_at, own_stays, guarded_stays, sees_stays, same_core}
-
--- ---- a bus that stays
-
-pub stays-same_view : (bus : Bus) → IsSameView (view_of bus) (view_of bus)
-stays-same_view bus =
-    record {
-      shape = refl;
-      cached = refl;
-      committed = λ a. refl;
-      cores = λ k. record { attempt = refl; own = λ a. refl; guarded = λ a. refl; sees = λ a. refl };
-    }
 
 -- ---- a new bus
 

@@ -24,4 +24,3 @@ pub mod LoadRule
 pub mod StoreRule
 pub mod PublishRule
 pub mod StraightRules
-pub mod OrderedCalls

@@ -1,5 +1,5 @@
 -- The attempts of the cores stay ordered through every call, and what every store keeps follows.
-use Rattle.std.proofs.Common.{◌≡◌, ◌≢◌, inl, inr, ℕ, ◌%◌, ◌<◌, ◌≤◌, nat_lt, not, Bool, true, false, Option, Some, refl, sym, ap, subst, ◌∙◌, arith}
+use Rattle.std.proofs.Common.{◌≡◌, ◌≢◌, inl, inr, ℕ, ◌%◌, ◌<◌, ◌≤◌, nat_lt, Bool, true, false, Option, Some, refl, sym, ap, subst, ◌∙◌, arith}
 use Rattle.std.proofs.lemmas.Bool.{cases_eq}
 use Rattle.std.proofs.lemmas.Bool.Decides.{nat_tests}
 use Rattle.rv32_image.proofs.SmallFacts.{one_value, none_and_some}
@@ -49,19 +49,6 @@ runs-there bus k x h runs =
           let past : bus.shape.cores ≤ k = grind (arith, nat_tests) in
           absurd (none_and_some (bus.core k).attempt x (ap (λ (core : CoreState). core.attempt) (h.absent k past)) runs)
     ] refl
-
--- a core that speculates runs an attempt that isn't straight
-pub speculates-runs : (bus : Bus) (core : ℕ) → speculates (bus.core core).attempt ≡ true → Runs (view_of bus) core false
-speculates-runs bus core speculative =
-    let x = running (bus.core core).attempt speculative in
-    record { epoch = x.0.epoch; is = x.1 ∙ ap (λ (straight : Bool). Some (attempt_of x.0.epoch straight)) (not_straight x.0 (ap speculates (sym x.1) ∙ speculative)) }
-  where
-    not_straight : (x : Attempt) → speculates (Some x) ≡ true → x.straight ≡ false
-    not_straight x e = untrue x.straight e
-      where
-        untrue : (b : Bool) → not b ≡ true → b ≡ false
-        untrue true e = cc
-        untrue false e = refl
 
 pub settled : (bus : Bus) → IsCoherent bus → AreOrdered bus → IsSettled (view_of bus)
 settled bus h ordered =

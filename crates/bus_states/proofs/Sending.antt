@@ -15,7 +15,7 @@ use Rattle.bus_states.specs.Coherent.{IsCoherent, IsCoherentLine, IsCoherentCore
 use Rattle.bus_states.specs.Messages.{Room, IsRoom, Message, reply, order, violates, remains, heard_core, is_busy, is_alone, leaves, with_line, with_victim}
 use Rattle.bus_states.proofs.Addresses.{with_line-here, with_line-elsewhere}
 use Rattle.bus_states.proofs.Coherence
-use Rattle.bus_states.proofs.Coherence.{IsCoherentWith, committed-with, coherent-with, by_core, none_below}
+use Rattle.bus_states.proofs.Coherence.{IsCoherentWith, committed-with, by_core, none_below}
 use Rattle.bus_states.proofs.Copies.{itself, not_so, none-in_place, Fades, Fades-same, Fades-none}
 use Rattle.bus_states.proofs.Heard
 use Rattle.bus_states.proofs.Replies.{reply-follows}
@@ -300,11 +300,6 @@ sent-with bus message room own mine h t =
           let away : k ≢ message.sender = omega arith in
           at_other bus message room own k away ∙ Heard.heard-absent bus message k (h.absent k past);
     }
-
-pub sent-coherent : (bus : Bus) (message : Message) (room : Option Room) (own : CoreState) (mine : LineCopy) → IsCoherent bus
-    → Sends bus message room own mine → IsCoherent (sent bus message room own)
-sent-coherent bus message room own mine h t =
-    coherent-with (sent bus message room own) (sent_lines bus message) (sent-with bus message room own mine h t)
 
 -- the line is committed as sent, each other one as it was
 pub sent-committed : (bus : Bus) (message : Message) (room : Option Room) (own : CoreState) (mine : LineCopy) → IsCoherent bus

@@ -3,7 +3,6 @@ use Rattle.std.proofs.Common.{◌≡◌, ℕ, ◌<◌, ◌==◌, ◌&&◌, Bool,
 use Rattle.std.proofs.Math.Path.{fun_ext}
 use Rattle.std.proofs.lemmas.Bool.{false_from_ne_true}
 use Rattle.std.proofs.lemmas.Bool.Decides.{nat_tests}
-use Rattle.std.proofs.lemmas.Nat.{pow_pos}
 use Rattle.spec_states.specs.declared.line.LineState.{LineState}
 use Rattle.spec_states.specs.declared.line.Marks.{Marks}
 use Rattle.spec_states.specs.Copies.{LineCopy, copy_of, no_copy, merged_line, IsUpToDate}
@@ -15,8 +14,8 @@ use Rattle.cache_lines.specs.declared.line.Line.{Line}
 use Rattle.cache_lines.specs.Cells.{cell_of, with_number, line_with_number}
 use Rattle.cache_lines.specs.Changes.{rolled_back_line, published_line, with_each_line, IsFound, CopiesAreFilled, CopiesChange, CopiesAllChange}
 use Rattle.cache_lines.specs.Lines.{Contents, way_count, line_in, with_line, is_copy_of, held_line}
-use Rattle.cache_lines.specs.Placed.{IsNotElsewhere, IsPlaced, MayStand}
-use Rattle.cache_lines.specs.Protocol.{IsInPlace, copy_of_line, copy_or_none, copy_at, rolled_back_copy, published_copy, copy_with_number}
+use Rattle.cache_lines.specs.Placed.{IsPlaced, MayStand}
+use Rattle.cache_lines.specs.Protocol.{copy_of_line, copy_or_none, copy_at, rolled_back_copy, published_copy, copy_with_number}
 use Rattle.cache_lines.proofs.LineLaws.{is_copy_of-true, is_copy_of-own, held_line-own, held_line-with_line}
 use Rattle.cache_lines.proofs.WholeCache.{changed_held, held_line-each, KeepsAddresses, KeepsAddresses-rolled_back, KeepsAddresses-published}
 
@@ -32,42 +31,6 @@ pub copy_at-own : (cache : Contents) → IsPlaced cache → (addr way : ℕ) →
     → copy_at cache (line_in cache addr way).addr ≡ copy_of_line (line_in cache addr way)
 copy_at-own cache h addr way way_way v =
     copy_at-line cache h addr way (line_in cache addr way).addr way_way (is_copy_of-own (line_in cache addr way) v)
-
--- a copy of this line is one of no other
-pub is_copy_of-other : (line : Line) (addr other : ℕ) → is_copy_of line addr ≡ true → is_copy_of line other ≡ (addr == other)
-is_copy_of-other line addr other e = let p = is_copy_of-true line addr e in rw (p.0, p.1) refl
-
--- the copy at each address is in its place
-pub copy_at-in_place : (cache : Contents) → IsPlaced cache → (addr : ℕ)
-    → IsInPlace cache.line_length addr (copy_at cache addr)
-copy_at-in_place cache h addr =
-    elim (is_copy_of (line_in cache addr 0) addr) as (λ b. is_copy_of (line_in cache addr 0) addr ≡ b → IsInPlace cache.line_length addr (copy_or_none (cond b (Some (line_in cache addr 0)) (cond (is_copy_of (line_in cache addr 1) addr) (Some (line_in cache addr 1)) None)))) [
-      | true ↦ λ e. held 0 (omega arith) e
-      | false ↦ λ _.
-          elim (is_copy_of (line_in cache addr 1) addr) as (λ b. is_copy_of (line_in cache addr 1) addr ≡ b → IsInPlace cache.line_length addr (copy_or_none (cond b (Some (line_in cache addr 1)) None))) [
-            | true ↦ λ e. held 1 (omega arith) e
-            | false ↦ λ _. record { aligned = λ v. cc; mask = pow_pos cache.line_length; cells = λ x past. refl }
-          ] refl
-    ] refl
-  where
-    held : (way : ℕ) → way < way_count → is_copy_of (line_in cache addr way) addr ≡ true
-        → IsInPlace cache.line_length addr (copy_of_line (line_in cache addr way))
-    held way way_way e =
-        let p = is_copy_of-true (line_in cache addr way) addr e in
-        let fits = h.fits addr way way_way p.0 in
-        record { aligned = λ _. rw p.1 at (h.aligned addr way way_way p.0); mask = fits.mask; cells = fits.cells }
-
-pub IsFound-way : (cache : Contents) (addr way : ℕ) → IsPlaced cache → way < way_count
-    → is_copy_of (line_in cache addr way) addr ≡ true → IsFound cache addr way
-IsFound-way cache addr way h way_way e =
-    let p = is_copy_of-true (line_in cache addr way) addr e in
-    record {
-      in_ways = way_way;
-      copy = copy_at-line cache h addr way addr way_way e;
-      copy_of_it = λ other. is_copy_of-other (line_in cache addr way) addr other e;
-      once = subst (λ (a : ℕ). IsNotElsewhere cache a way) p.1 (h.once addr way way_way p.0);
-      aligned = rw p.1 at (h.aligned addr way way_way p.0);
-    }
 
 -- ---- where one line is replaced
 

@@ -39,15 +39,6 @@ line_in-with_line cache addr way line a w size way_way =
       | inr ne ↦ inr (ne, get_or-set_other cache.lines (place n addr way) (place n a w) line invalid_line ne)
     ]
 
--- the way that was filled has the new line
-pub line_in-filled : (cache : Contents) (addr way : ℕ) (line : Line) → IsPlaced cache → way < way_count
-    → line_in (with_line cache addr way line) addr way ≡ line
-line_in-filled cache addr way line h way_way =
-    elim (line_in-with_line cache addr way line addr way h.size way_way) [
-      | inl q ↦ q.1
-      | inr q ↦ absurd (q.0 refl)
-    ]
-
 -- a copy of a line is valid and has its address
 pub is_copy_of-true : (line : Line) (addr : ℕ) → is_copy_of line addr ≡ true
     → (is_valid line.state ≡ true) × (line.addr ≡ addr)
@@ -292,16 +283,3 @@ held_line-own cache h addr way x way_way e =
     let same_set : set_of n x ≡ set_of n addr = ap (λ a. set_of n a) (sym p.1) ∙ h.in_set addr way way_way p.0 in
     let same : line_in cache addr way ≡ line_in cache x way = line_in-same_set cache x addr way same_set in
     held_here cache h x way way_way (ap (λ (line : Line). is_copy_of line x) (sym same) ∙ e) ∙ ap (λ (line : Line). Some line) (sym same)
-
--- a line may stand where one of its address stands, if it is no copy that was none
-pub MayStand-same_addr : (cache : Contents) (addr way : ℕ) (line : Line) → IsPlaced cache → way < way_count
-    → line.addr ≡ (line_in cache addr way).addr
-    → (is_valid line.state ≡ true → is_valid (line_in cache addr way).state ≡ true)
-    → (is_valid line.state ≡ true → FitsLength cache.line_length line) → MayStand cache addr way line
-MayStand-same_addr cache addr way line h way_way e valid fits =
-    record {
-      aligned = λ v. rw e (h.aligned addr way way_way (valid v));
-      in_set = λ v. rw e (h.in_set addr way way_way (valid v));
-      once = λ v. rw e (h.once addr way way_way (valid v));
-      fits = fits;
-    }

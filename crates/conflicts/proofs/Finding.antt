@@ -1,13 +1,11 @@
 -- Whether a search found a given place.
-use Rattle.std.proofs.Common.{◌≡◌, ℕ, zero, suc, ◌<◌, ◌≤◌, ◌&&◌, ◌||◌, Bool, true, false, nat_lt, is_none, Option, Some, None, unwrap_or, if◌then◌else◌, refl, sym, ap, ◌∙◌, inl, inr, arith, lt-ltb, le-ltb, ltb-true, ne_eqb}
+use Rattle.std.proofs.Common.{◌≡◌, ℕ, zero, suc, ◌<◌, ◌≤◌, ◌&&◌, ◌||◌, Bool, true, false, is_none, Option, Some, None, unwrap_or, if◌then◌else◌, refl, sym, ap, ◌∙◌, inl, inr, arith, lt-ltb, le-ltb, ne_eqb}
 use Rattle.std.specs.Option.{option_or}
-use Rattle.std.proofs.lemmas.Bool.{cases_eq, eq-eqb, or_parts, and_right, and_from, both_ways}
+use Rattle.std.proofs.lemmas.Bool.{cases_eq, eq-eqb, both_ways}
 use Rattle.spec_history.specs.Searches.{first_below, last_below}
 use Rattle.conflicts.specs.Attempts.{is_after}
 use Rattle.conflicts.specs.Blame.{is_place}
 use Rattle.conflicts.proofs.Backwards.{from_start, last_at, none_after}
-use Rattle.spec_history.proofs.Searches.Tests.{first_at}
-use Rattle.conflicts.proofs.Blaming.{either_way}
 
 -- ---- what is known of a number that was found
 
@@ -103,13 +101,6 @@ beyond n test place above = not_place (first_below n test) place (λ is. let f =
 pub earlier : (n : ℕ) (test : ℕ → Bool) (j place : ℕ) → j < place → test j ≡ true → is_place (first_below n test) place ≡ false
 earlier n test j place before passes = not_place (first_below n test) place (λ is. both_ways (test j) ((first_found n test place is).first j before) passes)
 
-pub last_fails : (n : ℕ) (test : ℕ → Bool) (place : ℕ) → test place ≡ false → is_place (last_below n test) place ≡ false
-last_fails n test place fails = not_place (last_below n test) place (λ is. both_ways (test place) fails (last_found n test place is).passes)
-
-pub another_later : (n : ℕ) (test : ℕ → Bool) (place j : ℕ) → place < j → j < n → test j ≡ true → is_place (last_below n test) place ≡ false
-another_later n test place j after below passes =
-    not_place (last_below n test) place (λ is. both_ways (test j) ((last_found n test place is).last j after below) passes)
-
 pub same_place : (found : Option ℕ) (place : ℕ) → found ≡ Some place → is_place found place ≡ true
 same_place found place is = ap (λ (o : Option ℕ). is_place o place) is ∙ eq-eqb place place refl
 
@@ -145,13 +136,6 @@ none_stored before start place begins stores is after most none k later below =
 pub all_so : (a b c : Bool) → a ≡ true → b ≡ true → c ≡ true → ((a && b) && c) ≡ true
 all_so a b c x y z = rw (x, y, z) refl
 
-reads_at : (before start place : ℕ) (begins loads stores : ℕ → Bool) → last_below before begins ≡ Some start → start < place → place < before → loads place ≡ true
-    → ((k : ℕ) → start < k → k < place → stores k ≡ false) → reads begins loads stores before place ≡ true
-reads_at before start place begins loads stores is after within does none = all_so
-    (is_after (last_below before begins) place) (loads place) (is_none (stored_before begins stores place))
-    (ap (λ (o : Option ℕ). is_after o place) is ∙ lt-ltb start place after) does
-    (ap is_none (unstored before start place begins stores is after (omega (arith, within)) none))
-
 none_of : (o : Option ℕ) (P : Type 0) → (o ≡ None → P) → (is_none o ≡ false → P) → P
 none_of None P one other = one refl
 none_of (Some k) P one other = other refl
@@ -167,28 +151,6 @@ first_of : (a b : Bool) → (a || b) ≡ true → b ≡ false → a ≡ true
 first_of true b is other = refl
 first_of false b is other = absurd (both_ways b other is)
 
--- an access before it: either that reads the byte first, or the byte was stored
-pub accessed_before : (before start place load : ℕ) (begins loads stores : ℕ → Bool) → last_below before begins ≡ Some start → start < place → place < load → load < before
-    → (loads place || stores place) ≡ true → is_place (first_below before (reads begins loads stores before)) load ≡ false
-accessed_before before start place load begins loads stores is after earlier_than within does = none_of (stored_before begins stores load)
-    (is_place (first_below before (reads begins loads stores before)) load ≡ false)
-    (λ none.
-    let fails : (k : ℕ) → start < k → k < load → stores k ≡ false = none_stored before start load begins stores is (omega (arith, after, earlier_than)) (omega (arith, within)) none in
-    earlier before (reads begins loads stores before) place load earlier_than
-    (reads_at before start place begins loads stores is after (omega (arith, earlier_than, within)) (first_of (loads place) (stores place) does (fails place after earlier_than))
-    (λ k later below. fails k later (omega (arith, below, earlier_than)))))
-    (λ stored. unread_at before (reads begins loads stores before) load (and_right (is_after (last_below before begins) load && loads load) (is_none (stored_before begins stores load)) stored))
-
--- no access before it
-pub first_access : (before start load : ℕ) (begins loads stores : ℕ → Bool) → last_below before begins ≡ Some start → start < load → load < before → loads load ≡ true
-    → ((k : ℕ) → start < k → k < load → (loads k || stores k) ≡ false) → is_place (first_below before (reads begins loads stores before)) load ≡ true
-first_access before start load begins loads stores is after within does none = same_place (first_below before (reads begins loads stores before)) load
-    (first_at before (reads begins loads stores before) load within
-    (reads_at before start load begins loads stores is after within does (λ k later below. (or_parts (loads k) (stores k) (none k later below)).1))
-    (λ j below. either_way (nat_lt start j) (reads begins loads stores before j ≡ false)
-    (λ later. no_second (is_after (last_below before begins) j) (loads j) (is_none (stored_before begins stores j)) (or_parts (loads j) (stores j) (none j (ltb-true start j later) below)).0)
-    (λ early. no_first (is_after (last_below before begins) j) (loads j) (is_none (stored_before begins stores j)) (ap (λ (o : Option ℕ). is_after o j) is ∙ early))))
-
 -- no load after the start
 pub not_after : (before start load : ℕ) (begins loads stores : ℕ → Bool) → last_below before begins ≡ Some start → load ≤ start
     → is_place (first_below before (reads begins loads stores before)) load ≡ false
@@ -198,23 +160,3 @@ not_after before start load begins loads stores is most = unread_at before (read
 pub no_load : (before load : ℕ) (begins loads stores : ℕ → Bool) → loads load ≡ false → is_place (first_below before (reads begins loads stores before)) load ≡ false
 no_load before load begins loads stores fails = unread_at before (reads begins loads stores before) load
     (no_second (is_after (last_below before begins) load) (loads load) (is_none (stored_before begins stores load)) fails)
-
--- ---- the last store to a byte, of an attempt that began there
-
-after_later : (attempt : Option ℕ) (place later : ℕ) → is_after attempt place ≡ true → place < later → is_after attempt later ≡ true
-after_later None place later after below = absurd cc
-after_later (Some start) place later after below = lt-ltb start later (omega (arith, ltb-true start place after, below))
-
-pub not_stored : (before place : ℕ) (attempt : Option ℕ) (stores : ℕ → Bool) → stores place ≡ false → is_place (last_below before (λ k. is_after attempt k && stores k)) place ≡ false
-not_stored before place attempt stores fails = last_fails before (λ k. is_after attempt k && stores k) place (and_right (is_after attempt place) (stores place) fails)
-
-pub stored_later : (before place later : ℕ) (attempt : Option ℕ) (stores : ℕ → Bool) → is_after attempt place ≡ true → place < later → later < before → stores later ≡ true
-    → is_place (last_below before (λ k. is_after attempt k && stores k)) place ≡ false
-stored_later before place later attempt stores after below within does = another_later before (λ k. is_after attempt k && stores k) place later below within
-    (and_from (is_after attempt later) (stores later) (after_later attempt place later after below) does)
-
-pub stored_last : (before place : ℕ) (attempt : Option ℕ) (stores : ℕ → Bool) → is_after attempt place ≡ true → place < before → stores place ≡ true
-    → ((k : ℕ) → place < k → k < before → stores k ≡ false) → is_place (last_below before (λ k. is_after attempt k && stores k)) place ≡ true
-stored_last before place attempt stores after within does none = is_last before (λ k. is_after attempt k && stores k) place within
-    (and_from (is_after attempt place) (stores place) after does)
-    (λ j later below. and_right (is_after attempt j) (stores j) (none j later below))

@@ -7,7 +7,7 @@ use Rattle.spec_history.specs.declared.entry.What.{What}
 use Rattle.spec_history.specs.Replay.{counts_of}
 use Rattle.ticket_lock.specs.Past.{entries_of}
 use Rattle.ticket_lock.specs.Known.{LockOf, Hold, mine, joined_pass}
-use Rattle.ticket_lock.proofs.Pasts.{starts_itself, starts_trans, entries_of-entries_of}
+use Rattle.ticket_lock.proofs.Pasts.{starts_trans, entries_of-entries_of}
 use Rattle.homefree.specs.declared.book.Loop.{Loop}
 use Rattle.homefree.specs.BookView.{BookView}
 use Rattle.homefree.specs.LockView.{loop_of, past_of}
@@ -18,15 +18,8 @@ use Rattle.core_threads.proofs.Counting.{few_in, own_no_more, counts_of_both}
 abbrev Past : Type 0
 Past = List (ℕ × What)
 
-pub later_itself : (p : Knows) → IsLater p p
-later_itself p = record { lock = refl; lo = refl; hi = refl; seen = starts_itself p.seen }
-
 pub later_trans : (p q r : Knows) → IsLater p q → IsLater q r → IsLater p r
 later_trans p q r a b = record { lock = b.lock ∙ a.lock; lo = b.lo ∙ a.lo; hi = b.hi ∙ a.hi; seen = starts_trans b.seen a.seen }
-
--- the counts of a pass that has seen more, and has made no entry
-pub later_counted : (p q : Knows) (c : Counts) → mine q ≡ mine p → length q.seen ≤ 1048576 → IsCounted p c → IsCounted q c
-later_counted p q c same few k = record { counted = k.counted ∙ sym (ap (λ (l : Past). counts_in l) same); few = few }
 
 counts-empty : counts_in [] ≡ no_counts
 unfolding counts_of

@@ -40,13 +40,6 @@ stopped_answer Left is = absurd cc
 stopped_answer (Over end) is = absurd cc
 stopped_answer (Stopped cause) is = (cause, refl)
 
-pub never_spent : (answer : Answer) → after_answer answer ≢ Ends loop.Spent
-never_spent (Go reached) is = cc
-never_spent (Again cause) is = cc
-never_spent Left is = cc
-never_spent (Over end) is = cc
-never_spent (Stopped cause) is = cc
-
 -- ---- no turn that is taken answers that the book was stopped
 
 isnt_stopped : (out : Outcome) (entries : List Entry) (answer : Answer) (cause : StopCause) → out ≡ turn.does entries answer → answer ≢ Stopped cause → out.answer ≢ Stopped cause
@@ -88,9 +81,6 @@ same_answer result a b x y = cc
 
 err_isnt : (answer : Answer) (fault : TurnFault) → Ok answer ≡ Err fault → ⊥
 err_isnt answer fault is = cc
-
-err_never : (answer : Answer) (fault : TurnFault) → Err fault ≡ Ok answer → ⊥
-err_never answer fault is = cc
 
 -- ---- books
 

@@ -41,9 +41,6 @@ arrived_at kept image hart at same base now stop =
     (now ∙ ap (λ (e : Event). e.now) next, stop ∙ ap (λ (e : Event). e.at) next)
 
 module _ {S : Type 0} where
-  pub same_loop : (old new : BookView S) → IsOfSameLoop old new → loop_of new ≡ loop_of old
-  same_loop old new same = λ i. record { image = same.image i; cores = same.cores i; room = same.room i }
-
   -- ---- the book in hand
 
   own_of_held : (p hp : Knows) (v : BookView S) → hp ≡ record p { seen = past_of v.history } → mine hp ≡ mine p → entries_of p.lo p.hi (past_of v.history) ≡ mine p

@@ -12,7 +12,7 @@ use Rattle.spec_history.specs.Refusal.{refusal_of, runs_and}
 use Rattle.spec_history.specs.Replay.{count_of, counts_of, replay_from}
 use Rattle.spec_history.proofs.OneEntry.Keeping.{with_core_other, with_core_same}
 use Rattle.spec_history.proofs.OneEntry.Legal.{IsLegalEntry, legal_entry}
-use Rattle.spec_history.proofs.Replay.Replays.{effect-on, effect-idle, legal_by}
+use Rattle.spec_history.proofs.Replay.Replays.{effect-on, legal_by}
 use Rattle.homefree.specs.Hurts.{entry, entry_for_each}
 use Rattle.even_speed.specs.Timed.{Moves}
 
@@ -73,14 +73,6 @@ others_on image s by c Restart k other keeping = moves_same _ _ (with_core_other
 others_on image s by c Publish k other keeping = moves_same _ _ (with_core_other s.cores by _ k other)
 others_on image s by c Commit k other keeping = moves_same _ _ (with_core_other s.cores by _ k other)
 others_on image s by c (Fault cause pc) k other keeping = moves_same _ _ refl
-
-pub others_start : (image : LoadedImage) (s : FlatState) (by epoch k : ℕ) → k ≢ by → s.cores by ≡ None
-    → Moves (s.cores k) ((effect image s (record { by = by; what = Start epoch })).cores k)
-others_start image s by epoch k other at = rw (effect-idle image s by (Start epoch) at) (moves_same _ _ (with_core_other s.cores by _ k other))
-
-pub others_entry : (image : LoadedImage) (s : FlatState) (by : ℕ) (c : CoreState) (what : What) (k : ℕ) → k ≢ by → s.cores by ≡ Some c → IsKeeping what
-    → Moves (s.cores k) ((effect image s (record { by = by; what = what })).cores k)
-others_entry image s by c what k other at keeping = rw (effect-on image s by what c at) (others_on image s by c what k other keeping)
 
 -- ---- the core itself, up to its access or end: it publishes, and hurts others
 

@@ -1,6 +1,5 @@
 -- Bytes kept beside memory.
-use Rattle.std.proofs.Common.{◌≡◌, ◌≢◌, ℕ, zero, suc, ◌+◌, ◌<◌, ◌≤◌, List, [], ◌∷◌, ◌++◌, length, set, slice_index, Option, Some, None, refl, sym, ap, ◌∙◌, inl, inr, arith, length-set, get_or-set_same, get_or-set_other}
-use Rattle.std.proofs.lemmas.Bool.{cases_eq}
+use Rattle.std.proofs.Common.{◌≡◌, ℕ, zero, suc, ◌<◌, ◌≤◌, List, [], ◌∷◌, ◌++◌, length, set, slice_index, Option, Some, None, refl, ap, arith, get_or-set_same}
 use Rattle.memory_bytes.specs.Shadow.{byte_in}
 
 -- one more address without a byte
@@ -17,20 +16,6 @@ pub record Left (cells : List (Option ℕ)) (addresses : List ℕ) (from : ℕ) 
 
 taken : (cells : List (Option ℕ)) (addr a byte : ℕ) → a ≡ addr → addr < length cells → byte_in (set cells addr None) a ≡ Some byte → ⊥
 taken cells addr a byte e within some = let none = get_or-set_same cells addr None None within in let at = ap (byte_in (set cells addr None)) e in absurd (grind (arith, none, at, some))
-
--- the byte at the first of them is taken out
-pub left_less : (cells : List (Option ℕ)) (addresses : List ℕ) (from addr : ℕ) → from < length addresses → slice_index addresses from ≡ addr
-    → Left cells addresses from → Left (set cells addr None) addresses (from + 1)
-left_less cells addresses from addr here is left = record {
-  within = λ place there. omega (arith, left.within place there, length-set cells addr None);
-  each = λ a byte some. elim (cases_eq a addr) [
-    | inl e ↦ absurd (taken cells addr a byte e (omega (arith, left.within from here, is)) some)
-    | inr other ↦
-        let found = left.each a byte (sym (get_or-set_other cells addr a None None other) ∙ some) in
-        let later : found.0 ≢ from = λ e. other (sym (found.3) ∙ (ap (slice_index addresses) e ∙ is)) in
-        (found.0, omega (arith, found.1, later), found.2, found.3)
-  ];
-}
 
 none_by : (cell : Option ℕ) → ((byte : ℕ) → cell ≡ Some byte → ⊥) → cell ≡ None
 none_by None none = refl

@@ -1,5 +1,5 @@
 -- What is printed of a run whose loop is over.
-use Rattle.std.proofs.Common.{◌≡◌, ℕ, List, [], ◌++◌, Bool, true, false, Some, Result, Ok, Err, IfOk, OnOk, refl, sym, ap, subst, ◌∙◌, append_assoc, append-nil}
+use Rattle.std.proofs.Common.{◌≡◌, ℕ, List, [], ◌++◌, Bool, true, Some, Result, Ok, Err, IfOk, OnOk, refl, sym, ap, subst, ◌∙◌, append_assoc}
 use Rattle.rv32_image.specs.Image.{LoadedImage}
 use Rattle.rv32_exec.specs.declared.sequential.End.{End}
 use Rattle.rv32_exec.specs.Sequential.{sequential_result}
@@ -57,11 +57,6 @@ module _ {S : Type 0} (view : S → StoreView) (image : LoadedImage) (options : 
 
   pub counted_is : counted ≡ counted_in b.history
   counted_is = run.counted_are ∙ run.stands.totals
-
-  -- without a trace
-  pub printed_alone : (text : List ℕ) → options.trace ≡ false → text ≡ report_of image (sequential_result image) → IsPrinted image options text
-  printed_alone text off is =
-      ([], subst (λ (t : Bool). IsBelow t (loop_asked image options) []) (sym off) refl, is ∙ sym (append-nil (report_of image (sequential_result image))))
 
   -- with a trace
   pub printed_traced : (report text : List ℕ) → AreEntries b.history → options.trace ≡ true → report ≡ report_of image (sequential_result image)

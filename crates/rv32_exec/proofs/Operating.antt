@@ -286,9 +286,6 @@ leads_further image h h' h'' memory memory' memory'' same first later = record {
   later = omega (arith, first.later, later.later);
 }
 
-pub leads_nowhere : (image : LoadedImage) (h : HartState) (memory : List ℕ) → LeadsTo image h memory h memory
-leads_nowhere image h memory = record { outcome = refl; event = λ none. refl; within = λ before. before; later = omega arith }
-
 -- where the first loop is
 pub record IsInCode (image : LoadedImage) (words word last : ℕ) : Type 0 where
   pub in_code : word ≤ words

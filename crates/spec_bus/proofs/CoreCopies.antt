@@ -1,12 +1,12 @@
 -- What a core holds after its parts change.
-use Rattle.std.proofs.Common.{◌≡◌, ◌≢◌, ℕ, ◌<◌, ◌≤◌, nat_lt, ◌==◌, ◌&&◌, length, slice_get, slice_set, IfSome, IfNone, Bool, true, false, cond, List, Option, Some, None, slice_index, refl, sym, ap, ◌∙◌, arith}
+use Rattle.std.proofs.Common.{◌≡◌, ◌≢◌, ℕ, ◌<◌, ◌≤◌, nat_lt, ◌==◌, ◌&&◌, length, slice_get, slice_set, Bool, true, false, cond, List, Option, Some, None, slice_index, refl, sym, ap, ◌∙◌, arith}
 use Rattle.std.proofs.Math.Path.{fun_ext}
 use Rattle.std.proofs.lemmas.Bool.Decides.{nat_tests}
 use Rattle.spec_states.specs.declared.next.Next.{Next}
 use Rattle.spec_states.specs.Copies.{LineCopy, no_copy}
 use Rattle.spec_states.specs.States.{is_valid}
 use Rattle.cache_lines.specs.Changes.{way_at, IsFound, IsAbsent, CopiesAreFilled, CopiesChange, StandIn}
-use Rattle.cache_lines.specs.Lines.{Contents, line_in, is_copy_of}
+use Rattle.cache_lines.specs.Lines.{Contents, is_copy_of}
 use Rattle.cache_lines.specs.Protocol.{copy_at, copy_with_number}
 use Rattle.cache_lines.proofs.CopyLaws.{copies-refilled, copies-found}
 use Rattle.orb.specs.Lines.{Buffer}
@@ -20,7 +20,7 @@ use Rattle.spec_bus.specs.declared.bus_core.Core.{Core}
 use Rattle.spec_bus.specs.CoreStates.{state_of}
 use Rattle.spec_bus.specs.Parts.{room_in, state_or_none, core_at, line_or_none, line_at}
 use Rattle.bus_states.specs.Messages.{changed_core, without_line, leaves, way_with}
-use Rattle.bus_states.proofs.Copies.{made, itself}
+use Rattle.bus_states.proofs.Copies.{made}
 
 abbrev pub state_record : ℕ → (ℕ → LineCopy) → (ℕ → Option ℕ) → Buffer → Option Attempt → CoreState
 state_record line_length copy way buffer attempt =
@@ -75,18 +75,6 @@ written_found old new addr way offset width value found changes a =
       | true ↦ λ e. let at : addr ≡ a = grind (arith, nat_tests) in ap (λ a. copy_with_number offset width value (copy_at old a)) (sym at)
       | false ↦ λ e. refl
     ] refl
-
--- a search for a line that the cache does not hold
-pub absent_here : (cache : Contents) (addr : ℕ) (way : Option ℕ) → IfSome way (IsFound cache addr) → IfNone way (IsAbsent cache addr)
-    → is_valid (copy_at cache addr).state ≡ false → IsAbsent cache addr
-absent_here cache addr None found absent e = absent
-absent_here cache addr (Some way) found absent e =
-    absurd (clash (is_valid (line_in cache addr way).state) (addr == addr) (itself addr) (found.copy_of_it addr)
-    (ap (λ (copy : LineCopy). is_valid copy.state) (sym found.copy) ∙ e))
-  where
-    clash : (v b : Bool) → b ≡ true → (v && ((line_in cache addr way).addr == addr)) ≡ b → v ≡ false → ⊥
-    clash true b e f g = cc
-    clash false b e f g = cc
 
 -- the copies of a cache into which a line comes
 pub filled_absent : (old new : Contents) (addr way : ℕ) (next : Next) (cells : List ℕ) → is_valid next.state ≡ true

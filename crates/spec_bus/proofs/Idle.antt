@@ -1,5 +1,5 @@
 -- New buses.
-use Rattle.std.proofs.Common.{◌≡◌, inl, inr, ℕ, zero, suc, ◌<◌, ◌≤◌, nat_lt, ◌++◌, ◌∷◌, [], List, Bool, true, false, cond, length, slice_index, refl, ap, ◌∙◌, arith}
+use Rattle.std.proofs.Common.{◌≡◌, ℕ, zero, suc, ◌<◌, ◌≤◌, nat_lt, ◌++◌, ◌∷◌, [], List, Bool, true, false, cond, length, slice_index, refl, ap, ◌∙◌, arith}
 use Rattle.std.proofs.lemmas.Bool.Decides.{nat_tests}
 use Rattle.std.proofs.lemmas.Option.{slice_get_past}
 use Rattle.rv32_image.specs.declared.version.Limits.{Limits}
@@ -8,7 +8,7 @@ use Rattle.rv32_image.specs.declared.version.Version.TheVariants.{One, Two}
 use Rattle.rv32_image.specs.Image.{LoadedImage, IsImage}
 use Rattle.rv32_image.specs.Version.{limits_of}
 use Rattle.cache_lines.specs.Lines.{is_line_length}
-use Rattle.orb.specs.Lines.{Buffer, IsLimit}
+use Rattle.orb.specs.Lines.{Buffer}
 use Rattle.bus_states.specs.Bus.{CoreState, no_core}
 use Rattle.bus_states.proofs.AttemptRules.{IsOpened}
 use Rattle.bus_states.proofs.Opening.{IsIdle}
@@ -76,10 +76,6 @@ length-is Two = refl
 limit-small : (version : Version) → (limits_of version).buffer_lines ≤ 8
 limit-small One = omega arith
 limit-small Two = omega arith
-
-pub limit-is : (version : Version) → IsLimit (limits_of version).buffer_lines
-limit-is One = inl refl
-limit-is Two = inr refl
 
 pub fresh_opened : (image : LoadedImage) (count : ℕ) → IsImage image → IsOpened (fresh_bus image count) image count
 fresh_opened image count h =

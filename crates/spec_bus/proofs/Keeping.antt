@@ -55,10 +55,6 @@ pub publishes_there : (parts : Parts) (core : ℕ) → IsCached (record { parts 
     → MayPublish (view_of (bus_in parts)) core → core < length parts.cores.items
 publishes_there parts core h may = runs-there (bus_in parts) core (attempt_of may.epoch false) h.coherent may.is
 
-pub speculates_there : (parts : Parts) (core : ℕ) (straight b : Bool) → Runs (view_of (bus_in parts)) core straight
-    → speculates (Some (attempt_of 0 straight)) ≡ b → speculates ((bus_in parts).core core).attempt ≡ b
-speculates_there parts core straight b runs e = ap speculates runs.is ∙ e
-
 -- ---- attempts
 
 pub begins : (old new : Parts) (core epoch : ℕ) → IsCached (record { parts = old }) → MayBegin (view_of (bus_in old)) core epoch

@@ -1,37 +1,25 @@
 -- Loads and stores of a core that doesn't speculate.
-use Rattle.std.proofs.Common.{◌≡◌, ℕ, ◌%◌, ◌==◌, length, Bool, true, false, cond, List, Option, Some, None, slice_get, slice_index, refl, sym, ap, ◌∙◌}
+use Rattle.std.proofs.Common.{◌≡◌, ℕ, ◌%◌, ◌==◌, length, Bool, true, false, cond, List, Option, None, slice_index, refl, sym, ap, ◌∙◌}
 use Rattle.std.proofs.Math.Path.{fun_ext}
-use Rattle.spec_states.specs.declared.line.LineState.{LineState}
-use Rattle.spec_states.specs.declared.line.LineState.TheVariants.{I, S, E, M, SpS, SpE}
+use Rattle.spec_states.specs.declared.line.LineState.TheVariants.{S, E, M}
 use Rattle.spec_states.specs.declared.next.Next.{Next}
 use Rattle.spec_states.specs.States.{is_valid, is_speculative}
-use Rattle.spec_states.specs.Tables.{no_marks}
 use Rattle.spec_states.proofs.RowLaws.{speculative-valid}
 use Rattle.cache_lines.specs.declared.line.Line.{Line}
 use Rattle.cache_lines.specs.Cells.{with_number}
-use Rattle.cache_lines.specs.Changes.{victim_of}
 use Rattle.cache_lines.specs.Protocol.{copy_at, copy_of_line}
 use Rattle.bus_states.specs.declared.notice.Notice.TheVariants.{Load, Publish}
 use Rattle.bus_states.specs.Bus.{Bus, sees, committed}
 use Rattle.bus_states.specs.Coherent.{IsCoherent, IsCoherentCore, speculates}
 use Rattle.bus_states.proofs.Coherence.{sees-unmodified}
-use Rattle.bus_states.specs.Messages.{Room, message_of, violates, is_alone, changed_core, after_message}
+use Rattle.bus_states.specs.Messages.{Room, message_of, is_alone, changed_core, after_message}
 use Rattle.bus_states.specs.Speculative.{own, holds_line, room_for}
-use Rattle.bus_states.specs.Straight.{unmarked_next, stores_alone, after_straight_load, straight_load_violates, after_straight_store, straight_store_violates}
+use Rattle.bus_states.specs.Straight.{unmarked_next, stores_alone, after_straight_load, after_straight_store}
 use Rattle.spec_bus.specs.declared.bus_core.Core.{Core}
 use Rattle.spec_bus.specs.CoreStates.{state_of}
 use Rattle.spec_bus.specs.declared.parts.Parts.{Parts}
-use Rattle.spec_bus.specs.Parts.{bus_of, bus_in, core_at, line_at, victim_or_none, room_at}
+use Rattle.spec_bus.specs.Parts.{bus_of, bus_in, core_at}
 use Rattle.spec_bus.proofs.Moving.{same_bus}
-
--- a copy that goes to a state without marks
-pub unmarked_is : (state : LineState) → record { state = state; marks = no_marks; write_back = false; enters = false; violated = false } ≡ unmarked_next state
-unmarked_is I = refl
-unmarked_is S = refl
-unmarked_is E = refl
-unmarked_is M = refl
-unmarked_is SpS = refl
-unmarked_is SpE = refl
 
 -- ---- a way for the line
 
@@ -45,11 +33,6 @@ never_marked core line h calm held marked =
     clash : (b : Bool) → b ≡ true → b ≡ false → ⊥
     clash b e f = cc
 
-pub way_room : (cores : List Core) (k addr way : ℕ) (core : Core) → slice_get cores k ≡ Some core → victim_of core.cache addr ≡ Some way
-    → room_at cores k addr ≡ line_at cores k addr (Some way)
-way_room cores k addr way core is found =
-    ap (λ (core : Option Core). line_at cores k addr (victim_or_none core addr)) is ∙ ap (λ (way : Option ℕ). line_at cores k addr way) found
-
 -- ---- which of the two cases
 
 left : {A : Type 0} (b : Bool) (x y : A) → b ≡ true → x ≡ cond b x y
@@ -62,9 +45,6 @@ right false x y e = refl
 
 -- ---- loads
 
-pub loaded_held : (bus : Bus) (core addr : ℕ) (room : Option Room) → holds_line bus core addr ≡ true → bus ≡ after_straight_load bus core addr room
-loaded_held bus core addr room held = left (holds_line bus core addr) bus _ held
-
 pub loaded_missed : (old new : Bus) (core addr : ℕ) (room way : Option Room) (next : Next) (line : ℕ → ℕ) (alone : Bool)
     → holds_line old core addr ≡ false → way ≡ room → line ≡ sees old core addr → next ≡ unmarked_next (cond alone E S)
     → alone ≡ is_alone old (message_of old Load core addr)
@@ -76,13 +56,6 @@ loaded_missed old new core addr room way next line alone absent e f g a moves =
     ∙ ap (λ (line : ℕ → ℕ). after_message old (record { notice = Load; sender = core; addr = addr; line = line }) room next) f
     ∙ ap (λ (next : Next). after_message old (message_of old Load core addr) room next) (g ∙ ap (λ b. unmarked_next (cond b E S)) a)
     ∙ right (holds_line old core addr) _ _ absent
-
-pub load_hurts_none : (bus : Bus) (core addr k : ℕ) (b : Bool) → holds_line bus core addr ≡ true → b ≡ false → b ≡ straight_load_violates bus core addr k
-load_hurts_none bus core addr k b held e = e ∙ left (holds_line bus core addr) false _ held
-
-pub load_hurts : (bus : Bus) (core addr k : ℕ) (b : Bool) → holds_line bus core addr ≡ false
-    → b ≡ violates bus (message_of bus Load core addr) k → b ≡ straight_load_violates bus core addr k
-load_hurts bus core addr k b absent e = e ∙ right (holds_line bus core addr) false _ absent
 
 -- ---- stores
 
@@ -101,27 +74,11 @@ stored_sent old new core addr offset width value room way next line alone apart 
     (g ∙ ap (λ b. unmarked_next (cond b M S)) a)
     ∙ right (stores_alone (own old core addr).state) _ _ apart
 
-pub store_hurts_none : (bus : Bus) (core addr offset width value k : ℕ) (b : Bool) → stores_alone (own bus core addr).state ≡ true → b ≡ false
-    → b ≡ straight_store_violates bus core addr offset width value k
-store_hurts_none bus core addr offset width value k b alone e = e ∙ left (stores_alone (own bus core addr).state) false _ alone
-
-pub store_hurts : (bus : Bus) (core addr offset width value k : ℕ) (b : Bool) → stores_alone (own bus core addr).state ≡ false
-    → b ≡ violates bus (message_of bus Publish core addr) k → b ≡ straight_store_violates bus core addr offset width value k
-store_hurts bus core addr offset width value k b apart e = e ∙ right (stores_alone (own bus core addr).state) false _ apart
-
 pub room_held : (bus : Bus) (core addr : ℕ) (room : Option Room) → holds_line bus core addr ≡ true → None ≡ room_for bus core addr room
 room_held bus core addr room held = left (holds_line bus core addr) None room held
 
 pub room_missed : (bus : Bus) (core addr : ℕ) (room : Option Room) → holds_line bus core addr ≡ false → room ≡ room_for bus core addr room
 room_missed bus core addr room absent = right (holds_line bus core addr) None room absent
-
-pub alone_valid : (state : LineState) → stores_alone state ≡ true → is_valid state ≡ true
-alone_valid I e = e
-alone_valid S e = refl
-alone_valid E e = refl
-alone_valid M e = refl
-alone_valid SpS e = refl
-alone_valid SpE e = refl
 
 -- ---- what the core sees
 

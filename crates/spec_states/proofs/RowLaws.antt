@@ -258,16 +258,6 @@ owned-valid M marks h = cc
 owned-valid SpS marks h = refl
 owned-valid SpE marks h = refl
 
--- the store is the same whoever else holds the line
-pub owned-alone : (s : LineState) (marks : Marks) (offset width : ℕ) (a b : Bool) → owns_line s marks ≡ true
-    → Tables.own_store s marks offset width a ≡ Tables.own_store s marks offset width b
-owned-alone I marks offset width a b h = cc
-owned-alone S marks offset width a b h = cc
-owned-alone E marks offset width a b h = cc
-owned-alone M marks offset width a b h = cc
-owned-alone SpS marks offset width a b h = rw h refl
-owned-alone SpE marks offset width a b h = refl
-
 -- the copy is exclusive only where it was
 pub owned-exclusive : (s : LineState) (marks : Marks) (offset width : ℕ) (alone : Bool) → owns_line s marks ≡ true
     → is_exclusive (Tables.own_store s marks offset width alone).state ≡ true → is_exclusive s ≡ true
@@ -321,15 +311,6 @@ settlement-settles s marks alone = settlement_row s (Tables.is_written marks) al
 
 -- ---- states
 
--- a state that is not valid is I
-pub invalid_state : (s : LineState) → is_valid s ≡ false → s ≡ I
-invalid_state I e = refl
-invalid_state S e = cc
-invalid_state E e = cc
-invalid_state M e = cc
-invalid_state SpS e = cc
-invalid_state SpE e = cc
-
 pub speculative-valid : (s : LineState) → is_speculative s ≡ true → is_valid s ≡ true
 speculative-valid I e = cc
 speculative-valid S e = refl
@@ -338,14 +319,6 @@ speculative-valid M e = refl
 speculative-valid SpS e = refl
 speculative-valid SpE e = refl
 
-pub speculative-unmodified : (s : LineState) → is_speculative s ≡ true → is_modified s ≡ false
-speculative-unmodified I e = refl
-speculative-unmodified S e = refl
-speculative-unmodified E e = refl
-speculative-unmodified M e = cc
-speculative-unmodified SpS e = refl
-speculative-unmodified SpE e = refl
-
 pub modified-valid : (s : LineState) → is_modified s ≡ true → is_valid s ≡ true
 modified-valid I e = cc
 modified-valid S e = refl
@@ -353,11 +326,3 @@ modified-valid E e = refl
 modified-valid M e = refl
 modified-valid SpS e = refl
 modified-valid SpE e = refl
-
-pub modified-exclusive : (s : LineState) → is_modified s ≡ true → is_exclusive s ≡ true
-modified-exclusive I e = cc
-modified-exclusive S e = cc
-modified-exclusive E e = refl
-modified-exclusive M e = refl
-modified-exclusive SpS e = cc
-modified-exclusive SpE e = refl

@@ -22,9 +22,6 @@ module _ {X : Type 0} where
   pub starts_trans : {a b c : List X} → StartsWith a b → StartsWith b c → StartsWith a c
   starts_trans {a} {b} {c} p q = record { rest = q.rest ++ p.rest; is = p.is ∙ (ap (λ l. l ++ p.rest) q.is ∙ append_assoc c q.rest p.rest) }
 
-  starts_cons : (x : X) (xs ys : List X) → StartsWith xs ys → StartsWith (x ∷ xs) (x ∷ ys)
-  starts_cons x xs ys p = record { rest = p.rest; is = ap (λ l. x ∷ l) p.is }
-
   -- of two beginnings of one list, the shorter begins the longer
   shorter_starts : (p a b r s : List X) → p ≡ a ++ r → p ≡ b ++ s → length b ≤ length a → StartsWith a b
   shorter_starts p a [] r s e f le = record { rest = a; is = refl }
@@ -83,9 +80,6 @@ module _ {W : Type 0} where
 
   is_out : (lo hi : ℕ) (e : ℕ × W) → (lo ≤ e.0 → e.0 < hi → ⊥) → is_of lo hi e ≡ false
   is_out lo hi e out = grind (arith, nat_tests)
-
-  in_from : (lo hi : ℕ) (e : ℕ × W) → is_of lo hi e ≡ true → (lo ≤ e.0) × (e.0 < hi)
-  in_from lo hi e is = grind (arith, nat_tests)
 
   out_from : (lo hi : ℕ) (e : ℕ × W) → is_of lo hi e ≡ false → lo ≤ e.0 → e.0 < hi → ⊥
   out_from lo hi e is low high = grind (arith, nat_tests)

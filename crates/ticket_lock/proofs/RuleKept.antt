@@ -21,7 +21,7 @@ use Rattle.ticket_lock.specs.declared.rule.Turn.TheVariants.{Idle, Waiting, Hold
 use Rattle.ticket_lock.specs.Known.{value_in}
 use Rattle.ticket_lock.specs.Past.{StartsWith, GrowsBy, is_of, entries_of}
 use Rattle.ticket_lock.specs.Rule.{IsLive, Covers, IsNoted, IsSound, AreApart, IsSeated, IsHome, IsOut, LockRule, ticket_of, first_view}
-use Rattle.ticket_lock.specs.Steps.{noticed, numbers_below, numbers_from, noted_of, both_of, spent, closed, looked_next, recalled, drawn, IsHanded, served, handed_back}
+use Rattle.ticket_lock.specs.Steps.{numbers_below, numbers_from, noted_of, both_of, spent, closed, looked_next, recalled, drawn, IsHanded, served, handed_back}
 use Rattle.ticket_lock.proofs.Pasts.{starts_itself, starts_trans, longer_begins, first_begins, second_begins, own_between, own_of_both, own_of_part, no_entries}
 use Rattle.ticket_lock.proofs.Frames.{set_there, each_set, each_end, apart_set, apart_end, AllApart}
 
@@ -51,10 +51,6 @@ pub record Narrows {F W : Type 0} (v w : View F W) : Type 0 where
 either_true : {A : Type 0} (b c : Bool) → (b || c) ≡ true → (b ≡ true → A) → (c ≡ true → A) → A
 either_true true c e f g = f refl
 either_true false c e f g = g e
-
--- a look at `next` that finds tickets left changes nothing
-pub not_noticed : {F W : Type 0} (n : ℕ) (v : View F W) → n ≢ 2 ^ 63 → noticed n v ≡ v
-not_noticed n v ne = ap (λ (b : Bool). cond b (record v { out = true }) v) (ne_eqb n (2 ^ 63) ne)
 
 -- a list of one
 only : {X : Type 0} (a : X) (j : ℕ) (b : X) → get_elem? (a ∷ []) j ≡ some b → (j ≡ 0) × (a ≡ b)

@@ -47,12 +47,6 @@ pub missed : (word : List ℕ) (i : ℕ) → i < length word → is_ascii_digit 
 missed word i within is same =
     not_digits word (sym same ∙ (ap (list_all is_ascii_digit) (drop_more word i 0 within) ∙ ap (λ d. d && list_all is_ascii_digit (drop (i + 1) word)) is))
 
--- one digit more
-pub next_digits : (word : List ℕ) (i : ℕ) → i < length word → is_ascii_digit (get_or word i 0) ≡ true → list_all is_ascii_digit (drop i word) ≡ list_all is_ascii_digit word
-    → list_all is_ascii_digit (drop (i + 1) word) ≡ list_all is_ascii_digit word
-next_digits word i within is same =
-    sym (ap (list_all is_ascii_digit) (drop_more word i 0 within) ∙ ap (λ d. d && list_all is_ascii_digit (drop (i + 1) word)) is) ∙ same
-
 -- the digits are all read
 pub ended : (word : List ℕ) (i n : ℕ) (small : Bool) → length (drop i word) ≡ 0 → is_spelled word ≡ true → list_all is_ascii_digit (drop i word) ≡ list_all is_ascii_digit word
     → digits_value_after 10 n (drop i word) ≡ digits_value 10 word → nat_lt n (2 ^ 32) ≡ small → number word ≡ cond small (Some n) None

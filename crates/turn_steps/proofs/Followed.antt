@@ -1,5 +1,5 @@
 -- What was shown before a turn, after it.
-use Rattle.std.proofs.Common.{◌≡◌, ℕ, ◌/◌, ◌==◌, true, List, Option, Result, option_map, if◌then◌else◌, sym, ap, subst, ◌∙◌, arith}
+use Rattle.std.proofs.Common.{◌≡◌, ℕ, ◌==◌, true, List, Option, Result, option_map, if◌then◌else◌, sym, ap, ◌∙◌, arith}
 use Rattle.std.proofs.lemmas.Bool.Decides.{nat_tests}
 use Rattle.rv32_exec.specs.Hart.{HartState}
 use Rattle.run_ledger.specs.declared.counts.Counts.{Counts}
@@ -11,7 +11,7 @@ use Rattle.homefree.specs.BookView.{BookView}
 use Rattle.homefree.specs.Driven.{TurnedWith, arrival_of, driver, with_held}
 use Rattle.homefree.specs.Grown.{GrowsBy}
 use Rattle.homefree.specs.InStep.{InStep}
-use Rattle.turn_steps.specs.Telling.{Fits, Follows, IsCurrent}
+use Rattle.turn_steps.specs.Telling.{Follows, IsCurrent}
 use Rattle.turn_steps.proofs.Leaving.{turn_keeps_memory, turn_keeps_rows}
 
 module _ {S H : Type 0} (view : S → StoreView) (waits : S → Waits) (fits : H → Shape → Type 0) (shows : H → S → Type 0) (store : H) (memory : List (List ℕ))
@@ -31,12 +31,6 @@ module _ {S H : Type 0} (view : S → StoreView) (waits : S → Waits) (fits : H
       rows = turn_keeps_rows view waits old new shares shares' core (option_map (arrival_of old.image) hart) answer grows.entries step grows.history turned;
       committed = turn_keeps_memory view waits old new shares shares' core (option_map (arrival_of old.image) hart) answer grows.entries step grows.history turned;
     };
-  }
-
-  pub fits_still : Fits view fits store memory new.store
-  fits_still = record {
-    store_fits = subst (fits store) (sym shape) current.store_fits;
-    memory_fits = current.memory_is.long ∙ ap (λ (s : Shape). s.size / 16) (sym shape);
   }
 
   -- it is on as many cores

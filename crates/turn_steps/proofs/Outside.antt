@@ -1,15 +1,13 @@
 -- What a turn leaves as it was, outside a set of rows.
-use Rattle.std.proofs.Common.{◌≡◌, ◌⊎◌, ℕ, ◌+◌, ◌*◌, ◌/◌, ◌<◌, ◌||◌, Bool, true, false, List, Some, inl, inr, refl, sym, subst, ◌∙◌, true≢false}
+use Rattle.std.proofs.Common.{◌≡◌, ◌⊎◌, ℕ, ◌+◌, ◌*◌, ◌/◌, ◌<◌, ◌||◌, Bool, true, false, List, inl, inr, refl, sym, subst, ◌∙◌, true≢false}
 use Rattle.std.specs.BTreeSet.{BTreeSet, contains}
 use Rattle.std.specs.List.{list_any}
 use Rattle.std.specs.Ordering.{nat_cmp}
 use Rattle.std.proofs.lemmas.Bool.{cases_Bool}
 use Rattle.spec_history.specs.declared.entry.Entry.{Entry}
 use Rattle.violations.specs.View.{StoreView}
-use Rattle.violations.specs.declared.attempt.Attempt.{Attempt}
 use Rattle.bus_states.proofs.Copies.{not_so}
-use Rattle.turn_steps.specs.Rows.{IsSameRow}
-use Rattle.turn_steps.specs.Laws.{KeepsRows, KeepsMemory, Adds, touches, stores_in, commits}
+use Rattle.turn_steps.specs.Laws.{KeepsMemory, Adds, stores_in, commits}
 use Rattle.turn_steps.proofs.Lines.{row_of_byte}
 
 or_true : (a b : Bool) → (a ≡ true) ⊎ (b ≡ true) → (a || b) ≡ true
@@ -35,10 +33,3 @@ same_memory v w core added rows keeps stored owned row i inside isnt below =
   where
     at : (16 * row + i) / 16 ≡ row
     at = row_of_byte row i below
-
--- a core that runs speculatively keeps what it kept, outside a set that has the rows which the turn touches
-pub same_kept : (v w : StoreView) (core : ℕ) (added : List Entry) (rows : BTreeSet ℕ) → KeepsRows v w core added
-    → ((row : ℕ) → list_any (touches row) added ≡ true → contains nat_cmp rows row ≡ true)
-    → (k row : ℕ) (x : Attempt) → w.attempt k ≡ Some x → x.straight ≡ false → contains nat_cmp rows row ≡ false → IsSameRow v w k row
-same_kept v w core added rows keeps touched k row x runs speculative isnt =
-    keeps.same k row x runs speculative (inr (not_so (list_any (touches row) added) (contains nat_cmp rows row) (touched row) isnt))

@@ -104,15 +104,6 @@ pub record Dropping (hurt : ℕ → Bool) (old new : List CoreState) (i : ℕ) :
   pub within : (size : ℕ) → AreWithin size old → AreWithin size new
   pub room : (size accesses : ℕ) → HaveRoom size accesses old → HaveRoom size accesses new
 
-pub dropping_start : (hurt : ℕ → Bool) (states : List CoreState) → Dropping hurt states states 0
-dropping_start hurt states = record {
-  long = refl;
-  dropped = λ k state below is at. absurd (omega arith);
-  kept = λ k is. refl;
-  within = λ size are. are;
-  room = λ size accesses have. have;
-}
-
 pub dropping_more : (hurt : ℕ → Bool) (old new : List CoreState) (i : ℕ) (state state' : CoreState) → i < length new → slice_get new i ≡ Some state → hurt i ≡ true → IsIdle state'
     → ((size : ℕ) → IsWithin size state → IsWithin size state') → ((size n : ℕ) → HasRoom size n state → HasRoom size n state') → Dropping hurt old new i → Dropping hurt old (set new i state') (i + 1)
 dropping_more hurt old new i state state' below there is idle within room dropping = record {
@@ -157,13 +148,6 @@ pub record Reading (core : ℕ) (bytes : ℕ → Bool) (states : List CoreState)
   pub run : (k : ℕ) → hurt k ≡ true → (state : CoreState) × (slice_get states k ≡ Some state) × GuardsOne bytes state
   pub spared : (k a : ℕ) (state : CoreState) → k < i → k ≢ core → hurt k ≡ false → slice_get states k ≡ Some state → is_some state.attempt ≡ true
       → bytes a ≡ true → byte_in state.guarded.cells a ≡ None
-
-pub reading_start : (core : ℕ) (bytes : ℕ → Bool) (states : List CoreState) (hurt : ℕ → Bool) → ((k : ℕ) → hurt k ≡ false) → Reading core bytes states hurt 0
-reading_start core bytes states hurt none = record {
-  others = none core;
-  run = λ k is. absurd (true≢false (sym is ∙ none k));
-  spared = λ k a state below other unhurt at runs byte. absurd (omega arith);
-}
 
 pub reading_insert : (core : ℕ) (bytes : ℕ → Bool) (states : List CoreState) (hurt hurt' : ℕ → Bool) (i : ℕ) (state : CoreState) → slice_get states i ≡ Some state → i ≢ core → GuardsOne bytes state
     → ((k : ℕ) → hurt' k ≡ (k == i || hurt k)) → Reading core bytes states hurt i → Reading core bytes states hurt' (i + 1)

@@ -2,7 +2,6 @@
 use Rattle.std.proofs.Common.{◌≡◌, ◌≤◌, ◌<◌, ◌*◌, ℕ, ◌+◌, ◌-◌, All, List, [], ◌++◌, length, Option, Some, None, Ok, Err, refl, sym, ap, subst, ◌∙◌, inl, inr, arith, length-append, append-nil, vec_len, vec_capacity}
 use Rattle.std.proofs.lemmas.List.Elements.{All-nil, All-append}
 use Rattle.rv32_image.proofs.SmallFacts.{one_value, none_and_some}
-use Rattle.rv32_exec.specs.declared.sequential.End.{End}
 use Rattle.rv32_exec.specs.Arrival.{Arrival}
 use Rattle.rv32_image.specs.Image.{LoadedImage, IsImage}
 use Rattle.rv32_image.specs.Version.{limits_of}
@@ -20,7 +19,6 @@ use Rattle.spec_history.proofs.Replay.Replays.{replayed}
 use Rattle.violations.specs.View.{StoreView, Waits, IsSettled}
 use Rattle.violations.specs.Rule.{IsSameView, IsCoreCount, IsFresh}
 use Rattle.homefree.specs.declared.answer.Answer.{Answer}
-use Rattle.homefree.specs.declared.answer.Answer.TheVariants.{Over, Stopped}
 use Rattle.homefree.specs.declared.answer.StopCause.{StopCause}
 use Rattle.homefree.specs.declared.answer.StopCause.TheVariants as stop
 use Rattle.homefree.specs.declared.fault.TurnFault.TheVariants.{HistoryFull, NoMemory}
@@ -29,7 +27,6 @@ use Rattle.homefree.specs.Agrees.{Agrees}
 use Rattle.homefree.specs.Acted.{Acted, AreFew, MayNote, turn_of}
 use Rattle.homefree.specs.Caused.{HasKinds}
 use Rattle.homefree.specs.BookInside.{IsBook, IsAsBefore, book_of}
-use Rattle.homefree.specs.BookView.{BookView}
 use Rattle.homefree.specs.Counted.{counted_in, IsNoMore}
 use Rattle.homefree.specs.InStep.{InStep}
 use Rattle.homefree.specs.Kept.{Fits, running_at}
@@ -115,20 +112,6 @@ book_stopped view r store room old cause b full = record {
 
 pub end_of : (r : Register) (v : StoreView) (s : FlatState) → Fits r v → replay r.image (length r.running.items) r.history.items ≡ Some s → s.end ≡ r.end
 end_of r v s f replays = ap (λ (x : FlatState). x.end) (one_value (replay r.image (length r.running.items) r.history.items) s f.state replays f.replays) ∙ sym f.shows.end
-
-module _ {S : Type 0} (view : S → StoreView) (waits : S → Waits) (r : Register) (store : S) (room core : ℕ) (shares : Counts) (next : Option Arrival) (f : Fits r (view store)) where
-  pub turned_over : (cause : Option StopCause) (end : End) → r.end ≡ Some end → (s : FlatState) → replay r.image (length r.running.items) r.history.items ≡ Some s
-      → Turned view waits (book_of r store room cause) s shares core next (Ok (Over end)) (book_of r store room cause) shares
-  turned_over cause end is s replays = turn.over (record { end = end; over = end_of r (view store) s f replays ∙ is; answer_is = refl }) refl refl
-
-  pub turned_stopped : (cause : StopCause) → r.end ≡ None → (s : FlatState) → replay r.image (length r.running.items) r.history.items ≡ Some s
-      → Turned view waits (book_of r store room (Some cause)) s shares core next (Ok (Stopped cause)) (book_of r store room (Some cause)) shares
-  turned_stopped cause going s replays = turn.stopped (record { going = end_of r (view store) s f replays ∙ going; cause = cause; stopped = refl; answer_is = refl }) refl refl
-
-  pub turned_full : r.end ≡ None → room < length r.history.items + (limits_of r.image.version).free_entries
-      → (s : FlatState) → replay r.image (length r.running.items) r.history.items ≡ Some s
-      → Turned view waits (book_of r store room None) s shares core next (Err HistoryFull) (book_of r store room None) shares
-  turned_full going full s replays = turn.full (record { going = end_of r (view store) s f replays ∙ going; unstopped = refl; full = full; answer_is = refl }) refl refl
 
 -- ---- room for a turn
 
@@ -313,10 +296,3 @@ has_free r free room count is counts enough within = let ok = r.history.ok.0 in 
 pub has_room : (r q : Register) (free : ℕ) → free ≡ (limits_of r.image.version).free_entries → vec_len q.history + free ≤ vec_capacity q.history
     → vec_len q.history + (limits_of r.image.version).free_entries ≤ vec_capacity q.history
 has_room r q free is has = omega (arith, is, has)
-
--- what was asked of the book holds of its fields
-pub asked_shares : {S : Type 0} (a b : BookView S) (shares : Counts) → a ≡ b → IsNoMore shares b.totals → IsNoMore shares a.totals
-asked_shares {S} a b shares is less = let P : BookView S → Type 0 = λ x. IsNoMore shares x.totals in subst P (sym is) less
-
-pub asked_core : {S : Type 0} (a b : BookView S) (core : ℕ) → a ≡ b → core < b.cores → core < a.cores
-asked_core {S} a b core is there = let P : BookView S → Type 0 = λ x. core < x.cores in subst P (sym is) there

@@ -7,7 +7,6 @@ use Rattle.rv32_exec.specs.Arrival.{Arrival}
 use Rattle.rv32_exec.specs.Execute.{IsAccess, IsStore, IsStopOf}
 use Rattle.rv32_exec.specs.NextEvent.{next_event}
 use Rattle.rv32_exec.proofs.Accesses.{stop_of_event}
-use Rattle.run_ledger.specs.declared.counts.Counts.{Counts}
 use Rattle.spec_history.specs.FlatState.{CoreState}
 use Rattle.spec_history.specs.Laws.{IsKept}
 use Rattle.violations.specs.View as view
@@ -16,7 +15,7 @@ use Rattle.violations.specs.Rule.{HurtsLater}
 use Rattle.homefree.specs.declared.register.Register.{Register}
 use Rattle.homefree.specs.declared.register.Running.{Running}
 use Rattle.homefree.specs.Agrees.{AgreesCore}
-use Rattle.homefree.specs.Arms.{RunsEpoch, Arrives, MayHurt}
+use Rattle.homefree.specs.Arms.{RunsEpoch, MayHurt}
 use Rattle.homefree.specs.AtStop.{IsAtStop}
 use Rattle.homefree.specs.Kept.{Fits, running_at, kept_of}
 use Rattle.homefree.specs.Turned as turn
@@ -140,8 +139,3 @@ is_at r v core now arrived at f st at_stop = record {
   handed_in = at_stop.base ∙ ap (λ (x : Running). x.hart) (sym st.is);
   event = event_is r core now arrived at st.c at_stop st.is;
 }
-
--- room for one batch
-pub room_of_one : (r : Register) (v : StoreView) (shares : Counts) (core : ℕ) (now : Running) (arrived : Arrival) (at : Stop) → Arrives r v shares core now arrived at
-    → vec_len r.history + length r.running.items ≤ vec_capacity r.history
-room_of_one r v shares core now arrived at arrives = let room = arrives.notes.room in omega (arith, room)

@@ -1,12 +1,11 @@
 -- States by their parts, and cores that change.
-use Rattle.std.proofs.Common.{◌≡◌, ◌≢◌, Bool, ℕ, zero, suc, ◌<◌, List, [], ◌∷◌, length, set, take, drop, ◌++◌, slice_get, Option, Some, refl, sym, ap, ◌∙◌, inl, inr, arith, option_and_then}
+use Rattle.std.proofs.Common.{◌≡◌, ◌≢◌, ℕ, zero, suc, ◌<◌, List, [], ◌∷◌, length, set, take, drop, ◌++◌, slice_get, Option, Some, refl, sym, ap, ◌∙◌, inl, inr, arith, option_and_then}
 use Rattle.std.proofs.lemmas.Bool.{cases_eq}
 use Rattle.std.proofs.Math.Path.{fun_ext}
 use Rattle.std.proofs.lemmas.Grind.{common_steps}
 use Rattle.rv32_image.specs.Image.{LoadedImage}
 use Rattle.rv32_image.proofs.SmallFacts.{one_value}
 use Rattle.rv32_exec.specs.declared.sequential.End.{End}
-use Rattle.rv32_exec.specs.Hart.{HartState}
 use Rattle.spec_history.specs.declared.cores.Core.{Core}
 use Rattle.spec_history.specs.FlatState.{CoreState, FlatState}
 use Rattle.spec_history.specs.Effect.{with_core}
@@ -53,12 +52,6 @@ pub same_state : (committed committed' : ℕ → ℕ) (homefree homefree' publis
     (record { committed = committed'; homefree = homefree'; published = published'; next_epoch = next_epoch'; end = end'; cores = cores' })
 same_state committed committed' homefree homefree' published published' next_epoch next_epoch' end end' cores cores' bytes h p n e c =
     let m = fun_ext bytes in let k = fun_ext c in cc
-
-pub same_core_state : (epoch : ℕ) (hart : HartState) (own own' outside outside' : ℕ → Option ℕ) (straight hurt : Bool)
-    → ((a : ℕ) → own a ≡ own' a) → ((a : ℕ) → outside a ≡ outside' a)
-    → ◌≡◌ {A = CoreState} (record { epoch = epoch; hart = hart; own = own; outside = outside; straight = straight; hurt = hurt })
-    (record { epoch = epoch; hart = hart; own = own'; outside = outside'; straight = straight; hurt = hurt })
-same_core_state epoch hart own own' outside outside' straight hurt same same' = let o = fun_ext same in let p = fun_ext same' in cc
 
 -- a list that was changed in place
 pub whole_items : {A : Type 0} (old new : List A) (len : ℕ) → len ≡ length old → length new ≡ length old → take len (new ++ drop (length new) old) ≡ new
