@@ -158,9 +158,3 @@ some_so image entries core before line n None same was = tt
 some_so image entries core before line n (Some found) same was =
     let first = subst (λ k. IsFirst (At image line) (Reads image entries core before line) k found.0 found.1) same was in
     (load_found image entries core before line found.0 found.1 first, byte_found image entries core before line found.0 found.1 first)
-
--- the byte is in memory
-pub within_so : (image : LoadedImage) (reads : ℕ → Option ℕ) (line n : ℕ) (found : Option (ℕ × ℕ)) → ((x : ℕ) → x < n → At image line x < image.size)
-    → IsEarliest (At image line) reads n found → IfSome found (λ f. f.1 < image.size)
-within_so image reads line n None inside was = tt
-within_so image reads line n (Some found) inside was = subst (λ a. a < image.size) (sym was.at_is) (inside was.x was.below)

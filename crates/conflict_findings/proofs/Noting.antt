@@ -214,8 +214,8 @@ at_hand_by starts begins n None is =
     omega (arith, none)
 at_hand_by starts begins n (Some start) is = refl
 
-pub at_hand : (entries : List Entry) (core before : ℕ) (place : ℕ) (runs : BTreeMap ℕ ℕ) → AreNumbers entries (record { place = place; runs = runs }) → place ≡ before
-    → unwrap_or (get nat_cmp runs core) 1 ≡ attempt_number entries core before
-at_hand entries core before place runs are same =
+pub at_hand : (entries : List Entry) (core place : ℕ) (runs : BTreeMap ℕ ℕ) → AreNumbers entries (record { place = place; runs = runs })
+    → unwrap_or (get nat_cmp runs core) 1 ≡ attempt_number entries core place
+at_hand entries core place runs are =
     ap (λ (o : Option ℕ). unwrap_or o 1) (are.runs_are core)
-    ∙ (at_hand_by (starts_in entries core) (begins_in entries core) place (last_below place (starts_in entries core)) refl ∙ ap (attempt_number entries core) same)
+    ∙ at_hand_by (starts_in entries core) (begins_in entries core) place (last_below place (starts_in entries core)) refl

@@ -1,5 +1,5 @@
 -- What a run is, and where none is.
-use Rattle.std.proofs.Common.{◌≡◌, ℕ, ◌==◌, not, ◌&&◌, Bool, true, false, List, [], ◌++◌, Option, Some, None, if◌then◌else◌, refl, sym, ap, ◌∙◌}
+use Rattle.std.proofs.Common.{◌≡◌, ℕ, not, ◌&&◌, Bool, true, false, List, [], ◌++◌, Option, Some, None, if◌then◌else◌, refl, sym, ap, ◌∙◌}
 use Rattle.std.proofs.lemmas.List.{append-nil, append_assoc}
 use Rattle.rv32_image.specs.Image.{LoadedImage}
 use Rattle.spec_history.specs.declared.entry.Entry.{Entry}
@@ -14,7 +14,7 @@ use Rattle.conflicts.specs.Attempts.{covers}
 use Rattle.conflicts.specs.Blame.{Violation, blamed_range}
 use Rattle.spec_history.specs.Conflict.{is_changed, is_shared}
 use Rattle.conflict_findings.specs.declared.run.Run.{Run}
-use Rattle.conflict_findings.specs.Runs.{begins_blamed, is_falsely_shared, line_run, only, run_from, run_at, run_kind, run_with, runs_by, shared_run}
+use Rattle.conflict_findings.specs.Runs.{begins_blamed, is_falsely_shared, line_run, run_from, run_kind, run_with, runs_by, shared_run}
 
 -- the run that was made
 pub made : (image : LoadedImage) (entries : List Entry) (v : Violation) (load a store : ℕ) (bytes : ByteRange) (changes : Bool)
@@ -39,14 +39,6 @@ either_none false run is = refl
 -- where no run begins
 pub unshared_within : (image : LoadedImage) (entries : List Entry) (blame : Option Blame) (v : Violation) (a : ℕ) → run_from image entries v a ≡ None → shared_run image entries blame v a ≡ None
 unshared_within image entries blame v a none = either_none (is_shared v.bytes a && not (begins_blamed blame a)) (run_from image entries v a) none
-
--- of a shared byte, the run that was told
-pub shared_told : (image : LoadedImage) (entries : List Entry) (blame : Option Blame) (v : Violation) (a : ℕ) (run kept : Option Run) → is_shared v.bytes a ≡ true → run ≡ run_at image entries v a
-    → kept ≡ (if not (begins_blamed blame a) then only (λ r. r.bytes.first == a) run else None) → kept ≡ shared_run image entries blame v a
-shared_told image entries blame v a run kept shared told by =
-    by
-    ∙ (ap (λ (o : Option Run). if not (begins_blamed blame a) then only (λ r. r.bytes.first == a) o else None) told
-    ∙ ap (λ (b : Bool). if b && not (begins_blamed blame a) then run_from image entries v a else None) (sym shared))
 
 no_what : (image : LoadedImage) (s : FlatState) (entries : List Entry) (e : Explanation) (cause : Option ℕ) → runs_by image s entries e cause None ≡ []
 no_what image s entries e None = refl

@@ -1,9 +1,10 @@
 //! Which attempt an entry ends.
 
-ghost use Rattle.std.specs.Prelude.{◌≡◌, option_map};
+ghost use Rattle.std.specs.Prelude.{◌≡◌, List, option_map};
+ghost use Rattle.spec_history.specs.declared.entry.Entry.{Entry};
 ghost use Rattle.spec_history.specs.View.{state_in};
 ghost use Rattle.conflict_findings.specs.Ends as spec;
-ghost use Rattle.conflict_findings.specs.Followed.{IsFollowed};
+ghost use Rattle.conflict_findings.specs.Followed.{IsFollowedTo};
 ghost use Rattle.conflict_findings.specs.Violated.{AreMarked};
 
 use crate::ended::{Ended, Ending};
@@ -32,15 +33,14 @@ pub(crate) fn done_at(flat: &Flat, core: u32) -> Option<u64>
 /// The attempt of a core, which ends so by an entry at a place.
 fn ended_as(
     flat: &Flat,
-    entries: &[Entry],
     followed: &Followed,
     place: usize,
     ending: Ending,
     by: u32,
     core: u32,
 ) -> Option<Ended>
-    requires { IsFollowed entries.now followed.now }
-    ensures { result ≡ spec.ended_as flat.now.image entries.now (state_in flat.now) place ending by core }
+    ensures { (entries : List Entry) → IsFollowedTo entries place followed.now
+        → result ≡ spec.ended_as flat.now.image entries (state_in flat.now) place ending by core }
 {
     let by = runner_at(flat, by)?;
     let runner = runner_at(flat, core)?;
@@ -50,7 +50,7 @@ fn ended_as(
         ending,
         by,
         runner,
-        attempt: followed.attempt_number(entries, core, place),
+        attempt: followed.attempt_number(core),
         done,
     })
 }
@@ -66,7 +66,7 @@ fn cancelled(
     epoch: u32,
 ) -> Option<Ended>
     requires marked { AreMarked entries.now place (state_in flat.now).cores }
-    requires followed { IsFollowed entries.now followed.now }
+    requires followed { IsFollowedTo entries.now place followed.now }
     ensures { result ≡ spec.cancelled flat.now.image cores entries.now (state_in flat.now) place by epoch }
 {
     let core = core_at(flat, cores, epoch)?;
@@ -74,11 +74,11 @@ fn cancelled(
     if is_violated(entries, runner, place) {
         return None;
     }
-    ended_as(flat, entries, followed, place, Ending::Cancelled, by, core)
+    ended_as(flat, followed, place, Ending::Cancelled, by, core)
 }
 
 /// The attempt that the entry at a place ends, if it ends one. It takes the machine before the entry, the whole history, and what is kept
-/// of its attempts.
+/// of its attempts, of which the entries before the place are noted.
 ///
 /// The entries before the place have to say which attempts are violated, as those do that the machine has replayed.
 pub fn ended_by(
@@ -90,18 +90,18 @@ pub fn ended_by(
     entry: Entry,
 ) -> Option<Ended>
     requires marked { AreMarked entries.now place (state_in flat.now).cores }
-    requires followed { IsFollowed entries.now followed.now }
+    requires followed { IsFollowedTo entries.now place followed.now }
     ensures { result ≡ spec.ended_by flat.now.image cores entries.now (state_in flat.now) place entry.by entry.what }
 {
     let by = entry.by;
     match entry.what {
         What::Hurt(epoch) => {
             let core = core_at(flat, cores, epoch)?;
-            ended_as(flat, entries, followed, place, Ending::Violated, by, core)
+            ended_as(flat, followed, place, Ending::Violated, by, core)
         }
         What::Cancel(epoch) => cancelled(flat, cores, entries, followed, place, by, epoch),
         What::Commit | What::Fault { .. } => {
-            ended_as(flat, entries, followed, place, Ending::Committed, by, by)
+            ended_as(flat, followed, place, Ending::Committed, by, by)
         }
         What::Start(_) | What::Load { .. } | What::Store { .. } | What::Restart | What::Publish =>
             None,

@@ -4,7 +4,7 @@ ghost use Rattle.std.specs.Prelude.{◌≡◌, ◌<◌, ◌*◌, ◌^◌, IfOk, 
 ghost use Rattle.rv32_image.specs.Version.{limits_of};
 ghost use Rattle.spec_history.specs.Conflict as conflict;
 ghost use Rattle.conflict_findings.specs.Findings as spec;
-ghost use Rattle.conflict_findings.specs.Followed.{IsFollowed};
+ghost use Rattle.conflict_findings.specs.Followed.{IsFollowedTo};
 
 use crate::followed::Followed;
 use crate::run::Run;
@@ -80,7 +80,8 @@ pub struct FurtherRun {
     pub bytes: ByteRange,
 }
 
-/// What is found of an explanation. It takes the sites of the history, and what is kept of its attempts.
+/// What is found of an explanation. It takes the sites of the history, and what is kept of its attempts, of which the entries before the
+/// violation are noted.
 pub fn finding_of(
     image: &Image,
     entries: &[Entry],
@@ -88,11 +89,11 @@ pub fn finding_of(
     followed: &mut Followed,
     e: &Explanation,
 ) -> Finding
-    requires { IsFollowed entries.now followed.old }
+    requires { IsFollowedTo entries.now e.now.place followed.old }
     ensures found { result ≡ spec.finding_of image.now entries.now sites.now e.now }
-    ensures followed { IsFollowed entries.now followed.new }
+    ensures followed { IsFollowedTo entries.now e.now.place followed.new }
 {
-    let attempt = followed.attempt_number(entries, e.victim.core, e.place);
+    let attempt = followed.attempt_number(e.victim.core);
     let undone = followed.undone_at(entries, *e);
     Finding {
         place: e.place,

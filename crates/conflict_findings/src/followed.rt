@@ -24,7 +24,7 @@ pub struct Followed {
 impl Followed {
     /// Nothing yet.
     pub fn new(alloc: Global) -> Followed
-        ensures { (entries : List Entry) → spec.IsFollowed entries result }
+        ensures { (entries : List Entry) → spec.IsFollowedTo entries 0 result }
     {
         Followed {
             numbers: Numbers::new(alloc),
@@ -43,13 +43,11 @@ impl Followed {
         self.numbers.note(entries)
     }
 
-    /// Which run of its epoch the attempt is that a core runs before a place, counted from 1. It is at hand where the entries up to
-    /// there are noted.
-    pub fn attempt_number(&self, entries: &[Entry], core: u32, before: usize) -> usize
-        requires { spec.IsFollowed entries.now self.now }
-        ensures { result ≡ attempts.attempt_number entries.now core before }
+    /// Which run of its epoch the attempt is that a core runs where the entries that are noted end, counted from 1.
+    pub fn attempt_number(&self, core: u32) -> usize
+        ensures { (entries : List Entry) → spec.IsFollowed entries self.now → result ≡ attempts.attempt_number entries core self.now.numbers.place }
     {
-        self.numbers.attempt_number(entries, core, before)
+        self.numbers.attempt_number(core)
     }
 
     /// In vain: the place of the entry that violates or cancels the causer's attempt, if it does not commit. It looks for the end of an
@@ -58,6 +56,7 @@ impl Followed {
         requires { spec.IsFollowed entries.now self.old }
         ensures undone { result ≡ fates.undone_at entries.now e }
         ensures known { spec.IsFollowed entries.now self.new }
+        ensures noted { self.new.numbers ≡ self.old.numbers }
     {
         self.known_ends.undone_at(entries, e)
     }

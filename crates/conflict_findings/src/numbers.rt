@@ -7,7 +7,6 @@ ghost use Rattle.spec_history.specs.declared.entry.Entry.{Entry};
 ghost use Rattle.conflicts.specs.Attempts as attempts;
 ghost use Rattle.conflict_findings.specs.Numbers as spec;
 
-use conflicts::attempt_number;
 use spec_history::{Entry, What};
 use std::alloc::{AllocError, Global};
 use std::collections::BTreeMap;
@@ -24,7 +23,8 @@ pub struct Numbers {
 impl Numbers {
     /// Before the history.
     pub(crate) fn new(alloc: Global) -> Numbers
-        ensures { (entries : List Entry) → spec.AreNumbers entries result }
+        ensures known { (entries : List Entry) → spec.AreNumbers entries result }
+        ensures first { result.place ≡ 0 }
     {
         Numbers {
             place: 0,
@@ -69,15 +69,10 @@ impl Numbers {
         Ok(())
     }
 
-    /// Which run of its epoch the attempt is that a core runs before a place, counted from 1. It is at hand where the entries up to
-    /// there are noted, else it is searched for.
-    pub(crate) fn attempt_number(&self, entries: &[Entry], core: u32, before: usize) -> usize
-        requires { spec.AreNumbers entries.now self.now }
-        ensures { result ≡ attempts.attempt_number entries.now core before }
+    /// Which run of its epoch the attempt is that a core runs before the place, counted from 1.
+    pub(crate) fn attempt_number(&self, core: u32) -> usize
+        ensures { (entries : List Entry) → spec.AreNumbers entries self.now → result ≡ attempts.attempt_number entries core self.now.place }
     {
-        if self.place == before {
-            return self.runs.get(&core).copied().unwrap_or(1);
-        }
-        attempt_number(entries, core, before)
+        self.runs.get(&core).copied().unwrap_or(1)
     }
 }

@@ -3,7 +3,7 @@
 ghost use Rattle.std.specs.Prelude.{◌≡◌, ◌++◌, IfOk, OnOk, length, option_to_list};
 ghost use Rattle.spec_history.specs.View.{state_in};
 ghost use Rattle.conflict_findings.specs.Ends as spec;
-ghost use Rattle.conflict_findings.specs.Followed.{IsFollowed};
+ghost use Rattle.conflict_findings.specs.Followed.{IsFollowedTo};
 ghost use Rattle.conflict_findings.specs.Violated.{AreMarked};
 
 use crate::ended::Running;
@@ -27,7 +27,7 @@ fn is_faulted(end: Option<End>, epoch: u32) -> bool
 /// The attempt of a core that goes on after the history, if there is one.
 fn running_at(flat: &Flat, entries: &[Entry], followed: &Followed, core: u32) -> Option<Running>
     requires marked { AreMarked entries.now (length entries.now) (state_in flat.now).cores }
-    requires followed { IsFollowed entries.now followed.now }
+    requires followed { IsFollowedTo entries.now (length entries.now) followed.now }
     ensures { result ≡ spec.running_in flat.now.image entries.now (state_in flat.now) core }
 {
     let runner = runner_at(flat, core)?;
@@ -37,7 +37,7 @@ fn running_at(flat: &Flat, entries: &[Entry], followed: &Followed, core: u32) ->
     let done = done_at(flat, core)?;
     Some(Running {
         runner,
-        attempt: followed.attempt_number(entries, core, entries.len()),
+        attempt: followed.attempt_number(core),
         done,
     })
 }
@@ -53,7 +53,7 @@ fn keep(running: &mut Vec<Running>, found: Option<Running>) -> Result<(), AllocE
 }
 
 /// The attempts that go on after the history, in the order of the cores. It takes the machine after the history, and what is kept of its
-/// attempts.
+/// attempts, of which all entries are noted.
 ///
 /// The entries have to say which attempts are violated, as those do that the machine has replayed.
 pub fn running_in(
@@ -64,7 +64,7 @@ pub fn running_in(
     followed: &Followed,
 ) -> Result<Vec<Running>, AllocError>
     requires marked { AreMarked entries.now (length entries.now) (state_in flat.now).cores }
-    requires followed { IsFollowed entries.now followed.now }
+    requires followed { IsFollowedTo entries.now (length entries.now) followed.now }
     ensures { IfOk result (λ running. running.items ≡ spec.running_below flat.now.image entries.now (state_in flat.now) cores) }
 {
     let mut running = Vec::new(alloc);

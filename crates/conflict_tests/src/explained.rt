@@ -1,7 +1,7 @@
 //! Worked histories and what explains their violations.
 
-ghost use Rattle.std.specs.Prelude.{OnOk};
-ghost use Rattle.conflict_findings.specs.Followed.{IsFollowed};
+ghost use Rattle.std.specs.Prelude.{◌≡◌, IfOk, OnOk, true};
+ghost use Rattle.conflict_findings.specs.Followed.{IsFollowed, IsFollowedTo};
 
 use crate::rows::{
     BUFFER_FULL, BUFFER_FULL_FATES, BUFFER_FULL_PAIRS, BUFFER_FULL_SUMS, BUFFER_FULL_VIOLATIONS,
@@ -25,15 +25,16 @@ use std::process::Abort;
 use std::test::Fail;
 use trace_text::{image_part, read_trace};
 
-/// Notes the entries before a place.
-fn note_before(followed: &mut Followed, entries: &[Entry], place: usize) -> Result<(), AllocError>
+/// Notes the entries before a place, and says whether those are noted, and no others.
+fn note_before(followed: &mut Followed, entries: &[Entry], place: usize) -> Result<bool, AllocError>
     requires { IsFollowed entries.now followed.old }
-    ensures { OnOk result (IsFollowed entries.now followed.new) }
+    ensures noted { IfOk result (λ noted. noted ≡ true → IsFollowedTo entries.now place followed.new) }
+    ensures known { OnOk result (IsFollowed entries.now followed.new) }
 {
     for _ in followed.numbers.place..place {
         followed.note(entries)?;
     }
-    Ok(())
+    Ok(followed.numbers.place == place)
 }
 
 /// A worked history.
@@ -72,6 +73,23 @@ impl Worked {
         }
     }
 
+    /// What is found of a violation, over what is kept of attempts before it.
+    fn found_over(
+        &self,
+        followed: &mut Followed,
+        stood: &[Option<Site>],
+        e: &Explanation,
+    ) -> Result<Finding, Fail>
+        requires { IsFollowed self.now.entries.items followed.old }
+        ensures { OnOk result (IsFollowed self.now.entries.items followed.new) }
+    {
+        let entries = self.entries.as_slice();
+        if !note_before(followed, entries, e.place)? {
+            return Err(Fail::from("the entries before a violation"));
+        }
+        Ok(finding_of(&self.image, entries, stood, followed, e))
+    }
+
     /// What is found of each violation, in order, with what is kept of those before.
     fn found(&self, alloc: Global) -> Result<Vec<Finding>, Fail> {
         let explained = self.explained(alloc)?;
@@ -79,28 +97,19 @@ impl Worked {
         let mut followed = Followed::new(alloc);
         let mut found = Vec::new(alloc);
         for e in explained {
-            note_before(&mut followed, self.entries.as_slice(), e.place)?;
-            found.push(finding_of(
-                &self.image,
-                self.entries.as_slice(),
-                stood.as_slice(),
-                &mut followed,
-                &e,
-            ))?;
+            found.push(self.found_over(&mut followed, stood.as_slice(), &e)?)?;
         }
         Ok(found)
     }
 
-    /// What is found of one violation, where nothing is kept of attempts before.
-    fn found_alone(&self, alloc: Global, stood: &[Option<Site>], e: &Explanation) -> Finding {
-        let mut followed = Followed::new(alloc);
-        finding_of(
-            &self.image,
-            self.entries.as_slice(),
-            stood,
-            &mut followed,
-            e,
-        )
+    /// What is found of one violation, where nothing is kept of the ends of attempts before.
+    fn found_alone(
+        &self,
+        alloc: Global,
+        stood: &[Option<Site>],
+        e: &Explanation,
+    ) -> Result<Finding, Fail> {
+        self.found_over(&mut Followed::new(alloc), stood, e)
     }
 
     fn summed(&self, alloc: Global) -> Result<Vec<Rollback>, Fail> {
@@ -274,7 +283,7 @@ fn are_found_alone(rt: &impl Abort, alloc: Global, text: &str) -> Result<(), Fai
     let found = worked.found(alloc)?;
     assert!(rt; !found.is_empty() && found.len() == explained.len());
     for (explanation, finding) in explained.iter().zip(found.iter()) {
-        let alone = worked.found_alone(alloc, stood.as_slice(), explanation);
+        let alone = worked.found_alone(alloc, stood.as_slice(), explanation)?;
         assert!(rt; alone == *finding, "{}", finding.place);
     }
     Ok(())

@@ -1,4 +1,4 @@
 use Rattle.conflict_tests.proofs.explained.Worked.found_alone.Goals as goal
 
-pub finding_of-requires : goal.finding_of-requires
-finding_of-requires c = c.new-followed.ensures _
+pub found_over-requires : goal.found_over-requires
+found_over-requires c = (c.new.ensures _).is
