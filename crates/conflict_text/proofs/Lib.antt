@@ -1,3 +1,4 @@
+pub mod Joining
 pub mod Summing
 pub mod Answering
 pub mod Gathering

@@ -21,8 +21,8 @@ use Rattle.conflict_findings.specs.Rollbacks.{rollback_at}
 use Rattle.conflict_findings.specs.Sums.{sum_in}
 use Rattle.conflict_findings.specs.Tallies.{count_in, done_by, done_in, is_ended, is_same, tally_of_running}
 use Rattle.conflict_text.specs.declared.report.Totals.{Totals}
-use Rattle.conflict_text.specs.Ends.{attempt_lines, ended_line, is_told, line_by, rest_text, tally_text, useful_text}
-use Rattle.conflict_text.specs.Report.{kind_lines, sum_text, total_text}
+use Rattle.conflict_text.specs.Ends.{attempt_lines, ended_line, is_told, line_by, rest_text, tally_text}
+use Rattle.conflict_text.specs.Report.{committed_text, kind_lines, sum_text, total_text}
 use Rattle.conflict_text.specs.Totals.{AreTotals, last_lines}
 use Rattle.conflict_text.specs.Why.{AreCounted, AreFound}
 
@@ -79,10 +79,11 @@ told_attempts es os = ap (λ t. t ++ attempt_lines [] os) (told_lines es)
 abbrev tally : ℕ → ℕ → Tally
 tally n m = record { count = n; done = m }
 
-told_useful : (es : List Ended) → useful_text (filter is_told es) ≡ useful_text es
-told_useful es = ap (λ (n : ℕ). codes " useful " ++ decimal n) (told_done Committed refl es)
+told_useful : (es : List Ended) → done_in Committed (filter is_told es) ≡ done_in Committed es
+told_useful es = (told_done Committed refl es)
 
 told_rest : (es : List Ended) (os : List Running) → rest_text (filter is_told es) os ≡ rest_text es os
+unfolding rest_text
 told_rest es os =
     ap (λ (t : Tally). tally_text (codes " cancelled ") (codes " dropped ") t ++ tally_text (codes " open ") (codes " unsettled ") (tally_of_running os))
     (ap₂ tally (told_count Cancelled refl es) (told_done Cancelled refl es))
@@ -90,7 +91,7 @@ told_rest es os =
 told_total : (epochs committed : ℕ) (s : Sum) (es : List Ended) (os : List Running) → total_text epochs committed s (filter is_told es) os ≡ total_text epochs committed s es os
 unfolding total_text
 told_total epochs committed s es os =
-    ap₂ (λ (useful rest : List ℕ). codes "total epochs " ++ decimal epochs ++ codes " committed " ++ decimal committed ++ useful ++ sum_text s.count s.lost ++ rest ++ codes "\n")
+    ap₂ (λ (useful : ℕ) (rest : List ℕ). committed_text epochs committed useful ++ sum_text s.count s.lost ++ rest ++ codes "\n")
     (told_useful es) (told_rest es os)
 
 told_last : (image : LoadedImage) (homefree : ℕ) (rs : List Rollback) (es : List Ended) (os : List Running) → last_lines image homefree rs (filter is_told es) os ≡ last_lines image homefree rs es os

@@ -1,25 +1,25 @@
 -- The lines of attempts that were cancelled and of those that go on, and what the total says of attempts.
 -- Source: this project.
 use Rattle.std.specs.Prelude.{ℕ, Bool, not, List, [], ◌++◌, codes}
-use Rattle.std.specs.Fmt.{decimal}
 use Rattle.std.specs.List.{flat_map}
 use Rattle.conflicts.specs.declared.explanation.Runner.{Runner}
 use Rattle.conflict_findings.specs.declared.ended.Ended.{Ended}
 use Rattle.conflict_findings.specs.declared.ended.Ending.{Ending}
-use Rattle.conflict_findings.specs.declared.ended.Ending.TheVariants.{Cancelled, Committed, Violated}
+use Rattle.conflict_findings.specs.declared.ended.Ending.TheVariants.{Cancelled, Violated}
 use Rattle.conflict_findings.specs.declared.ended.Running.{Running}
 use Rattle.conflict_findings.specs.declared.tally.Tally.{Tally}
-use Rattle.conflict_findings.specs.Tallies.{done_in, is_ended, tally_in, tally_of_running}
+use Rattle.conflict_findings.specs.Tallies.{is_ended, tally_in, tally_of_running}
+use Rattle.conflict_text.specs.Lines.{named}
 
 -- whose attempt it is, and which run of its epoch
-abbrev pub runner_text : Runner → ℕ → List ℕ
-runner_text r attempt = codes " epoch " ++ decimal r.epoch ++ codes " try " ++ decimal attempt ++ codes " core " ++ decimal r.core
+unfoldable pub runner_text : List ℕ → Runner → ℕ → List ℕ
+runner_text label r attempt = named label r.epoch ++ named (codes " try ") attempt ++ named (codes " core ") r.core
 
 -- an attempt that was cancelled: whose it was, what it had executed, and by whom
 unfoldable pub cancel_line : Ended → List ℕ
 cancel_line e =
-    codes "cancel " ++ decimal e.place ++ runner_text e.runner e.attempt ++ codes " lost " ++ decimal e.done
-    ++ codes " by " ++ decimal e.by.epoch ++ codes " core " ++ decimal e.by.core ++ codes "\n"
+    named (codes "cancel ") e.place ++ runner_text (codes " epoch ") e.runner e.attempt ++ named (codes " lost ") e.done
+    ++ named (codes " by ") e.by.epoch ++ named (codes " core ") e.by.core ++ codes "\n"
 
 abbrev pub line_by : Ended → Ending → List ℕ
 line_by e Cancelled = cancel_line e
@@ -31,7 +31,7 @@ ended_line e = line_by e e.ending
 
 -- an attempt that goes on after the history: whose it is, and what it has executed
 unfoldable pub open_line : Running → List ℕ
-open_line o = codes "open" ++ runner_text o.runner o.attempt ++ codes " done " ++ decimal o.done ++ codes "\n"
+open_line o = runner_text (codes "open epoch ") o.runner o.attempt ++ named (codes " done ") o.done ++ codes "\n"
 
 -- of an attempt that was violated its violation tells
 abbrev pub is_told : Ended → Bool
@@ -43,15 +43,11 @@ attempt_lines ended running = flat_map ended_line ended ++ flat_map open_line ru
 
 -- ---- in the total
 
--- what the attempts executed that committed
-abbrev pub useful_text : List Ended → List ℕ
-useful_text ended = codes " useful " ++ decimal (done_in Committed ended)
-
 -- how many attempts, and what they executed, by these names
-abbrev pub tally_text : List ℕ → List ℕ → Tally → List ℕ
-tally_text count done t = count ++ decimal t.count ++ done ++ decimal t.done
+unfoldable pub tally_text : List ℕ → List ℕ → Tally → List ℕ
+tally_text count done t = named count t.count ++ named done t.done
 
 -- those that were cancelled, and those that go on
-abbrev pub rest_text : List Ended → List Running → List ℕ
+unfoldable pub rest_text : List Ended → List Running → List ℕ
 rest_text ended running =
     tally_text (codes " cancelled ") (codes " dropped ") (tally_in Cancelled ended) ++ tally_text (codes " open ") (codes " unsettled ") (tally_of_running running)

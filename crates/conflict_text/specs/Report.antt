@@ -2,11 +2,11 @@
 -- Source: this project.
 use Rattle.std.specs.Prelude.{◌≡◌, ℕ, ◌-◌, ◌*◌, ◌^◌, ◌==◌, List, [], ◌++◌, map, codes, Option, Some, None, nat_lt, if◌then◌else◌}
 use Rattle.std.specs.BTreeMap.{BTreeMap}
-use Rattle.std.specs.Fmt.{decimal}
 use Rattle.std.specs.List.{flat_map}
 use Rattle.rv32_image.specs.Image.{LoadedImage}
 use Rattle.rv32_image.specs.Version.{limits_of}
 use Rattle.conflict_findings.specs.declared.ended.Ended.{Ended}
+use Rattle.conflict_findings.specs.declared.ended.Ending.TheVariants.{Committed}
 use Rattle.conflict_findings.specs.declared.ended.Running.{Running}
 use Rattle.conflict_findings.specs.declared.finding.Finding.{Finding}
 use Rattle.conflict_findings.specs.declared.finding.FurtherRun.{FurtherRun}
@@ -28,46 +28,47 @@ use Rattle.conflict_findings.specs.Order.{AreHeaviest, ArePairSums}
 use Rattle.conflict_findings.specs.Roles.{in_both_roles}
 use Rattle.conflict_findings.specs.Rollbacks.{rollback_of}
 use Rattle.conflict_findings.specs.Sums.{sum_in}
-use Rattle.conflict_text.specs.Ends.{attempt_lines, rest_text, useful_text}
-use Rattle.conflict_text.specs.Lines.{address_or_dash, kind_name, told_lines}
+use Rattle.conflict_findings.specs.Tallies.{done_in}
+use Rattle.conflict_text.specs.Ends.{attempt_lines, rest_text}
+use Rattle.conflict_text.specs.Lines.{address_or_dash, kind_name, labelled, named, told_lines}
 use Rattle.trace_text.specs.Printing.{hex_word}
 
 -- ---- parts of lines
 
-abbrev pub sum_text : ℕ → ℕ → List ℕ
-sum_text rollbacks lost = codes " rollbacks " ++ decimal rollbacks ++ codes " lost " ++ decimal lost
+unfoldable pub sum_text : ℕ → ℕ → List ℕ
+sum_text rollbacks lost = named (codes " rollbacks ") rollbacks ++ named (codes " lost ") lost
 
 -- how many are of each kind
-abbrev pub counts_text : CountsByKind → List ℕ
+unfoldable pub counts_text : CountsByKind → List ℕ
 counts_text c =
-    codes " true " ++ decimal c.true_sharing ++ codes " silent " ++ decimal c.silent_store
-    ++ codes " false " ++ decimal c.false_sharing ++ codes " buffer " ++ decimal c.full_buffer
+    named (codes " true ") c.true_sharing ++ named (codes " silent ") c.silent_store
+    ++ named (codes " false ") c.false_sharing ++ named (codes " buffer ") c.full_buffer
 
 -- ---- lines
 
 -- an epoch, and what its violations cost
 unfoldable pub epoch_line : ℕ × Sum → List ℕ
-epoch_line e = codes "epoch " ++ decimal e.0 ++ sum_text e.1.count e.1.lost ++ codes "\n"
+epoch_line e = named (codes "epoch ") e.0 ++ sum_text e.1.count e.1.lost ++ codes "\n"
 
 -- how many were stale, in vain, and came true later
-abbrev pub fates_text : Fates → List ℕ
-fates_text f = codes " stale " ++ decimal f.stale ++ codes " vain " ++ decimal f.vain ++ codes " later " ++ decimal f.came_true
+unfoldable pub fates_text : Fates → List ℕ
+fates_text f = named (codes " stale ") f.stale ++ named (codes " vain ") f.vain ++ named (codes " later ") f.came_true
 
 -- by how many epochs the victims stood after the causers: the least, and the greatest
-abbrev pub distance_text : Option Bounds → List ℕ
+unfoldable pub distance_text : Option Bounds → List ℕ
 distance_text None = codes " distance - -"
-distance_text (Some b) = codes " distance " ++ decimal b.least ++ codes " " ++ decimal b.greatest
+distance_text (Some b) = named (codes " distance ") b.least ++ named (codes " ") b.greatest
 
 -- the bytes from the lowest at which they met to the highest: the address of the first, and how many they are
-abbrev pub range_text : Option Bounds → List ℕ
+unfoldable pub range_text : Option Bounds → List ℕ
 range_text None = codes " at - -"
-range_text (Some b) = codes " at " ++ hex_word b.least ++ codes " " ++ decimal (b.greatest - b.least)
+range_text (Some b) = labelled (codes " at ") (hex_word b.least) ++ named (codes " ") (b.greatest - b.least)
 
 -- the two instructions of a pair: for full buffers the access that asked for the line, and the store that held it
-abbrev pub pair_name : ℕ → Pair → List ℕ
+unfoldable pub pair_name : ℕ → Pair → List ℕ
 pair_name full pair =
-    if full == 0 then codes "pair store " ++ hex_word pair.store ++ codes " load " ++ hex_word pair.load
-    else codes "pair asked " ++ hex_word pair.store ++ codes " held " ++ hex_word pair.load
+    if full == 0 then labelled (codes "pair store ") (hex_word pair.store) ++ labelled (codes " load ") (hex_word pair.load)
+    else labelled (codes "pair asked ") (hex_word pair.store) ++ labelled (codes " held ") (hex_word pair.load)
 
 -- a pair of instructions, and what the violations at which they met cost
 unfoldable pub pair_line : PairSum → List ℕ
@@ -81,20 +82,20 @@ line_address image line =
     let first = line * (limits_of image.version).line_length in
     if nat_lt first (2 ^ 32) then Some first else None
 
-abbrev pub line_text : LoadedImage → ℕ × Sum → CountsByKind → List ℕ
+unfoldable pub line_text : LoadedImage → ℕ × Sum → CountsByKind → List ℕ
 line_text image e counts =
-    codes "line " ++ address_or_dash (line_address image e.0) ++ sum_text e.1.count e.1.lost ++ counts_text counts ++ codes "\n"
+    labelled (codes "line ") (address_or_dash (line_address image e.0)) ++ sum_text e.1.count e.1.lost ++ counts_text counts ++ codes "\n"
 
 -- a line of the caches, and what the violations in it cost
 abbrev pub line_line : LoadedImage → List Rollback → ℕ × Sum → List ℕ
 line_line image rollbacks e = line_text image e (counts_in (OfLine e.0) rollbacks)
 
 -- how many violations, and what they lost
-abbrev pub role_text : Sum → List ℕ
-role_text sum = decimal sum.count ++ codes " " ++ decimal sum.lost
+unfoldable pub role_text : List ℕ → Sum → List ℕ
+role_text name sum = named name sum.count ++ named (codes " ") sum.lost
 
-abbrev pub pc_text : ℕ → Sum → Sum → List ℕ
-pc_text pc victim causer = codes "pc " ++ hex_word pc ++ codes " victim " ++ role_text victim ++ codes " causer " ++ role_text causer ++ codes "\n"
+unfoldable pub pc_text : ℕ → Sum → Sum → List ℕ
+pc_text pc victim causer = labelled (codes "pc ") (hex_word pc) ++ role_text (codes " victim ") victim ++ role_text (codes " causer ") causer ++ codes "\n"
 
 -- an instruction, and what the violations cost in which it was the blamed load, and the blamed store
 abbrev pub pc_line : List Rollback → ℕ × Sum → List ℕ
@@ -103,7 +104,7 @@ pc_line rollbacks e = pc_text e.0 (sum_or (sum_at Load rollbacks e.0)) (sum_or (
 -- what the violations of a kind cost, if it occurs
 unfoldable pub kind_text : Kind → Sum → List ℕ
 kind_text kind sum =
-    if sum.count == 0 then [] else codes "kind " ++ kind_name kind ++ sum_text sum.count sum.lost ++ codes "\n"
+    if sum.count == 0 then [] else labelled (codes "kind ") (kind_name kind) ++ sum_text sum.count sum.lost ++ codes "\n"
 
 unfoldable pub kinds_text : SumsByKind → List ℕ
 kinds_text sums =
@@ -114,10 +115,16 @@ kinds_text sums =
 abbrev pub kind_lines : List Rollback → List ℕ
 kind_lines rollbacks = kinds_text (sums_in rollbacks)
 
+unfoldable pub epochs_text : ℕ → List ℕ
+epochs_text epochs = codes "total" ++ named (codes " epochs ") epochs
+
+-- the epochs of the loop, those that committed, and what the attempts executed that did
+unfoldable pub committed_text : ℕ → ℕ → ℕ → List ℕ
+committed_text epochs committed useful = epochs_text epochs ++ named (codes " committed ") committed ++ named (codes " useful ") useful
+
 unfoldable pub total_text : ℕ → ℕ → Sum → List Ended → List Running → List ℕ
 total_text epochs committed sum ended running =
-    codes "total epochs " ++ decimal epochs ++ codes " committed " ++ decimal committed ++ useful_text ended ++ sum_text sum.count sum.lost
-    ++ rest_text ended running ++ codes "\n"
+    committed_text epochs committed (done_in Committed ended) ++ sum_text sum.count sum.lost ++ rest_text ended running ++ codes "\n"
 
 -- the epochs of the loop, those that committed, the sums of all violations, and how the attempts ended
 abbrev pub total_line : LoadedImage → ℕ → List Rollback → List Ended → List Running → List ℕ

@@ -1,7 +1,7 @@
 //! The report of a history. It is replayed twice: for the sites of its entries, and for what is found of its violations. Of that the lines are
 //! kept, and the sums.
 
-ghost use Rattle.std.specs.Prelude.{◌≡◌, ◌+◌, ◌^◌, ◌<◌, ◌≤◌, ◌++◌, [], ℕ, IfOk, List, MatchResult, OnOk, filter, length, option_map, option_to_list};
+ghost use Rattle.std.specs.Prelude.{◌≡◌, ◌+◌, ◌^◌, ◌<◌, ◌≤◌, ◌++◌, [], ℕ, IfOk, IfSome, List, MatchResult, OnOk, filter, length, option_map, option_to_list};
 ghost use Rattle.spec_history.specs.declared.entry.Entry.{Entry};
 ghost use Rattle.spec_history.specs.View.{IsAuditFault, state_in};
 ghost use Rattle.trace_commands.specs.declared.outcome.Verdict.TheVariants.{Legal};
@@ -11,7 +11,7 @@ ghost use Rattle.conflicts.specs.Sites.{sites_before};
 ghost use Rattle.conflict_findings.specs.declared.rollback.Rollback.{Rollback};
 ghost use Rattle.conflict_findings.specs.AllSums.{AreAllSums};
 ghost use Rattle.conflict_findings.specs.Ends.{ended_before, running_after};
-ghost use Rattle.conflict_findings.specs.Followed.{IsFollowed};
+ghost use Rattle.conflict_findings.specs.Followed.{IsFollowed, IsFollowedTo};
 ghost use Rattle.conflict_findings.specs.Rollbacks.{rollback_at};
 ghost use Rattle.conflict_text.specs.Ends.{is_told};
 ghost use Rattle.conflict_text.specs.Explaining.{IsReport};
@@ -180,7 +180,7 @@ impl Findings {
     fn new(alloc: Global) -> Findings
         ensures lines { result.lines.items ≡ [] }
         ensures sums { AreAllSums [] result.sums }
-        ensures followed { (entries : List Entry) → IsFollowed entries result.followed }
+        ensures followed { (entries : List Entry) → IsFollowedTo entries 0 result.followed }
     {
         Findings {
             lines: Vec::new(alloc),
@@ -203,11 +203,13 @@ impl Findings {
         requires image { flat.now.image ≡ image.now }
         requires known { IsBehind image.now.size entries.now behind.now }
         requires followed { IsFollowed entries.now self.old.followed }
+        requires noted { IfSome explained (λ e. self.old.followed.numbers.place ≡ e.place) }
         requires summed { (rollbacks : List Rollback) × AreAllSums rollbacks self.old.sums }
         ensures told { OnOk result (self.new.lines.items ≡ self.old.lines.items ++ spec.lines_of image.now (state_in flat.now) entries.now sites.now explained) }
         ensures summed { OnOk result ((rollbacks : List Rollback) → AreAllSums rollbacks self.old.sums
             → AreAllSums (rollbacks ++ option_to_list (option_map (rollback_at image.now entries.now sites.now) explained)) self.new.sums) }
         ensures followed { OnOk result (IsFollowed entries.now self.new.followed) }
+        ensures noted { OnOk result (self.new.followed.numbers.place ≡ self.old.followed.numbers.place) }
     {
         let Some(e) = explained else {
             return Ok(());

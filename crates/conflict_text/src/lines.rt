@@ -4,11 +4,14 @@ ghost use Rattle.conflict_text.specs.Lines as spec;
 
 use crate::accesses::{push_access, push_bytes, push_met};
 use crate::further::push_further;
-use crate::words::{cause_name, kind_name, push_count, push_named, push_place, undoing_name};
+use crate::words::{
+    cause_name, kind_name, push_count, push_named, push_place, push_text, push_word, undoing_name,
+};
 use conflict_findings::{Finding, FurtherRun};
 use std::alloc::AllocError;
 
 /// Who was violated, and in which run of its epoch.
+#[tactic(auto, using(crate::proofs::Joining::joined), unfolding(crate::specs::Lines::victim_text))]
 fn push_victim(text: &mut Vec<u8>, found: &Finding) -> Result<(), AllocError>
     ensures { OnOk result (text.new.items ≡ text.old.items ++ spec.victim_text found.now) }
 {
@@ -18,45 +21,43 @@ fn push_victim(text: &mut Vec<u8>, found: &Finding) -> Result<(), AllocError>
 }
 
 /// What it cost.
+#[tactic(auto, using(crate::proofs::Joining::joined), unfolding(crate::specs::Lines::cost_text))]
 fn push_cost(text: &mut Vec<u8>, found: &Finding) -> Result<(), AllocError>
     ensures { OnOk result (text.new.items ≡ text.old.items ++ spec.cost_text found.now) }
 {
     push_named(text, b" lost ", found.lost as u128)?;
     push_named(text, b" entered ", found.entered as u128)?;
-    text.extend_from_slice(b" since ")?;
-    push_count(text, found.since)
+    push_count(text, b" since ", found.since)
 }
 
 /// Who made it, and for what.
+#[tactic(auto, using(crate::proofs::Joining::joined), unfolding(crate::specs::Lines::causer_text))]
 fn push_causer(text: &mut Vec<u8>, found: &Finding) -> Result<(), AllocError>
     ensures { OnOk result (text.new.items ≡ text.old.items ++ spec.causer_text found.now) }
 {
     push_named(text, b" by ", found.causer.epoch as u128)?;
     push_named(text, b" core ", found.causer.core as u128)?;
-    text.extend_from_slice(b" cause ")?;
-    push_place(text, found.cause)?;
-    text.extend_from_slice(b" ")?;
-    text.extend_from_slice(cause_name(found.act).as_bytes())
+    push_place(text, b" cause ", found.cause)?;
+    push_word(text, b" ", cause_name(found.act).as_bytes())
 }
 
 /// The line of a violation.
-#[tactic(auto, unfolding(crate::specs::Lines::hurt_line))]
+#[tactic(auto, using(crate::proofs::Joining::joined), unfolding(crate::specs::Lines::hurt_line))]
 fn push_hurt(text: &mut Vec<u8>, found: &Finding) -> Result<(), AllocError>
     ensures { OnOk result (text.new.items ≡ text.old.items ++ spec.hurt_line found.now) }
 {
     push_named(text, b"hurt ", found.place as u128)?;
-    text.extend_from_slice(b" ")?;
-    text.extend_from_slice(kind_name(found.kind).as_bytes())?;
+    push_word(text, b" ", kind_name(found.kind).as_bytes())?;
     push_victim(text, found)?;
     push_cost(text, found)?;
     push_causer(text, found)?;
     push_met(text, found)?;
     push_bytes(text, found.bytes)?;
-    text.extend_from_slice(b"\n")
+    push_text(text, b"\n")
 }
 
 /// The line that says where false sharing came true, if it did.
-#[tactic(auto, unfolding(crate::specs::Lines::later_line))]
+#[tactic(auto, using(crate::proofs::Joining::joined), unfolding(crate::specs::Lines::later_line))]
 fn push_later(text: &mut Vec<u8>, found: &Finding) -> Result<(), AllocError>
     ensures { OnOk result (text.new.items ≡ text.old.items ++ spec.later_line found.now) }
 {
@@ -65,11 +66,11 @@ fn push_later(text: &mut Vec<u8>, found: &Finding) -> Result<(), AllocError>
     };
     push_named(text, b"later ", found.place as u128)?;
     push_access(text, b" store ", Some(store))?;
-    text.extend_from_slice(b"\n")
+    push_text(text, b"\n")
 }
 
 /// The line that says that the causer's attempt was itself undone, if it was.
-#[tactic(auto, unfolding(crate::specs::Lines::vain_line))]
+#[tactic(auto, using(crate::proofs::Joining::joined), unfolding(crate::specs::Lines::vain_line))]
 fn push_vain(text: &mut Vec<u8>, found: &Finding) -> Result<(), AllocError>
     ensures { OnOk result (text.new.items ≡ text.old.items ++ spec.vain_line found.now) }
 {
@@ -77,13 +78,12 @@ fn push_vain(text: &mut Vec<u8>, found: &Finding) -> Result<(), AllocError>
         return Ok(());
     };
     push_named(text, b"vain ", found.place as u128)?;
-    text.extend_from_slice(b" ")?;
-    text.extend_from_slice(undoing_name(what).as_bytes())?;
-    text.extend_from_slice(b"\n")
+    push_word(text, b" ", undoing_name(what).as_bytes())?;
+    push_text(text, b"\n")
 }
 
 /// The line that says that the victim's epoch was cancelled before its core began it again, if it was.
-#[tactic(auto, unfolding(crate::specs::Lines::moot_line))]
+#[tactic(auto, using(crate::proofs::Joining::joined), unfolding(crate::specs::Lines::moot_line))]
 fn push_moot(text: &mut Vec<u8>, found: &Finding) -> Result<(), AllocError>
     ensures { OnOk result (text.new.items ≡ text.old.items ++ spec.moot_line found.now) }
 {
@@ -91,11 +91,11 @@ fn push_moot(text: &mut Vec<u8>, found: &Finding) -> Result<(), AllocError>
         return Ok(());
     }
     push_named(text, b"moot ", found.place as u128)?;
-    text.extend_from_slice(b"\n")
+    push_text(text, b"\n")
 }
 
 /// All that is told of one violation, with its further runs, at the end of a text.
-#[tactic(auto, unfolding(crate::specs::Lines::violation_lines))]
+#[tactic(auto, using(crate::proofs::Joining::joined), unfolding(crate::specs::Lines::violation_lines))]
 pub(crate) fn push_violation(
     text: &mut Vec<u8>,
     found: &Finding,

@@ -8,31 +8,28 @@ ghost use Rattle.conflict_findings.specs.Kinds.{counts_at};
 ghost use Rattle.conflict_text.specs.Report as spec;
 
 use crate::sums::{push_counts, push_sum};
-use crate::words::{push_address, push_named};
+use crate::words::{push_address, push_known_address, push_named, push_text};
 use conflict_findings::{Bounds, CountsByKind, Fates, LinesByKind, Pair, PairSum, Sum};
 use rv32_exec::Image;
 use std::alloc::AllocError;
 use std::collections::BTreeMap;
-use trace_text::push_hex;
 
 /// The two instructions of a pair, of which so many violations are full buffers.
+#[tactic(auto, using(crate::proofs::Joining::joined), unfolding(crate::specs::Report::pair_name))]
 fn push_pair_name(text: &mut Vec<u8>, full: u32, pair: Pair) -> Result<(), AllocError>
     ensures { OnOk result (text.new.items ≡ text.old.items ++ spec.pair_name full pair) }
 {
     if full == 0 {
-        text.extend_from_slice(b"pair store ")?;
-        push_hex(text, &pair.store.to_be_bytes())?;
-        text.extend_from_slice(b" load ")?;
-        push_hex(text, &pair.load.to_be_bytes())
+        push_address(text, b"pair store ", pair.store)?;
+        push_address(text, b" load ", pair.load)
     } else {
-        text.extend_from_slice(b"pair asked ")?;
-        push_hex(text, &pair.store.to_be_bytes())?;
-        text.extend_from_slice(b" held ")?;
-        push_hex(text, &pair.load.to_be_bytes())
+        push_address(text, b"pair asked ", pair.store)?;
+        push_address(text, b" held ", pair.load)
     }
 }
 
 /// How many were stale, in vain, and came true later.
+#[tactic(auto, using(crate::proofs::Joining::joined), unfolding(crate::specs::Report::fates_text))]
 fn push_fates(text: &mut Vec<u8>, fates: Fates) -> Result<(), AllocError>
     ensures { OnOk result (text.new.items ≡ text.old.items ++ spec.fates_text fates) }
 {
@@ -42,31 +39,32 @@ fn push_fates(text: &mut Vec<u8>, fates: Fates) -> Result<(), AllocError>
 }
 
 /// By how many epochs the victims stood after the causers.
+#[tactic(auto, using(crate::proofs::Joining::joined), unfolding(crate::specs::Report::distance_text))]
 fn push_distance(text: &mut Vec<u8>, distance: Option<Bounds>) -> Result<(), AllocError>
     ensures { OnOk result (text.new.items ≡ text.old.items ++ spec.distance_text distance) }
 {
     let Some(bounds) = distance else {
-        return text.extend_from_slice(b" distance - -");
+        return push_text(text, b" distance - -");
     };
     push_named(text, b" distance ", bounds.least as u128)?;
     push_named(text, b" ", bounds.greatest as u128)
 }
 
 /// The bytes from the lowest at which they met to the highest.
+#[tactic(auto, using(crate::proofs::Joining::joined), unfolding(crate::specs::Report::range_text))]
 fn push_range(text: &mut Vec<u8>, bytes: Option<Bounds>) -> Result<(), AllocError>
     ensures { OnOk result (text.new.items ≡ text.old.items ++ spec.range_text bytes) }
 {
     let Some(bounds) = bytes else {
-        return text.extend_from_slice(b" at - -");
+        return push_text(text, b" at - -");
     };
-    text.extend_from_slice(b" at ")?;
-    push_hex(text, &bounds.least.to_be_bytes())?;
+    push_address(text, b" at ", bounds.least)?;
     let length = bounds.greatest.saturating_sub(bounds.least as u64);
     push_named(text, b" ", length as u128)
 }
 
 /// What the violations of a pair cost, and what became of them.
-#[tactic(auto, unfolding(crate::specs::Report::pair_line))]
+#[tactic(auto, using(crate::proofs::Joining::joined), unfolding(crate::specs::Report::pair_line))]
 fn push_pair(text: &mut Vec<u8>, sum: PairSum) -> Result<(), AllocError>
     ensures { OnOk result (text.new.items ≡ text.old.items ++ spec.pair_line sum) }
 {
@@ -76,7 +74,7 @@ fn push_pair(text: &mut Vec<u8>, sum: PairSum) -> Result<(), AllocError>
     push_fates(text, sum.fates)?;
     push_distance(text, sum.distance)?;
     push_range(text, sum.bytes)?;
-    text.extend_from_slice(b"\n")
+    push_text(text, b"\n")
 }
 
 /// What those of each pair cost, from the last on.
@@ -109,6 +107,7 @@ fn line_address(image: &Image, line: u32) -> Option<u32>
 }
 
 /// What the violations in a line cost, with so many of each kind.
+#[tactic(auto, using(crate::proofs::Joining::joined), unfolding(crate::specs::Report::line_text))]
 fn push_line(
     text: &mut Vec<u8>,
     image: &Image,
@@ -118,11 +117,10 @@ fn push_line(
 ) -> Result<(), AllocError>
     ensures { OnOk result (text.new.items ≡ text.old.items ++ spec.line_text image.now (line, sum) counts) }
 {
-    text.extend_from_slice(b"line ")?;
-    push_address(text, line_address(image, line))?;
+    push_known_address(text, b"line ", line_address(image, line))?;
     push_sum(text, sum)?;
     push_counts(text, counts)?;
-    text.extend_from_slice(b"\n")
+    push_text(text, b"\n")
 }
 
 /// What those in each line cost.
@@ -141,8 +139,9 @@ pub(crate) fn push_lines(
 }
 
 /// What violations cost.
+#[tactic(auto, using(crate::proofs::Joining::joined), unfolding(crate::specs::Report::role_text))]
 fn push_role(text: &mut Vec<u8>, name: &[u8], sum: Sum) -> Result<(), AllocError>
-    ensures { OnOk result (text.new.items ≡ text.old.items ++ (name.now ++ spec.role_text sum)) }
+    ensures { OnOk result (text.new.items ≡ text.old.items ++ spec.role_text name.now sum) }
 {
     push_named(text, name, sum.count as u128)?;
     push_named(text, b" ", sum.lost)
@@ -159,14 +158,14 @@ fn sum_at(sums: &BTreeMap<u32, Sum>, at: u32) -> Sum
 }
 
 /// What the violations cost in which an instruction was the blamed load, and the blamed store.
+#[tactic(auto, using(crate::proofs::Joining::joined), unfolding(crate::specs::Report::pc_text))]
 fn push_pc(text: &mut Vec<u8>, pc: u32, victim: Sum, causer: Sum) -> Result<(), AllocError>
     ensures { OnOk result (text.new.items ≡ text.old.items ++ spec.pc_text pc victim causer) }
 {
-    text.extend_from_slice(b"pc ")?;
-    push_hex(text, &pc.to_be_bytes())?;
+    push_address(text, b"pc ", pc)?;
     push_role(text, b" victim ", victim)?;
     push_role(text, b" causer ", causer)?;
-    text.extend_from_slice(b"\n")
+    push_text(text, b"\n")
 }
 
 /// What those of each instruction cost, which are the keys of `sums`.

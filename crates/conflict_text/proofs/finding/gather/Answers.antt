@@ -1,4 +1,4 @@
-use Rattle.std.proofs.Common.{◌≡◌, ◌<◌, ◌∙◌, filter, length, map, take, refl, sym, ap, subst, arith}
+use Rattle.std.proofs.Common.{◌≡◌, ◌+◌, ◌<◌, ◌∙◌, filter, length, map, take, refl, sym, ap, subst, arith}
 use Rattle.std.proofs.lemmas.Option.{slice_get-get_or}
 use Rattle.std.proofs.lemmas.List.{take_all}
 use Rattle.spec_history.specs.FlatState.{FlatState}
@@ -59,7 +59,10 @@ loop-place-preserved c =
       ended = told_more c.ended_by-found.result (ended_before image cores entries place) _ c.loop-place.ended.items _
           (ended_more image flat.image cores entries place (state_in flat) _ _ _ _ was.image was.replays there c.ended_by-found.ensures refl refl) was.ended c.in_ok-keep_ended.ensures;
       known = found.known;
-      followed = c.in_ok-note.ensures.known;
+      followed = record {
+        is = c.in_ok-note.ensures.known;
+        noted = let noted = c.in_ok-keep.ensures.noted ∙ was.followed.noted in c.in_ok-note.ensures.further (omega (arith, below, noted)) ∙ ap (λ n. n + 1) noted;
+      };
     }
 
 pub running_in-requires-clause-marked : goal.running_in-requires-clause-marked

@@ -3,13 +3,13 @@ use Rattle.spec_history.specs.Replay.{replay}
 use Rattle.spec_history.specs.View.{state_in, cores_in}
 use Rattle.conflicts.specs.Behind.{IsKnown}
 use Rattle.conflict_findings.specs.Ends.{ended_before}
-use Rattle.conflict_findings.specs.Followed.{IsFollowed}
+use Rattle.conflict_findings.specs.Followed.{IsFollowedTo}
 use Rattle.conflict_findings.specs.Violated.{AreMarked}
 use Rattle.conflict_text.specs.Ends.{is_told}
 use Rattle.conflict_text.specs.Why.{AreFound}
 use Rattle.conflict_text.proofs.finding.gather.Given as goal
 
--- the entries so far replay, they say which cores are hurt, what is found of their violations is kept, and what is kept of attempts is right
+-- the entries so far replay, they say which cores are hurt, what is found of their violations is kept, and what is kept of attempts is right, and they are noted
 abbrev pub invariant-loop-place : goal.invariant-loop-place
 invariant-loop-place l = record {
   image : l.flat.image ≡ l.image;
@@ -19,5 +19,5 @@ invariant-loop-place l = record {
   found : AreFound l.image l.cores l.entries l.sites l.place l.findings.lines.items l.findings.sums;
   ended : l.ended.items ≡ filter is_told (ended_before l.image l.cores l.entries l.place);
   known : IsKnown l.image.size l.entries l.known;
-  followed : IsFollowed l.entries l.findings.followed;
+  followed : IsFollowedTo l.entries l.place l.findings.followed;
 }
