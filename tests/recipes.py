@@ -1,0 +1,77 @@
+#!/usr/bin/env python3
+"""Compares the recipes of CONTRIBUTING.md with the tree, or with a change that follows one: tests/recipes.py [RECIPE REVISION [BASE]]
+
+Without words each file that a recipe names has to be there. With the first words of a recipe's title, as `instruction`, and a revision it tells
+which of the files that differ there from BASE (where the revision left `main`) the recipe doesn't name, and which of those that it names are
+untouched. A file is named by its path, below the crate that was named last, or below the top. Exits with 1 where a file is not there, or a
+touched one is not named.
+"""
+import re
+import subprocess
+import sys
+from pathlib import Path
+
+TOP = Path(__file__).resolve().parent.parent
+TITLE = re.compile(r"(?m)^\*\*(?:An? )?(.*?)\.\*\* ")
+NAMED = re.compile(r"`([^`]+)`|\[[^\]]*\]\(([^)]+)\)")
+# What a recipe's change makes anew and nobody writes
+MADE = ("docs/reading.md", "CHANGELOG.md", "docs/DECISIONS.md")
+
+
+def recipes(page: str) -> dict[str, str]:
+    """The text of each recipe by its title."""
+    parts = TITLE.split(page.partition("## Five recipes")[2])
+    return dict(zip(parts[1::2], parts[2::2]))
+
+
+def files_of(text: str, top: Path) -> list[str]:
+    """The files that a recipe names, each with whether it is there: those of a crate, and those below the top."""
+    crate, found = "", []
+    for quoted, linked in NAMED.findall(text):
+        name = quoted or linked
+        if (top / "crates" / name).is_dir():
+            crate = name
+        elif re.fullmatch(r"[\w./-]+", name) and ("/" in name or re.search(r"\.\w+$", name)) and not name.endswith("/"):
+            places = [f"crates/{crate}/{name}", name, f"crates/{name}", f"tests/{name}"]
+            found.append(next((it for it in places if (top / it).is_file()), name))
+    return found
+
+
+def touched(revision: str, base: str) -> set[str]:
+    """The files that a revision has otherwise than its base."""
+    words = ["git", "-C", str(TOP), "diff", "--name-only", f"{base}...{revision}" if base == "main" else f"{base}..{revision}"]
+    return set(subprocess.run(words, capture_output=True, text=True, check=True).stdout.split("\n")) - {""}
+
+
+def compare(title: str, text: str, revision: str, base: str) -> int:
+    """Tells how a change and a recipe differ; how many files the recipe lacks."""
+    named, changed = set(files_of(text, TOP)), touched(revision, base)
+    lacks = sorted(it for it in changed - named if it not in MADE and not it.startswith("tests/wrong-bodies/"))
+    for it in lacks:
+        print(f"FAILED {title}: the change touches {it}, which the recipe doesn't name")
+    for it in sorted(named - changed):
+        print(f"{title}: {it} is untouched")
+    print(f"{len(named & changed)} checks passed, {len(lacks)} failed")
+    return len(lacks)
+
+
+def main(words: list[str]) -> int:
+    found = recipes((TOP / "CONTRIBUTING.md").read_text(encoding="utf-8"))
+    if len(words) in (2, 3):
+        titles = [it for it in found if it.startswith(words[0])]
+        if len(titles) != 1:
+            print(f"tests/recipes.py: the recipes are {', '.join(found)}", file=sys.stderr)
+            return 2
+        return 1 if compare(titles[0], found[titles[0]], words[1], words[2] if words[2:] else "main") else 0
+    checks = [(title, it) for title, text in found.items() for it in files_of(text, TOP)]
+    missing = [it for it in checks if not (TOP / it[1]).is_file()]
+    for title, it in missing:
+        print(f"FAILED {title}: there is no {it}")
+    if len(found) != 5:
+        print(f"FAILED there are {len(found)} recipes")
+    print(f"{len(checks) - len(missing)} checks passed, {len(missing) + (len(found) != 5)} failed")
+    return 1 if missing or len(found) != 5 else 0
+
+
+if __name__ == "__main__":
+    sys.exit(main(sys.argv[1:]))
