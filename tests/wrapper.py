@@ -149,6 +149,27 @@ def rows():
         output, errors, status, calls = tree.run(words=())
         return None if (output, errors, status, calls) == (page, [], 0, []) else f"built: got {output!r}, {errors!r}, {status}"
 
+    def where_it_is(tree):
+        place = f"{tree.top}/crates/trace_cli/out/trace_cli\n"
+        output, errors, status, calls = tree.run(words=("--built",))
+        if (output, status, calls, len(errors)) != (place, 0, BUILD, 2):
+            return f"got {output!r}, {errors!r}, {status}, {calls!r}"
+        far = tree.bin / "far"
+        far.symlink_to(tree.top / "trace_cli")
+        got = tree.run(far, words=("--built",))
+        return None if got == (place, [], 0, []) else f"built: got {got}"
+
+    def from_python(tree):
+        """A script that calls the program shows how far its build is, and calls what was built."""
+        shutil.copytree(TOP / "tools" / "loops", tree.top / "tools" / "loops")
+        script = "import sys; from loops.programs import TREE, call; print(call(TREE / 'trace_cli', ['seq', sys.argv[1]], 'given\\n', (3,)), end='')"
+        env = {"PATH": f"{tree.bin}:/usr/bin:/bin", "CALLS": str(tree.calls), "KIT": str(tree.kit), "PYTHONPATH": str(tree.top / "tools"), "REFUSED": "", "NOTHING": "", "SLOW": ""}
+        done = [subprocess.run([sys.executable, "-c", script, word], env=env, capture_output=True, text=True, check=False) for word in ("one", "two")]
+        right = [one.stdout for one in done] == [f"words seq {word}\ngiven\n" for word in ("one", "two")] and done[1].stderr == ""
+        told = done[0].stderr.splitlines()
+        good = right and len(told) == 2 and "not built for these sources yet" in told[0] and "proved and built in" in told[1]
+        return None if good else f"got {done}"
+
     def with_kept_work(tree):
         (tree.top / "crates/low/out/incremental").mkdir(parents=True)
         return tree.is_run(BUILD)
@@ -211,7 +232,7 @@ def rows():
 
     def without_rt(tree):
         if shutil.which("rt", path="/usr/bin:/bin"):
-            print("SKIPPED: no rt, since one is installed beside sh")
+            print("left out: no rt, since one is installed beside sh")
             return None
         output, errors, status, _ = tree.run(path=tree.top)
         wanted = ["trace_cli: the command rt of the Rattle kit is not installed, so the program can't be built"]
@@ -236,6 +257,8 @@ def rows():
         ("progress", progress),
         ("an unproved run", unproved),
         ("the page of help", helps),
+        ("where the program is", where_it_is),
+        ("called from Python", from_python),
         ("over work that a check kept", with_kept_work),
         ("second run", after(lambda tree: None, [])),
         ("a source that changed", after(lambda tree: tree.write("crates/low/src/lib.rt", "LOW"), BUILD)),

@@ -5,6 +5,7 @@ from dataclasses import dataclass, field
 from functools import cached_property
 
 from .instructions import access_spelled
+from .texts import shown
 
 LINE_LENGTH = {1: 16, 2: 32}
 VARIABLE = re.compile(r" (\S+) ([0-9a-fA-F]{8}) (\d+)")
@@ -51,13 +52,13 @@ class Image:
     @cached_property
     def variables(self) -> list[Variable]:
         found = filter(None, map(VARIABLE.fullmatch, self.remarks))
-        return [Variable(match[1], int(match[2], 16), int(match[3])) for match in found]
+        return [Variable(shown(match[1]), int(match[2], 16), int(match[3])) for match in found]
 
     @cached_property
     def sources(self) -> dict[int, str]:
         """FILE:LINE of the instruction at an address, from remarks `# code PC FILE:LINE`."""
         found = filter(None, map(SOURCE.fullmatch, self.remarks))
-        return {int(match[1], 16): match[2] for match in found}
+        return {int(match[1], 16): shown(match[2]) for match in found}
 
     @cached_property
     def about(self) -> str:
@@ -68,7 +69,7 @@ class Image:
             if not named and (not told or told[-1]):
                 told.append(remark.strip())
         found = SENTENCE.match(" ".join(filter(None, told)))
-        return found[0] if found else ""
+        return shown(found[0]) if found else ""
 
     def variable_of(self, address: int) -> Variable | None:
         """The variable that has this byte."""

@@ -2,6 +2,7 @@
 
 import os
 import subprocess
+from functools import cache
 from dataclasses import dataclass, field
 from pathlib import Path
 
@@ -10,6 +11,7 @@ from .gains import Gains, read_gains
 from .images import Image
 from .runs import Output, Survey, Trace, Traced, Verdict, read_output, read_survey, read_verdict
 from .steps import Steps, read_steps
+from .texts import text_in, text_out
 
 # Statuses with which a program has printed its answer: the loop is done or exited, or an epoch faulted.
 ENDED = (0, 1)
@@ -30,11 +32,25 @@ def folder() -> Path:
     return Path(os.environ.get("LOOPS_PROGRAMS", TREE))
 
 
+@cache
+def built(program: str | Path) -> str:
+    """Where a program itself is. A wrapper of the tree builds it first where it has to, and says on standard error how far that is."""
+    if Path(program).resolve() != TREE / "trace_cli":
+        return str(program)
+    done = subprocess.run([str(program), "--built"], stdin=subprocess.DEVNULL, stdout=subprocess.PIPE, check=False)
+    if done.returncode:
+        raise Stopped(done.returncode, f"{Path(program).name} is not built\n")
+    return text_in(done.stdout).removesuffix("\n")
+
+
 def call(program: str | Path, words: list[str], text: str, right: tuple[int, ...] = ENDED) -> str:
-    """What a program prints on an input; Stopped where its status is none of those."""
-    done = subprocess.run([str(program), *words], input=text.encode("latin-1"), capture_output=True, check=False)
+    """What a program prints on an input; Stopped where its status is none of those, or it isn't there."""
+    try:
+        done = subprocess.run([built(program), *words], input=text_out(text), capture_output=True, check=False)
+    except OSError as wrong:
+        raise Stopped(127, f"{program}: {wrong.strerror}; LOOPS_PROGRAMS names the folder of the programs\n") from None
     if done.returncode not in right:
-        raise Stopped(done.returncode, (done.stderr or done.stdout).decode("latin-1"))
+        raise Stopped(done.returncode, text_in(done.stderr or done.stdout))
     return done.stdout.decode("ascii")
 
 

@@ -1,21 +1,23 @@
 """A panel for each loop, and in it for each number of cores two bars, over caches and over the plain store; as SVG that is the same from the same lines."""
 
 import io
+import logging
 from dataclasses import dataclass
 
-import matplotlib
-from matplotlib.patches import Patch
+logging.getLogger("matplotlib").setLevel(logging.ERROR)     # it tells that it makes its list of fonts, once on each machine
+import matplotlib  # noqa: E402
+from matplotlib.patches import Patch  # noqa: E402
 
-from loops.gains import Gain, Gains
+from loops.gains import Gain, Gains  # noqa: E402
 
-from .parts import PARTS, shares
+from .parts import PARTS, shares  # noqa: E402
 
 STORES = ("caches", "plain")
 MOST_COLUMNS, PANEL_WIDTH, PANEL_HEIGHT = 3, 3.1, 1.8
 WIDTH, INK, PALE = 0.42, "#1d2733", "#6b7785"
 NOTE = ("Each bar is all steps of all cores of a run at even speed, one instruction a step and no latency; above it stands the gain over one core.\n"
         "c: over caches, p: over a plain store of bytes, below them the cores. Lost steps are shared out over the kinds by their violations.")
-STYLE = {"svg.fonttype": "none", "svg.hashsalt": "gain", "font.size": 7.0, "hatch.linewidth": 0.5, "hatch.color": PALE, "text.color": INK,
+STYLE = {"svg.fonttype": "none", "text.parse_math": False, "svg.hashsalt": "gain", "font.size": 7.0, "hatch.linewidth": 0.5, "hatch.color": PALE, "text.color": INK,
          "axes.edgecolor": PALE, "xtick.color": INK, "ytick.color": PALE, "font.family": "sans-serif", "font.sans-serif": ["DejaVu Sans"]}
 
 
