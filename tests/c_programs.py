@@ -261,13 +261,13 @@ def main():
     if with_cc:
         checks += natively()
     else:
-        print("SKIPPED: the programs of tests/c on this machine, since cc or nm isn't installed")
+        print("left out: the programs of tests/c on this machine, since cc or nm isn't installed")
     for compiler, packages in (("gcc", "gcc-riscv64-unknown-elf isn't"), ("clang", "clang and lld aren't")):
         missing = image_of(["--compiler", compiler, PROGRAMS / "search.c"])[1]
         if " is not installed" in missing:
-            print(f"SKIPPED: C sources to images by {compiler}: {missing.strip()}")
+            print(f"left out: C sources to images by {compiler}, since {missing.strip()}")
         elif "no compiler is installed" in missing:
-            print(f"SKIPPED: C sources to images by {compiler}, since {packages} installed")
+            print(f"left out: C sources to images by {compiler}, since {packages} installed")
         else:
             checks += [*compiled_anew(command, with_cc, compiler), *refusals(compiler), *warnings(compiler)]
     failed = [(name, wrong) for name, wrong in checks if wrong]

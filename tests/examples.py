@@ -11,7 +11,7 @@ is installed, the assembly is compared with the code. Where tools/image-of
 finds a compiler, the sources of the examples are compiled again: twice to the same image,
 and where that has the code of the image here, with the report that the source
 gives (c_programs.py compares the others). Where there is none, these checks
-are skipped, and a line says so. Exits with 1 where a check failed.
+are left out, and a line says so. Exits with 1 where a check failed.
 """
 
 import shutil
@@ -105,9 +105,9 @@ def main():
     if all(shutil.which(TOOL + name) for name in ("gcc", "as", "ld", "objcopy")):
         checks += listings()
     else:
-        print(f"SKIPPED: listings, since {TOOL}gcc isn't installed")
+        print(f"left out: listings, since {TOOL}gcc isn't installed")
     if " is not installed" in image_of(EXAMPLES / "c" / "histogram.c")[1] or "no compiler is installed" in image_of(EXAMPLES / "c" / "histogram.c")[1]:
-        print("SKIPPED: sources, since no compiler for RISC-V is installed, or no python3-pyelftools")
+        print("left out: sources, since no compiler for RISC-V is installed, or no python3-pyelftools")
     else:
         checks += compiled(command)
     failed = [(name, wrong) for name, wrong in checks if wrong]

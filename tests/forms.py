@@ -146,7 +146,7 @@ def packages():
 def schema():
     """The schema refuses what isn't a document."""
     if Draft202012Validator is None:
-        print("SKIPPED: the schema, since python3-jsonschema isn't installed")
+        print("left out: the schema, since python3-jsonschema isn't installed")
         return
     checker = Draft202012Validator(json.loads(SCHEMA.read_text(encoding="utf-8")))
     Draft202012Validator.check_schema(checker.schema)
@@ -174,7 +174,7 @@ def examples(command):
     programs = beside(command)
     for name in ("why", "replay", "gain"):
         if name not in programs:
-            print(f"SKIPPED: what {name} prints, since it wasn't built beside the program that is tested")
+            print(f"left out: what {name} prints, since it wasn't built beside the program that is tested")
     for path in sorted((ROOT / "examples").glob("*.image")):
         text = path.read_text()
         image = read_image(text)

@@ -6,7 +6,7 @@ Usage: tests/gain.py [--random N] [COMMAND ..]
 
 COMMAND is a command of `trace_cli` that ends with the word `seq`, such as crates/trace_cli/out/trace_cli seq; `gain` and `replay`
 are the programs that were built beside it. Without it ./gain and ./replay of this repository are tested. Where no such program is beside it the
-test is skipped, and a line says so. N random images are tried, 40 without it. Exits with 1 where an outcome differs.
+test is left out, and a line says so. N random images are tried, 40 without it. Exits with 1 where an outcome differs.
 """
 
 import argparse
@@ -162,7 +162,7 @@ def main():
     command = given.command
     found = [beside(command, name) if command else ROOT / name for name in ("gain", "replay")]
     if None in found:
-        print("tests/gain.py: skipped, the programs gain and replay aren't there")
+        print("left out: gain, since it and replay weren't built beside the program that is tested")
         return 0
     gain, replay = ([str(it)] for it in found)
     check_words(gain)

@@ -174,7 +174,7 @@ def whole_way(command, folder):
     """From C to what tools/named and tools/picture tell of a schedule: the load and the store to blame, at their lines of the source."""
     why, replay = beside(command, "why"), beside(command, "replay")
     if why is None or replay is None:
-        print("SKIPPED: from C to a picture, since why and replay weren't built beside the program that is tested")
+        print("left out: from C to a picture, since why and replay weren't built beside the program that is tested")
         return
     source = ROOT / "examples" / "c" / "own_counters.c"
     lines = source.read_text().splitlines()
@@ -304,7 +304,7 @@ def checks(command, folder):
     for compiler, needed in (("gcc", [GCC[0]]), ("clang", ["clang", "ld.lld", "llvm-ar", "llvm-as"])):
         lacking = [name for name in needed if not shutil.which(name)]
         if lacking:
-            print(f"SKIPPED: programs by {compiler}, since {' and '.join(lacking)} isn't installed")
+            print(f"left out: programs by {compiler}, since {' and '.join(lacking)} isn't installed")
             continue
         made(folder, compiler)
         if compiler == "clang":
@@ -319,7 +319,7 @@ def checks(command, folder):
     if shutil.which(GCC[0]):
         yield from refused(folder)
     else:
-        print(f"SKIPPED: what is refused, since {GCC[0]} isn't installed")
+        print(f"left out: what is refused, since {GCC[0]} isn't installed")
 
 
 def main():
@@ -329,7 +329,7 @@ def main():
         Path(folder, "none.c").write_text("void body(unsigned e) { (void)e; }\n")
         missing = image_of(Path(folder), "--epochs", "1", "none.c")[1]
         if "is not installed" in missing or "no compiler is installed" in missing:
-            print(f"SKIPPED: tools/image-of: {missing.strip()}")
+            print(f"left out: tools/image-of, since {missing.strip()}")
             return 0
         results = list(checks(command, Path(folder)))
     for name, wrong in results:

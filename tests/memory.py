@@ -12,7 +12,7 @@ may say `stopped NoThread` too, or go to its end although a thread was refused; 
 whose second and so on thread is refused. Where the first is refused no core has taken a turn, so there
 is no end. There is a thread for each core. `why`, `replay` and `gain` are the
 programs that were built beside the one that is tested; a line says where one isn't there. Where the C
-compiler `cc` isn't installed the test is skipped, and a line says so. Exits
+compiler `cc` isn't installed the test is left out, and a line says so. Exits
 with 1 where a run differs.
 """
 
@@ -174,7 +174,7 @@ def beside(command, name):
 def main():
     command = without_the_wrapper(sys.argv[1:] or [str(ROOT / "trace_cli"), "seq"])
     if shutil.which("cc") is None:
-        print("SKIPPED: refused allocations, since cc isn't installed")
+        print("left out: refused allocations, since cc isn't installed")
         return 0
     with tempfile.TemporaryDirectory() as directory:
         source, shim = Path(directory, "shim.c"), Path(directory, "shim.so")
@@ -194,7 +194,7 @@ def main():
         results += [differences([program, *words], shim, name, text, expected)
                     for (name, _, words, text, expected), program in built if program]
     for name in sorted({row[1] for row, program in built if program is None}):
-        print(f"SKIPPED: refused allocations of {name}, since no such program was built beside the one that is tested")
+        print(f"left out: refused allocations of {name}, since no such program was built beside the one that is tested")
     wrong = [text for text, _ in results if text]
     for text in wrong:
         print(f"FAILED {text}")

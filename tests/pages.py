@@ -91,7 +91,7 @@ def left_out(commands, found, unmade):
     missing = next(filter(None, (lacks(it, found) for it, _ in commands)), None)
     if not missing:
         missing = next((f"the file {name}" for it, _ in commands for name in sorted(unmade) if re.search(rf"(?<![\w.]){re.escape(name)}\b", it)), None)
-    reason = kept_back or (missing and f"what needs {missing}, which isn't there")
+    reason = f"not run: {kept_back}" if kept_back else missing and f"left out: commands of pages, since {missing} isn't there"
     return reason, unmade | set().union(*(files_of(it) for it, _ in commands)) if reason else unmade
 
 
@@ -140,7 +140,7 @@ def main(words):
     for where, why in failed:
         print(f"FAILED {where}: {why}")
     for it in sorted(told):
-        print(f"left out: {it}")
+        print(it)
     print(f"{len(results) - len(failed)} commands passed, {len(failed)} failed")
     return 1 if failed or not results else 0
 

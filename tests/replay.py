@@ -4,7 +4,7 @@
 Usage: tests/replay.py [COMMAND ..]
 
 COMMAND is a command of `trace_cli` that ends with the word `seq`, such as crates/trace_cli/out/trace_cli seq; `replay` is the program that was built beside it.
-Without it ./replay of this repository is tested. Where no such program is beside it the test is skipped, and a line says so.
+Without it ./replay of this repository is tested. Where no such program is beside it the test is left out, and a line says so.
 What comes of each schedule was worked out by hand from the cases of a turn; what a run on threads printed has to come of its trace. The input ends in a failed read after each number of its bytes, and the
 output after each number of bytes that are taken: once by what the kernel does of itself, and once, where the C compiler `cc` is
 installed, by calls in the place of `read` and `write` that take few bytes at a time and are interrupted. Needs Linux: pipes whose reads give what
@@ -536,7 +536,7 @@ def main():
     command = sys.argv[1:] or [str(ROOT / "trace_cli"), "seq"]
     program = program_of(command)
     if not program or not program.is_file():
-        print("SKIPPED: replay, since no such program was built beside the one that is tested")
+        print("left out: replay, since no such program was built beside the one that is tested")
         return 0
     results = [(f"{words} on {len(text)} bytes and {below!r}", run([str(program)], words, text + below), (output, errors, status))
                for words, text, below, status, output, errors in ROWS]
@@ -547,7 +547,7 @@ def main():
             source.write_text(SHIM)
             subprocess.run(["cc", "-shared", "-fPIC", "-O1", "-o", shim, source], check=True)
         else:
-            print("SKIPPED: interrupted reads of replay, since cc isn't installed")
+            print("left out: interrupted reads of replay, since cc isn't installed")
         results += [*stepped(program), *summed_up(program), *streams(program, shim), *seeded(program, command), *traced(program, command)]
     wrong = [f"{name}\n  expected {expected}\n  got      {got}" for name, got, expected in results if got != expected]
     wrong += [*full_history(program), *longest(program)]

@@ -9,7 +9,7 @@ million instructions each and store one word, so that a core that is stopped at 
 of the two cores is stopped, twenty times. The other has to go on meanwhile: it uses more of a processor than one
 epoch needs. If the stopped core kept the lock, or had to be waited for in line, the other would sleep. Neither
 speed nor other programs on the machine change the outcome.
-Needs Linux and its call `ptrace`; where that isn't allowed the test is skipped, and a line says so. Exits with 1
+Needs Linux and its call `ptrace`; where that isn't allowed the test is left out, and a line says so. Exits with 1
 where the other core went on less than fifteen times: now and then the first is stopped while it does have the lock.
 """
 
@@ -103,7 +103,7 @@ def main():
     try:
         count = went_on(command[:-1] + ["run", "--cores", "2"])
     except NotAllowed as refused:
-        print(f"SKIPPED: a core that is stopped while it executes, since ptrace answers: {refused}")
+        print(f"left out: a core that is stopped while it executes, since ptrace answers: {refused}")
         return 0
     failed = int(count < LEAST)
     if failed:

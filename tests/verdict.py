@@ -90,7 +90,7 @@ def examples(folder, command):
     """The verdicts on examples, by the programs."""
     programs = beside(command)
     if len(programs) < 3:
-        print("SKIPPED: the examples, since why, replay or gain wasn't built beside the program that is tested")
+        print("left out: the examples, since why, replay or gain wasn't built beside the program that is tested")
         return
     for name, path in programs.items():
         Path(folder, name).unlink(missing_ok=True)
@@ -104,7 +104,7 @@ def examples(folder, command):
     source, image = ROOT / "examples" / "c" / "own_counters.c", Path(folder, "own_counters.image")
     made = subprocess.run([ROOT / "tools" / "image-of", "-g", source], capture_output=True, text=True, check=False)
     if made.returncode:
-        print("SKIPPED: lines of the source, since tools/image-of lacks something")
+        print("left out: lines of the source, since tools/image-of lacks something")
         return
     image.write_text(made.stdout)
     stores, loads = (next(number for number, text in enumerate(source.read_text().splitlines(), 1) if text.strip().startswith(begin))

@@ -399,13 +399,13 @@ def in_browser(folder, command):
     """The checks that need programs and a browser."""
     programs = beside(command)
     if len(programs) < 2:
-        print("SKIPPED: pages, since why and replay weren't built beside the program that is tested")
+        print("left out: pages, since why and replay weren't built beside the program that is tested")
         return
     for name, path in programs.items():
         Path(folder, name).symlink_to(path)
     browser = driver()
     if browser is None:
-        print("SKIPPED: pages, since chromium, chromium-driver and python3-selenium aren't all installed")
+        print("left out: pages, since chromium, chromium-driver and python3-selenium aren't all installed")
         return
     try:
         views = Views(browser, folder, Programs(Path(folder)))

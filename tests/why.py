@@ -4,7 +4,7 @@
 Usage: tests/why.py [COMMAND ..]
 
 COMMAND is a command of `trace_cli` that ends with the word `seq`, such as crates/trace_cli/out/trace_cli seq; `why` is the program that was built beside it.
-Without it ./trace_cli and ./why of this repository are tested. Where no such program is beside it the test is skipped, and a line says so.
+Without it ./trace_cli and ./why of this repository are tested. Where no such program is beside it the test is left out, and a line says so.
 Of each run: one line for each violation of its trace, in their places; no violation is unexplained; the lines of further runs stand below their violation's and share no byte with another of its runs; one line for each cancellation
 of an attempt that was not violated, and for each attempt that goes on; the sums of the kinds, of the pairs of instructions, and the total, are those of the lines, and pairs and lines of the caches stand heaviest first. Exits
 with 1 where a check failed.
@@ -167,7 +167,7 @@ def main():
     command = sys.argv[1:] or [str(ROOT / "trace_cli"), "seq"]
     why = why_beside(command)
     if why is None:
-        print("SKIPPED: why, since no program of that name was built beside the one that is tested")
+        print("left out: why, since no program of that name was built beside the one that is tested")
         return 0
     results = [*real(command, why), *refused(why)]
     for name, wrong in results:

@@ -5,7 +5,7 @@ crate with one edit its refusal has to be kept, and the edit be tried again wher
 
 Usage: tests/wrong_bodies.py
 
-Needs the command `rt` of the Rattle kit, and is skipped without it. It takes about two minutes. Exits with 1 where a check failed.
+Needs the command `rt` of the Rattle kit, and is left out without it. It takes about two minutes. Exits with 1 where a check failed.
 """
 import contextlib
 import json
@@ -335,7 +335,7 @@ def left(top, path, *words):
 
 def main():
     if not shutil.which("rt"):
-        print("skipped: the command rt of the Rattle kit is not installed")
+        print("left out: wrong bodies of a small crate, since the command rt of the Rattle kit isn't installed")
         return 0
     with tempfile.TemporaryDirectory() as name:
         folder, top = Path(name), Path(name, "repository")
