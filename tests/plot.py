@@ -72,7 +72,7 @@ def plots(words):
     """(what it shows, what is wrong or None) of the plot of all inputs."""
     out, errors, status = plot(*words)
     if "is not installed" in errors:
-        print("SKIPPED: plots, since python3-matplotlib isn't installed")
+        print("left out: plots, since python3-matplotlib isn't installed")
         return
     yield "a plot", None if (errors, status) == ("", 0) else f"{errors!r}, {status}"
     root = xml.fromstring(out)

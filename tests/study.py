@@ -1,94 +1,295 @@
 #!/usr/bin/env python3
-"""Tests tools/study: a small study of runs on one thread, whose figures are known; what is there isn't run again; what is refused.
+"""Tests tools/study: small studies whose figures are known; what is stopped, changed or misused; and what is refused.
 
 Usage: tests/study.py [COMMAND ..]
 
-COMMAND is a command of `trace_cli` that ends with the word `seq`; `why` is the program that was built beside it. Without it those of this repository are tested. Without
-`why` or Debian's package snakemake the study is left out, and a line says so. Exits with 1 where a check failed.
+COMMAND is a command of `trace_cli` that ends with the word `seq`; `why`, `replay` and `gain` are the programs that were built beside it. Without it those of this
+repository are tested. Without them, or Debian's packages snakemake and python3-jsonschema, the studies are left out, and a line says so; so is what is sorted on the
+page without Chromium. Exits with 1 where a check failed.
 """
 
 import csv
 import json
 import os
+import pty
 import shutil
+import signal
 import subprocess
 import sys
 import tempfile
+import time
+from collections.abc import Callable, Iterator
 from pathlib import Path
 from xml.etree import ElementTree
 
+from memory import beside
+from view import driver, find_selenium
+
 ROOT = Path(__file__).resolve().parent.parent
+Results = Iterator[tuple[str, str | None]]
+NAMES = ("trace_cli", "why", "replay", "gain")
 PLAN = 'cores = [1]\nschedules = ["threads"]\nversions = [1, 2]\n[loops]\ncounter = "counter.image"\nown_counters = "own_counters.image"\n'
-# Loop and version: how many epochs committed, how many instructions these are by hand (4 of counter; 27 of own_counters), and the trace's entries.
+# Loop and version: how many epochs committed, how many instructions these are by hand (4 of counter; 27 of own_counters), and the trace's entries, which on one core
+# are its turns: a begin, the accesses and a commit of each epoch.
 RUNS = {("counter", "1"): ("4", "16", "16"), ("counter", "2"): ("4", "16", "16"), ("own_counters", "1"): ("16", "432", "64"), ("own_counters", "2"): ("16", "432", "64")}
+SEEDS = 'cores = [1, 4]\nschedules = ["even", "seeded"]\nseeds = [{}]\n[loops]\nown_counters = "own_counters.image"\n'
+# Store and cores of own_counters at even speed: steps and gain, as tests/gain.txt has them.
+EVEN = {("caches", "1"): ("464", "1.00"), ("caches", "4"): ("428", "1.08"), ("plain", "1"): ("464", "1.00"), ("plain", "4"): ("116", "4.00")}
+# With four seeds there are 4 runs at even speed, 16 seeded ones and a call of `gain`.
+ROWS = 21
+MADE = ("runs.csv", "pairs.csv", "manifest.json", "page.html")
+IMAGE = "[loops]\na = 'counter.image'\n"
 # What is refused, and the words of the reason.
-REFUSED = [("cores = [1]\n", "loops"), ("[loops]\n", "[loops] names none"), ("speed = 3\n[loops]\na = 'counter.image'\n", "speed"),
-           ("stores = ['disk']\n[loops]\na = 'counter.image'\n", "stores 'disk' is none of caches, plain"), ("[loops]\na = 'none.image'\n", "isn't there"),
-           ("[loops]\n'a b' = 'counter.image'\n", "the loop's name")]
+REFUSED = [
+    ("cores = [1]\n", "loops is missing"), ("[loops]\n", "loops: {} is refused; wanted is a table of loops"), ("speed = 3\n" + IMAGE, '"speed": no field'),
+    ("stores = ['disk']\n" + IMAGE, 'stores[0]: "disk" is refused; wanted is "caches" or "plain"'), ("[loops]\na = 'none.image'\n", "isn't there"),
+    ("[loops]\n'a b' = 'counter.image'\n", "a loop's name"), ("[loops]\n\"a\\n\" = 'counter.image'\n", "a loop's name"), ("[loops]\na = 'plan.toml'\n", "begins no line of an image"),
+    ("[loops]\na = '.'\n", "is no file"), ("[loops]\na = \"a\\u0000b\"\n", "loops.a"), ("seeds = ['1 || touch X || :']\n" + IMAGE, "seeds[0]"),
+    ("cores = ['$(touch X)']\n" + IMAGE, "cores[0]"), ("gain = '1; touch X'\n" + IMAGE, "gain: "), ("cores = [17]\n" + IMAGE, "a whole number from 1 to 16"),
+    ("cores = [true]\n" + IMAGE, "cores[0]: true"), ("cores = [1.0]\n" + IMAGE, "cores[0]: 1.0"), ("cores = []\n" + IMAGE, "cores: []"), ("cores = [2, 2]\n" + IMAGE, "each once"),
+    ("seeds = [18446744073709551616]\n" + IMAGE, "seeds[0]"), ("seeds = [-1]\n" + IMAGE, "seeds[0]"), ("versions = [3]\n" + IMAGE, "versions[0]"),
+    ("cores = " + "[" * 5000 + "\n", "plan.toml"), ("cores = [1\n", "plan.toml"), ("schedules = 'even'\n" + IMAGE, "schedules: \"even\""),
+    ("seeds = [" + ", ".join(map(str, range(130_000))) + "]\nschedules = ['seeded']\ncores = [1, 2, 3, 4]\n" + IMAGE, "1,040,000 runs, more than 1,000,000"),
+]
+# A module that tells of its import, under names that Python's own library and Snakemake import.
+TELLTALE = "open({!r}, 'w').close()\n"
+TAKEN = ("json.py", "random.py", "subprocess.py", "snakemake.py", "studies.py", "loops.py", "sitecustomize.py", "usercustomize.py")
 
 
-def study(folder, text, programs=None):
+def words_of(plan: Path, out: Path, *further: str) -> list[str]:
+    return [str(ROOT / "tools" / "study"), str(plan), "--out", str(out), "--jobs", "2", *further]
+
+
+def study(folder: Path, text: str, programs: Path | None, *further: str, out: str = "out") -> tuple[str, int]:
     """What the tool says of a plan, and its status."""
-    plan = Path(folder, "plan.toml")
-    plan.write_text(text)
+    plan = folder / "plan.toml"
+    plan.write_text(text, encoding="utf-8")
     env = {**os.environ, **({"LOOPS_PROGRAMS": str(programs)} if programs else {})}
-    done = subprocess.run([ROOT / "tools" / "study", plan, "--out", Path(folder, "out"), "--jobs", "2"], capture_output=True, text=True, env=env, check=False)
+    done = subprocess.run(words_of(plan, folder / out, *further), capture_output=True, text=True, env=env, cwd=folder, check=False)
     return done.stdout + done.stderr, done.returncode
 
 
-def refused(folder):
+def furnished(folder: Path, command: list[str]) -> Path | None:
+    """A folder with the programs, or None where one isn't built."""
+    found = {"trace_cli": Path(command[0]).resolve(), **{name: beside(command, name) for name in NAMES[1:]}}
+    for name, path in found.items():
+        if path and path.is_file():
+            (folder / name).symlink_to(path)
+    return folder if all((folder / name).is_file() for name in NAMES) else None
+
+
+def slow(folder: Path, programs: Path, seconds: float = 0.03) -> Path:
+    """A folder with programs that take their time."""
+    folder.mkdir()
+    for name in NAMES:
+        (folder / name).write_text(f'#!/bin/sh\nsleep {seconds}\nexec "{programs / name}" "$@"\n')
+        (folder / name).chmod(0o755)
+    return folder
+
+
+def table(out: Path, name: str = "runs.csv") -> list[dict[str, str]]:
+    with (out / name).open(encoding="utf-8", newline="") as file:
+        return list(csv.DictReader(file))
+
+
+def rows_made(out: Path) -> dict[str, int]:
+    """How many rows each file has."""
+    return {path.name: sum(line.endswith("}") for line in path.read_text().split("\n")) for path in sorted((out / "rows").iterdir())}
+
+
+def refused(folder: Path) -> Results:
     """(what it shows, what is wrong or None)"""
     for text, words in REFUSED:
-        said, status = study(folder, text)
-        yield f"refused: {text!r}", None if status == 2 and words in said and not Path(folder, "out").exists() else f"{said!r}, {status}"
+        said, status = study(folder, text, None)
+        right = status == 2 and words in said and not (folder / "out").exists() and not (folder / "X").exists() and "Traceback" not in said
+        yield f"refused: {text[:60]!r}", None if right else f"{said[:500]!r}, {status}"
+    said, status = study(folder, IMAGE, None, out="$(touch X)")
+    yield "refused: a folder's name", None if status == 2 and "which Snakemake would hand to a shell" in said and not (folder / "X").exists() else f"{said!r}, {status}"
 
 
-def furnished(folder, command):
-    """A folder with the programs, or None where one isn't built."""
-    given = Path(command[0]).resolve()
-    crates = ROOT / "crates" if given == ROOT / "trace_cli" or len(given.parents) < 3 else given.parents[2]
-    found = {"trace_cli": given, "why": crates / "why" / "out" / "why"}
-    for name, path in found.items():
-        if path.is_file():
-            Path(folder, name).symlink_to(path)
-    return folder if all(path.is_file() for path in found.values()) else None
-
-
-def studied(folder, programs):
-    """The same of a study, which then loses a cell and its page, and goes on."""
+def studied(folder: Path, programs: Path) -> Results:
+    """The figures of a study, which then loses a row and its page, and goes on."""
     said, status = study(folder, PLAN, programs)
-    out = Path(folder, "out")
-    yield "a study", None if status == 0 else f"{said!r}, {status}"
-    rows = list(csv.DictReader((out / "runs.csv").open()))
+    out = folder / "out"
+    yield "a study", None if (said, status) == ("", 0) else f"{said!r}, {status}"
+    rows = table(out)
     got = {(row["loop"], row["version"]): (row["committed"], row["useful"], row["entries"]) for row in rows}
-    yield "its runs", None if got == RUNS and all((row["ending"], row["rollbacks"]) == ("done", "0") for row in rows) else f"{rows}"
+    yield "its runs", None if got == RUNS and all((row["ending"], row["rollbacks"], row["turns"], row["steps"], row["gain"])
+                                                  == ("done", "0", row["entries"], row["entries"], "1.00") for row in rows) else f"{rows}"
     told = json.loads((out / "manifest.json").read_text())
     yield "its manifest", None if told["plan"]["versions"] == [1, 2] and len(told["programs"]["why"]) == 64 and told["made"]["counter"] is None \
         and "own_counters.c" in told["made"]["own_counters"] and "clang version 14" in told["made"]["own_counters"] else f"{told}"
+    wanted = {"image_sha256": told["images"], "runner_sha256": told["programs"]["trace_cli"], "why_sha256": told["programs"]["why"]}
+    wrong = [row for row in rows for name, one in wanted.items() if row[name] != (one[row["loop"]] if isinstance(one, dict) else one)]
+    yield "each row carries its digests", None if not wrong and told["images"]["counter"] == subprocess.run(
+        ["sha256sum", folder / "counter.image"], capture_output=True, text=True, check=True).stdout.split()[0] else f"{wrong}"
     page = (out / "page.html").read_text()
-    cells = ElementTree.fromstring(page.partition("<table>")[2].partition("</table>")[0].join(["<table>", "</table>"])).findall("tr/td")
-    yield "its page", None if len(cells) == 4 * 16 and "runs.csv" in page else f"{len(cells)} cells"
-    before = {path: path.stat().st_mtime_ns for path in (out / "cells").iterdir()}
-    lost = out / "cells" / "counter-v2-caches-1-threads.json"
-    lost.unlink()
+    cells = ElementTree.fromstring("<table>" + page.partition("<tbody>")[2].partition("</tbody>")[0] + "</table>").findall("tr/td")
+    yield "its page", None if len(cells) == 4 * 18 and "runs.csv" in page else f"{len(cells)} cells"
+    before, [path] = rows_made(out), (out / "rows").iterdir()
+    path.write_text(path.read_text()[:-40])
     (out / "page.html").unlink()
     said, status = study(folder, PLAN, programs)
-    again = [path for path in (out / "cells").iterdir() if path.stat().st_mtime_ns != before[path]]
-    yield "what is there isn't run again", None if status == 0 and again == [lost] else f"{said!r}, {again}"
+    after = rows_made(out)
+    yield "what is there isn't run again", None if status == 0 and sum(before.values()) == sum(after.values()) and [*after.values()][1:] == [1] else f"{said!r}, {before}, {after}"
     yield "and the page is the same", None if (out / "page.html").read_text() == page else "it isn't"
 
 
-def main():
-    command = sys.argv[1:] or [str(ROOT / "trace_cli"), "seq"]
-    with tempfile.TemporaryDirectory() as folder, tempfile.TemporaryDirectory() as room:
+def grown(folder: Path, programs: Path) -> Results:
+    """Steps, gains and seeds; and a table that changes."""
+    said, status = study(folder, SEEDS.format("1, 2"), programs, "--chunk", "3", "--", "--printshellcmds")
+    out = folder / "out"
+    yield "even and seeded, by Snakemake", None if (said, status) == ("", 0) else f"{said!r}, {status}"
+    rows = table(out)
+    even = {(row["store"], row["cores"]): (row["steps"], row["gain"]) for row in rows if row["schedule"] == "even"}
+    yield "steps and gain at even speed", None if even == EVEN else f"{even}"
+    wrong = []
+    for row in rows:
+        if row["schedule"] == "seeded":
+            words = [programs / "replay", "seeded", row["seed"], row["store"], row["cores"]]
+            turns = len(subprocess.run(words, input=(folder / "own_counters.image").read_bytes(), capture_output=True, check=True).stdout.split(b"\n")[0].split()) - 1
+            cores = int(row["cores"])
+            wanted = (str(turns), str((turns + cores - 1) // cores), f"{int(100 * 64 * cores / turns) / 100:.2f}")
+            wrong += [] if (row["turns"], row["steps"], row["gain"]) == wanted else [(row, wanted)]
+    yield "steps and gain of seeds", None if not wrong and len(rows) == 12 else f"{wrong}"
+    page, one = (out / "page.html").read_text(), [row for row in rows if (row["schedule"], row["store"], row["cores"]) == ("seeded", "caches", "4")]
+    lost = sorted(int(row["lost"]) for row in one)
+    told = page.partition('<table id="seeds">')[2].partition("</table>")[0]
+    wanted = "".join(f"<td>{value:g}</td>" for value in (lost[0], sum(lost) / 2, lost[1]))
+    yield "least, middle and most over the seeds", None if wanted in told and told.count("<tr>") == 5 else f"{wanted} isn't in {told}"
+    before = rows_made(out)
+    said, status = study(folder, SEEDS.format("1, 2, 7"), programs, "--chunk", "100")
+    new = {name: count for name, count in rows_made(out).items() if name not in before}
+    yield "one seed more runs its cells alone", None if status == 0 and sum(new.values()) == 4 and len(table(out)) == 16 else f"{said!r}, {new}"
+    before = rows_made(out)
+    said, status = study(folder, SEEDS.format("2"), programs)
+    yield "one seed less runs none", None if status == 0 and rows_made(out) == before and len(table(out)) == 8 else f"{said!r}, {status}"
+
+
+def begun(folder: Path, programs: Path, text: str, rows: int, sign: int) -> str | None:
+    """Begins a study, and sends a signal to all of it once so many rows are there. Answers what is wrong, or None."""
+    (folder / "plan.toml").write_text(text)
+    out = folder / "out"
+    with subprocess.Popen(words_of(folder / "plan.toml", out, "--chunk", "4"), stderr=subprocess.PIPE, text=True, env={**os.environ, "LOOPS_PROGRAMS": str(programs)},
+                          start_new_session=True) as run:
+        end = time.monotonic() + 60
+        while time.monotonic() < end and run.poll() is None and (not (out / "rows").is_dir() or sum(rows_made(out).values()) < rows):
+            time.sleep(0.02)
+        there = sum(rows_made(out).values())
+        if sign == signal.SIGKILL:
+            for pid in subprocess.run(["ps", "-o", "pid=", "--ppid", str(run.pid)], capture_output=True, text=True, check=False).stdout.split():
+                os.killpg(int(pid), sign)       # snakemake, which has a session of its own
+        run.send_signal(sign)
+        said = run.stderr.read()
+    made = (out / "runs.csv").exists() or there < rows or run.returncode in (0, 1)
+    return f"{there} rows, {said!r}, {run.returncode}" if made else None
+
+
+def stopped(folder: Path, programs: Path) -> Results:
+    """A study that is stopped, and then goes on with the same, or with another image, or with other programs."""
+    text, late = SEEDS.format("1, 2, 3, 4"), slow(folder / "slow", programs)
+    said, status = study(folder, text, late, "--chunk", "50", out="whole")
+    yield "a study that is never stopped", None if status == 0 else f"{said!r}, {status}"
+    for name, sign in (("SIGTERM", signal.SIGTERM), ("SIGKILL", signal.SIGKILL)):
+        yield f"stopped by {name}", begun(folder, late, text, 5, sign)
+        said, status = study(folder, text, late, "--chunk", "5")
+        other = [one for one in MADE if (folder / "out" / one).read_bytes() != (folder / "whole" / one).read_bytes()]
+        right = status == 0 and not other and sum(rows_made(folder / "out").values()) == ROWS
+        yield f"after {name} it goes on, and is the same byte for byte", None if right else f"{said!r}, {status}, {other}, {rows_made(folder / 'out')}"
+        shutil.rmtree(folder / "out")
+    yield "stopped before the image changes", begun(folder, late, text, 5, signal.SIGTERM)
+    shutil.copy(ROOT / "examples" / "padded_counters.image", folder / "own_counters.image")
+    said, status = study(folder, text, late)
+    rows = table(folder / "out")
+    right = status == 0 and len(rows) == 20 and {row["lost"] for row in rows} == {"0"} and len({row["image_sha256"] for row in rows}) == 1
+    yield "and every row is of the new image", None if right else f"{said!r}, {status}, {rows}"
+    (late / "replay").write_text((late / "replay").read_text() + "# another\n")
+    before = rows_made(folder / "out")
+    said, status = study(folder, text, late)
+    new = sum(count for name, count in rows_made(folder / "out").items() if name not in before)
+    yield "another replay runs all that it ran", None if status == 0 and new == 20 and len({row["runner_sha256"] for row in table(folder / "out")}) == 1 else f"{said!r}, {new}"
+
+
+def misused(folder: Path, programs: Path) -> Results:
+    """Names with spaces and commands, modules beside the data, and programs that a relative path names."""
+    room, mark = folder / "a room", folder / "X"
+    for place in (room, room / "the out", room / "the out" / "rows"):
+        place.mkdir()
+        for name in TAKEN:
+            (place / name).write_text(TELLTALE.format(str(mark)))
+    names = {"a": "$(touch X).image", "b": "it's; touch X #.image", "c": "`touch X`.image", "ä": "\u202e ä.image"}
+    for name in names.values():
+        shutil.copy(folder / "counter.image", room / name)
+    text = "gain = 2\ncores = [2]\nstores = ['plain']\n[loops]\n" + "".join(f"{json.dumps(name)} = {json.dumps(path)}\n" for name, path in names.items())
+    said, status = study(room, text, Path(os.path.relpath(programs, room)), "--chunk", "2", out="the out")
+    there = [path for path in folder.rglob("X")]
+    yield "names that are commands, and modules beside the data", None if (said, status, there) == ("", 0, []) else f"{said!r}, {status}, {there}"
+    yield "and their rows", None if [row["steps"] for row in table(room / "the out")] else "none"
+    last = subprocess.run([str(ROOT / "tools" / "study"), "--out", "the out", "--chunk", "2", "plan.toml", "--", "--cores", "1"], cwd=room, capture_output=True, text=True,
+                          env={**os.environ, "LOOPS_PROGRAMS": str(programs)}, check=False)
+    yield "words in another order", None if (last.stderr, last.returncode) == ("", 0) else f"{last}"
+
+
+def failing(folder: Path, programs: Path) -> Results:
+    """A program that the machine stops gives no row; a line says how far a study is; and one folder has one study."""
+    late, text = slow(folder / "failing", programs, 0), SEEDS.format("1")
+    good = (late / "replay").read_text()
+    (late / "replay").write_text(good.replace("exec", 'case "$*" in "seeded 1 plain 4") echo stopped NoMemory >&2; exit 3;; esac\nexec'))
+    said, status = study(folder, text, late, "--chunk", "4", out="failed")
+    yield "a run that the machine stopped", None if status == 1 and "stopped NoMemory" in said and "1 of 9 runs have no row" in said \
+        and not (folder / "failed" / "runs.csv").exists() else f"{said!r}, {status}"
+    late = slow(folder / "slower", programs, 0.3)
+    (folder / "plan.toml").write_text(text)
+    parent, child = pty.openpty()
+    with subprocess.Popen(words_of(folder / "plan.toml", folder / "told", "--chunk", "3"), stderr=child, env={**os.environ, "LOOPS_PROGRAMS": str(late)}) as run:
+        time.sleep(1)
+        other = study(folder, text, late, out="told")
+        run.wait(60)
+    os.close(child)
+    said = os.read(parent, 65_536).decode()
+    yield "a line of progress", None if run.returncode == 0 and " of 9 cells are done, about 0 min 0" in said else f"{said!r}, {run.returncode}"
+    yield "a second study in the folder", None if other[1] == 1 and "another study runs in this folder" in other[0] else f"{other}"
+
+
+def sorted_page(folder: Path) -> Results:
+    """The order of a column after a click on its head, and after another."""
+    browser = driver()
+    if browser is None:
+        print("left out: the order of a study's page, since chromium, chromium-driver and python3-selenium aren't all installed")
+        return
+    try:
+        browser.get((folder / "out" / "page.html").as_uri())
+        head = next(one for one in browser.find_elements("css selector", "#runs th button") if one.text == "lost")
+        column = 1 + [one.text for one in browser.find_elements("css selector", "#runs th button")].index("lost")
+        for order, down in (("ascending", False), ("descending", True)):
+            head.click()
+            got = [int(one.text) for one in browser.find_elements("css selector", f"#runs td:nth-child({column})")]
+            said = browser.find_elements("css selector", "#runs th")[column - 1].get_attribute("aria-sort")
+            yield f"the page sorts, {order}", None if got == sorted(got, reverse=down) and len(set(got)) > 2 and said == order else f"{got}, {said}"
+    finally:
+        browser.quit()
+
+
+def in_a_folder(check: Callable[[Path, Path], Results], programs: Path) -> Results:
+    """The results of a check, which has a folder with images for itself."""
+    with tempfile.TemporaryDirectory() as room:
         for name in ("counter", "own_counters"):
-            shutil.copy(ROOT / "examples" / f"{name}.image", folder)
-        results = list(refused(folder))
-        programs = furnished(room, command)
-        if programs and shutil.which("snakemake"):
-            results += studied(folder, programs)
-        else:
-            print("SKIPPED: a study, since snakemake isn't installed or why wasn't built beside the program that is tested")
+            shutil.copy(ROOT / "examples" / f"{name}.image", room)
+        yield from check(Path(room), programs)
+        if check is grown:
+            yield from sorted_page(Path(room))
+
+
+def main() -> int:
+    find_selenium()
+    command = sys.argv[1:] or [str(ROOT / "trace_cli"), "seq"]
+    with tempfile.TemporaryDirectory() as room:
+        programs = furnished(Path(room), command)
+        checks = [lambda folder, _: refused(folder), studied, grown, stopped, misused, failing]
+        lacks = "why, replay and gain weren't built beside the program that is tested" if not programs else None if shutil.which("snakemake") else "snakemake isn't installed"
+        if lacks:
+            print(f"left out: studies, since {lacks}")
+        results = [result for check in (checks[:1] if lacks else checks) for result in in_a_folder(check, programs)]
     for name, wrong in results:
         if wrong:
             print(f"FAILED {name}: {wrong}")

@@ -1,15 +1,25 @@
 """A study's table: which loops run on how many cores, over which stores, by which schedules; and the cells that follow."""
 
 import itertools
+import json
+import sys
 import tomllib
 from dataclasses import asdict, dataclass, field
 from pathlib import Path
+from typing import Any
 
-STORES, SCHEDULES, VERSIONS = ("caches", "plain"), ("even", "seeded", "threads"), (1, 2)
+from loops import Unreadable, read_image
+from loops.texts import shown, text_in
+
+SCHEMA = Path(__file__).with_name("schema.json")
+DEBIANS_PACKAGES = "/usr/lib/python3/dist-packages"
+# The most bytes of an image that the programs read, and the most cells that are planned.
+LONGEST_IMAGE, MOST_CELLS = 33_554_432, 1_000_000
+MOST_CORES = {1: 8, 2: 16}
 
 
 class BadPlan(ValueError):
-    """A table that says no study; the words say where."""
+    """A table that says no study; the words say where, a line for each place."""
 
 
 @dataclass(frozen=True)
@@ -22,11 +32,6 @@ class Cell:
     schedule: str
     seed: int | None
 
-    @property
-    def name(self) -> str:
-        seed = "" if self.seed is None else f"-{self.seed}"
-        return f"{self.loop}-v{self.version}-{self.store}-{self.cores}-{self.schedule}{seed}"
-
 
 @dataclass
 class Plan:
@@ -34,44 +39,117 @@ class Plan:
     loops: dict[str, str]                                       # a name for each image
     cores: list[int] = field(default_factory=lambda: [1, 2, 4])
     versions: list[int] = field(default_factory=lambda: [1])
-    stores: list[str] = field(default_factory=lambda: list(STORES))
+    stores: list[str] = field(default_factory=lambda: ["caches", "plain"])
     schedules: list[str] = field(default_factory=lambda: ["even"])
     seeds: list[int] = field(default_factory=lambda: [1])
     gain: int = 0                                               # up to so many cores; 0 asks for no plots
+    texts: dict[str, bytes] = field(default_factory=dict)       # the images' own, by the names
 
     def cells(self) -> list[Cell]:
         """The runs, loops first."""
         found = []
         for loop, version, cores, schedule in itertools.product(self.loops, self.versions, self.cores, self.schedules):
-            stores = ["caches"] if schedule == "threads" else self.stores
-            seeds = self.seeds if schedule == "seeded" else [None]
-            found += [Cell(loop, version, store, cores, schedule, seed) for store in stores for seed in seeds]
+            found += [Cell(loop, version, store, cores, schedule, seed) for store, seed in self.ways(schedule)]
         return found
 
-    def text(self) -> dict:
-        return asdict(self)
+    def ways(self, schedule: str) -> list[tuple[str, int | None]]:
+        """The stores and seeds of a schedule."""
+        stores = ["caches"] if schedule == "threads" else self.stores
+        return [(store, seed) for store in stores for seed in (self.seeds if schedule == "seeded" else [None])]
+
+    def count(self) -> int:
+        """How many runs there are."""
+        ways = sum((1 if schedule == "threads" else len(self.stores)) * (len(self.seeds) if schedule == "seeded" else 1) for schedule in self.schedules)
+        return len(self.loops) * len(self.versions) * len(self.cores) * ways
+
+    def text(self) -> dict[str, Any]:
+        """The table, without the images' texts."""
+        told = asdict(self)
+        del told["texts"]
+        return told
 
 
-def wrong_with(plan: Plan) -> str | None:
-    """What is wrong with a plan, or None."""
-    if not plan.loops:
-        return "[loops] names none"
-    for name, known in (("stores", STORES), ("schedules", SCHEDULES), ("versions", VERSIONS)):
-        strange = [one for one in getattr(plan, name) if one not in known]
-        if strange:
-            return f"{name} {strange[0]!r} is none of {', '.join(map(str, known))}"
-    return next((f"the loop's name {name!r} has other than letters, digits and _" for name in plan.loops if not name.replace("_", "").isalnum()), None)
+# --- Reading -----------------------------------------------------------------
+
+def validator() -> Any:
+    """What holds a table to the schema. A number with a point is no whole number."""
+    try:
+        import jsonschema
+    except ImportError:
+        sys.path.append(DEBIANS_PACKAGES)       # where another Python runs than Debian's
+        try:
+            import jsonschema
+        except ImportError:
+            raise BadPlan("jsonschema is not installed: Debian's package python3-jsonschema") from None
+    base = jsonschema.Draft202012Validator
+    whole = base.TYPE_CHECKER.redefine("integer", lambda checker, value: isinstance(value, int) and not isinstance(value, bool))
+    return jsonschema.validators.extend(base, type_checker=whole)(json.loads(SCHEMA.read_text(encoding="utf-8")))
+
+
+def place_of(path: list[str | int]) -> str:
+    """`seeds[0]`, `loops.histogram`."""
+    told = "".join(f"[{step}]" if isinstance(step, int) else f".{step if step.isidentifier() else repr(step)}" for step in path)
+    return told.removeprefix(".") or "the table"
+
+
+def short(value: Any) -> str:
+    """A value of the table, as it is told in a line."""
+    told = json.dumps(value, default=str)
+    return told if len(told) <= 80 else told[:77] + "..."
+
+
+def wrong_places(told: dict[str, Any]) -> list[str]:
+    """What the schema finds wrong, a line for each place."""
+    lines = []
+    for error in validator().iter_errors(told):
+        place = place_of(list(error.absolute_path))
+        if error.validator == "additionalProperties":
+            names = sorted(set(told) - set(error.schema["properties"]))
+            lines.append(f"{', '.join(map(short, names))}: no field of the table; there are {', '.join(error.schema['properties'])}")
+        elif error.validator == "required":
+            lines.append(f"{place}: loops is missing; wanted is {error.schema['properties']['loops']['description']}")
+        else:
+            lines.append(f"{place}: {short(error.instance)} is refused; wanted is {error.schema['description']}")
+    return lines
+
+
+def image_at(path: Path, name: str) -> bytes:
+    """The text of an image, which has to be a file and to be read as one."""
+    at = f"loops.{name}: {shown(str(path))}"
+    if not path.is_file():
+        raise BadPlan(f"{at} isn't there, or is no file")
+    if path.stat().st_size > LONGEST_IMAGE:
+        raise BadPlan(f"{at} is longer than {LONGEST_IMAGE:,} bytes")
+    text = path.read_bytes()
+    try:
+        read_image(text_in(text))
+    except Unreadable as wrong:
+        raise BadPlan(f"{at}: {wrong}") from None
+    return text
+
+
+def table_of(path: Path) -> dict[str, Any]:
+    """What a file of TOML says."""
+    try:
+        return tomllib.loads(path.read_text(encoding="utf-8"))
+    except (tomllib.TOMLDecodeError, UnicodeDecodeError, ValueError) as wrong:
+        raise BadPlan(shown(str(wrong))) from None
+    except RecursionError:
+        raise BadPlan("its brackets stand too deep in one another") from None
 
 
 def read_plan(path: Path) -> Plan:
-    """The plan of a file; the images' paths are from that file."""
-    try:
-        told = tomllib.loads(path.read_text(encoding="utf-8"))
-        plan = Plan(**told)
-    except (tomllib.TOMLDecodeError, TypeError) as wrong:
-        raise BadPlan(f"{path}: {wrong}") from None
-    plan.loops = {name: str((path.parent / image).resolve()) for name, image in plan.loops.items()}
-    wrong = wrong_with(plan) or next((f"{image} isn't there" for image in plan.loops.values() if not Path(image).is_file()), None)
-    if wrong:
-        raise BadPlan(f"{path}: {wrong}")
+    """The plan of a file, with the texts of its images, whose paths are from that file."""
+    told = table_of(path)
+    lines = wrong_places(told)
+    if lines:
+        raise BadPlan("\n".join(lines))
+    plan = Plan(**told)
+    if plan.count() > MOST_CELLS:
+        raise BadPlan(f"there would be {plan.count():,} runs, more than {MOST_CELLS:,}")
+    for name, image in plan.loops.items():
+        try:
+            plan.texts[name] = image_at(path.parent / image, name)
+        except (OSError, ValueError) as wrong:
+            raise BadPlan(f"loops.{name}: {shown(str(wrong))}" if not isinstance(wrong, BadPlan) else str(wrong)) from None
     return plan

@@ -1,63 +1,137 @@
-"""What a study comes to: python -m studies.together PLAN. Writes runs.csv, pairs.csv, manifest.json and page.html beside the plan."""
+"""What a study comes to: of each cell the work that it needs, and from the rows of that runs.csv, pairs.csv and manifest.json."""
 
 import csv
-import hashlib
 import json
 import subprocess
-import sys
-from html import escape
+from dataclasses import asdict
+from functools import cache, cached_property
 from pathlib import Path
 
-from loops.programs import TREE, folder
+from loops.gains import Gain, Gains, read_gains
+from loops.images import read_image
+from loops.programs import TREE
+from loops.texts import shown, text_in
 
-from .plans import Plan
+from .kept import USES, Kept, Row, Work
+from .plans import MOST_CORES, Cell, Plan
 
-STYLE = "body{font:14px/1.5 sans-serif;margin:2em;color:#1d2733}table{border-collapse:collapse}td,th{font-size:12px;padding:2px 6px;text-align:right;border-bottom:1px solid #e6e9ec}"
-SHOWN = ["loop", "version", "store", "cores", "schedule", "seed", "ending", "committed", "useful", "rollbacks", "lost", "dropped", "true", "silent", "false", "buffer"]
+# `gain` runs on these numbers of cores besides the one that it is asked for, as far as they are fewer.
+POWERS = (1, 2, 4, 8)
 
 
-def write_rows(path: Path, rows: list[dict]) -> None:
+class Study:
+    """A plan with the digests of its images and of the programs, and the rows that are there."""
+
+    def __init__(self, plan: Plan, images: dict[str, str], programs: dict[str, str]):
+        self.plan, self.images, self.programs = plan, images, programs
+        self.rows: dict[Work, Row] = {}
+
+    def work(self, image: str, version: int, cores: int, schedule: str, store: str | None = None, seed: int | None = None) -> Work:
+        """A piece of work, with the digests of the programs that it takes."""
+        return Work(image, version, cores, schedule, store, seed, tuple((name, self.programs[name]) for name in sorted(USES[schedule])))
+
+    def run_of(self, cell: Cell) -> Work:
+        """The run of a cell."""
+        return self.work(self.images[cell.loop], cell.version, cell.cores, cell.schedule, cell.store, cell.seed)
+
+    def alone(self, cell: Cell) -> Work:
+        """The run on one core that a cell's gain is measured by. On one core all schedules are the same."""
+        return self.work(self.images[cell.loop], cell.version, 1, "even", cell.store)
+
+    def gains_of(self, cell: Cell) -> Work | None:
+        """Of a cell at even speed what `gain` is asked; None where it hasn't so many cores."""
+        most = max((cores for cores in self.plan.cores if cores <= MOST_CORES[cell.version]), default=0)
+        if cell.cores > most:
+            return None
+        return self.work(self.images[cell.loop], cell.version, most if cell.cores in POWERS else cell.cores, "gain")
+
+    def plotted(self) -> dict[str, Work]:
+        """What `gain` is asked of each loop for the plot, in the version of its image."""
+        return {} if not self.plan.gain else {loop: self.work(image, read_image(text_in(self.plan.texts[loop])).version, self.plan.gain, "gain")
+                                              for loop, image in self.images.items()}
+
+    @cached_property
+    def cells(self) -> list[Cell]:
+        return self.plan.cells()
+
+    def needed(self) -> list[Work]:
+        """All that the tables and the plot are made of, each once."""
+        found: dict[Work, None] = {}
+        for cell in self.cells:
+            found[self.run_of(cell)] = None
+            more = self.gains_of(cell) if cell.schedule == "even" else self.alone(cell)
+            if more:
+                found[more] = None
+        return list(found | dict.fromkeys(self.plotted().values()))
+
+    def gained(self, work: Work | None, store: str, cores: int) -> Gain | None:
+        """What `gain` said of a run."""
+        told = self.rows[work].get("gain") if work else None
+        return next((run for run in gains_in(told).runs if (run.store, run.cores) == (store, cores)), None) if told else None
+
+    def speed(self, cell: Cell, row: Row) -> Row:
+        """How many steps a cell took, and how many times fewer these are than on one core: at even speed as `gain` says, else its turns shared out over the cores."""
+        if cell.schedule == "even":
+            found = self.gained(self.gains_of(cell), cell.store, cell.cores)
+            return {"steps": found and found.steps, "gain": found.told("gain") if found and found.gain is not None else None}
+        one, turns = self.rows[self.alone(cell)]["run"].get("turns"), row.get("turns")
+        steps = None if turns is None else -(-turns // cell.cores)
+        return {"steps": steps, "gain": f"{one * cell.cores * 100 // turns / 100:.2f}" if one and turns else None}
+
+    def run_rows(self) -> list[Row]:
+        """The rows of runs.csv."""
+        found = []
+        for cell in self.cells:
+            work = self.run_of(cell)
+            row, programs = self.rows[work]["run"], dict(work.programs)
+            found.append({**asdict(cell), **row, **self.speed(cell, row), "image_sha256": work.image, "runner_sha256": programs[USES[cell.schedule][0]],
+                          "why_sha256": programs["why"]})
+        return found
+
+    def pair_rows(self) -> list[Row]:
+        """The rows of pairs.csv."""
+        return [{**asdict(cell), **pair} for cell in self.cells for pair in self.rows[self.run_of(cell)]["pairs"]]
+
+    def manifest(self, kept: Kept) -> Row:
+        """By what the rows were made: the same from the same plan, images and programs."""
+        works = {cell: self.run_of(cell) for cell in self.cells}
+        images = {cell.loop: work.image for cell, work in works.items()}
+        programs = dict(sorted(one for work in self.needed() for one in work.programs))
+        return {"commit": commit(), "plan": self.plan.text(), "images": images, "made": {loop: made_from(kept.image(name)) for loop, name in images.items()},
+                "programs": programs}
+
+
+@cache
+def gains_in(text: str) -> Gains:
+    """What `gain` printed, read once."""
+    return read_gains(text)
+
+
+def commit() -> str:
+    """The commit of the tree that this file stands in, or nothing."""
+    try:
+        return subprocess.run(["git", "-C", str(TREE), "rev-parse", "HEAD"], capture_output=True, text=True, check=False).stdout.strip()
+    except OSError:
+        return ""
+
+
+def made_from(text: bytes) -> str | None:
+    """What the remarks of an image say that it was made from."""
+    found = (line[1:].strip() for line in text_in(text).split("\n") if line.startswith("# Made from"))
+    return next(map(shown, found), None)
+
+
+def write_rows(path: Path, rows: list[Row]) -> None:
+    """A table as CSV."""
     names = list(dict.fromkeys(name for row in rows for name in row))
-    with path.open("w", newline="", encoding="utf-8") as file:
+    with path.open("w", newline="", encoding="utf-8", errors="backslashreplace") as file:
         writer = csv.DictWriter(file, names, lineterminator="\n")
         writer.writeheader()
         writer.writerows(rows)
 
 
-def digest(path: Path) -> str | None:
-    return hashlib.sha256(path.read_bytes()).hexdigest() if path.is_file() else None
-
-
-def manifest(plan: Plan) -> dict:
-    """By what the study was made: the same from the same plan, images and programs."""
-    commit = subprocess.run(["git", "-C", TREE, "rev-parse", "HEAD"], capture_output=True, text=True, check=False).stdout.strip()
-    return {"commit": commit, "plan": plan.text(), "images": {name: digest(Path(path)) for name, path in plan.loops.items()},
-            "made": {name: next((line[1:].strip() for line in Path(path).read_text(errors="replace").splitlines() if line.startswith("# Made from")), None)
-                     for name, path in plan.loops.items()},
-            "programs": {name: digest(folder() / name) for name in ("trace_cli", "replay", "why", "gain")}}
-
-
-def page(plan: Plan, runs: list[dict], plot: str) -> str:
-    head = "".join(f"<th>{name}</th>" for name in SHOWN)
-    rows = "".join("<tr>" + "".join(f"<td>{escape(str('' if run.get(name) is None else run[name]))}</td>" for name in SHOWN) + "</tr>\n" for run in runs)
-    stopped = "".join(f"<p>{escape(run['loop'])} on {run['cores']} cores, {run['schedule']}: {escape(run['stopped'])}</p>\n" for run in runs if run["stopped"])
-    return (f'<!DOCTYPE html>\n<html lang="en"><head><meta charset="utf-8"><title>A study of {len(plan.loops)} loops</title><style>{STYLE}</style></head><body>\n'
-            f"<h1>A study of {len(plan.loops)} loops, {len(runs)} runs</h1>\n<p><a href=\"runs.csv\">runs.csv</a>, <a href=\"pairs.csv\">pairs.csv</a>, "
-            f'<a href="manifest.json">manifest.json</a></p>\n{plot}\n{stopped}<table><tr>{head}</tr>\n{rows}</table>\n</body></html>\n')
-
-
-def main() -> None:
-    path = Path(sys.argv[1])
-    plan, room = Plan(**json.loads(path.read_text())), path.parent
-    found = [json.loads((room / "cells" / f"{cell.name}.json").read_text()) for cell in plan.cells()]
-    runs = [one["run"] for one in found]
-    write_rows(room / "runs.csv", runs)
-    write_rows(room / "pairs.csv", [pair for one in found for pair in one["pairs"]])
-    (room / "manifest.json").write_text(json.dumps(manifest(plan), indent=1) + "\n")
-    drawn = room / "gains.svg"
-    plot = drawn.read_text()[drawn.read_text().index("<svg"):] if plan.gain else ""
-    (room / "page.html").write_text(page(plan, runs, plot), encoding="utf-8")
-
-
-if __name__ == "__main__":
-    main()
+def write_tables(study: Study, kept: Kept, rows: list[Row]) -> None:
+    """runs.csv, pairs.csv and manifest.json."""
+    write_rows(kept.folder / "runs.csv", rows)
+    write_rows(kept.folder / "pairs.csv", study.pair_rows())
+    (kept.folder / "manifest.json").write_text(json.dumps(study.manifest(kept), indent=1) + "\n", encoding="ascii")
