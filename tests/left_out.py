@@ -1,5 +1,5 @@
 #!/usr/bin/env python3
-"""Tests that what tests leave out is told: by tests/run, over stubs in the place of the tests; and by tests/packages, whose packages the pages install.
+"""Tests that what tests leave out is told: by tests/run, over stubs in the place of the tests; and by tests/packages.py, whose packages the pages install.
 
 Usage: tests/left_out.py
 
@@ -62,14 +62,14 @@ def spelled() -> Results:
 
 def packages() -> Results:
     """What is missing is said, and both pages install all."""
-    program = ROOT / "tests" / "packages"
+    program = ROOT / "tests" / "packages.py"
     whole = subprocess.run([program], capture_output=True, text=True, check=False)
     with tempfile.TemporaryDirectory() as folder:
         for name in ("env", "python3"):
             Path(folder, name).symlink_to(sys.executable if name == "python3" else shutil.which(name))
         bare = subprocess.run([program], capture_output=True, text=True, env={**os.environ, "PATH": folder}, check=False)
     right = whole.returncode == bare.returncode == 0 and bare.stdout.startswith("not installed: chromium chromium-driver clang gcc ")
-    yield "tests/packages", None if right else f"{whole}, {bare}"
+    yield "tests/packages.py", None if right else f"{whole}, {bare}"
     command = bare.stdout.rpartition(". ")[2].split()
     for name in ("README.md", "CONTRIBUTING.md"):
         told = re.search(r"(?m)^apt-get install (?:.*\\\n)*.*$", (ROOT / name).read_text(encoding="utf-8"))

@@ -20,6 +20,8 @@ import sys
 import tempfile
 from pathlib import Path
 
+from packages import has_module
+
 ROOT = Path(__file__).resolve().parent.parent
 COMPILER = "riscv64-unknown-elf-gcc"
 SECONDS = 120
@@ -30,6 +32,7 @@ OWN = re.compile(r"(?m)^(?:\./|tools/|tests/|bench/|\.ci/).*")
 PROGRAMS = ["why", "replay", "gain"]
 # The programs that a tool calls.
 TOOLS = {"named": ["why"], "picture": ["why"], "view": ["why", "replay"], "verdict": PROGRAMS, "study": [*PROGRAMS, "snakemake"]}
+MODULES = {"plot": ["matplotlib"], "study": ["jsonschema", "matplotlib"]}
 # Commands that no test runs, with the reason.
 NOT_RUN = {
     ".ci/run": "runs for an hour, and this test with the others",
@@ -69,6 +72,9 @@ def lacks(command, found):
     for name in called:
         if not (name in found if name in PROGRAMS else shutil.which(name)):
             return f"the program {name}"
+    module = next((name for tool, names in MODULES.items() for name in names if f"tools/{tool} " in command and not has_module(name)), None)
+    if module:
+        return f"the Python module {module}"
     if "image-of" in command and not can_compile():
         return "what tools/image-of needs"
     needed = [COMPILER] if "image-of" in command else ["clang", "ld.lld"] if command.startswith("clang") else []

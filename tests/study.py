@@ -4,8 +4,8 @@
 Usage: tests/study.py [COMMAND ..]
 
 COMMAND is a command of `trace_cli` that ends with the word `seq`; `why`, `replay` and `gain` are the programs that were built beside it. Without it those of this
-repository are tested. Without them, or Debian's packages snakemake and python3-jsonschema, the studies are left out, and a line says so; so is what is sorted on the
-page without Chromium. Exits with 1 where a check failed.
+repository are tested. Without them, or Debian's packages snakemake, python3-jsonschema and python3-matplotlib, the studies are left out, and a line says so; so is
+what is sorted on the page without Chromium. Exits with 1 where a check failed.
 """
 
 import csv
@@ -23,6 +23,7 @@ from pathlib import Path
 from xml.etree import ElementTree
 
 from memory import beside
+from packages import has_module
 from view import driver, find_selenium
 
 ROOT = Path(__file__).resolve().parent.parent
@@ -280,16 +281,26 @@ def in_a_folder(check: Callable[[Path, Path], Results], programs: Path) -> Resul
             yield from sorted_page(Path(room))
 
 
+def lacking(programs: Path | None) -> str | None:
+    """What studies need that isn't there, or None."""
+    if not programs:
+        return "why, replay and gain weren't built beside the program that is tested"
+    missing = [] if shutil.which("snakemake") else ["snakemake"]
+    missing += [f"python3-{name}" for name in ("jsonschema", "matplotlib") if not has_module(name)]
+    return f"{' and '.join(missing)} isn't installed" if missing else None
+
+
 def main() -> int:
     find_selenium()
     command = sys.argv[1:] or [str(ROOT / "trace_cli"), "seq"]
     with tempfile.TemporaryDirectory() as room:
         programs = furnished(Path(room), command)
         checks = [lambda folder, _: refused(folder), studied, grown, stopped, misused, failing]
-        lacks = "why, replay and gain weren't built beside the program that is tested" if not programs else None if shutil.which("snakemake") else "snakemake isn't installed"
+        lacks = lacking(programs)
         if lacks:
             print(f"left out: studies, since {lacks}")
-        results = [result for check in (checks[:1] if lacks else checks) for result in in_a_folder(check, programs)]
+            checks = checks[:1] if has_module("jsonschema") else []
+        results = [result for check in checks for result in in_a_folder(check, programs)]
     for name, wrong in results:
         if wrong:
             print(f"FAILED {name}: {wrong}")

@@ -1,11 +1,13 @@
 #!/usr/bin/env python3
 """Says which of Debian's packages that the tools and tests use are not installed, and the command that installs all. The status is 0.
 
-Usage: tests/packages
+Usage: tests/packages.py
 """
 
+import functools
 import shutil
 import subprocess
+import sys
 from pathlib import Path
 
 # Each package, and what it gives: a program, or a module of Debian's Python.
@@ -18,18 +20,16 @@ DEBIANS = "/usr/bin/python3"
 INSTALL = " ".join(["apt-get", "install", *sorted([*PROGRAMS, *MODULES])])
 
 
-def modules() -> set[str]:
-    """The modules that Debian's Python has."""
-    if not Path(DEBIANS).exists():
-        return set()
-    asks = f"import importlib.util as u; print(*[name for name in {[*MODULES.values()]} if u.find_spec(name)])"
-    return set(subprocess.run([DEBIANS, "-I", "-c", asks], capture_output=True, text=True, check=False).stdout.split())
+@functools.cache
+def has_module(name: str) -> bool:
+    """Whether a module can be imported: by Debian's Python, by which the tools are run anew or whose folder they look in, or by this one."""
+    words = [[python, "-c", f"import {name}"] for python in dict.fromkeys([sys.executable, DEBIANS]) if Path(python).exists()]
+    return any(subprocess.run(call, capture_output=True, check=False).returncode == 0 for call in words)
 
 
 def missing() -> list[str]:
     """The packages that aren't installed."""
-    there = modules()
-    return sorted([package for package, program in PROGRAMS.items() if not shutil.which(program)] + [package for package, name in MODULES.items() if name not in there])
+    return sorted([package for package, program in PROGRAMS.items() if not shutil.which(program)] + [package for package, name in MODULES.items() if not has_module(name)])
 
 
 def main() -> None:
