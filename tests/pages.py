@@ -18,11 +18,14 @@ import shutil
 import subprocess
 import sys
 import tempfile
+from collections.abc import Iterator
 from pathlib import Path
 
 from packages import has_module
 
 ROOT = Path(__file__).resolve().parent.parent
+# A command, and what stands below it.
+Command = tuple[str, str]
 COMPILER = "riscv64-unknown-elf-gcc"
 SECONDS = 120
 PAGES = ["README.md", "CONTRIBUTING.md", "docs/**/*.md", "examples/*.md", "tests/*.md", "bench/**/*.md", "crates/*/README.md"]
@@ -40,7 +43,7 @@ NOT_RUN = {
 }
 
 
-def blocks(page):
+def blocks(page: Path) -> Iterator[tuple[int, str, list[Command]]]:
     """The fenced blocks of a page: for each the line where it begins, what stands above its first command, and its commands with what they print."""
     text = page.read_text(encoding="utf-8")
     for found in re.finditer(r"(?ms)^```\w*\n(.*?)^```", text):
@@ -48,7 +51,7 @@ def blocks(page):
         yield text.count("\n", 0, found.start()) + 2, above, [it.partition("\n")[::2] for it in commands]
 
 
-def programs(command):
+def programs(command: list[str]) -> dict[str, Path]:
     """The built programs by their names, where they are there."""
     if not command:
         return {name: ROOT / name for name in ["trace_cli", *PROGRAMS]}
@@ -59,13 +62,13 @@ def programs(command):
 
 
 @functools.cache
-def can_compile():
+def can_compile() -> bool:
     """Whether tools/image-of finds what it needs."""
     done = subprocess.run([sys.executable, ROOT / "tools" / "image-of", ROOT / "examples" / "c" / "histogram.c"], capture_output=True, check=False)
     return done.returncode == 0
 
 
-def lacks(command, found):
+def lacks(command: str, found: dict[str, Path]) -> str | None:
     """What a command needs that isn't there, or None."""
     called = [name for name in PROGRAMS if re.search(rf"\./{name}\b", command)]
     called += [name for tool, names in TOOLS.items() if f"tools/{tool} " in command for name in names]
@@ -81,17 +84,17 @@ def lacks(command, found):
     return next((one for one in needed if not shutil.which(one)), None)
 
 
-def not_run(command):
+def not_run(command: str) -> str | None:
     """Why no test runs a command, or None."""
     return next((f"{name}, which {reason}" for name, reason in NOT_RUN.items() if command.startswith(name)), None)
 
 
-def files_of(command):
+def files_of(command: str) -> set[str]:
     """The files that a command makes."""
     return set(re.findall(r"(?:>|-o) *([\w.]+)", command))
 
 
-def left_out(commands, found, unmade):
+def left_out(commands: list[Command], found: dict[str, Path], unmade: set[str]) -> tuple[str | None, set[str]]:
     """Why the commands of a block are left out, or None; and the files that aren't there after them."""
     kept_back = next(filter(None, (not_run(it) for it, _ in commands)), None)
     missing = next(filter(None, (lacks(it, found) for it, _ in commands)), None)
@@ -101,7 +104,7 @@ def left_out(commands, found, unmade):
     return reason, unmade | set().union(*(files_of(it) for it, _ in commands)) if reason else unmade
 
 
-def furnish(room, found):
+def furnish(room: Path, found: dict[str, Path]) -> None:
     """Lays out the folder in which a page's commands are run."""
     for name in FOLDERS:
         (room / name).symlink_to(ROOT / name)
@@ -111,7 +114,7 @@ def furnish(room, found):
         script.chmod(0o755)
 
 
-def failure_of(command, wanted, room):
+def failure_of(command: str, wanted: str, room: str) -> str | None:
     """Why a command isn't what its page says, or None."""
     try:
         ran = subprocess.run(["bash", "-c", command], cwd=room, capture_output=True, text=True, timeout=SECONDS, stdin=subprocess.DEVNULL,
@@ -125,7 +128,7 @@ def failure_of(command, wanted, room):
     return None
 
 
-def tried(page, found, told):
+def tried(page: Path, found: dict[str, Path], told: set[str]) -> Iterator[tuple[str, str | None]]:
     """(where, its failure or None) of each command of a page; what was left out is added to what is told."""
     name, unmade = page.relative_to(ROOT), set()
     with tempfile.TemporaryDirectory(prefix="pages-") as folder:
@@ -138,7 +141,7 @@ def tried(page, found, told):
                 yield f"{name}, line {line}: {command}", failure_of(command, wanted, folder)
 
 
-def main(words):
+def main(words: list[str]) -> int:
     found, told = programs(words[:-1] if words[-1:] == ["seq"] else words), set()
     pages = sorted(page for form in PAGES for page in ROOT.glob(form))
     results = [result for page in pages for result in tried(page, found, told)]
