@@ -7,7 +7,7 @@ The image, its trace and the report are worked by hand; the pictures are read ba
 """
 
 import json
-import shutil
+import os
 import subprocess
 import sys
 import tempfile
@@ -146,20 +146,19 @@ def names(folder):
 
 
 def traces(folder):
-    """The same of tools/trace, in a tree of its own."""
-    tools = Path(folder, "tools")
-    tools.mkdir()
-    for name in ("trace", "endings.py"):
-        shutil.copy(ROOT / "tools" / name, tools)
-    shutil.copytree(ROOT / "tools" / "loops", tools / "loops")
-    image = Path(folder, "waits.image")
+    """The same of tools/trace, with a stub in the place of the program."""
+    programs, image = Path(folder, "programs"), Path(folder, "waits.image")
+    programs.mkdir()
     image.write_text(IMAGE)
-    stub(folder, "trace_cli", "end done 2\ncounts 2 1 1 2\n" + TRACE)
-    done = subprocess.run([tools / "trace", image, "2"], capture_output=True, text=True, check=False)
-    yield "an image with its trace", (done.stdout, done.stderr, done.returncode) == (IMAGE + TRACE, "", 0)
-    stub(folder, "trace_cli", "", error="usage", status=2)
-    done = subprocess.run([tools / "trace", image, "99"], capture_output=True, text=True, check=False)
-    yield "a refused run", (done.stdout, done.stderr, done.returncode) == ("", "usage\n", 2)
+
+    def traced(*words):
+        done = subprocess.run([ROOT / "tools" / "trace", image, *words], capture_output=True, text=True, env={**os.environ, "LOOPS_PROGRAMS": str(programs)}, check=False)
+        return done.stdout, done.stderr, done.returncode
+
+    stub(programs, "trace_cli", "end done 2\ncounts 2 1 1 2\n" + TRACE)
+    yield "an image with its trace", traced("2") == (IMAGE + TRACE, "", 0)
+    stub(programs, "trace_cli", "", error="usage", status=2)
+    yield "a refused run", traced("99") == ("", "usage\n", 2)
 
 
 def main():
