@@ -18,7 +18,7 @@ from .runs import Runner, made
 SNAKEFILE = Path(__file__).resolve().parent / "Snakefile"
 # A job takes so many seconds, by what the work of a first few takes, each tried here.
 SECONDS_A_JOB, SECONDS_OF_TRIAL, MOST_A_JOB = 20.0, 2.0, 5000
-SECONDS_TO_END = 30
+SECONDS_TO_END, MOST_REASONS = 30, 20
 # What Snakemake hands to a shell in the scripts of cluster jobs isn't quoted against these.
 UNQUOTED = set("'\"\\$`!")
 
@@ -41,7 +41,7 @@ def tried(runner: Runner, work: list[Work], rows: Path) -> float:
     step = max(1, len(work) // 50)
     began, count = time.monotonic(), 0
     with rows.open("a", encoding="utf-8") as file:
-        for _ in made(runner, [one for start in range(step) for one in work[start::step]], file):
+        for _ in made(runner, [one for start in range(step) for one in work[start::step]], file, sys.stderr):
             count += 1
             if time.monotonic() - began > SECONDS_OF_TRIAL:
                 break
@@ -97,6 +97,15 @@ def snakemake(room: Path, wishes: Wishes, rows: list[Path], progress: Progress, 
     return process.returncode
 
 
+def tell_reasons(room: Path) -> None:
+    """Tells why rows were not made, each reason once."""
+    reasons = list(dict.fromkeys(line for path in sorted(room.glob("*.failed")) for line in path.read_text(encoding="utf-8", errors="replace").splitlines()))
+    for line in reasons[:MOST_REASONS]:
+        print(line, file=sys.stderr)
+    if len(reasons) > MOST_REASONS:
+        print(f"study: and {len(reasons) - MOST_REASONS} more reasons", file=sys.stderr)
+
+
 def make_rows(kept: Kept, programs: dict[str, Path], work: list[Work], wishes: Wishes, lock: int) -> str | None:
     """Makes the rows of this work. Answers why it can't, or None."""
     run, progress, size = kept.next_run(), Progress(len(work)), wishes.chunk
@@ -116,5 +125,6 @@ def make_rows(kept: Kept, programs: dict[str, Path], work: list[Work], wishes: W
         status = snakemake(room, wishes, write_chunks(room, kept, run, programs, chunks(work, size)), progress, lock)
     finally:
         progress.end()
+        tell_reasons(room)
         shutil.rmtree(room, ignore_errors=True)
     return f"snakemake ended with status {status}" if status else None

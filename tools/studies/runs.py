@@ -3,7 +3,6 @@
 import json
 import os
 import signal
-import sys
 from collections.abc import Iterable, Iterator
 from dataclasses import asdict
 from functools import lru_cache
@@ -101,28 +100,28 @@ def turns_in(trace: str) -> int:
     return sum(line.split(" ")[1] not in OF_OTHERS for line in trace.split("\n")[1:] if line)
 
 
-def made(runner: Runner, work: Iterable[Work], file: TextIO) -> Iterator[bool]:
-    """Makes rows, each written as soon as it is there. Of each whether it was made; where it wasn't a line on standard error says why."""
+def made(runner: Runner, work: Iterable[Work], file: TextIO, reasons: TextIO) -> Iterator[bool]:
+    """Makes rows, each written as soon as it is there. Of each whether it was made; where it wasn't a line says why."""
     for one in work:
         try:
             file.write(line_of(one, runner.row(one)))
             file.flush()
             yield True
         except (Failed, ValueError, OSError) as wrong:
-            print(f"study: {shown(str(wrong))}", file=sys.stderr)
+            print(f"study: {shown(str(wrong))}", file=reasons, flush=True)
             yield False
 
 
 def run_chunk(path: Path) -> int:
-    """Makes the rows of a chunk that aren't there. How many were not made."""
+    """Makes the rows of a chunk that aren't there. How many were not made; why stands in a file beside the chunk's, since a cluster may show nobody what a job says."""
     told = json.loads(path.read_text(encoding="utf-8"))
     runner = Runner(Kept(Path(told["folder"])), {name: Path(at) for name, at in told["programs"].items()})
     rows = Path(told["rows"])
     there = {work for work, _ in rows_in(rows)} if rows.is_file() else set()
-    with rows.open("a", encoding="utf-8") as file:
+    with rows.open("a", encoding="utf-8") as file, path.with_suffix(".failed").open("w", encoding="utf-8") as reasons:
         file.write("\n" if rows.stat().st_size else "")     # where an earlier try was cut off
         left = [work for work in map(work_of, told["work"]) if work not in there]
-        return sum(not good for good in made(runner, left, file))
+        return sum(not good for good in made(runner, left, file, reasons))
 
 
 def main(words: list[str]) -> int:
