@@ -38,6 +38,7 @@ SEEDS = 'cores = [1, 4]\nschedules = ["even", "seeded"]\nseeds = [{}]\n[loops]\n
 EVEN = {("caches", "1"): ("464", "1.00"), ("caches", "4"): ("428", "1.08"), ("plain", "1"): ("464", "1.00"), ("plain", "4"): ("116", "4.00")}
 # With four seeds there are 4 runs at even speed, 16 seeded ones and a call of `gain`.
 ROWS = 21
+SECONDS = 120
 MADE = ("runs.csv", "pairs.csv", "manifest.json", "page.html")
 IMAGE = "[loops]\na = 'counter.image'\n"
 # What is refused, and the words of the reason.
@@ -167,15 +168,20 @@ def grown(folder: Path, programs: Path) -> Results:
     yield "one seed less runs none", None if status == 0 and rows_made(out) == before and len(table(out)) == 8 else f"{said!r}, {status}"
 
 
+def wait_for(out: Path, rows: int, run: subprocess.Popen[str]) -> None:
+    """Waits until a study that runs has so many rows."""
+    end = time.monotonic() + SECONDS
+    while time.monotonic() < end and run.poll() is None and (not (out / "rows").is_dir() or sum(rows_made(out).values()) < rows):
+        time.sleep(0.02)
+
+
 def begun(folder: Path, programs: Path, text: str, rows: int, sign: int) -> str | None:
     """Begins a study, and sends a signal to all of it once so many rows are there. Answers what is wrong, or None."""
     (folder / "plan.toml").write_text(text)
     out = folder / "out"
     with subprocess.Popen(words_of(folder / "plan.toml", out, "--chunk", "4"), stderr=subprocess.PIPE, text=True, env={**os.environ, "LOOPS_PROGRAMS": str(programs)},
                           start_new_session=True) as run:
-        end = time.monotonic() + 60
-        while time.monotonic() < end and run.poll() is None and (not (out / "rows").is_dir() or sum(rows_made(out).values()) < rows):
-            time.sleep(0.02)
+        wait_for(out, rows, run)
         there = sum(rows_made(out).values())
         if sign == signal.SIGKILL:
             for pid in subprocess.run(["ps", "-o", "pid=", "--ppid", str(run.pid)], capture_output=True, text=True, check=False).stdout.split():
@@ -195,7 +201,7 @@ def stopped(folder: Path, programs: Path) -> Results:
         yield f"stopped by {name}", begun(folder, late, text, 5, sign)
         said, status = study(folder, text, late, "--chunk", "5")
         other = [one for one in MADE if (folder / "out" / one).read_bytes() != (folder / "whole" / one).read_bytes()]
-        right = status == 0 and not other and sum(rows_made(folder / "out").values()) == ROWS
+        right = status == 0 and not other and sum(rows_made(folder / "out").values()) == ROWS and not [*(folder / "out").glob(".study-jobs-*")]
         yield f"after {name} it goes on, and is the same byte for byte", None if right else f"{said!r}, {status}, {other}, {rows_made(folder / 'out')}"
         shutil.rmtree(folder / "out")
     yield "stopped before the image changes", begun(folder, late, text, 5, signal.SIGTERM)
@@ -239,13 +245,13 @@ def failing(folder: Path, programs: Path) -> Results:
     said, status = study(folder, text, late, "--chunk", "4", out="failed")
     yield "a run that the machine stopped", None if status == 1 and "stopped NoMemory" in said and "1 of 9 runs have no row" in said \
         and not (folder / "failed" / "runs.csv").exists() else f"{said!r}, {status}"
-    late = slow(folder / "slower", programs, 0.3)
+    late = slow(folder / "slower", programs, 1)
     (folder / "plan.toml").write_text(text)
     parent, child = pty.openpty()
     with subprocess.Popen(words_of(folder / "plan.toml", folder / "told", "--chunk", "3"), stderr=child, env={**os.environ, "LOOPS_PROGRAMS": str(late)}) as run:
-        time.sleep(1)
+        wait_for(folder / "told", 1, run)
         other = study(folder, text, late, out="told")
-        run.wait(60)
+        run.wait(SECONDS)
     os.close(child)
     said = os.read(parent, 65_536).decode()
     yield "a line of progress", None if run.returncode == 0 and " of 9 cells are done, about 0 min 0" in said else f"{said!r}, {run.returncode}"

@@ -19,6 +19,8 @@ SNAKEFILE = Path(__file__).resolve().parent / "Snakefile"
 # A job takes so many seconds, by what the work of a first few takes, each tried here.
 SECONDS_A_JOB, SECONDS_OF_TRIAL, MOST_A_JOB = 20.0, 2.0, 5000
 SECONDS_TO_END, MOST_REASONS = 30, 20
+# How the folder's name begins in which Snakemake works.
+ROOM = ".study-jobs-"
 # What Snakemake hands to a shell in the scripts of cluster jobs isn't quoted against these.
 UNQUOTED = set("'\"\\$`!")
 
@@ -120,7 +122,9 @@ def make_rows(kept: Kept, programs: dict[str, Path], work: list[Work], wishes: W
         return None
     if not shutil.which("snakemake"):
         return "snakemake is not installed: Debian's package snakemake"
-    room = Path(tempfile.mkdtemp(prefix="jobs-", dir=kept.folder.absolute()))
+    for left in kept.folder.glob(f"{ROOM}*"):       # by a study that was killed
+        shutil.rmtree(left, ignore_errors=True)
+    room = Path(tempfile.mkdtemp(prefix=ROOM, dir=kept.folder.absolute()))
     try:
         status = snakemake(room, wishes, write_chunks(room, kept, run, programs, chunks(work, size)), progress, lock)
     finally:
