@@ -72,7 +72,9 @@ def write_chunks(room: Path, kept: Kept, run: int, programs: dict[str, Path], pa
 
 
 def ended(process: subprocess.Popen[bytes]) -> None:
-    """Asks a process and all that it began to end, and makes them."""
+    """Asks a process and all that it began to end, and makes them. Who asks for this again is not heard."""
+    for sign in (signal.SIGINT, signal.SIGTERM) if process.poll() is None else ():
+        signal.signal(sign, signal.SIG_IGN)
     for sign, seconds in ((signal.SIGINT, SECONDS_TO_END), (signal.SIGKILL, SECONDS_TO_END)):
         try:
             os.killpg(process.pid, sign)
