@@ -53,6 +53,12 @@ REFUSED = [
     ("cores = " + "[" * 5000 + "\n", "plan.toml"), ("cores = [1\n", "plan.toml"), ("schedules = 'even'\n" + IMAGE, "schedules: \"even\""),
     ("seeds = [" + ", ".join(map(str, range(130_000))) + "]\nschedules = ['seeded']\ncores = [1, 2, 3, 4]\n" + IMAGE, "1,040,000 runs, more than 1,000,000"),
 ]
+# In the place of Slurm's commands: each job runs at once, and its number is that of the process which took it.
+SLURM = {
+    "sbatch": 'for last; do :; done\necho "$@" >> "$CALLS"\n(sh "$last"; echo $? > "$CALLS.$$") > /dev/null 2>&1 &\necho $$',
+    "scontrol": 'state=RUNNING\n[ ! -f "$CALLS.$4" ] || { read -r status < "$CALLS.$4"; state=COMPLETED; [ "$status" = 0 ] || state=FAILED; }\necho "JobId=$4 JobState=$state"',
+    "scancel": "exit 0",
+}
 # A module that tells of its import, under names that Python's own library and Snakemake import.
 TELLTALE = "open({!r}, 'w').close()\n"
 TAKEN = ("json.py", "random.py", "subprocess.py", "snakemake.py", "studies.py", "loops.py", "sitecustomize.py", "usercustomize.py")
@@ -237,6 +243,24 @@ def misused(folder: Path, programs: Path) -> Results:
     yield "words in another order", None if (last.stderr, last.returncode) == ("", 0) else f"{last}"
 
 
+def on_a_cluster(folder: Path, programs: Path) -> Results:
+    """By the profile for Slurm, called from another folder: so many jobs as there are chunks, and the same tables."""
+    for name, text in SLURM.items():
+        path = folder / "bin" / name
+        path.parent.mkdir(exist_ok=True)
+        path.write_text(f"#!/bin/sh\n{text}\n")
+        path.chmod(0o755)
+    (folder / "plan.toml").write_text(SEEDS.format("1, 2"))
+    env = {**os.environ, "LOOPS_PROGRAMS": str(programs), "PATH": f"{folder / 'bin'}:{os.environ['PATH']}", "CALLS": str(folder / "calls"), "CI": "true"}
+    words = [*words_of(Path("plan.toml"), Path("the out"), "--chunk", "5"), "--", "--profile", os.path.relpath(ROOT / "tools" / "studies" / "profiles" / "slurm", folder)]
+    done = subprocess.run(words, cwd=folder, env=env, capture_output=True, text=True, timeout=SECONDS, check=False)
+    jobs = (folder / "calls").read_text().splitlines() if (folder / "calls").exists() else []
+    yield "by the profile for Slurm", None if (done.stderr, done.returncode, len(jobs)) == ("", 0, 3) else f"{done}, {jobs}"
+    said, status = study(folder, SEEDS.format("1, 2"), programs)
+    other = [one for one in MADE if (folder / "out" / one).read_bytes() != (folder / "the out" / one).read_bytes()]
+    yield "and the tables are those made here", None if status == 0 and not other else f"{said!r}, {status}, {other}"
+
+
 def failing(folder: Path, programs: Path) -> Results:
     """A program that the machine stops gives no row; a line says how far a study is; and one folder has one study."""
     late, text = slow(folder / "failing", programs, 0), SEEDS.format("1")
@@ -301,7 +325,7 @@ def main() -> int:
     command = sys.argv[1:] or [str(ROOT / "trace_cli"), "seq"]
     with tempfile.TemporaryDirectory() as room:
         programs = furnished(Path(room), command)
-        checks = [lambda folder, _: refused(folder), studied, grown, stopped, misused, failing]
+        checks = [lambda folder, _: refused(folder), studied, grown, stopped, misused, on_a_cluster, failing]
         lacks = lacking(programs)
         if lacks:
             print(f"left out: studies, since {lacks}")

@@ -85,12 +85,20 @@ def ended(process: subprocess.Popen[bytes]) -> None:
             continue
 
 
+def with_whole_paths(words: list[str]) -> list[str]:
+    """Snakemake's words with the whole path of a profile that is there: it looks for the profile here, and for the scripts of it where it works."""
+    before = ["", *words]
+    told = [("--profile=", word.removeprefix("--profile=")) if word.startswith("--profile=") else ("", word) for word in words]
+    is_path = [lead or last == "--profile" for (lead, _), last in zip(told, before)]
+    return [lead + (os.path.abspath(path) if is_one and os.path.exists(path) else path) for (lead, path), is_one in zip(told, is_path)]
+
+
 def snakemake(room: Path, wishes: Wishes, rows: list[Path], progress: Progress, lock: int) -> int:
     """Runs Snakemake over the chunks of a folder, and answers its status. The folder stays locked while any of it runs."""
     own = ["--snakefile", str(SNAKEFILE), "--directory", str(room), "--cores", str(wishes.jobs), "--force-use-threads", "--keep-going", "--quiet", "all", "--nolock"]
     # Python takes no module from the folder that a job is called in, nor writes beside the tree's
     env = {**os.environ, "PYTHONSAFEPATH": "1", "PYTHONDONTWRITEBYTECODE": "1"}
-    process = subprocess.Popen(["snakemake", *own, *wishes.words], env=env, start_new_session=True, pass_fds=[lock], stdout=sys.stderr)
+    process = subprocess.Popen(["snakemake", *own, *with_whole_paths(wishes.words)], env=env, start_new_session=True, pass_fds=[lock], stdout=sys.stderr)
     try:
         while process.poll() is None:
             progress.look([path for path in rows if path.exists()])
