@@ -5,6 +5,7 @@ from dataclasses import dataclass, field
 from functools import cached_property
 
 from .instructions import access_spelled
+from .names import word
 from .texts import shown
 
 LINE_LENGTH = {1: 16, 2: 32}
@@ -52,13 +53,13 @@ class Image:
     @cached_property
     def variables(self) -> list[Variable]:
         found = filter(None, map(VARIABLE.fullmatch, self.remarks))
-        return [Variable(shown(match[1]), int(match[2], 16), int(match[3])) for match in found]
+        return [Variable(word(match[1]), int(match[2], 16), int(match[3])) for match in found]
 
     @cached_property
     def sources(self) -> dict[int, str]:
         """FILE:LINE of the instruction at an address, from remarks `# code PC FILE:LINE`."""
         found = filter(None, map(SOURCE.fullmatch, self.remarks))
-        return {int(match[1], 16): shown(match[2]) for match in found}
+        return {int(match[1], 16): word(match[2]) for match in found}
 
     @cached_property
     def about(self) -> str:
