@@ -145,7 +145,7 @@ def image_of(words):
 # --- Sources that can't be an image, and what is shown ----------------------
 
 BODY = "unsigned a[4]; void body(unsigned e) "
-REFUSED = [
+REFUSED_WITHOUT_LIBGCC = [
     (BODY + "{ a[e] = e * e; }", [], "undefined: __mulsi3: RV32I has no multiplication or division"),
     ("unsigned long long a[4]; void body(unsigned e) { a[e] = a[0] * a[1]; }", ["--stack", "64"],
      "undefined: __muldi3: RV32I has no multiplication or division"),
@@ -155,6 +155,14 @@ REFUSED = [
      "undefined: __addsf3: the machine has no float or double"),
     ("double a[4]; void body(unsigned e) { a[e] = (double)e; }", ["--stack", "64"],
      "undefined: __floatunsidf: the machine has no float or double"),
+]
+REFUSED_WITH_LIBGCC = [
+    (BODY + "{ a[e] = e * e; }", [], "the code needs a stack; it calls __mulsi3, since RV32I has no multiplication or division"),
+    ("unsigned long long a[4]; void body(unsigned e) { a[e] = a[0] / a[1]; }", [], "the code needs a stack; it calls "),
+    ("float a[4]; void body(unsigned e) { a[e] = a[0] + a[1]; }", [], "the code needs a stack; it calls __addsf3, since the machine has no float or double"),
+]
+REFUSED = [
+    *(REFUSED_WITH_LIBGCC if list(Path("/usr/lib/gcc/riscv64-unknown-elf").glob("*/rv32i/ilp32/libgcc.a")) else REFUSED_WITHOUT_LIBGCC),
     ("unsigned long strlen(const char *); " + BODY + '{ a[e] = strlen((const char *)&a[e]); }', ["--stack", "64"],
      "undefined: strlen: there is no C library"),
     ("#include <string.h>\n" + BODY + "{ a[e] = e; }", [], ": there is no header string.h, since there is no C library"),
@@ -174,7 +182,7 @@ REFUSED = [
     # 12 words that live over a call are saved beside the array of 60 bytes, which alone would fit
     ("unsigned a[16], g(unsigned); void body(unsigned e) { volatile unsigned b[15]; b[e] = e; a[e] = b[1] + g(e) + a[1]; }\n"
      "__attribute__((noinline)) unsigned g(unsigned e) { a[e] = 1; return a[1]; }", ["--stack", "64"], "the frame of body takes"),
-    (BODY + "{ volatile unsigned b[e + 1]; b[e] = e; a[e] = b[0]; }", ["--stack", "64"], "use arrays of constant length"),
+    (BODY + "{ volatile unsigned b[e + 1]; b[e] = e; a[e] = b[0]; }", [], "the code needs a stack;"),
     ("unsigned a[4]; __attribute__((constructor)) void before(void) { *(volatile unsigned *)a = 1; }\n"
      "void body(unsigned e) { a[e] = e; }", [], "no place for the sections"),
     (BODY + "{ a[e] = e }", [], "the compiler refuses the source"),

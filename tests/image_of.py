@@ -22,6 +22,14 @@ GCC = ["riscv64-unknown-elf-gcc", "-march=rv32i", "-mabi=ilp32", "-O2", "-ffrees
 CLANG = ["clang", "--target=riscv32-unknown-elf", "-march=rv32i", "-mabi=ilp32", "-O2", "-ffreestanding", "-msmall-data-limit=0"]
 LD = ["riscv64-unknown-elf-ld", "--no-warn-rwx-segments", "-m", "elf32lriscv", "-e", "body"]
 LLD = ["ld.lld", "-m", "elf32lriscv", "-e", "body"]
+PICOLIBC = Path("/usr/lib/picolibc/riscv64-unknown-elf/lib/rv32i/ilp32/libc.a")
+LIBGCC = sorted(Path("/usr/lib/gcc/riscv64-unknown-elf").glob("*/rv32i/ilp32/libgcc.a"))
+
+
+def words(*numbers):
+    return struct.pack(f"<{len(numbers)}I", *(number & 0xFFFFFFFF for number in numbers))
+
+
 # Epoch e adds STEP * (e + 1): 2 and 4 and 6 and 8 are 20.
 C = "#include \"step.h\"\nunsigned sum, last[4];\nvoid body(unsigned epoch)\n{\n    for (unsigned i = 0; i <= epoch; i++)\n        sum += STEP;\n    last[epoch] = sum;\n}\n"
 CPP = ("// image: --epochs 4\ntemplate <class T> struct Sum { T total; void add(T one) { total += one; } };\n"
@@ -39,11 +47,29 @@ MEMORY = ("void *memcpy(void *, const void *, unsigned long), *memset(void *, in
           "void body(unsigned e)\n{\n    char *part = malloc(12);\n    memcpy(part, text, 9);\n    memmove(part + 1 - e, part + e, 5);\n    told[e] = (int)strlen(part);\n"
           "    told[2 + e] = memcmp(part, text, 8);\n    memset(moved[e], 'x', 9);\n    memcpy(moved[e], part, 6);\n    null[e] = allocate(e, 16) == 0 || allocate(e, 33) != 0;\n}\n")
 
+# thread_local: 5 and 8 and 9 and 8 and 9 in turn
+OWN = ("_Thread_local unsigned given = 5, seen[4];\nstatic _Thread_local unsigned many[3] = {7, 8, 9};\nunsigned out[4];\n"
+       "void body(unsigned e) { seen[e] = given; given += many[e % 2 + 1]; out[e] = given; }\n")
+OWN_END = {"out": words(13, 22, 30, 39), "given": words(39), "seen": words(5, 13, 22, 30)}
+CALLED = "unsigned out[4]; float f[4] = {1, 2, 3, 4};\nvoid body(unsigned e) { out[e] = __builtin_clz(e + 1) * (e + 3); f[e] = f[e] * 1.5f; }\n"
+LIBC = ("#include <errno.h>\n#include <stdlib.h>\n#include <string.h>\nunsigned out[4];\n"
+        "void body(unsigned e) { char *p = malloc(20); strcpy(p, \"3.25\"); out[e] = (unsigned)(4 * strtod(p, 0)) + e + (rand() >= 0); errno = (int)e; free(p); }\n")
+GROWS = "unsigned out[4];\nvoid body(unsigned e) { volatile unsigned b[e + 1]; b[e] = e + 3; out[e] = b[e]; }\n"
+ALLOCA = "unsigned out[4];\nvoid body(unsigned e) { volatile unsigned *b = __builtin_alloca(4 * e + 4); b[e] = e + 3; out[e] = b[e]; }\n"
+TURNS = ("unsigned out[40]; __attribute__((noinline)) unsigned next(volatile unsigned *p) { return *p + 1; }\n"
+         "void body(unsigned e) { volatile unsigned x = e; out[e] = next(&x); }\n")
+ROWS = "unsigned out[40];\nvoid body(unsigned e) { out[e] += 3 * e + 1; }\n"
+LEAVES = "unsigned out[40];\nunsigned body(unsigned e) { out[e] += 3 * e + 1; return e == 29; }\n"
+# Two units with one template's function, at lines 5 and 6 of the first, and 7 and 8 of the second; the linker keeps that of the object that comes first.
+TEMPLATE = "template <class T>\n__attribute__((noinline)) T twice(volatile T *p) {\n  *p = *p + 1;\n  return *p;\n}\n"
+FIRST = ("extern \"C\" unsigned other(unsigned), out[8];\nunsigned out[8];\n" + TEMPLATE
+         + "extern \"C\" void body(unsigned e) {\n  out[e] = 3;\n  out[e] = twice<unsigned>(&out[e]) + other(e);\n}\n")
+OTHER = "\n\nextern \"C\" unsigned other(unsigned), out[8];\n" + TEMPLATE + "extern \"C\" unsigned other(unsigned e) {\n  return twice<unsigned>(&out[e]);\n}\n"
+# The function that a linker leaves out stands above the one that is there.
+DEAD = ("unsigned out[8];\nunsigned dead(unsigned e) {\n  out[e] = 1;\n  out[e + 1] = 2;\n  out[0] = 5;\n  return out[e];\n}\n"
+        "void body(unsigned e) {\n  out[e] = e;\n\n  out[7] = 3;\n}\n")
+
 LINES = "volatile unsigned a, b;\nvoid body(unsigned epoch)\n{\n    a = epoch;\n\n    b = 3;\n}\n"
-
-
-def words(*numbers):
-    return struct.pack(f"<{len(numbers)}I", *(number & 0xFFFFFFFF for number in numbers))
 
 
 def do(*command, cwd):
@@ -61,6 +87,8 @@ def furnish(folder):
     """Writes the sources, and makes objects, archives and linked files of them."""
     for name, text in (("loop.c", C), ("step.h", ""), ("sum.cpp", CPP), ("count.s", ASSEMBLY), ("squares.c", SQUARES), ("second.c", SECOND), ("library.c", LIBRARY),
                        ("search.c", SEARCH), ("blocks.c", MEMORY), ("lines.c", LINES), ("add.c", "unsigned add(unsigned a, unsigned b) { return a + b; }\n"),
+                       ("own.c", OWN), ("called.c", CALLED), ("libc.c", LIBC), ("grows.c", GROWS), ("alloca.c", ALLOCA), ("turns.c", TURNS), ("rows.c", ROWS),
+                       ("leaves.c", LEAVES), ("first.cpp", FIRST), ("other.cpp", OTHER), ("dead.c", DEAD), ("beside.c", "unsigned add(unsigned a, unsigned b, unsigned c) { return a + b; }\n"),
                        ("count.S", ASSEMBLY.replace("addi t1, t1, 3", "addi t1, t1, STEP"))):
         Path(folder, name).write_text(text)
     Path(folder, "keys.bin").write_bytes(bytes([0, 0, 0, 0, 0, 9]))
@@ -74,6 +102,15 @@ def made(folder, compiler):
     do(*compile_, "-DSTEP=2", "-c", "loop.c", "-o", f"loop-{compiler}.o", cwd=folder)
     do(archive, "rc", f"lib-{compiler}.a", f"library-{compiler}.o", f"add-{compiler}.o", cwd=folder)
     do(*link, "-Ttext=0", f"loop-{compiler}.o", "-o", f"first-{compiler}.elf", cwd=folder)
+    for name, further in (("own", []), ("rows", []), ("turns", ["-falign-functions=64", "-mno-relax"]), ("dead", ["-ffunction-sections"])):
+        do(*compile_, "-g", *further, "-c", f"{name}.c", "-o", f"{name}-{compiler}.o", cwd=folder)
+    do(*link, "-Ttext=0x100", "-Tdata=0x800", "-Tbss=0x900", f"own-{compiler}.o", "-o", f"own-{compiler}.elf", cwd=folder)
+    # what each thread has of zeros lies where other variables are
+    do(*link, "-Ttext=0x100", f"own-{compiler}.o", "-o", f"shared-{compiler}.elf", cwd=folder)
+    do(*link, "-Ttext=0x100", "-Tdata=0x800", f"rows-{compiler}.o", "-o", f"rows-{compiler}.elf", cwd=folder)
+    do(*link, "-Ttext=0x100", "-Tdata=0x800", f"turns-{compiler}.o", "-o", f"turns-{compiler}.elf", cwd=folder)
+    for place in ("0", "0x100"):
+        do(*link, "--gc-sections", f"-Ttext={place}", "-Tdata=0x800", f"dead-{compiler}.o", "-o", f"dead-{place}-{compiler}.elf", cwd=folder)
     do(*link, "-Ttext=0x100", "-Tdata=0x400", f"library-{compiler}.o", f"add-{compiler}.o", "-o", f"far-{compiler}.elf", cwd=folder)
 
 
@@ -100,6 +137,30 @@ def programs(compiler):
     yield [*by, "--epochs", "8", "--exit", "--data", "keys=keys.bin", "search.c"], "end exit 5", {"wanted": words(6)}
     yield ([*by, "--epochs", "2", "--stack", "128", "-DARENA=64", "-DARENAS=2", "blocks.c", TOOLS / "memory.c", TOOLS / "allocator.c"], "end done 2",
            {"moved": b"aabcdexxx" + bytes(7) + b"bcdeffxxx" + bytes(7), "told": words(8, 8, -1, 1), "null": words(0, 0)})
+    yield from further_programs(compiler, by, some)
+
+
+def further_programs(compiler, by, some):
+    """Programs with thread_local variables, what compilers call, stacks in turn, and epochs of several iterations."""
+    rows = {"out": words(*(3 * e + 1 for e in range(37)))}
+    yield [*by, *some, "own.c"], "end done 4", OWN_END
+    for name in ("own", "shared"):
+        yield [*some, "--version", "2", f"{name}-{compiler}.elf"], "end done 4", OWN_END
+    if LIBGCC:
+        yield [*by, *some, "--stack", "256", "called.c"], "end done 4", {"out": words(93, 120, 150, 174), "f": struct.pack("<4f", 1.5, 3, 4.5, 6)}
+    if PICOLIBC.is_file():
+        yield [*by, *some, "--stack", "1024", "--libc", "picolibc", "--heap", "1024", "libc.c"], "end done 4", {"out": words(14, 15, 16, 17), "errno": words(3)}
+    yield [*by, *some, "--stack", "64", "grows.c"], "end done 4", {"out": words(3, 4, 5, 6)}
+    yield [*by, *some, "--stack", "64", "alloca.c"], "end done 4", {"out": words(3, 4, 5, 6)}
+    turns = {"out": words(*range(1, 41))}
+    yield [*by, "--epochs", "40", "--stack", "64", "turns.c"], "end done 40", turns
+    yield [*by, "--epochs", "40", "--stack", "64", f"turns-{compiler}.o"], "end done 40", turns
+    yield ["--epochs", "40", "--stack", "64", "--version", "2", f"turns-{compiler}.elf"], "end done 40", turns
+    yield [*by, "--epochs", "37", "--chunk", "8", "rows.c"], "end done 5", rows
+    yield [*by, "--epochs", "37", "--chunk", "5", "--stack", "32", "rows.c"], "end done 8", rows
+    yield ["--epochs", "37", "--chunk", "37", "--version", "2", f"rows-{compiler}.elf"], "end done 1", rows
+    yield ["--epochs", "37", "--chunk", "3", "--stack", "64", "--version", "2", f"rows-{compiler}.elf"], "end done 13", rows
+    yield [*by, "--epochs", "37", "--exit", "--chunk", "6", "leaves.c"], "end exit 4", {"out": words(*(3 * e + 1 for e in range(30)), *(0,) * 7)}
 
 
 # --- Whether they are right --------------------------------------------------
@@ -147,14 +208,46 @@ def right(command, folder, compiler):
     for given, end, variables in programs(compiler):
         text, errors, status = image_of(folder, *given)
         wrong = errors or "no image" if status else wrong_with(command, text, end, variables)
-        has_lines = given[-1] not in ("squares.ll", "squares.bc") and not str(given[-1]).startswith(("first", "lib-"))
+        # of these the sources are those of libraries, or there are none
+        has_lines = given[-1] not in ("squares.ll", "squares.bc", "called.c", "libc.c") and not str(given[-1]).startswith(("first", "lib-"))
         yield f"{compiler}: {' '.join(map(str, given))}", wrong or (same_code(folder, given, text) if has_lines else None)
+
+
+def accesses_told(text):
+    """The lines of the loads and the stores of an image, and those of all else."""
+    code = bytes.fromhex(re.search(r"(?m)^code (\w+)", text)[1])
+    told = {int(pc, 16): line for pc, line in re.findall(r"(?m)^# code ([0-9a-f]{8}) (\S+)$", text)}
+    kinds = {pc: code[pc] & 127 in (0x03, 0x23) for pc in range(0, len(code), 4)}
+    return {told.get(pc) for pc, access in kinds.items() if access}, {told[pc] for pc, access in kinds.items() if not access and pc in told}
+
+
+def linked_lines(folder, compiler):
+    """The lines of what is linked: what the linker left out has none, wherever it leaves its table."""
+    body = {"first.cpp:9", "first.cpp:10"}
+    for inputs, kept in ((("first.cpp", "other.cpp"), {"first.cpp:5", "first.cpp:6"}), (("other.cpp", "first.cpp"), {"other.cpp:6", "other.cpp:7"})):
+        text = image_of(folder, "--compiler", compiler, "-g", "--epochs", "4", "--stack", "64", *inputs)[0]
+        got = {line for line in accesses_told(text)[0] if line and not line.endswith((":8", ":11"))}
+        yield f"the lines of {' and '.join(inputs)} by {compiler}", None if got - {"other.cpp:9"} == body | kept else f"got {got}"
+    for place in ("0", "0x100"):
+        got = accesses_told(image_of(folder, "-g", "--epochs", "4", "--version", "2", f"dead-{place}-{compiler}.elf")[0])
+        yield f"the lines of what is left at {place} by {compiler}", None if got == ({"dead.c:9", "dead.c:11"}, set()) else f"got {got}"
+
+
+def warned(folder, compiler):
+    """Of a frame that grows it warns, and of what is unused in a source without body it doesn't."""
+    for name in ("grows.c", "alloca.c"):
+        errors = image_of(folder, "--compiler", compiler, "--epochs", "4", "--stack", "64", name)[1]
+        yield f"the warning of {name} by {compiler}", None if "warning: the frame of body has no fixed size" in errors and len(errors.splitlines()) == 1 else f"got {errors!r}"
+    got = image_of(folder, "--compiler", compiler, "--epochs", "4", "rows.c", "beside.c")
+    yield f"no warning of beside.c by {compiler}", None if got[1:] == ("", 0) else f"got {got}"
 
 
 def lines_told(folder):
     """The lines of the source of the two stores, by each compiler."""
     for compiler in ("gcc", "clang"):
         if shutil.which(compiler if compiler == "clang" else GCC[0]):
+            yield from linked_lines(folder, compiler)
+            yield from warned(folder, compiler)
             text = image_of(folder, "--compiler", compiler, "-g", "--epochs", "4", "lines.c")[0]
             stores = [pc for pc in range(0, 400, 4) for word in [int.from_bytes(bytes.fromhex(re.search(r"(?m)^code (\w+)", text)[1])[pc:pc + 4], "little")]
                       if word & 127 == 0x23]
@@ -254,8 +347,16 @@ def bad_inputs(folder):
     text("before.cpp", "unsigned first(unsigned e);\nunsigned a = first(2);\n__attribute__((noinline)) unsigned first(unsigned e) { return *(volatile unsigned *)&a + e; }\n"
                        "extern \"C\" void body(unsigned e) { a += e; }\n")
     yield ["--stack", "64", "before.cpp"], r"no place for the sections \.init_array: the machine calls body alone"
-    text("own.c", "_Thread_local unsigned a;\nvoid body(unsigned e) { a = e; }\n")
-    yield ["--reg", "4=1024", "own.c"], r"no place for the sections \.tbss: there are no threads of their own"
+    yield ["--reg", "4=1024", "own.c"], r"--reg 4 and the thread_local variables both set the thread pointer"
+    yield ["--chunk", "4", "--reg", "5=1", "rows.c"], r"--chunk calls body again, and x5 isn't what --reg sets any more"
+    yield ["--chunk", "0", "rows.c"], r"--chunk takes 1 to 65535"
+    yield ["--heap", "64", "rows.c"], r"--heap is for the malloc of --libc"
+    if LIBGCC:
+        yield ["called.c"], r"the code needs a stack; it calls __mulsf3, since the machine has no float"
+    if PICOLIBC.is_file():
+        yield ["--stack", "64", "--libc", "picolibc", "libc.c"], r"undefined: __heap_end, __heap_start: malloc has no memory to give; --heap BYTES"
+        text("ends.c", "#include <stdlib.h>\nunsigned a[4];\nvoid body(unsigned e) { if (e > 9) exit(1); a[e] = e; }\n")
+        yield ["--stack", "64", "--libc", "picolibc", "ends.c"], r"undefined: _exit: there is no system to call"
     if shutil.which("ld.lld"):
         object_of("moved", "unsigned a[4], *p = a;\nvoid body(unsigned e) { p[e] = e; }\n", *rv32, "-fPIC")
         do("ld.lld", "-m", "elf32lriscv", "-pie", "-e", "body", "moved.o", "-o", "moved.elf", cwd=folder)

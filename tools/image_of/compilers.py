@@ -5,10 +5,20 @@ import shutil
 import subprocess
 import sys
 import tempfile
+from argparse import Namespace
+from collections.abc import Callable, Sequence
 from pathlib import Path
+from typing import TypeVar
 
-from .elf import COMPRESSED, Program, check_target, is_linked, opened
+from loops.names import line, word
+
+from .archives import THIN, WHOLE, Archive
+from .elf import COMPRESSED, Opened, Program, is_linked
+from .limits import LARGEST_FILE, small_files
 from .reasons import Refused, missing, refusal_of
+from .start import Start
+
+Answer = TypeVar("Answer")
 
 COMMON = ["-march=rv32i", "-mabi=ilp32"]
 FLAGS = ["-Wall", "-Wextra", "-ffreestanding", "-fno-pic", "-fno-common", "-fno-asynchronous-unwind-tables", "-fomit-frame-pointer",
@@ -28,16 +38,16 @@ TRUNCATED = 2000
 class Compiler:
     """A compiler with its linker and its tools: the words that each call begins with."""
 
-    def __init__(self, package, compiler, own, linker, lister, archiver, no_stack):
+    def __init__(self, package: str, compiler: list[str], own: list[str], linker: list[str], lister: list[str], no_stack: list[str]):
         self.package, self.compiler, self.own = package, compiler, own
-        self.linker, self.lister, self.archiver = linker, lister, archiver
+        self.linker, self.lister = linker, lister
         # what lets a function without a stack use more registers
         self.no_stack = no_stack
 
-    def is_there(self):
+    def is_there(self) -> bool:
         return all(shutil.which(words[0]) for words in (self.compiler, self.linker))
 
-    def words(self, language):
+    def words(self, language: str) -> list[str]:
         """How it compiles a language."""
         own = self.own if language in ("c", "c++") else []
         return [*self.compiler, *COMMON, *own, *LANGUAGES[language]]
@@ -46,11 +56,11 @@ class Compiler:
 COMPILERS = {
     "gcc": Compiler(
         "gcc-riscv64-unknown-elf", ["riscv64-unknown-elf-gcc"], ["-fno-toplevel-reorder", "-fno-tree-loop-distribute-patterns"],
-        ["riscv64-unknown-elf-ld", "--no-warn-rwx-segments"], ["riscv64-unknown-elf-objdump"], "riscv64-unknown-elf-ar",
+        ["riscv64-unknown-elf-ld", "--no-warn-rwx-segments"], ["riscv64-unknown-elf-objdump"],
         ["-ffixed-s0"] + [f"-fcall-used-s{i}" for i in range(1, 12)]),
     "clang": Compiler(
         "clang and lld", ["clang", "--target=riscv32-unknown-elf"], ["-nostdlibinc", "-fno-unroll-loops"],
-        ["ld.lld", "--error-limit=0"], ["llvm-objdump"], "llvm-ar", []),
+        ["ld.lld", "--error-limit=0"], ["llvm-objdump"], []),
 }
 
 LINKER_SCRIPT = """
@@ -60,42 +70,51 @@ SECTIONS
   . = 0;
   .text : {{ *(.text.start) *(.text.{entry}) *(.text .text.*) }}
   . = ALIGN(16);
-  .rest : {{ *(.rodata .rodata.*) *(.srodata .srodata.*) *(.data .data.*) *(.sdata .sdata.*)
+  .rest : {{ *(.rodata .rodata.*) *(.srodata .srodata.*) *(.data .data.*) *(.sdata .sdata.*) *(.got .got.*)
             *(.sbss .sbss.*) *(.bss .bss.*) *(COMMON) }}
+  .tdata : {{ *(.tdata .tdata.*) *(.tbss .tbss.*) *(.tcommon) }}
+  .rela.dyn : {{ *(.rela.dyn) }}
   . = ALIGN(16);
-  top_of_data = .;
+{heap}  top_of_data = .;
   /DISCARD/ : {{ *(.comment) *(.riscv.attributes) *(.note .note.*) *(.eh_frame) *(.eh_frame_hdr) *(.gcc_except_table .gcc_except_table.*) }}
 }}
 """
-
-# x2 = top_of_data + (epoch + 1) * slot
-STACK_START = """
-.section .text.start, "ax"
- addi x2, x10, 1
- slli x2, x2, {shift}
- lui x5, %hi(top_of_data)
- addi x5, x5, %lo(top_of_data)
- add x2, x2, x5
- jal x0, {entry}
+# Where picolibc's malloc takes its memory
+HEAP = """  __heap_start = .;
+  . += {};
+  . = ALIGN(16);
+  __heap_end = .;
 """
-PLAIN_START = """
-.section .text.start, "ax"
- jal x0, {entry}
-"""
+TOP = "top_of_data"
 
 
-def run(words):
-    """Runs a tool; answers its status and what it says on standard error."""
+class Library:
+    """A C library of Debian's, built for RV32I: its headers and its archive."""
+
+    def __init__(self, package: str, folder: str):
+        self.package, self.headers, self.archive = package, Path(folder, "include"), Path(folder, "lib/rv32i/ilp32/libc.a")
+
+
+LIBRARIES = {"picolibc": Library("picolibc-riscv64-unknown-elf", "/usr/lib/picolibc/riscv64-unknown-elf")}
+# What compilers call for what a machine hasn't, as multiplication: of Debian's gcc, for each compiler
+OF_GCC = ("riscv64-unknown-elf-gcc", "/usr/lib/gcc/riscv64-unknown-elf", "*/rv32i/ilp32/libgcc.a")
+
+
+def run(words: Sequence[str | Path]) -> tuple[int, str]:
+    """Runs a tool; answers its status and what it says on standard error. A file that grows too large refuses the program."""
     try:
-        done = subprocess.run([str(word) for word in words], capture_output=True, check=False)
+        done = subprocess.run([str(one) for one in words], capture_output=True, preexec_fn=small_files, check=False)
     except FileNotFoundError:
         raise Refused(f"{words[0]} is not installed") from None
-    return done.returncode, done.stderr.decode("utf-8", "replace").rstrip()
+    errors = done.stderr.decode("utf-8", "replace").rstrip()
+    if done.returncode and "File too large" in errors:
+        raise Refused(f"{Path(words[0]).name} would write more than {LARGEST_FILE} bytes: code and variables are far larger than memory can be")
+    return done.returncode, errors
 
 
 # --- What an input is --------------------------------------------------------
 
-def kind_of(path):
+def kind_of(path: Path) -> str:
     """The language of an input, or object, archive or program."""
     if not path.is_file():
         raise Refused(f"{path} is not a file")
@@ -103,7 +122,7 @@ def kind_of(path):
         head = file.read(8)
     if head[:4] == b"\x7fELF":
         return "program" if is_linked(path) else "object"
-    if head in (b"!<arch>\n", b"!<thin>\n"):
+    if head in (WHOLE, THIN):
         return "archive"
     if head[:2] == b"BC":
         return "llvm"
@@ -112,7 +131,7 @@ def kind_of(path):
     return ENDINGS[path.suffix]
 
 
-def text_of(source):
+def text_of(source: Path) -> str:
     """A source as text; of LLVM's bitcode there is none."""
     data = source.read_bytes()
     if data[:2] == b"BC":
@@ -125,20 +144,7 @@ def text_of(source):
                       f"iconv -f latin1 -t utf8") from None
 
 
-def check_archive(path, options, directory):
-    """Refuses an archive with members for other machines."""
-    scratch = Path(directory, "members")
-    scratch.mkdir(exist_ok=True)
-    status, errors = run(["sh", "-c", 'cd "$1" && shift && exec "$@"', "sh", scratch, options.tools.archiver, "x", path.resolve()])
-    if status:
-        raise Refused(f"{path}: is a damaged archive: {errors}")
-    for member in sorted(scratch.iterdir()):
-        if member.read_bytes()[:4] == b"\x7fELF":
-            check_target(f"{path}({member.name})", opened(member))
-        member.unlink()
-
-
-def check_llvm(source, options):
+def check_llvm(source: Path) -> None:
     """Refuses LLVM IR that was made for another machine: its layout of types is another one."""
     told = re.search(r'(?m)^target triple = "([^"]*)"', text_of(source))
     if told and not told[1].startswith("riscv32"):
@@ -147,7 +153,7 @@ def check_llvm(source, options):
 
 # --- Compiling and linking ---------------------------------------------------
 
-def further_flags(options, language):
+def further_flags(options: Namespace, language: str) -> list[str]:
     """The flags of the command line, for a language that takes them."""
     if language == "assembly":
         given = [f"-D{name}" for name in options.define] + [f"-I{folder}" for folder in options.include]
@@ -159,71 +165,101 @@ def further_flags(options, language):
     return level + (["-g"] if options.g else []) + given
 
 
-def made_with(options):
+def made_with(options: Namespace) -> str:
     """The compiler of the first source and its flags, as words of a remark; none where nothing is compiled."""
     kinds = [kind for _, kind in options.inputs if kind in LANGUAGES]
     if not kinds or not options.tools:
         return ""
     done = subprocess.run([options.tools.compiler[0], "--version"], capture_output=True, text=True, check=False)
-    return ", with " + " ".join([done.stdout.partition("\n")[0], *further_flags(options, kinds[0])])
+    return line(", with " + " ".join([done.stdout.partition("\n")[0], *further_flags(options, kinds[0])]))
 
 
-def compiled(source, kind, number, options, directory):
+def words_of(source: Path, kind: str, options: Namespace) -> list[str]:
+    """How the compiler is called for a source. What lies beside the entry may be another's, and isn't looked at as closely."""
+    own = options.tools.words(kind)
+    if kind in ("c", "c++") and not re.search(rf"\b{re.escape(options.entry)}\s*\(", text_of(source)):
+        own = [one for one in own if one != "-Wextra"]
+    library = LIBRARIES.get(options.libc)
+    return own + (["-isystem", str(library.headers)] if library and kind in ("c", "c++", "assembly") else [])
+
+
+def compiled(source: Path, kind: str, number: int, options: Namespace, directory: str) -> Path:
     """The path of the object file of a source. Warnings are shown."""
     made = Path(directory, f"{number}.o")
     if kind == "llvm":
-        check_llvm(source, options)
+        check_llvm(source)
     convention = [] if options.stack or kind in ("assembly", "llvm") else options.tools.no_stack
     strict = ["-Werror=override-module"] if kind == "llvm" and not text_of(source) else []
     # the assembler's preprocessor alone knows -D
     language = ["-x", "assembler-with-cpp"] if kind == "assembly" and (source.suffix == ".S" or options.define or options.include) else []
-    status, errors = run([*options.tools.words(kind), *convention, *strict, *further_flags(options, kind), *language, "-c", "-o", made, source])
+    status, errors = run([*words_of(source, kind, options), *convention, *strict, *further_flags(options, kind), *language, "-c", "-o", made, source])
     if status and "override-module" in errors:
         raise Refused(f"{source}: is LLVM bitcode for another machine; make it for RV32I, by clang --target=riscv32-unknown-elf -march=rv32i -c -emit-llvm")
     if status:
         raise Refused(refusal_of(errors))
     if errors:
-        print(errors, file=sys.stderr)
+        print("\n".join(map(line, errors.splitlines())), file=sys.stderr)
     if options.stack:
-        check_frames(made.with_suffix(".su"), options.stack)
+        check_frames(made.with_suffix(".su"), options)
     return made
 
 
-def check_frames(usage, stack):
-    """Refuses a function whose frame is larger than a slot. The compiler's figures count saved registers too."""
-    for line in usage.read_text().splitlines() if usage.is_file() else []:
-        place, taken, kind = line.rsplit("\t", 2)
-        name = place.rsplit(":", 1)[1]
+def check_frames(usage: Path, options: Namespace) -> None:
+    """Refuses a function whose frame is larger than a slot, and warns of one whose frame grows as it runs. The compiler's figures count saved registers too."""
+    stack = options.stack
+    for told in usage.read_text().splitlines() if usage.is_file() else []:
+        place, taken, kind = told.rsplit("\t", 2)
+        name = word(place.rsplit(":", 1)[1])
         if kind == "dynamic":
-            raise Refused(f"the frame of {name} has no fixed size; use arrays of constant length")
+            print(f"{options.program}: warning: the frame of {name} has no fixed size, as of an array of variable length: that it stays within the slot of {stack} bytes "
+                  "isn't checked", file=sys.stderr)
         if int(taken) > stack:
             enough = 1 << (int(taken) - 1).bit_length()
             raise Refused(f"the frame of {name} takes {taken} bytes, more than its slot of {stack}; give --stack {enough} or more")
 
 
-def start_code(options, directory):
+def start_code(start: Start, options: Namespace, directory: str) -> Path:
     """The path of the object file of the instructions before the entry."""
     source, made = Path(directory, "start.s"), Path(directory, "start.o")
-    shift = options.stack.bit_length() - 1 if options.stack else 0
-    source.write_text((STACK_START if options.stack else PLAIN_START).format(shift=shift, entry=options.entry))
+    source.write_text(start.assembly(TOP), encoding="utf-8")
     status, errors = run([*options.tools.words("assembly"), "-c", "-o", made, source])
     if status:
         raise Refused("the assembler refuses the start code:\n" + errors)
     return made
 
 
-def linked(objects, options, directory):
-    """The path of the program linked at address 0."""
+def libgcc() -> list[Path]:
+    """The compiler's own library, where it is there."""
+    gcc, folder, place = OF_GCC
+    found = sorted(Path(folder).glob(place)) if Path(folder).is_dir() else []
+    if not found and shutil.which(gcc):
+        done = subprocess.run([gcc, *COMMON, "-print-libgcc-file-name"], capture_output=True, text=True, check=False)
+        found = [one for one in [Path(done.stdout.strip())] if one.is_file()]
+    return found[-1:]
+
+
+def undefined(errors: str) -> list[str]:
+    """The names that a linker misses."""
+    return sorted(set(re.findall(r"undefined reference to `([^']+)'", errors)) | set(re.findall(r"undefined symbol: (\S+)", errors)))
+
+
+def linked(objects: list[Path], options: Namespace, directory: str) -> Program:
+    """The program linked at address 0. What the compiler calls comes from its own library, where the inputs don't define it."""
     script, made = Path(directory, "link.ld"), Path(directory, "body.elf")
-    script.write_text(LINKER_SCRIPT.format(entry=options.entry))
-    archives = [one for one, kind in options.inputs if kind == "archive"]
+    script.write_text(LINKER_SCRIPT.format(entry=options.entry, heap=HEAP.format(options.heap) if options.heap else ""), encoding="utf-8")
+    archives = [one for one, kind in options.inputs if kind == "archive"] + ([LIBRARIES[options.libc].archive] if options.libc else [])
     # compressed jumps are none of the machine's, and a linker that relaxes objects of such a kind makes some
-    compressed = any(opened(one)["e_flags"] & COMPRESSED for one in objects)
-    words = ["-u", options.entry, "--start-group", *objects, *archives, "--end-group"] if archives else objects
-    status, errors = run([*options.tools.linker, "-m", "elf32lriscv", *(["--no-relax"] if compressed else []), "-T", script, "-o", made, *words])
-    names = set(re.findall(r"undefined reference to `([^']+)'", errors)) | set(re.findall(r"undefined symbol: (\S+)", errors))
-    if names:
-        raise Refused(missing(sorted(names), options.entry, options.exit))
+    compressed = any(Opened(one).header.flags & COMPRESSED for one in objects)
+    command = [*options.tools.linker, "-m", "elf32lriscv", *(["--no-relax"] if compressed else []), "-T", script, "-o", made]
+
+    def link(given: list[Path]) -> tuple[int, str]:
+        return run([*command, *(["-u", options.entry, "--start-group", *objects, *given, "--end-group"] if given else objects)])
+
+    status, errors = link(archives)
+    if undefined(errors) and libgcc():
+        status, errors = link(archives + libgcc())
+    if undefined(errors):
+        raise Refused(missing([word(name) for name in undefined(errors)], options.entry, options.exit, bool(options.libc)))
     if status:
         raise Refused("the linker refuses the program:\n" + errors[:TRUNCATED])
     program = Program(made)
@@ -232,9 +268,9 @@ def linked(objects, options, directory):
     return program
 
 
-def no_entry(program, options):
+def no_entry(program: Program, options: Namespace) -> str:
     """Why there is no entry, with the functions that are there."""
-    reason = missing([options.entry], options.entry, options.exit)
+    reason = missing([options.entry], options.entry, options.exit, bool(options.libc))
     mangled = next((name for name in program.functions() if re.match(rf"_Z{len(options.entry)}{options.entry}\w*$", name)), None)
     if mangled:
         return f'{reason}\nthere is the C++ function {mangled}; write extern "C" before its definition, or give --entry {mangled}'
@@ -242,27 +278,36 @@ def no_entry(program, options):
     return f"{reason}\nthe global functions are: {there}" if there else reason
 
 
-def program_of(options, directory):
+def check_sizes(objects: list[Path]) -> None:
+    """Refuses objects that are far larger than memory, before anything is linked."""
+    need = sum(one.size for path in objects for one in Opened(path).placed())
+    if need > LARGEST_FILE:
+        raise Refused(f"code and variables need {need} bytes, more than memory can have: 65536, with --version 2 1048576")
+
+
+def program_of(options: Namespace, directory: str) -> Program:
     """The linked program of all inputs."""
     kinds = dict(options.inputs)
     for path, kind in options.inputs:
         if kind == "archive":
-            check_archive(path, options, directory)
+            Archive(path).check()
     objects = []
     for number, (path, kind) in enumerate(kinds.items()):
         if kind == "object":
             objects.append(path)
         elif kind != "archive":
             objects.append(compiled(path, kind, number, options, directory))
-    if options.stack:
-        return linked([start_code(options, directory), *objects], options, directory)
+    check_sizes(objects)
+    start = options.start
+    if start.stack or start.chunk > 1:
+        return linked([start_code(start, options, directory), *objects], options, directory)
     program = linked(objects, options, directory)
     if program.symbol(options.entry) != 0:
-        program = linked([start_code(options, directory), *objects], options, directory)
+        program = linked([start_code(start, options, directory), *objects], options, directory)
     return program
 
 
-def tools_of(compiler, kinds):
+def tools_of(compiler: str | None, kinds: set[str]) -> Compiler:
     """The compiler that was asked for, or the first that is there; LLVM IR is clang's."""
     if "llvm" in kinds and compiler == "gcc":
         raise Refused("gcc compiles no LLVM IR; leave --compiler gcc out, or make an object of it")
@@ -273,7 +318,7 @@ def tools_of(compiler, kinds):
     raise Refused("no compiler is installed; install the Debian packages " + ", or ".join(COMPILERS[name].package for name in names))
 
 
-def with_program(options, work):
+def with_program(options: Namespace, work: Callable[[Program], Answer]) -> Answer:
     """Links the inputs, or takes the linked program that is given, and does something with it."""
     if options.linked:
         return work(Program(options.linked))

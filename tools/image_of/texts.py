@@ -1,103 +1,159 @@
 """The text of the image of a linked program."""
 
-from .compilers import REMARK, made_with, text_of
-from .elf import ALLOCATED, EXECUTABLE, WRITABLE
-from .reasons import Refused
-from .words import jump, stack_code, uses_register
+from argparse import Namespace
+from collections.abc import Iterator
+from dataclasses import dataclass
+from pathlib import Path
+
+from loops.names import line as printable
+from loops.names import word
+
+from .compilers import REMARK, TOP, made_with, text_of
+from .elf import EXECUTABLE, THREADS, WRITABLE, Program, Section, unfit
+from .lines import Lines, lines_of
+from .reasons import Refused, call_reason
+from .words import tells_line, uses_register
 
 LARGEST_SIZE = {1: 65_536, 2: 1_048_576}
 LINE = {1: 16, 2: 32}
 LONGEST_TEXT = 1_048_576
-GLOBAL_POINTER = 3
+GLOBAL_POINTER, THREAD_POINTER = 3, 4
 
 
-def needs_stack(code):
+def needs_stack(code: bytes) -> bool:
     words = (int.from_bytes(code[i:i + 4], "little") for i in range(0, len(code), 4))
-    return any(uses_register(word, 2) for word in words)
+    return any(uses_register(one, 2) for one in words)
 
 
-def remarks(path, kind):
-    """The lines at the top of a source that begin with its sign of a remark, without options, in ASCII."""
+def remarks(path: Path, kind: str) -> list[str]:
+    """The lines at the top of a source that begin with its sign of a remark, without options."""
     lines, sign = [], REMARK.get(kind)
     for line in text_of(path).splitlines() if sign else []:
         if not line.startswith(sign):
             break
         if not line.startswith(f"{sign} image:"):
-            lines.append("#" + line[len(sign):].encode("ascii", "replace").decode())
+            lines.append("#" + printable(line[len(sign):]))
     return lines
 
 
+@dataclass
 class Layout:
     """Code from address 0, and memory behind it."""
-
-    def __init__(self, code, rest, top):
-        self.code, self.rest, self.top = code, rest, top    # bytes; address -> bytes; where the stacks begin
-
-    def overlay(self, address, data, what):
-        """Puts bytes over memory."""
-        if address < len(self.code):
-            raise Refused(f"{what} lies in the code, at {address:08x}; bytes can be put over variables alone")
-        self.rest.append((address, data))
+    code: bytes
+    rest: list[tuple[int, bytes]]   # address and bytes
+    top: int                        # where the stacks begin
+    threads: int | None             # where the thread_local variables are, if there are some
 
 
-def layout_of(program):
+def layout_of(program: Program, options: Namespace) -> Layout:
     """The layout of a program that was linked here."""
-    program.check_sections((".text", ".rest"))
+    program.check_sections((".text", ".rest", ".tdata"))
+    top = program.symbol(TOP) or 0
+    size_of(top, options)
     code = program.contents(".text")
-    rest = [(program.section(".rest")["sh_addr"], program.contents(".rest"))] if program.section(".rest") else []
-    return Layout(code + bytes(-len(code) % 4), rest, program.symbol("top_of_data"))
+    parts = [one for one in program.placed() if one.name in (".rest", ".tdata")]
+    threads = next((one.address for one in parts if one.flags & THREADS), None)
+    return Layout(code + bytes(-len(code) % 4), [(one.address, one.data()) for one in parts], top, threads)
 
 
-def layout_of_linked(program, options):
+def check_linked(program: Program) -> None:
+    """Refuses a program that was linked elsewhere where its sections don't fit into the memory of an image."""
+    placed, most = program.placed(), LARGEST_SIZE[2]
+    last = max((one.end for one in placed), default=0)
+    if last > most:
+        raise Refused(f"{program.path}: its sections end at address {last:08x}, and memory ends at {most:08x}; link it there, as by -Ttext=0x20")
+    program.check_sections([one.name for one in placed])
+    if not program.placed(EXECUTABLE):
+        raise Refused(f"{program.path}: no section of it is code")
+    end = end_of_code(program)
+    for one in program.placed(WRITABLE):
+        if one.address < end:
+            raise Refused(f"{program.path}: the section {word(one.name)} can be written and lies at {one.address:08x}, before the code ends at {end:08x}; "
+                          "link the code below the variables")
+    held = [one for one in placed if not is_block(one)]
+    for one, following in zip(held, held[1:]):
+        if one.end > following.address:
+            raise Refused(f"{program.path}: its sections {word(one.name)} and {word(following.name)} overlap at {following.address:08x}")
+    program.check_segments()
+
+
+def is_block(section: Section) -> bool:
+    """Whether a section only says how many zeros each thread has, and takes no memory itself."""
+    return bool(section.flags & THREADS) and not section.in_file
+
+
+def end_of_code(program: Program) -> int:
+    end = max(one.end for one in program.placed(EXECUTABLE))
+    return end + -end % 4
+
+
+def block_of_threads(program: Program, top: int) -> tuple[int | None, list[tuple[int, bytes]], int]:
+    """Where the thread_local variables are, the bytes that are put there, and where memory ends then: above all else, where what is theirs is another's too."""
+    parts = [one for one in program.placed() if one.flags & THREADS]
+    if not parts:
+        return None, [], top
+    first, last = parts[0].address, max(one.end for one in parts)
+    others = [one for one in program.placed() if not one.flags & THREADS]
+    if not any(one.address < last and first < one.end for one in others):
+        return first, [], max(top, last + -last % 16)
+    data = bytearray(last - first)
+    for one in parts:
+        data[one.address - first:one.end - first] = one.data()
+    return top, [(top, bytes(data))], top + len(data) + -len(data) % 16
+
+
+def layout_of_linked(program: Program, options: Namespace) -> Layout:
     """The layout of a program that was linked elsewhere: where its sections are, with a jump to the entry at address 0."""
-    program.check_sections([one.name for one in program.placed()])
+    check_linked(program)
     entry = program.symbol(options.entry)
     if entry is None:
         there = ", ".join(program.functions()[:8])
         raise Refused(f"{program.path}: has no symbol {options.entry}; --entry NAME names another function"
                       + (f", of {there}" if there else "; it has no symbols of functions at all"))
-    placed, most = program.placed(), LARGEST_SIZE[2]
-    last = max(one["sh_addr"] + one["sh_size"] for one in placed)
-    if last > most:
-        raise Refused(f"{program.path}: its sections end at address {last:08x}, and memory ends at {most:08x}; link it there, as by -Ttext=0x20")
-    end = max(one["sh_addr"] + one["sh_size"] for one in program.placed(EXECUTABLE))
-    end += -end % 4
-    for one in program.placed(WRITABLE):
-        if one["sh_addr"] < end:
-            raise Refused(f"{program.path}: the section {one.name} can be written and lies at {one['sh_addr']:08x}, before the code ends at {end:08x}; "
-                          "link the code below the variables")
+    placed, end = [one for one in program.placed() if not is_block(one)], end_of_code(program)
+    last = max(one.end for one in placed)
+    threads, block, top = block_of_threads(program, last + -last % 16)
+    size_of(top, options)
     code = bytearray(end)
     for one in placed:
-        if one["sh_addr"] < end:
-            code[one["sh_addr"]:one["sh_addr"] + one["sh_size"]] = one.data()
-    top = last + -last % 16
-    words = stack_code(top, options.stack) if options.stack else []
-    words = words + [jump(entry - 4 * len(words))] if words or entry else []
-    if any(one["sh_addr"] < 4 * len(words) for one in placed):
+        if one.address < end:
+            code[one.address:one.end] = one.data()
+    begins = options.start.stack or options.start.chunk > 1 or entry
+    words = options.start.words(entry, top) if begins else []
+    if any(one.address < 4 * len(words) for one in placed):
         raise Refused(f"{program.path}: {options.entry} isn't at address 0, and no {4 * len(words)} bytes are free there for what leads to it; "
-                      "link it from address 32 on, as by -Ttext=0x20")
-    for number, word in enumerate(words):
-        code[4 * number:4 * number + 4] = word.to_bytes(4, "little")
-    rest = [(one["sh_addr"], one.data()) for one in placed if one["sh_addr"] >= end]
-    return Layout(bytes(code), rest, top)
+                      f"link it from address {max(32, 4 * len(words))} on, as by -Ttext={max(32, 4 * len(words)):#x}")
+    for number, one in enumerate(words):
+        code[4 * number:4 * number + 4] = one.to_bytes(4, "little")
+    return Layout(bytes(code), [(one.address, one.data()) for one in placed if one.address >= end] + block, top, threads)
 
 
-def map_of(program, options, layout):
+def line_remarks(program: Program, layout: Layout) -> Iterator[str]:
+    """The line of the source of each load and store, and of what stops a program."""
+    told = lines_of(program)
+    if not told.addresses:
+        raise Refused("no file says which line an instruction comes from; compile the objects with -g")
+    for pc, one in program.instructions():
+        found = told.at(pc) if pc < len(layout.code) and pc % 4 == 0 and tells_line(one) else None
+        if found:
+            yield f"# code {pc:08x} {found}"
+
+
+def map_of(program: Program, options: Namespace, layout: Layout) -> list[str]:
     """Remarks that say where the variables and the stacks are, and with -g where the instructions come from."""
-    lines = [f"# {name} {address:08x} {length}" for address, name, length in program.variables()]
-    if options.stack:
-        lines.append(f"# stacks {layout.top:08x} {options.stack * options.epochs}, {options.stack} of each epoch")
+    start = options.start
+    lines = [f"# {word(name)} {address:08x} {length}" for address, name, length in program.variables(layout.threads)]
+    if start.stack:
+        whose = "each epoch" if start.epochs <= start.slots else f"{start.slots} epochs in turn"
+        lines.append(f"# stacks {layout.top:08x} {start.stack * start.slots}, {start.stack} of {whose}")
     if lines:
         lines = ["# Variables, each with its address and its bytes:", *lines]
-    if options.g:
-        told = program.lines()
-        if not told:
-            raise Refused("no file says which line an instruction comes from; compile the objects with -g")
-        lines += [f"# code {pc:08x} {told[pc]}" for pc in sorted(told) if pc < len(layout.code) and pc % 4 == 0]
-    return lines
+    if start.chunk > 1:
+        lines.insert(0, f"# An epoch calls {word(options.entry)} {start.chunk} times, for the iterations from {start.chunk} times its number on; there are {start.iterations}.")
+    return lines + (list(line_remarks(program, layout)) if options.g else [])
 
 
-def at_lines(start, data):
+def at_lines(start: int, data: bytes) -> Iterator[str]:
     """Lines of 16 bytes, those of zeros alone left out."""
     first = start // 16 * 16
     data = bytes(start - first) + data
@@ -108,24 +164,26 @@ def at_lines(start, data):
             yield f"at {first + place + skipped:08x} {part[skipped:].hex()}"
 
 
-def overlay_lines(program, options, layout):
+def overlay_lines(program: Program, options: Namespace, layout: Layout) -> Iterator[str]:
     """Lines for the files that --data puts over variables: whole, since they may put zeros over something."""
     for name, path in options.data:
-        address = program.symbol(name)
+        variables = {one: (address, length) for address, one, length in program.variables(layout.threads)}
+        address, length = variables.get(name, (program.symbol(name), None))
         if address is None:
             raise Refused(f"--data {name}: there is no variable of this name")
-        length = next((length for _, one, length in program.variables() if one == name), None)
-        data = path.read_bytes()
-        if length is not None and len(data) > length:
-            raise Refused(f"--data {name}: {path} has {len(data)} bytes, and the variable {length}")
+        size, most = path.stat().st_size, LARGEST_SIZE[options.version] if length is None else length
+        if size > most:
+            raise Refused(f"--data {name}: {path} has {size} bytes, and the {'memory' if length is None else 'variable'} {most}")
         if address < len(layout.code):
             raise Refused(f"--data {name}: it lies in the code, at {address:08x}; files are put over variables alone")
+        data = path.read_bytes()
         for place in range(0, len(data), 16):
             yield f"at {address + place:08x} {data[place:place + 16].hex()}"
 
 
-def size_of(end, options):
-    """The bytes of memory, for a program and its stacks that end here."""
+def size_of(top: int, options: Namespace) -> int:
+    """The bytes of memory, for a program that ends here and its stacks."""
+    end = top + (options.start.stack or 0) * options.start.slots
     line, most = LINE[options.version], LARGEST_SIZE[options.version]
     size = options.size or max(line, (end + line - 1) // line * line)
     if end > size:
@@ -136,33 +194,52 @@ def size_of(end, options):
     return size
 
 
-def registers_of(program, options):
-    """Registers at the start: those of the command line, and what a linked program expects in its global pointer."""
+def registers_of(program: Program, options: Namespace, layout: Layout) -> list[tuple[int, int]]:
+    """Registers at the start: those of the command line, what a linked program expects in its global pointer, and where thread_local variables are."""
     found = dict(options.reg)
     pointer = program.symbol("__global_pointer$") if options.linked else None
     if pointer is not None:
         found.setdefault(GLOBAL_POINTER, pointer)
+    if layout.threads is not None and found.setdefault(THREAD_POINTER, layout.threads) != layout.threads:
+        raise Refused(f"--reg 4 and the thread_local variables both set the thread pointer, these to {layout.threads:08x}; leave --reg 4 out")
     return sorted(found.items())
 
 
-def image_text(program, options):
-    """The text of the image."""
-    layout = layout_of_linked(program, options) if options.linked else layout_of(program)
-    program.check_words()
+def check_words(program: Program) -> None:
+    """Refuses instructions that RV32I hasn't: the first of each extension, with its place."""
+    found = program.unfit()
+    if found:
+        try:
+            lines = lines_of(program)
+        except Refused:
+            lines = Lines([])       # the instruction is the reason, and not its line
+        raise Refused("\n".join(f"{program.place(pc, lines.at(pc))}: {unfit(extension, one)}" for extension, (pc, one) in found.items()))
+
+
+def check_stack(program: Program, options: Namespace, layout: Layout) -> None:
+    """Refuses a program that needs a stack and has none."""
     if not options.stack and 2 not in dict(options.reg) and needs_stack(layout.code):
-        raise Refused("the code needs a stack; make its functions inline, use fewer variables at a time, "
-                      "or give --stack BYTES")
-    size = size_of(layout.top + (options.stack or 0) * options.epochs, options)
-    names = " and ".join(path.name for path, _ in options.inputs)
-    heading = remarks(*options.inputs[0]) + [f"# Made from {names} by {options.program}{made_with(options)}."] + map_of(program, options, layout)
+        calls = call_reason([one.name for one in program.symbols])
+        raise Refused("the code needs a stack; " + (calls or "make its functions inline, use fewer variables at a time, or give --stack BYTES"))
+
+
+def image_text(program: Program, options: Namespace) -> str:
+    """The text of the image."""
+    layout = layout_of_linked(program, options) if options.linked else layout_of(program, options)
+    check_words(program)
+    check_stack(program, options, layout)
+    size = size_of(layout.top, options)
+    names = printable(" and ".join(path.name for path, _ in options.inputs))
+    heading = remarks(*options.inputs[0]) + [f"# Made from {names} by {printable(options.program)}{made_with(options)}."] + map_of(program, options, layout)
     # a version line stands above all but remarks
     lines = (["version 2"] if options.version == 2 else []) + (["exit"] if options.exit else [])
-    lines += [f"size {size}", f"epochs {options.epochs}", f"limit {options.limit}", f"code {layout.code.hex()}"]
-    lines += [f"reg {register} {value:08x}" for register, value in registers_of(program, options)]
-    for start, data in layout.rest:
-        lines += at_lines(start, data)
+    lines += [f"size {size}", f"epochs {options.start.epochs}", f"limit {options.start.limit(options.limit)}", f"code {layout.code.hex()}"]
+    lines += [f"reg {register} {value:08x}" for register, value in registers_of(program, options, layout)]
+    for first, data in layout.rest:
+        lines += at_lines(first, data)
     text = "\n".join([*heading, *lines, *overlay_lines(program, options, layout)]) + "\n"
-    if len(text) > LONGEST_TEXT:
-        raise Refused(f"the text of the image has {len(text)} bytes, more than {LONGEST_TEXT}; use fewer bytes that aren't zero"
+    length = len(text.encode("utf-8", "surrogateescape"))
+    if length > LONGEST_TEXT:
+        raise Refused(f"the text of the image has {length} bytes, more than {LONGEST_TEXT}; use fewer bytes that aren't zero"
                       + (", or leave -g out" if options.g else ""))
     return text
