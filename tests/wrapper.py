@@ -159,11 +159,20 @@ def rows():
         got = tree.run(far, words=("--built",))
         return None if got == (place, [], 0, []) else f"built: got {got}"
 
+    def whether_it_is(tree):
+        got = [tree.run(words=("--is-built",)), *([] if tree.is_run(BUILD) else [tree.run(words=("--is-built",))])]
+        return None if got == [("", [], 1, []), ("", [], 0, [])] else f"got {got}"
+
     def from_python(tree):
-        """A script that calls the program shows how far its build is, and calls what was built."""
+        """A script that calls the program builds nothing unasked. Asked, it shows how far the build is, and calls what was built."""
         shutil.copytree(TOP / "tools" / "loops", tree.top / "tools" / "loops")
         script = "import sys; from loops.programs import TREE, call; print(call(TREE / 'trace_cli', ['seq', sys.argv[1]], 'given\\n', (3,)), end='')"
+        tree.calls.write_text("")
         env = {"PATH": f"{tree.bin}:/usr/bin:/bin", "CALLS": str(tree.calls), "KIT": str(tree.kit), "PYTHONPATH": str(tree.top / "tools"), "REFUSED": "", "NOTHING": "", "SLOW": ""}
+        alone = subprocess.run([sys.executable, "-c", script, "one"], env=env, capture_output=True, text=True, check=False)
+        if "trace_cli isn't built for these sources" not in alone.stderr or tree.calls.read_text():
+            return f"unasked: got {alone}, {tree.calls.read_text()}"
+        script = f"from loops.programs import allow_builds; allow_builds(); {script}"
         done = [subprocess.run([sys.executable, "-c", script, word], env=env, capture_output=True, text=True, check=False) for word in ("one", "two")]
         right = [one.stdout for one in done] == [f"words seq {word}\ngiven\n" for word in ("one", "two")] and done[1].stderr == ""
         told = done[0].stderr.splitlines()
@@ -258,6 +267,7 @@ def rows():
         ("an unproved run", unproved),
         ("the page of help", helps),
         ("where the program is", where_it_is),
+        ("whether the program is built", whether_it_is),
         ("called from Python", from_python),
         ("over work that a check kept", with_kept_work),
         ("second run", after(lambda tree: None, [])),

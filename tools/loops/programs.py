@@ -1,9 +1,11 @@
 """Calls of the programs: `trace_cli`, `why`, `replay` and `gain`."""
 
+import argparse
 import os
 import subprocess
-from functools import cache
+from collections.abc import Sequence
 from dataclasses import dataclass, field
+from functools import cache
 from pathlib import Path
 
 from .conflicts import Conflicts, read_conflicts
@@ -16,6 +18,9 @@ from .texts import text_in, text_out
 # Statuses with which a program has printed its answer: the loop is done or exited, or an epoch faulted.
 ENDED = (0, 1)
 ILLEGAL = 4
+# The wrapper's own status where it can't build
+NOT_BUILT = 126
+MAY_BUILD = "LOOPS_BUILD"
 TREE = Path(__file__).resolve().parents[2]
 
 
@@ -32,11 +37,31 @@ def folder() -> Path:
     return Path(os.environ.get("LOOPS_PROGRAMS", TREE))
 
 
+class Build(argparse.Action):
+    """What `--build` does: programs that aren't built may be built, by this process and by those that it starts."""
+
+    def __call__(self, parser: argparse.ArgumentParser, given: argparse.Namespace, values: str | Sequence[str] | None, option: str | None = None) -> None:
+        allow_builds()
+
+
+def allow_builds() -> None:
+    """Lets programs of the tree be built from here on."""
+    os.environ[MAY_BUILD] = "1"
+
+
+def add_build(parser: argparse.ArgumentParser) -> None:
+    """The option by which a tool builds programs. Without it none does, since a build takes minutes."""
+    parser.add_argument("--build", action=Build, nargs=0, help="proves and builds the programs first where they aren't built, which takes minutes")
+
+
 @cache
 def built(program: str | Path) -> str:
-    """Where a program itself is. A wrapper of the tree builds it first where it has to, and says on standard error how far that is."""
+    """Where a program itself is. A wrapper of the tree builds it first, where it has to and may, and says on standard error how far that is."""
     if Path(program).resolve() != TREE / "trace_cli":
         return str(program)
+    if not os.environ.get(MAY_BUILD) and subprocess.run([str(program), "--is-built"], stdin=subprocess.DEVNULL, check=False).returncode:
+        name = Path(program).name
+        raise Stopped(NOT_BUILT, f"{name} isn't built for these sources: {program} --built proves and builds it, which takes minutes, and so does --build here\n")
     done = subprocess.run([str(program), "--built"], stdin=subprocess.DEVNULL, stdout=subprocess.PIPE, check=False)
     if done.returncode:
         raise Stopped(done.returncode, f"{Path(program).name} is not built\n")
@@ -91,7 +116,11 @@ class Programs:
 
     def even(self, image: Image | str, store: str, cores: int) -> Output:
         """The loop at even speed, with the schedule."""
-        return read_output(call(self.folder / "replay", ["even", store, str(cores)], text_of(image)))
+        return read_output(self.even_text(image, store, cores))
+
+    def even_text(self, image: Image | str, store: str, cores: int) -> str:
+        """The same as it is printed."""
+        return call(self.folder / "replay", ["even", store, str(cores)], text_of(image))
 
     def seeded(self, image: Image | str, seed: int, store: str, cores: int) -> Output:
         """The loop by the schedule that is drawn from a seed."""
