@@ -8,6 +8,7 @@ repository are tested. The figures are those of a trial of the schedule outside 
 out. Exits with 1 where a check failed.
 """
 
+import re
 import subprocess
 import sys
 import tempfile
@@ -27,16 +28,30 @@ TWO = ("store {} cores 2 steps 10 gain 1.20 useful 12 lost 4 dropped 0 waiting 0
        "orbbusy 0\n")
 GAIN = "".join(line.format(store) for store in ("caches", "plain") for line in (ONE, TWO))
 SAID = ("waits gains 1.20 on 2 cores at even speed: 10 steps in place of 12. Over a plain store of bytes it gains 1.20. Of all steps 60 % are useful, 20 % are lost and "
-        "20 % are idle. What holds it back: 1 rollback by true sharing lost 3 instructions. 3 instructions where the store at waits.c:4 hits the load at waits.c:7: it "
-        "usually helps to wait for flag, or let each epoch keep its own and put them together at the end. In 20 % of the steps cores have no epoch: the loop has 2; it "
-        "usually helps to have more, or shorter ones. What helps is advice, and no claim.")
+        "20 % are idle. What holds it back over a plain store already: 1 rollback by true sharing lost 3 instructions. 3 instructions where the store at waits.c:4 hits the "
+        "load at waits.c:7 at flag: it usually helps to wait for flag, or let each epoch keep its own and put them together at the end. In 20 % of the steps cores have no "
+        "epoch: the loop has 2; it usually helps to have more, or shorter ones. What helps is advice, and no claim.")
+# The run ends in a fault of its last epoch, at the load or behind it.
+FAULTS = {
+    "5 00000004": "at waits.c:7, 00000004, with cause 5, an address that is no multiple of the access's width.",
+    "8 00000008": "at 00000008, behind waits.c:7, with cause 8, more instructions than the limit allows.",
+    "3 00000400": "at 00000400, with cause 3, a jump out of the code.",
+}
+# What holds back six loops whose epochs wait for ways of full sets, by how they were written: the place, and the lines of the store and of the load.
+HIDDEN = {
+    "cipher": ("state+48", "state[12] += 1", "x[i] = state[i]"), "diffusion": ("carried", "carried[0] = left", "left = carried[0]"),
+    "blocks": ("unused", "unused = (epoch", "mine = unused"), "product": ("total", "total[0] += sum", "total[0] += sum"), "count": ("ways", "ways += 1", "ways += 1"),
+    "words": ("used", "used = first + count", "first = used"),
+}
+NEIGHBOURS = ("unsigned out[64] __attribute__((aligned(16)));\nvoid body(unsigned e)\n{\n    unsigned s = e;\n    for (unsigned i = 0; i < 20; i++) {\n        s = s * 5 + i;\n"
+              "        out[e] += s;\n    }\n}\n")
 # Of an example on four cores: words of its verdict.
 EXAMPLES = {
-    "own_counters": ["gains 1.08 on 4 cores", "428 steps in place of 464", "plain store of bytes it gains 4.00", "27 % are useful, 64 % are lost and 9 % are idle",
+    "histogram": ["gains 2.28 on 4 cores", "plain store of bytes it gains 3.25", "hits the load at 00000018 at bins+4 and bins+20"],
+    "own_counters": ["gains 1.08 on 4 cores", "428 steps in place of 464", "plain store of bytes it gains 4.00. So the caches cost most of what there is to gain", "27 % are useful, 64 % are lost and 9 % are idle",
                      "42 rollbacks by false sharing lost 1,050 instructions", "give counter, counter+4, counter+8 and counter+12 lines of 16 bytes of their own"],
     "padded_counters": ["gains 4.00 on 4 cores", "Nothing holds it back."],
-    "list_walk": ["gains 0.99 on 4 cores", "18 rollbacks by true sharing lost"],
-    "histogram": ["gains 2.28 on 4 cores", "plain store of bytes it gains 3.25"],
+    "list_walk": ["loses on 4 cores at even speed, a gain of 0.99", "18 rollbacks by true sharing lost"],
     "queens": ["gains 1.39 on 4 cores", "wait for a way in a full set"],
 }
 
@@ -74,8 +89,69 @@ def by_hand(folder):
     stub(folder, "gain", "", error="image 3 BadSize", status=2)
     got = verdict(folder, image)
     yield "a refused image", None if got == ("", "image 3 BadSize\n", 2) else f"got {got}"
+    for fault, where in FAULTS.items():
+        stub(folder, "gain", GAIN)
+        stub(folder, "replay", RUN.replace("end done 2", f"end fault 1 {fault}").replace("1 commit\n", f"1 fault {fault}\n"), status=1)
+        got = verdict(folder, image, "--cores", "2", "--min-gain", "1")
+        said = f"waits ends in a fault: end fault 1 {fault.split()[0]}: epoch 1 stops {where} What it would gain isn't told."
+        yield f"a fault {fault}", None if got == (said, "", 6) else f"got {got}"
+    stub(folder, "replay", RUN)
+    stub(folder, "gain", GAIN.replace("steps 10 gain 1.20", "steps 15 gain 0.80"))
+    got = verdict(folder, image, "--cores", "2")
+    said = "waits loses on 2 cores at even speed, a gain of 0.80: 15 steps in place of 12. Over a plain store of bytes it loses, a gain of 0.80."
+    yield "a loss", None if got[0].startswith(said) and got[1:] == ("", 0) else f"got {got}"
     got = verdict(folder, Path(folder, "none.image"))
     yield "no image", None if got[0] == "" and got[1].startswith("verdict: ") and got[2] == 2 else f"got {got}"
+
+
+def line_of(text, words):
+    return 1 + next(place for place, line in enumerate(text.splitlines()) if words in line)
+
+
+def compiled(folder, source, compiler, *words):
+    """The image of a source with lines, or None where something isn't installed."""
+    done = subprocess.run([ROOT / "tools" / "image-of", "--compiler", compiler, "-g", *words, source], capture_output=True, text=True, check=False)
+    if done.returncode:
+        return None
+    path = Path(folder, f"{source.stem}.image")
+    path.write_text(done.stdout)
+    return path
+
+
+def hidden(folder):
+    """What holds a loop back is told first, at its line and its byte, though its epochs wait for the caches in most of their steps."""
+    for compiler in ("gcc", "clang"):
+        for name, (place, store, load) in HIDDEN.items():
+            source = ROOT / "tests" / "verdicts" / f"{name}.c"
+            image, text = compiled(folder, source, compiler), source.read_text()
+            if image is None:
+                print(f"left out: the verdicts on loops of tests/verdicts by {compiler}, since tools/image-of lacks something")
+                break
+            got = verdict(folder, image)
+            first = f"hits the load at {name}.c:{line_of(text, load)} at {place}: it usually helps to"
+            pattern = (rf"What holds it back over a plain store already: \d+ rollbacks?,? [^.]*lost [\d,]+ instructions\. [\d,]+ instructions where the store at "
+                       rf"{name}\.c:{line_of(text, store)} {re.escape(first)}")
+            ways = "What the caches add: " in got[0] and "wait for a way in a full set" in got[0].partition("What the caches add: ")[2]
+            yield f"the verdict on {name} by {compiler}", None if re.search(pattern, got[0]) and ways and got[1:] == ("", 0) else f"got {got}"
+
+
+def chunks(folder):
+    """Neighbours of an array that share lines: so many iterations an epoch are proposed, and with the words of image-of measured."""
+    source = Path(folder, "neighbours.c")
+    source.write_text(NEIGHBOURS)
+    for compiler in ("gcc", "clang"):
+        words = ["--epochs", "64", "--stack", "64"]
+        image = compiled(folder, source, compiler, *words)
+        if image is None:
+            print(f"left out: the verdict on neighbours by {compiler}, since tools/image-of lacks something")
+            continue
+        proposed = "were lost where epochs use neighbours in out, 4 bytes apart, that share lines of 16 bytes: it usually helps to give an epoch 4 iterations, as image-of --chunk 4 does"
+        got = verdict(folder, image)
+        yield f"a chunk is proposed by {compiler}", None if f"{proposed}; behind -- the words" in got[0] and got[1:] == ("", 0) else f"got {got}"
+        got = verdict(folder, image, "--", "--compiler", compiler, *words, source)
+        found = re.search(rf"{proposed}\. Measured so, it takes ([\d,]+) steps and not ([\d,]+), a gain of", got[0])
+        chunked, alone = [int(one.replace(",", "")) for one in found.groups()] if found else (1, 1)
+        yield f"a chunk is measured by {compiler}", None if 2 * chunked < alone and got[1:] == ("", 0) else f"got {got}"
 
 
 def beside(command):
@@ -101,6 +177,11 @@ def examples(folder, command):
         yield f"the verdict on {name}", None if not missing and got[1:] == ("", 0) else f"got {got}, which lacks {missing}"
     got = verdict(folder, ROOT / "examples" / "own_counters.image", "--min-gain", "2")
     yield "past the least gain", None if got[2] == 5 and got[0].endswith("it gains 1.08, less than 2.00.") else f"got {got}"
+    got = verdict(folder, ROOT / "examples" / "fault.image")
+    wanted = "fault ends in a fault: end fault 3 2: epoch 3 stops at 00000008, with cause 2, ECALL or EBREAK. What it would gain isn't told."
+    yield "the verdict on fault", None if got == (wanted, "", 6) else f"got {got}"
+    yield from hidden(folder)
+    yield from chunks(folder)
     source, image = ROOT / "examples" / "c" / "own_counters.c", Path(folder, "own_counters.image")
     made = subprocess.run([ROOT / "tools" / "image-of", "-g", source], capture_output=True, text=True, check=False)
     if made.returncode:

@@ -64,7 +64,8 @@ def advice(run, violations):
     kind = max(lost, key=lost.get)
     of_kind = [violation for violation in violations if violation.kind == kind and violation.first is not None]
     found = {run.image.variable_of(first) for first in {violation.first for violation in of_kind}} - {None}
-    names = " and ".join(sorted(one.name for one in found)) or "these bytes"
+    names = sorted(one.name for one in found)
+    names = listed(names) if len(names) > MOST_NAMES else " and ".join(names) or "these bytes"
     length = run.image.line_length
     beside = sorted({place for violation in of_kind if kind == "false" for place in (violation.first, stored_at(run, violation))} - {None})
     return {

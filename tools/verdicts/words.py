@@ -2,70 +2,127 @@
 
 from dataclasses import dataclass
 
+from loops import Report, Violation
 from loops.gains import Gain
-from pictures.attempts import Run
-from pictures.words import advice, plural
+from pictures.words import advice, listed as places_listed, plural
+
+from .chunks import Chunk, Measured
+from .losses import Losses
 
 MOST_PAIRS = 3
 # A part of the steps is told as holding a loop back where it has so many hundredths of them.
 LEAST = 5
 WAYS, SETS, BUFFER = 2, 4, {16: 4, 32: 8}
 KINDS = {"true": "true sharing", "silent": "silent stores", "false": "false sharing", "buffer": "full buffers", "other": "unexplained"}
+# The causes of faults, as they are printed
+CAUSES = {
+    1: "a word that is no instruction", 2: "ECALL or EBREAK", 3: "a jump out of the code", 4: "a jump to an address that is no multiple of 4",
+    5: "an address that is no multiple of the access's width", 6: "a load outside memory", 7: "a store outside memory or into the code",
+    8: "more instructions than the limit allows",
+}
 
 
 @dataclass
 class Findings:
-    """What the programs say of a loop on so many cores."""
+    """What the programs say of a loop on so many cores, at even speed."""
     name: str
-    run: Run                            # over caches, at even speed
-    one: Gain                           # on one core
+    one: Gain                           # over caches, on one core
     caches: Gain
     plain: Gain
+    over_caches: Losses
+    over_plain: Losses | None           # none where its history is full
+    chunk: Chunk | None = None
+    measured: Measured | None = None
 
 
 def percent(part: int, run: Gain) -> float:
     return 100 * part / (run.cores * run.steps)
 
 
-def gained(found: Findings) -> str:
-    """What the loop gains, and where the steps of its cores went."""
-    caches, plain, cores = found.caches, found.plain, plural(found.caches.cores, "core")
-    if caches.gain is None:
-        told = f"{found.name} takes {caches.steps:,} steps on {cores} at even speed; on one its history is full, so what it gains isn't known."
-    else:
-        told = f"{found.name} gains {caches.gain:.2f} on {cores} at even speed: {caches.steps:,} steps in place of {found.one.steps:,}."
-    if plain.gain is not None:
-        told += f" Over a plain store of bytes it gains {plain.gain:.2f}."
-    parts = [f"{percent(count, caches):.0f} % are {word}" for word in ("useful", "lost", "dropped", "waiting", "idle") for count in [getattr(caches, word)] if count]
-    return f"{told} Of all steps {listed(parts)}."
-
-
 def listed(words: list[str]) -> str:
     return " and ".join(filter(None, [", ".join(words[:-1]), *words[-1:]]))
 
 
-def at(run: Run, pc: int) -> str:
+# --- What it gains -----------------------------------------------------------
+
+def outcome(run: Gain, one: Gain) -> str:
+    """A gain, or below 1 a loss."""
+    steps = f"{run.steps:,} steps in place of {one.steps:,}"
+    if run.gain < 1:
+        return f"loses on {plural(run.cores, 'core')} at even speed, a gain of {run.gain:.2f}: {steps}."
+    return f"gains {run.gain:.2f} on {plural(run.cores, 'core')} at even speed: {steps}."
+
+
+def gained(found: Findings) -> str:
+    """What the loop gains, and where the steps of its cores went."""
+    caches, plain = found.caches, found.plain
+    if caches.gain is None:
+        told = f"{found.name} takes {caches.steps:,} steps on {plural(caches.cores, 'core')} at even speed; on one its history is full, so what it gains isn't known."
+    else:
+        told = f"{found.name} {outcome(caches, found.one)}"
+    if plain.gain is not None:
+        told += f" Over a plain store of bytes it {f'gains {plain.gain:.2f}' if plain.gain >= 1 else f'loses, a gain of {plain.gain:.2f}'}."
+    if caches_cost(found):
+        told += " So the caches cost most of what there is to gain."
+    parts = [f"{percent(count, caches):.0f} % are {word}" for word in ("useful", "lost", "dropped", "waiting", "idle") for count in [getattr(caches, word)] if count]
+    return f"{told} Of all steps {listed(parts)}."
+
+
+def caches_cost(found: Findings) -> bool:
+    """Whether it gains over the plain store and nearly nothing over caches: less than a third of what there is to gain."""
+    caches, plain = found.caches.gain, found.plain.gain
+    return caches is not None and plain is not None and plain >= 1.2 and 3 * (caches - 1) < plain - 1
+
+
+# --- What holds it back ------------------------------------------------------
+
+def at(losses: Losses, pc: int) -> str:
     """An instruction's line in the source, or its address."""
-    return run.image.sources.get(pc) or f"{pc:08x}"
+    return losses.image.sources.get(pc) or f"{pc:08x}"
 
 
-def lost(found: Findings) -> str:
-    """The rollbacks by their kinds, and the pairs of instructions that lost most, with what may help."""
-    run, counts = found.run, {}
-    for violation in run.violations:
+def met_at(losses: Losses, violations: list[Violation]) -> str:
+    """Where two accesses met, where that is at most four places."""
+    places = sorted({one.first for one in violations if one.kind == "true" and one.first is not None})
+    return f" at {places_listed([losses.image.name_of(place) for place in places])}" if 0 < len(places) <= 4 else ""
+
+
+def pair_sentence(losses: Losses, pair: tuple[int, int, bool], violations: list[Violation]) -> str:
+    """What two instructions lost, and what may help."""
+    store, load, full = pair
+    if full:
+        what = f"{at(losses, store)} asks for a line that {at(losses, load)} holds in a full buffer"
+    else:
+        what = f"the store at {at(losses, store)} hits the load at {at(losses, load)}{met_at(losses, violations)}"
+    return f" {plural(sum(one.lost for one in violations), 'instruction')} where {what}: it usually helps to {advice(losses, violations)}."
+
+
+def heaviest(violations: list[Violation]) -> str:
+    """The kind that lost most."""
+    return max(KINDS, key=lambda kind: sum(one.lost for one in violations if one.kind == kind))
+
+
+def lost(losses: Losses, told_before: set[tuple[int, int, bool]]) -> str:
+    """The rollbacks by their kinds, and the pairs of instructions that lost most, with what may help; nothing where all that is to say was told before."""
+    pairs = [(pair, violations) for pair, violations in losses.pairs if pair not in told_before or heaviest(violations) != "true"]
+    if losses.pairs and not pairs:
+        return ""
+    counts: dict[str, int] = {}
+    for violation in losses.violations:
         counts[violation.kind] = counts.get(violation.kind, 0) + 1
     kinds = [f"{count} by {KINDS[kind]}" for kind, count in sorted(counts.items(), key=lambda one: -one[1])]
-    told = kinds[0].replace(" by", f" rollback{'s' * (len(run.violations) > 1)} by") if len(kinds) == 1 else f"{plural(len(run.violations), 'rollback')}, {listed(kinds)},"
-    told += f" lost {plural(run.lost, 'instruction')}."
-    for (store, load, full), violations in run.pairs()[:MOST_PAIRS]:
-        what = f"{at(run, store)} asks for a line that {at(run, load)} holds in a full buffer" if full else f"the store at {at(run, store)} hits the load at {at(run, load)}"
-        told += f" {plural(sum(one.lost for one in violations), 'instruction')} where {what}: it usually helps to {advice(run, violations)}."
+    count = len(losses.violations)
+    told = kinds[0].replace(" by", f" rollback{'s' * (count > 1)} by") if len(kinds) == 1 else f"{plural(count, 'rollback')}, {listed(kinds)},"
+    told += f" lost {plural(losses.lost, 'instruction')}."
+    for pair, violations in pairs[:MOST_PAIRS]:
+        told += pair_sentence(losses, pair, violations)
+        told_before.add(pair)
     return told
 
 
-def waits(found: Findings) -> dict[str, str]:
+def waits(losses: Losses) -> dict[str, str]:
     """Of each cause of waiting what it is, and what usually helps."""
-    length = found.run.image.line_length
+    length = losses.image.line_length
     return {
         "nothomefree": "wait until the epochs before them have committed: it usually helps to give each epoch about as much work",
         "noway": f"wait for a way in a full set: it usually helps to use fewer than {WAYS + 1} lines in one epoch whose addresses are the same modulo {SETS * length}",
@@ -74,24 +131,64 @@ def waits(found: Findings) -> dict[str, str]:
     }
 
 
-def holding(found: Findings) -> list[tuple[int, str]]:
-    """What holds the loop back: the steps that it takes, and the sentence."""
-    caches, image = found.caches, found.run.image
-    parts = [(caches.lost, lost(found))] if caches.lost and found.run.violations else []
-    parts += [(getattr(caches, cause), f"In {percent(getattr(caches, cause), caches):.0f} % of the steps cores {told}.") for cause, told in waits(found).items()]
-    parts.append((caches.dropped, f"{percent(caches.dropped, caches):.0f} % of the steps are of epochs that the loop's exit cancelled, or the end cut off."))
-    parts = sorted((one for one in parts if percent(one[0], caches) >= LEAST), key=lambda one: -one[0])
-    idle = f"In {percent(caches.idle, caches):.0f} % of the steps cores have no epoch: the loop has {image.epochs:,}; it usually helps to have more, or shorter ones."
-    return parts + [(caches.idle, idle)] * (percent(caches.idle, caches) >= LEAST)
+@dataclass
+class Told:
+    """What was told of the run before: a run's sentences don't say it again."""
+    pairs: set[tuple[int, int, bool]]
+    causes: set[str]
+
+
+def holding(run: Gain, losses: Losses, before: Told, chunk: str = "") -> list[str]:
+    """What holds a run back, what takes most steps first: a sentence each. `chunk` stands behind what is lost."""
+    parts = [("lost", lost(losses, before.pairs) + chunk)] if losses.violations and percent(run.lost, run) >= LEAST else []
+    parts = [one for one in parts if one[1]]
+    parts += [(cause, f"In {percent(getattr(run, cause), run):.0f} % of the steps cores {told}.") for cause, told in waits(losses).items()]
+    parts.append(("dropped", f"{percent(run.dropped, run):.0f} % of the steps are of epochs that the loop's exit cancelled, or the end cut off."))
+    parts = sorted(parts, key=lambda one: -getattr(run, one[0]))
+    parts.append(("idle", f"In {percent(run.idle, run):.0f} % of the steps cores have no epoch: the loop has {losses.image.epochs:,}; it usually helps to have more, or shorter "
+                          "ones."))
+    kept = [(cause, told) for cause, told in parts if percent(getattr(run, cause), run) >= LEAST and cause not in before.causes]
+    before.causes |= {cause for cause, _ in kept} - {"lost"}
+    return [told for _, told in kept]
+
+
+def chunk_words(found: Findings) -> str:
+    """What is proposed where neighbours of an array share lines, and what was measured."""
+    chunk, measured = found.chunk, found.measured
+    if chunk is None:
+        return ""
+    told = (f" Of these, {chunk.lost:,} of {plural(chunk.of, 'instruction')} were lost where epochs use neighbours in {chunk.array}, {plural(chunk.apart, 'byte')} apart, that "
+            f"share lines of {found.over_caches.image.line_length} bytes: it usually helps to give an epoch {chunk.size} iterations, as image-of --chunk {chunk.size} does")
+    if measured is None:
+        return told + "; behind -- the words of image-of have it measured."
+    if measured.caches.full or measured.caches.gain is None:
+        return told + "; measured so, its history is full."
+    told += f". Measured so, it takes {measured.caches.steps:,} steps and not {found.caches.steps:,}, a gain of {measured.caches.gain:.2f}"
+    return told + ("." if measured.caches.steps < found.caches.steps else ": it doesn't help here.")
 
 
 def paragraph(found: Findings) -> str:
-    """The verdict, without the limits."""
-    parts = [told for _, told in holding(found)]
-    if not parts:
+    """The verdict, without the limits: what holds the loop back over the plain store first, since caches may hide it, and then what the caches add."""
+    before = Told(set(), set())
+    plain = holding(found.plain, found.over_plain, before) if found.over_plain is not None else []
+    caches = holding(found.caches, found.over_caches, before, chunk_words(found))
+    if not plain and not caches:
         return f"{gained(found)} Nothing holds it back."
-    lines = "" if found.run.image.sources or not found.run.violations else " An image made with -g names the lines of the source."
-    return f"{gained(found)} What holds it back: {' '.join(parts)}{lines} What helps is advice, and no claim."
+    told = [f"What holds it back over a plain store already: {' '.join(plain)}"] if plain else []
+    told += [f"What {'the caches add' if plain else 'holds it back'}: {' '.join(caches)}"] if caches else []
+    losses = [one for one in (found.over_plain, found.over_caches) if one]
+    lines = [] if found.over_caches.image.sources or not any(one.violations for one in losses) else ["An image made with -g names the lines of the source."]
+    return " ".join([gained(found), *told, *lines, "What helps is advice, and no claim."])
+
+
+def faulted(name: str, losses: Losses, report: Report) -> str:
+    """What is told of a loop that ends in a fault."""
+    pc, cause = report.pc or 0, report.cause or 0
+    lines = losses.image.sources
+    before = max((one for one in lines if one <= pc), default=None) if pc < len(losses.image.code) else None
+    place = f"at {lines[pc]}, {pc:08x}" if pc in lines else f"at {pc:08x}" + (f", behind {lines[before]}" if before is not None else "")
+    return (f"{name} ends in a fault: end fault {report.epoch} {cause}: epoch {report.epoch} stops {place}, with cause {cause}, {CAUSES.get(cause, 'which has no name')}. "
+            "What it would gain isn't told.")
 
 
 def past(found: Findings, most_lost: float | None, least_gain: float | None) -> list[str]:
