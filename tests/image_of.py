@@ -60,6 +60,14 @@ TURNS = ("unsigned out[40]; __attribute__((noinline)) unsigned next(volatile uns
          "void body(unsigned e) { volatile unsigned x = e; out[e] = next(&x); }\n")
 ROWS = "unsigned out[40];\nvoid body(unsigned e) { out[e] += 3 * e + 1; }\n"
 LEAVES = "unsigned out[40];\nunsigned body(unsigned e) { out[e] += 3 * e + 1; return e == 29; }\n"
+# A list of eight nodes, the last made in front, with 70 * 7 + 5, 60 * 6 + 5 .. in them, and a table of 1000 / (i + 1)
+PREPARED = ("struct node { struct node *next; unsigned value; };\nstatic struct node nodes[8];\nstruct node *first;\nunsigned table[10], out[8], given;\n"
+            "void prepare(void)\n{\n    volatile unsigned big[200];\n    for (unsigned i = 0; i < 200; i++)\n        big[i] = i;\n    for (unsigned i = 0; i < 8; i++) {\n"
+            "        nodes[i].value = big[i * 10] * i + given;\n        nodes[i].next = first;\n        first = &nodes[i];\n    }\n"
+            "    for (unsigned i = 0; i < 10; i++)\n        table[i] = 1000 / (i + 1);\n}\n"
+            "void body(unsigned e)\n{\n    struct node *at = first;\n    for (unsigned i = 0; i < e; i++)\n        at = at->next;\n    out[e] = at->value + table[e];\n}\n")
+WRONGLY = ("unsigned out[4];\nvoid leaves(void) { *(volatile unsigned *)0x30000000 = 1; }\nvoid gives_up(void) { __builtin_trap(); }\n"
+           "void writes(void) { *(volatile unsigned *)(0x1000 - 0xffc) = 1; }\nvoid body(unsigned e) { out[e] = e; }\n")
 # Two units with one template's function, at lines 5 and 6 of the first, and 7 and 8 of the second; the linker keeps that of the object that comes first.
 TEMPLATE = "template <class T>\n__attribute__((noinline)) T twice(volatile T *p) {\n  *p = *p + 1;\n  return *p;\n}\n"
 FIRST = ("extern \"C\" unsigned other(unsigned), out[8];\nunsigned out[8];\n" + TEMPLATE
@@ -88,9 +96,11 @@ def furnish(folder):
     for name, text in (("loop.c", C), ("step.h", ""), ("sum.cpp", CPP), ("count.s", ASSEMBLY), ("squares.c", SQUARES), ("second.c", SECOND), ("library.c", LIBRARY),
                        ("search.c", SEARCH), ("blocks.c", MEMORY), ("lines.c", LINES), ("add.c", "unsigned add(unsigned a, unsigned b) { return a + b; }\n"),
                        ("own.c", OWN), ("called.c", CALLED), ("libc.c", LIBC), ("grows.c", GROWS), ("alloca.c", ALLOCA), ("turns.c", TURNS), ("rows.c", ROWS),
-                       ("leaves.c", LEAVES), ("first.cpp", FIRST), ("other.cpp", OTHER), ("dead.c", DEAD), ("beside.c", "unsigned add(unsigned a, unsigned b, unsigned c) { return a + b; }\n"),
+                       ("leaves.c", LEAVES), ("first.cpp", FIRST), ("other.cpp", OTHER), ("dead.c", DEAD), ("prepared.c", PREPARED), ("wrongly.c", WRONGLY),
+                       ("beside.c", "unsigned add(unsigned a, unsigned b, unsigned c) { return a + b; }\n"),
                        ("count.S", ASSEMBLY.replace("addi t1, t1, 3", "addi t1, t1, STEP"))):
         Path(folder, name).write_text(text)
+    Path(folder, "five.bin").write_bytes(words(5))
     Path(folder, "keys.bin").write_bytes(bytes([0, 0, 0, 0, 0, 9]))
 
 
@@ -140,6 +150,12 @@ def programs(compiler):
     yield from further_programs(compiler, by, some)
 
 
+def has_unicorn():
+    """Whether the emulator of --setup is there, for the Python that runs tools or Debian's."""
+    script = "import sys; sys.path.append('/usr/lib/python3/dist-packages'); import unicorn"
+    return subprocess.run([sys.executable, "-c", script], capture_output=True, check=False).returncode == 0
+
+
 def further_programs(compiler, by, some):
     """Programs with thread_local variables, what compilers call, stacks in turn, and epochs of several iterations."""
     rows = {"out": words(*(3 * e + 1 for e in range(37)))}
@@ -150,6 +166,12 @@ def further_programs(compiler, by, some):
         yield [*by, *some, "--stack", "256", "called.c"], "end done 4", {"out": words(93, 120, 150, 174), "f": struct.pack("<4f", 1.5, 3, 4.5, 6)}
     if PICOLIBC.is_file():
         yield [*by, *some, "--stack", "1024", "--libc", "picolibc", "--heap", "1024", "libc.c"], "end done 4", {"out": words(14, 15, 16, 17), "errno": words(3)}
+    for name, there in (("libgcc", LIBGCC), ("picolibc-riscv64-unknown-elf", PICOLIBC.is_file())):
+        if not there:
+            print(f"left out: programs with {name} by {compiler}, since {name} isn't installed")
+    if LIBGCC and has_unicorn():
+        prepared = {"out": words(1495, 865, 588, 415, 295, 211, 157, 130), "given": words(5)}
+        yield [*by, "--epochs", "8", "--stack", "128", "--data", "given=five.bin", "--setup", "prepare", "prepared.c"], "end done 8", prepared
     yield [*by, *some, "--stack", "64", "grows.c"], "end done 4", {"out": words(3, 4, 5, 6)}
     yield [*by, *some, "--stack", "64", "alloca.c"], "end done 4", {"out": words(3, 4, 5, 6)}
     turns = {"out": words(*range(1, 41))}
@@ -349,6 +371,13 @@ def bad_inputs(folder):
     yield ["--stack", "64", "before.cpp"], r"no place for the sections \.init_array: the machine calls body alone"
     yield ["--reg", "4=1024", "own.c"], r"--reg 4 and the thread_local variables both set the thread pointer"
     yield ["--chunk", "4", "--reg", "5=1", "rows.c"], r"--chunk calls body again, and x5 isn't what --reg sets any more"
+    if has_unicorn():
+        for name, reason in (("leaves", r".*WRITE_UNMAPPED.*, at leaves\+\d+, address [0-9a-f]{8}, wrongly\.c:2"), ("gives_up", r".*, at gives_up\+\d+, .*, wrongly\.c:3"),
+                             ("writes", " writes into the code")):
+            yield ["-g", "--setup", name, "wrongly.c"], rf"--setup {name}:?{reason}"
+        yield ["--setup", "none", "wrongly.c"], r"there is no function none for --setup; the global functions are: body, gives_up, leaves, writes"
+    else:
+        print("left out: --setup, since python3-unicorn isn't installed")
     yield ["--chunk", "0", "rows.c"], r"--chunk takes 1 to 65535"
     yield ["--heap", "64", "rows.c"], r"--heap is for the malloc of --libc"
     if LIBGCC:

@@ -10,14 +10,15 @@ import subprocess
 import sys
 from pathlib import Path
 
-# Each package, and what it gives: a program, or a module of Debian's Python.
+# Each package, and what it gives: a program, a module of Debian's Python, or a file.
 PROGRAMS = {
     "chromium": "chromium", "chromium-driver": "chromedriver", "clang": "clang", "gcc": "cc", "gcc-riscv64-unknown-elf": "riscv64-unknown-elf-gcc", "lld": "ld.lld",
     "llvm": "llvm-ar", "snakemake": "snakemake",
 }
-MODULES = {"python3-jsonschema": "jsonschema", "python3-matplotlib": "matplotlib", "python3-pyelftools": "elftools", "python3-selenium": "selenium"}
+MODULES = {"python3-jsonschema": "jsonschema", "python3-matplotlib": "matplotlib", "python3-pyelftools": "elftools", "python3-selenium": "selenium", "python3-unicorn": "unicorn"}
+FILES = {"picolibc-riscv64-unknown-elf": "/usr/lib/picolibc/riscv64-unknown-elf/lib/rv32i/ilp32/libc.a"}
 DEBIANS = "/usr/bin/python3"
-INSTALL = " ".join(["apt-get", "install", *sorted([*PROGRAMS, *MODULES])])
+INSTALL = " ".join(["apt-get", "install", *sorted([*PROGRAMS, *MODULES, *FILES])])
 
 
 @functools.cache
@@ -29,7 +30,8 @@ def has_module(name: str) -> bool:
 
 def missing() -> list[str]:
     """The packages that aren't installed."""
-    return sorted([package for package, program in PROGRAMS.items() if not shutil.which(program)] + [package for package, name in MODULES.items() if not has_module(name)])
+    return sorted([package for package, program in PROGRAMS.items() if not shutil.which(program)] + [package for package, name in MODULES.items() if not has_module(name)]
+                  + [package for package, path in FILES.items() if not Path(path).is_file()])
 
 
 def main() -> None:

@@ -213,7 +213,7 @@ def check_frames(usage: Path, options: Namespace) -> None:
         if kind == "dynamic":
             print(f"{options.program}: warning: the frame of {name} has no fixed size, as of an array of variable length: that it stays within the slot of {stack} bytes "
                   "isn't checked", file=sys.stderr)
-        if int(taken) > stack:
+        if int(taken) > stack and name != options.setup:
             enough = 1 << (int(taken) - 1).bit_length()
             raise Refused(f"the frame of {name} takes {taken} bytes, more than its slot of {stack}; give --stack {enough} or more")
 

@@ -12,6 +12,7 @@ from .compilers import REMARK, TOP, made_with, text_of
 from .elf import EXECUTABLE, THREADS, WRITABLE, Program, Section, unfit
 from .lines import Lines, lines_of
 from .reasons import Refused, call_reason
+from .setup import Setup
 from .words import tells_line, uses_register
 
 LARGEST_SIZE = {1: 65_536, 2: 1_048_576}
@@ -164,8 +165,8 @@ def at_lines(start: int, data: bytes) -> Iterator[str]:
             yield f"at {first + place + skipped:08x} {part[skipped:].hex()}"
 
 
-def overlay_lines(program: Program, options: Namespace, layout: Layout) -> Iterator[str]:
-    """Lines for the files that --data puts over variables: whole, since they may put zeros over something."""
+def overlays(program: Program, options: Namespace, layout: Layout) -> Iterator[tuple[int, bytes]]:
+    """The files that --data puts over variables: address and bytes."""
     for name, path in options.data:
         variables = {one: (address, length) for address, one, length in program.variables(layout.threads)}
         address, length = variables.get(name, (program.symbol(name), None))
@@ -176,9 +177,24 @@ def overlay_lines(program: Program, options: Namespace, layout: Layout) -> Itera
             raise Refused(f"--data {name}: {path} has {size} bytes, and the {'memory' if length is None else 'variable'} {most}")
         if address < len(layout.code):
             raise Refused(f"--data {name}: it lies in the code, at {address:08x}; files are put over variables alone")
-        data = path.read_bytes()
-        for place in range(0, len(data), 16):
-            yield f"at {address + place:08x} {data[place:place + 16].hex()}"
+        yield address, path.read_bytes()
+
+
+def whole_lines(start: int, data: bytes) -> Iterator[str]:
+    """Lines of 16 bytes, those of zeros too, since they may stand over something."""
+    for place in range(0, len(data), 16):
+        yield f"at {start + place:08x} {data[place:place + 16].hex()}"
+
+
+def set_up(program: Program, options: Namespace, layout: Layout, over: list[tuple[int, bytes]]) -> list[tuple[int, bytes]]:
+    """The memory behind the code, as the function of --setup leaves it."""
+    memory = bytearray(layout.top)
+    for address, data in [(0, layout.code), *layout.rest, *over]:
+        memory[address:address + len(data)] = data
+    after = Setup(program, options.setup, bytes(memory), dict(registers_of(program, options, layout))).memory()
+    if after[:len(layout.code)] != layout.code:
+        raise Refused(f"--setup {options.setup} writes into the code")
+    return [(len(layout.code), after[len(layout.code):])]
 
 
 def size_of(top: int, options: Namespace) -> int:
@@ -235,9 +251,13 @@ def image_text(program: Program, options: Namespace) -> str:
     lines = (["version 2"] if options.version == 2 else []) + (["exit"] if options.exit else [])
     lines += [f"size {size}", f"epochs {options.start.epochs}", f"limit {options.start.limit(options.limit)}", f"code {layout.code.hex()}"]
     lines += [f"reg {register} {value:08x}" for register, value in registers_of(program, options, layout)]
-    for first, data in layout.rest:
+    over = list(overlays(program, options, layout))
+    rest, over = (set_up(program, options, layout, over), []) if options.setup else (layout.rest, over)
+    for first, data in rest:
         lines += at_lines(first, data)
-    text = "\n".join([*heading, *lines, *overlay_lines(program, options, layout)]) + "\n"
+    for first, data in over:
+        lines += whole_lines(first, data)
+    text = "\n".join([*heading, *lines]) + "\n"
     length = len(text.encode("utf-8", "surrogateescape"))
     if length > LONGEST_TEXT:
         raise Refused(f"the text of the image has {length} bytes, more than {LONGEST_TEXT}; use fewer bytes that aren't zero"
