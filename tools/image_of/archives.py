@@ -3,6 +3,7 @@
 import struct
 from collections.abc import Iterator
 from pathlib import Path
+from typing import BinaryIO
 
 from loops.names import word
 
@@ -43,7 +44,7 @@ class Archive:
     def damaged(self, why: str) -> Refused:
         return Refused(f"{self.path}: is a damaged archive: {why}")
 
-    def head(self, file, place: int) -> tuple[bytes, int]:
+    def head(self, file: BinaryIO, place: int) -> tuple[bytes, int]:
         """The name and the size of the member at a place; the file stands behind its header then."""
         file.seek(place)
         head = file.read(HEAD)

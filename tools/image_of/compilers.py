@@ -2,6 +2,7 @@
 
 import re
 import shutil
+import signal
 import subprocess
 import sys
 import tempfile
@@ -14,7 +15,7 @@ from loops.names import line, word
 
 from .archives import THIN, WHOLE, Archive
 from .elf import COMPRESSED, Opened, Program, is_linked
-from .limits import LARGEST_FILE, small_files
+from .limits import LARGEST_FILE, TOOL_SECONDS, limit_tool
 from .reasons import Refused, missing, refusal_of
 from .start import Start
 
@@ -101,14 +102,16 @@ OF_GCC = ("riscv64-unknown-elf-gcc", "/usr/lib/gcc/riscv64-unknown-elf", "*/rv32
 
 
 def run(words: Sequence[str | Path]) -> tuple[int, str]:
-    """Runs a tool; answers its status and what it says on standard error. A file that grows too large refuses the program."""
+    """Runs a tool; answers its status and what it says on standard error. A file that grows too large refuses the program, and so does a tool that doesn't end."""
     try:
-        done = subprocess.run([str(one) for one in words], capture_output=True, preexec_fn=small_files, check=False)
+        done = subprocess.run([str(one) for one in words], capture_output=True, preexec_fn=limit_tool, check=False)
     except FileNotFoundError:
         raise Refused(f"{words[0]} is not installed") from None
     errors = done.stderr.decode("utf-8", "replace").rstrip()
     if done.returncode and "File too large" in errors:
         raise Refused(f"{Path(words[0]).name} would write more than {LARGEST_FILE} bytes: code and variables are far larger than memory can be")
+    if done.returncode == -signal.SIGXCPU:
+        raise Refused(f"{Path(words[0]).name} takes more than {TOOL_SECONDS} s of the processor")
     return done.returncode, errors
 
 

@@ -10,8 +10,8 @@ from types import FrameType
 
 # Of one file, for pyelftools: a line table of 100,000 rows takes about 5 s and 200 MB.
 SECONDS, MEMORY = 60.0, 2_000_000_000
-# Of one file that a compiler or a linker writes
-LARGEST_FILE = 64_000_000
+# Of one file that a compiler or a linker writes, and of the processor
+LARGEST_FILE, TOOL_SECONDS = 64_000_000, 300
 PAGE = resource.getpagesize()
 
 
@@ -48,8 +48,10 @@ def bounded(seconds: float | None = None) -> Iterator[None]:
         resource.setrlimit(resource.RLIMIT_AS, (least, most))
 
 
-def small_files() -> None:
-    """Lets this process, one that is about to become a tool, write no file larger than LARGEST_FILE: it is told that the file is too large."""
-    _, most = resource.getrlimit(resource.RLIMIT_FSIZE)
-    resource.setrlimit(resource.RLIMIT_FSIZE, (LARGEST_FILE, most))
+def limit_tool() -> None:
+    """Lets this process, one that is about to become a compiler or a linker, write no file larger than LARGEST_FILE, of which it is told that it is too large, and
+    ends it after TOOL_SECONDS."""
+    for kind, least in ((resource.RLIMIT_FSIZE, LARGEST_FILE), (resource.RLIMIT_CPU, TOOL_SECONDS)):
+        now, most = resource.getrlimit(kind)
+        resource.setrlimit(kind, (least if now == resource.RLIM_INFINITY else min(least, now), most))
     signal.signal(signal.SIGXFSZ, signal.SIG_IGN)

@@ -73,16 +73,25 @@ def sequences_of(unit: Any, program: Any) -> Iterator[Sequence]:
             rows = []
 
 
-def names_at(unit: Any, address: int) -> set[str]:
-    """The names of the functions of a unit that begin at an address."""
-    found: set[str] = set()
+@dataclass
+class Function:
+    """A function of a unit: the line that it is declared in, and its names."""
+    line: int
+    names: set[str]
+
+
+def functions_at(unit: Any, address: int) -> list[Function]:
+    """The functions of a unit that begin at an address, in order of their lines."""
+    found = []
     for die in unit.get_top_DIE().iter_children():
         low = die.attributes.get("DW_AT_low_pc")
         if die.tag != "DW_TAG_subprogram" or low is None or low.value != address:
             continue
         chain = [die] + [die.get_DIE_from_attribute(name) for name in ("DW_AT_specification", "DW_AT_abstract_origin") if name in die.attributes]
-        found |= {one.attributes[name].value.decode("utf-8", "replace") for one in chain for name in ("DW_AT_name", "DW_AT_linkage_name") if name in one.attributes}
-    return found
+        lines = [one.attributes["DW_AT_decl_line"].value for one in chain if "DW_AT_decl_line" in one.attributes]
+        names = {one.attributes[name].value.decode("utf-8", "replace") for one in chain for name in ("DW_AT_name", "DW_AT_linkage_name") if name in one.attributes}
+        found.append(Function(lines[0] if lines else 0, names))
+    return sorted(found, key=lambda one: one.line)
 
 
 def is_name(name: str, symbol: str) -> bool:
@@ -91,13 +100,14 @@ def is_name(name: str, symbol: str) -> bool:
 
 
 def is_alive(program: Program, sequence: Sequence, others: int) -> bool:
-    """Whether a sequence is that of the code where it stands. What a linker has thrown away stands at 0 for GNU's, and code may be there too: then the function's
-    name tells, and where there is none, whether no other one is there."""
+    """Whether a sequence is that of the code where it stands. What a linker has thrown away stands at 0 for GNU's, and code may be there too. Then the name of its
+    function tells, which is the last one that is declared above its first line; and where there is none, whether no other sequence is there."""
     if sequence.first != 0:
         return True
-    names = names_at(sequence.unit, 0)
+    line = next((int(told.rpartition(":")[2]) for _, told in sequence.rows if told), 0)
+    above = [one for one in functions_at(sequence.unit, 0) if one.line <= line]
     symbols = [one.name for one in program.symbols if one.value == 0 and one.kind in ("STT_FUNC", "STT_NOTYPE")]
-    return any(is_name(name, symbol) for name in names for symbol in symbols) if names else others == 0
+    return any(is_name(name, symbol) for name in above[-1].names for symbol in symbols) if above else others == 0
 
 
 def read(program: Program) -> list[Sequence]:
