@@ -18,8 +18,11 @@ import shutil
 import subprocess
 import sys
 import tempfile
+from collections.abc import Iterator
 from pathlib import Path
 
+# What a check is of, and what is wrong or None
+Results = Iterator[tuple[str, str | None]]
 ROOT = Path(__file__).resolve().parent.parent
 TOOL = ROOT / "tools" / "image-of"
 PROGRAMS = ROOT / "tests" / "c"
@@ -52,7 +55,7 @@ int main(void)
 PRINT = '''for (unsigned i = 0; i < {length}; i++) printf("%s%02x", i == 0 ? "{name} " : "", {name}[i]); printf("\\n");'''
 
 
-def native(source, further):
+def native(source: Path, further: list[Path]) -> tuple[str, dict[str, bytes]]:
     """How the loop ends, and the bytes of each variable then, as this machine computes them."""
     text = source.read_text()
     epochs = re.search(r"--epochs (\d+)", text)[1]
@@ -77,7 +80,7 @@ def native(source, further):
     return end, {name: bytes.fromhex(digits) for name, digits in map(str.split, lines)}
 
 
-def told(end, variables):
+def told(end: str, variables: dict[str, bytes]) -> list[str]:
     """The lines that begin with `//> `: the end, and each 16 bytes of a variable that aren't all zero."""
     lines = [end]
     for name, data in sorted(variables.items()):
@@ -86,13 +89,13 @@ def told(end, variables):
     return lines
 
 
-def told_in(source):
+def told_in(source: Path) -> list[str]:
     return [line[len("//> "):] for line in source.read_text().splitlines() if line.startswith("//> ")]
 
 
 # --- Images and reports -----------------------------------------------------
 
-def rows(text):
+def rows(text: str) -> dict[int, int]:
     """Bytes of the `at` lines of an image or a report, by address."""
     cells = {}
     for address, digits in re.findall(r"(?m)^at ([0-9a-f]{8}) ([0-9a-f]+)$", text):
@@ -100,13 +103,13 @@ def rows(text):
     return cells
 
 
-def places(image):
+def places(image: str) -> dict[str, tuple[int, int]]:
     """The map in the remarks of an image: the address and the length of each name."""
     return {name: (int(address, 16), int(length))
             for name, address, length in re.findall(r"(?m)^# (\w+) ([0-9a-f]{8}) (\d+)", image)}
 
 
-def report_of(image, lines):
+def report_of(image: str, lines: list[str]) -> tuple[list[str], int]:
     """The report of an image whose loop ends as these lines say, and the address from which stacks are left out."""
     loaded, known = rows(image), places(image)
     at_end = dict(loaded)
@@ -126,7 +129,7 @@ def report_of(image, lines):
     return report, stacks
 
 
-def wrong_report(command, image, lines):
+def wrong_report(command: list[str], image: str, lines: list[str]) -> str | None:
     """What is wrong with the report of an image, or None."""
     expected, stacks = report_of(image, lines)
     done = subprocess.run(command, input=image.encode(), capture_output=True, check=False)
@@ -137,7 +140,7 @@ def wrong_report(command, image, lines):
     return f"expected {expected}\n  got {got}, {done.stderr!r}, {done.returncode}"
 
 
-def image_of(words):
+def image_of(words: list[str | Path]) -> tuple[str, str, int]:
     done = subprocess.run([sys.executable, str(TOOL), *map(str, words)], capture_output=True, text=True, check=False)
     return done.stdout, done.stderr, done.returncode
 
@@ -190,7 +193,7 @@ REFUSED = [
 ]
 
 
-def refusals(compiler):
+def refusals(compiler: str) -> Results:
     """Sources that can't be an image, each with the reason that is told in one line."""
     for source, options, reason in REFUSED:
         with tempfile.TemporaryDirectory() as folder:
@@ -201,7 +204,7 @@ def refusals(compiler):
         yield f"refusal by {compiler}: {reason}", None if right else f"got {text!r}, {errors!r}"
 
 
-def warnings(compiler):
+def warnings(compiler: str) -> Results:
     """What the compiler warns of is shown and refuses nothing."""
     text, errors, status = image_of(["--compiler", compiler, PROGRAMS / "counter.c"])
     right = status == 0 and "warning: unused parameter" in errors and "\nepochs 10\n" in text
@@ -210,7 +213,7 @@ def warnings(compiler):
     yield f"no warning of {compiler}", None if (errors, status) == ("", 0) else f"got {errors!r}"
 
 
-def help_text():
+def help_text() -> Results:
     """`--help` says something of each option, and needs no compiler."""
     text, _, status = image_of(["--help"])
     for option in ("--epochs", "--limit", "--size", "--stack", "--exit", "--version", "--compiler", "--assembly"):
@@ -220,20 +223,20 @@ def help_text():
 
 # --- The checks -------------------------------------------------------------
 
-def natively():
+def natively() -> Results:
     for name, further in SOURCES.items():
         source = PROGRAMS / f"{name}.c"
         lines = told(*native(source, further))
         yield f"{name}.c on this machine", None if lines == told_in(source) else f"{lines}, told {told_in(source)}"
 
 
-def as_they_stand(command):
+def as_they_stand(command: list[str]) -> Results:
     for name in SOURCES:
         image = (PROGRAMS / f"{name}.image").read_text()
         yield f"report of c/{name}.image", wrong_report(command, image, told_in(PROGRAMS / f"{name}.c"))
 
 
-def compiled_anew(command, with_cc, compiler):
+def compiled_anew(command: list[str], with_cc: bool, compiler: str) -> Results:
     for name, further in SOURCES.items():
         source = PROGRAMS / f"{name}.c"
         text, errors, status = image_of(["--compiler", compiler, source, *further])
@@ -244,7 +247,7 @@ def compiled_anew(command, with_cc, compiler):
             yield f"report of {source.name} by {compiler}", errors if status else wrong_report(command, text, told(*native(source, [])))
 
 
-def make():
+def make() -> None:
     """Writes the lines of the sources by this machine, and the images by the compiler for RISC-V."""
     for name, further in SOURCES.items():
         source = PROGRAMS / f"{name}.c"
@@ -258,7 +261,7 @@ def make():
         (PROGRAMS / f"{name}.image").write_text(text)
 
 
-def main():
+def main() -> int:
     words = sys.argv[1:]
     if words == ["--make"]:
         make()

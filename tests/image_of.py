@@ -14,8 +14,12 @@ import struct
 import subprocess
 import sys
 import tempfile
+from collections.abc import Iterator
 from pathlib import Path
 
+# What a check is of, and what is wrong or None; the words of a command line, how the loop ends, and the bytes of its variables then
+Results = Iterator[tuple[str, str | None]]
+Row = tuple[list[str | Path], str, dict[str, bytes]]
 ROOT = Path(__file__).resolve().parent.parent
 TOOLS = ROOT / "tools"
 GCC = ["riscv64-unknown-elf-gcc", "-march=rv32i", "-mabi=ilp32", "-O2", "-ffreestanding", "-msmall-data-limit=0"]
@@ -26,7 +30,7 @@ PICOLIBC = Path("/usr/lib/picolibc/riscv64-unknown-elf/lib/rv32i/ilp32/libc.a")
 LIBGCC = sorted(Path("/usr/lib/gcc/riscv64-unknown-elf").glob("*/rv32i/ilp32/libgcc.a"))
 
 
-def words(*numbers):
+def words(*numbers: int) -> bytes:
     return struct.pack(f"<{len(numbers)}I", *(number & 0xFFFFFFFF for number in numbers))
 
 
@@ -76,27 +80,29 @@ OTHER = "\n\nextern \"C\" unsigned other(unsigned), out[8];\n" + TEMPLATE + "ext
 # The function that a linker leaves out stands above the one that is there.
 DEAD = ("unsigned out[8];\nunsigned dead(unsigned e) {\n  out[e] = 1;\n  out[e + 1] = 2;\n  out[0] = 5;\n  return out[e];\n}\n"
         "void body(unsigned e) {\n  out[e] = e;\n\n  out[7] = 3;\n}\n")
+# The same, and its table is as short as that of what is there.
+SHORT = "unsigned out[8];\nunsigned dead(unsigned e) {\n  return out[e];\n}\nvoid body(unsigned e) {\n  out[e] = e;\n\n  out[7] = 3;\n}\n"
 
 LINES = "volatile unsigned a, b;\nvoid body(unsigned epoch)\n{\n    a = epoch;\n\n    b = 3;\n}\n"
 
 
-def do(*command, cwd):
+def do(*command: str | Path, cwd: Path) -> None:
     done = subprocess.run([str(word) for word in command], cwd=cwd, capture_output=True, text=True, check=False)
     if done.returncode:
         raise RuntimeError(f"{' '.join(map(str, command))}: {done.stderr}")
 
 
-def image_of(folder, *given):
+def image_of(folder: Path, *given: str | Path) -> tuple[str, str, int]:
     done = subprocess.run([sys.executable, TOOLS / "image-of", *map(str, given)], cwd=folder, capture_output=True, text=True, check=False)
     return done.stdout, done.stderr, done.returncode
 
 
-def furnish(folder):
+def furnish(folder: Path) -> None:
     """Writes the sources, and makes objects, archives and linked files of them."""
     for name, text in (("loop.c", C), ("step.h", ""), ("sum.cpp", CPP), ("count.s", ASSEMBLY), ("squares.c", SQUARES), ("second.c", SECOND), ("library.c", LIBRARY),
                        ("search.c", SEARCH), ("blocks.c", MEMORY), ("lines.c", LINES), ("add.c", "unsigned add(unsigned a, unsigned b) { return a + b; }\n"),
                        ("own.c", OWN), ("called.c", CALLED), ("libc.c", LIBC), ("grows.c", GROWS), ("alloca.c", ALLOCA), ("turns.c", TURNS), ("rows.c", ROWS),
-                       ("leaves.c", LEAVES), ("first.cpp", FIRST), ("other.cpp", OTHER), ("dead.c", DEAD), ("prepared.c", PREPARED), ("wrongly.c", WRONGLY),
+                       ("leaves.c", LEAVES), ("first.cpp", FIRST), ("other.cpp", OTHER), ("dead.c", DEAD), ("short.c", SHORT), ("prepared.c", PREPARED), ("wrongly.c", WRONGLY),
                        ("beside.c", "unsigned add(unsigned a, unsigned b, unsigned c) { return a + b; }\n"),
                        ("count.S", ASSEMBLY.replace("addi t1, t1, 3", "addi t1, t1, STEP"))):
         Path(folder, name).write_text(text)
@@ -104,7 +110,7 @@ def furnish(folder):
     Path(folder, "keys.bin").write_bytes(bytes([0, 0, 0, 0, 0, 9]))
 
 
-def made(folder, compiler):
+def made(folder: Path, compiler: str) -> None:
     """Objects, an archive and a linked file by one compiler."""
     compile_, link, archive = {"gcc": (GCC, LD, "riscv64-unknown-elf-ar"), "clang": (CLANG, LLD, "llvm-ar")}[compiler]
     for name in ("second", "library", "add"):
@@ -124,7 +130,7 @@ def made(folder, compiler):
     do(*link, "-Ttext=0x100", "-Tdata=0x400", f"library-{compiler}.o", f"add-{compiler}.o", "-o", f"far-{compiler}.elf", cwd=folder)
 
 
-def programs(compiler):
+def programs(compiler: str) -> Iterator[Row]:
     """(words of the command line, how the loop ends, the bytes of its variables)"""
     by = ["--compiler", compiler]
     some = ["--epochs", "4"]
@@ -150,13 +156,13 @@ def programs(compiler):
     yield from further_programs(compiler, by, some)
 
 
-def has_unicorn():
+def has_unicorn() -> bool:
     """Whether the emulator of --setup is there, for the Python that runs tools or Debian's."""
     script = "import sys; sys.path.append('/usr/lib/python3/dist-packages'); import unicorn"
     return subprocess.run([sys.executable, "-c", script], capture_output=True, check=False).returncode == 0
 
 
-def further_programs(compiler, by, some):
+def further_programs(compiler: str, by: list[str], some: list[str]) -> Iterator[Row]:
     """Programs with thread_local variables, what compilers call, stacks in turn, and epochs of several iterations."""
     rows = {"out": words(*(3 * e + 1 for e in range(37)))}
     yield [*by, *some, "own.c"], "end done 4", OWN_END
@@ -187,7 +193,7 @@ def further_programs(compiler, by, some):
 
 # --- Whether they are right --------------------------------------------------
 
-def cells(text):
+def cells(text: str) -> dict[int, int]:
     """Bytes of the `at` lines of an image or a report, by address."""
     found = {}
     for address, digits in re.findall(r"(?m)^at ([0-9a-f]{8}) ([0-9a-f]+)$", text):
@@ -195,12 +201,12 @@ def cells(text):
     return found
 
 
-def run(command, image):
+def run(command: list[str], image: str) -> tuple[str, str, int]:
     done = subprocess.run(command, input=image, capture_output=True, text=True, check=False)
     return done.stdout, done.stderr, done.returncode
 
 
-def wrong_with(command, image, end, variables):
+def wrong_with(command: list[str], image: str, end: str, variables: dict[str, bytes]) -> str | None:
     """What is wrong with the end of a program in order and on four cores, or None."""
     known = {name: int(address, 16) for name, address in re.findall(r"(?m)^# (\w+) ([0-9a-f]{8}) \d+$", image)}
     answers = [run(command, image), run([*command[:-1], "run", "--cores", "4"], image)]
@@ -212,7 +218,7 @@ def wrong_with(command, image, end, variables):
     return None if (told, got) == (end, variables) else f"got {told}, {got}, expected {end}, {variables}"
 
 
-def same_code(folder, given, image):
+def same_code(folder: Path, given: list[str | Path], image: str) -> str | None:
     """With -g the image is the same but for remarks, and each line that they name is one of a file that is there."""
     text, errors, status = image_of(folder, "-g", *given)
     if status:
@@ -226,7 +232,7 @@ def same_code(folder, given, image):
     return None
 
 
-def right(command, folder, compiler):
+def right(command: list[str], folder: Path, compiler: str) -> Results:
     for given, end, variables in programs(compiler):
         text, errors, status = image_of(folder, *given)
         wrong = errors or "no image" if status else wrong_with(command, text, end, variables)
@@ -235,7 +241,7 @@ def right(command, folder, compiler):
         yield f"{compiler}: {' '.join(map(str, given))}", wrong or (same_code(folder, given, text) if has_lines else None)
 
 
-def accesses_told(text):
+def accesses_told(text: str) -> tuple[set[str | None], set[str | None]]:
     """The lines of the loads and the stores of an image, and those of all else."""
     code = bytes.fromhex(re.search(r"(?m)^code (\w+)", text)[1])
     told = {int(pc, 16): line for pc, line in re.findall(r"(?m)^# code ([0-9a-f]{8}) (\S+)$", text)}
@@ -243,7 +249,7 @@ def accesses_told(text):
     return {told.get(pc) for pc, access in kinds.items() if access}, {told[pc] for pc, access in kinds.items() if not access and pc in told}
 
 
-def linked_lines(folder, compiler):
+def linked_lines(folder: Path, compiler: str) -> Results:
     """The lines of what is linked: what the linker left out has none, wherever it leaves its table."""
     body = {"first.cpp:9", "first.cpp:10"}
     for inputs, kept in ((("first.cpp", "other.cpp"), {"first.cpp:5", "first.cpp:6"}), (("other.cpp", "first.cpp"), {"other.cpp:6", "other.cpp:7"})):
@@ -255,7 +261,22 @@ def linked_lines(folder, compiler):
         yield f"the lines of what is left at {place} by {compiler}", None if got == ({"dead.c:9", "dead.c:11"}, set()) else f"got {got}"
 
 
-def warned(folder, compiler):
+def lines_at_zero(folder: Path, compiler: str) -> Results:
+    """Where a linker leaves the table of a function that it left out at address 0, where another function is, the lines are that one's: here it is put there by hand."""
+    compile_, objcopy = {"gcc": GCC, "clang": CLANG}[compiler], "riscv64-unknown-elf-objcopy"
+    do(*compile_, "-gdwarf-4", "-ffunction-sections", "-c", "short.c", "-o", "zero.o", cwd=folder)
+    Path(folder, "zero.ld").write_text("SECTIONS { . = 0; .text.body : { *(.text.body) } . = 0x1230; .text.dead : { *(.text.dead) } . = 0x2000; .bss : { *(.bss*) } }\n")
+    do(*LD, "--no-relax", "-T", "zero.ld", "zero.o", "-o", "zero.elf", cwd=folder)
+    for part in ("line", "info"):
+        do(objcopy, f"--dump-section=.debug_{part}={part}.bin", "zero.elf", cwd=folder)
+        data = Path(folder, f"{part}.bin").read_bytes()
+        Path(folder, f"{part}.bin").write_bytes(data.replace(struct.pack("<I", 0x1230), bytes(4)))
+    do(objcopy, "--update-section=.debug_line=line.bin", "--update-section=.debug_info=info.bin", "--strip-symbol=dead", "zero.elf", cwd=folder)
+    got = accesses_told(image_of(folder, "-g", "--epochs", "4", "--version", "2", "zero.elf")[0])
+    yield f"the lines of what is at 0 by {compiler}", None if got == ({"short.c:6", "short.c:8", None}, set()) else f"got {got}"
+
+
+def warned(folder: Path, compiler: str) -> Results:
     """Of a frame that grows it warns, and of what is unused in a source without body it doesn't."""
     for name in ("grows.c", "alloca.c"):
         errors = image_of(folder, "--compiler", compiler, "--epochs", "4", "--stack", "64", name)[1]
@@ -264,11 +285,12 @@ def warned(folder, compiler):
     yield f"no warning of beside.c by {compiler}", None if got[1:] == ("", 0) else f"got {got}"
 
 
-def lines_told(folder):
+def lines_told(folder: Path) -> Results:
     """The lines of the source of the two stores, by each compiler."""
     for compiler in ("gcc", "clang"):
         if shutil.which(compiler if compiler == "clang" else GCC[0]):
             yield from linked_lines(folder, compiler)
+            yield from lines_at_zero(folder, compiler)
             yield from warned(folder, compiler)
             text = image_of(folder, "--compiler", compiler, "-g", "--epochs", "4", "lines.c")[0]
             stores = [pc for pc in range(0, 400, 4) for word in [int.from_bytes(bytes.fromhex(re.search(r"(?m)^code (\w+)", text)[1])[pc:pc + 4], "little")]
@@ -278,14 +300,14 @@ def lines_told(folder):
             yield f"the lines of the stores by {compiler}", None if got == {"lines.c:4", "lines.c:6"} else f"got {got}"
 
 
-def beside(command, name):
+def beside(command: list[str], name: str) -> Path | None:
     """A program that was built beside the one that is tested, or None."""
     given = Path(command[0])
     path = ROOT / name if given == ROOT / "trace_cli" else given.parents[2] / name / "out" / name if len(given.parents) > 2 else given.with_name(name)
     return path if path.is_file() else None
 
 
-def whole_way(command, folder):
+def whole_way(command: list[str], folder: Path) -> Results:
     """From C to what tools/named and tools/picture tell of a schedule: the load and the store to blame, at their lines of the source."""
     why, replay = beside(command, "why"), beside(command, "replay")
     if why is None or replay is None:
@@ -312,12 +334,12 @@ def whole_way(command, folder):
 
 # --- What is refused ---------------------------------------------------------
 
-def bad_inputs(folder):
+def bad_inputs(folder: Path) -> Iterator[tuple[list[str], str]]:
     """(words of the command line, what is told); makes each input."""
-    def text(name, content):
+    def text(name: str, content: str | bytes) -> None:
         Path(folder, name).write_bytes(content if isinstance(content, bytes) else content.encode())
 
-    def object_of(name, source, *flags, compiler=GCC[0]):
+    def object_of(name: str, source: str, *flags: str, compiler: str = GCC[0]) -> None:
         text(f"{name}.c", source)
         do(compiler, "-O2", "-ffreestanding", *flags, "-c", f"{name}.c", "-o", f"{name}.o", cwd=folder)
 
@@ -421,14 +443,14 @@ def bad_inputs(folder):
     yield ["none.o"], r"none\.o is not a file"
 
 
-def refused(folder):
+def refused(folder: Path) -> Results:
     for given, reason in bad_inputs(folder):
         text, errors, status = image_of(folder, "--epochs", "4", *given)
         lines = [line for line in errors.splitlines() if re.match(rf"image-of: .*?{reason}", line)]
         yield f"refused: {' '.join(map(str, given))}: {reason}", None if (text, status, bool(lines)) == ("", 1, True) else f"got {text[:80]!r}, {errors[:600]!r}"
 
 
-def checks(command, folder):
+def checks(command: list[str], folder: Path) -> Results:
     """All checks for which there are the tools."""
     furnish(folder)
     for compiler, needed in (("gcc", [GCC[0]]), ("clang", ["clang", "ld.lld", "llvm-ar", "llvm-as"])):
@@ -452,7 +474,7 @@ def checks(command, folder):
         print(f"left out: what is refused, since {GCC[0]} isn't installed")
 
 
-def main():
+def main() -> int:
     command = sys.argv[1:] or [str(ROOT / "trace_cli"), "seq"]
     command[0] = str(Path(command[0]).resolve())
     with tempfile.TemporaryDirectory() as folder:

@@ -12,8 +12,11 @@ import re
 import subprocess
 import sys
 import tempfile
+from collections.abc import Iterator
 from pathlib import Path
 
+# What a check is of, and what is wrong or None
+Results = Iterator[tuple[str, str | None]]
 ROOT = Path(__file__).resolve().parent.parent
 # Epoch 1 loads the word at 40 before epoch 0 stores it. On two cores the loop takes 8 steps, on one 12; epoch 1 loses 4.
 IMAGE = ("# Two epochs, of which one waits.\n# flag 00000040 4\n# code 00000004 waits.c:7\n# code 00000014 waits.c:4\nsize 256\nepochs 2\nlimit 50\n"
@@ -56,20 +59,20 @@ EXAMPLES = {
 }
 
 
-def stub(folder, name, output, error="", status=0):
+def stub(folder: Path | str, name: str, output: str, error: str = "", status: int = 0) -> None:
     """A program that prints this, whatever it is given."""
     path = Path(folder, name)
     path.write_text(f"#!/bin/sh\ncat >/dev/null\ncat <<'END'\n{output}END\n" + (f"echo '{error}' >&2\n" if error else "") + f"exit {status}\n")
     path.chmod(0o755)
 
 
-def verdict(folder, image, *words):
+def verdict(folder: Path | str, image: Path, *words: str | Path) -> tuple[str, str, int]:
     """What the tool prints, on one line, with the programs of a folder; its error line and its status."""
     done = subprocess.run([ROOT / "tools" / "verdict", image, *words], capture_output=True, text=True, env={"PATH": "/usr/bin:/bin", "LOOPS_PROGRAMS": str(folder)}, check=False)
     return " ".join(done.stdout.split()), done.stderr, done.returncode
 
 
-def by_hand(folder):
+def by_hand(folder: Path | str) -> Results:
     """(what it shows, what is wrong or None)"""
     image = Path(folder, "waits.image")
     image.write_text(IMAGE)
@@ -104,11 +107,11 @@ def by_hand(folder):
     yield "no image", None if got[0] == "" and got[1].startswith("verdict: ") and got[2] == 2 else f"got {got}"
 
 
-def line_of(text, words):
+def line_of(text: str, words: str) -> int:
     return 1 + next(place for place, line in enumerate(text.splitlines()) if words in line)
 
 
-def compiled(folder, source, compiler, *words):
+def compiled(folder: Path | str, source: Path, compiler: str, *words: str) -> Path | None:
     """The image of a source with lines, or None where something isn't installed."""
     done = subprocess.run([ROOT / "tools" / "image-of", "--compiler", compiler, "-g", *words, source], capture_output=True, text=True, check=False)
     if done.returncode:
@@ -118,7 +121,7 @@ def compiled(folder, source, compiler, *words):
     return path
 
 
-def hidden(folder):
+def hidden(folder: Path | str) -> Results:
     """What holds a loop back is told first, at its line and its byte, though its epochs wait for the caches in most of their steps."""
     for compiler in ("gcc", "clang"):
         for name, (place, store, load) in HIDDEN.items():
@@ -135,7 +138,7 @@ def hidden(folder):
             yield f"the verdict on {name} by {compiler}", None if re.search(pattern, got[0]) and ways and got[1:] == ("", 0) else f"got {got}"
 
 
-def chunks(folder):
+def chunks(folder: Path | str) -> Results:
     """Neighbours of an array that share lines: so many iterations an epoch are proposed, and with the words of image-of measured."""
     source = Path(folder, "neighbours.c")
     source.write_text(NEIGHBOURS)
@@ -154,7 +157,7 @@ def chunks(folder):
         yield f"a chunk is measured by {compiler}", None if 2 * chunked < alone and got[1:] == ("", 0) else f"got {got}"
 
 
-def beside(command):
+def beside(command: list[str]) -> dict[str, Path]:
     """The programs that were built beside a command of `trace_cli`."""
     given = Path(command[0]).resolve()
     top = ROOT if given == ROOT / "trace_cli" else given.parents[2] if len(given.parents) > 2 else given.parent
@@ -162,7 +165,7 @@ def beside(command):
     return {name: path for name, path in found.items() if path.is_file()}
 
 
-def examples(folder, command):
+def examples(folder: Path | str, command: list[str]) -> Results:
     """The verdicts on examples, by the programs."""
     programs = beside(command)
     if len(programs) < 3:
@@ -194,7 +197,7 @@ def examples(folder, command):
     yield "the lines of the source", None if f"the store at own_counters.c:{stores} hits the load at own_counters.c:{loads}" in got[0] else f"got {got}"
 
 
-def main():
+def main() -> int:
     command = sys.argv[1:] or [str(ROOT / "trace_cli"), "seq"]
     with tempfile.TemporaryDirectory() as folder:
         results = [*by_hand(folder), *examples(folder, command)]

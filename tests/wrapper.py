@@ -14,6 +14,7 @@ import subprocess
 import sys
 import tempfile
 import time
+from collections.abc import Callable
 from pathlib import Path
 
 TOP = Path(__file__).resolve().parent.parent
@@ -63,7 +64,7 @@ MOST_MILLISECONDS = 60
 class Tree:
     """A tree with the wrapper, a few crates and stubs of the kit's commands."""
 
-    def __init__(self, folder):
+    def __init__(self, folder: str) -> None:
         self.top = Path(folder, "a tree")
         self.calls = Path(folder, "calls")
         self.bin = Path(folder, "bin")
@@ -84,13 +85,13 @@ class Tree:
             path.chmod(0o755)
         (self.bin / "python3").symlink_to(sys.executable)
 
-    def write(self, name, text):
+    def write(self, name: str, text: str) -> Path:
         path = self.top / name
         path.parent.mkdir(parents=True, exist_ok=True)
         path.write_text(text)
         return path
 
-    def run(self, wrapper=None, path=None, words=("seq", "b c"), **environment):
+    def run(self, wrapper: Path | None = None, path: Path | None = None, words: tuple[str, ...] = ("seq", "b c"), **environment: str) -> tuple[str, list[str], int, list[str]]:
         """The wrapper's output, its lines on standard error, its status and the calls of the checker, sorted."""
         self.calls.write_text("")
         environment = {"PATH": f"{path or self.bin}:/usr/bin:/bin", "CALLS": str(self.calls), "REFUSED": "", "NOTHING": "",
@@ -99,7 +100,7 @@ class Tree:
                               capture_output=True, env=environment, check=False)
         return done.stdout, done.stderr.splitlines(), done.returncode, sorted(self.calls.read_text().splitlines())
 
-    def is_run(self, calls, wrapper=None):
+    def is_run(self, calls: list[str], wrapper: Path | None = None) -> str | None:
         """What is wrong where the program has to run after these calls of the checker, or None."""
         output, errors, status, made = self.run(wrapper)
         if (output, status, made) != ("words seq b c\ngiven\n", 3, calls) or bool(errors) != bool(calls):
@@ -107,9 +108,12 @@ class Tree:
         return None
 
 
-def rows():
+Check = Callable[[Tree], str | None]
+
+
+def rows() -> list[tuple[str, Check]]:
     """The checks: each takes a new tree and answers what is wrong, or None."""
-    def first_run(tree):
+    def first_run(tree: Tree) -> str | None:
         output, errors, status, calls = tree.run()
         log = (tree.top / "out" / "trace_cli.log").read_text()
         good = (output, status, calls, len(errors)) == ("words seq b c\ngiven\n", 3, BUILD, 2)
@@ -119,7 +123,7 @@ def rows():
             return f"got {output!r}, {errors!r}, {status}, {calls!r}"
         return None if log.count("said of") == 3 else f"the log is {log!r}"
 
-    def progress(tree):
+    def progress(tree: Tree) -> str | None:
         text = (tree.top / "tools/build").read_text()
         tree.write("tools/build", text.replace("SECONDS_BETWEEN_LINES = 20", "SECONDS_BETWEEN_LINES = 0.3"))
         tree.write("crates/low/src/lib.rt", "pub fn one() {}\n    fn two() {}\n")
@@ -129,7 +133,7 @@ def rows():
         lines = [it for it in errors if it.startswith(wanted) and re.search(r"; now middle \(1 functions, \d s\)$", it)]
         return None if lines else f"got {errors!r}"
 
-    def unproved(tree):
+    def unproved(tree: Tree) -> str | None:
         output, errors, status, calls = tree.run(words=("--unproved", "seq", "b c"))
         good = (output, status, calls, len(errors)) == ("unproved seq b c\ngiven\n", 4, [], 1) and "is unproved" in errors[0]
         if not good:
@@ -139,7 +143,7 @@ def rows():
         good = (output, status, calls, len(errors)) == ("words seq b c\ngiven\n", 3, [], 1) and "is the proved one" in errors[0]
         return None if good else f"built: got {output!r}, {errors!r}, {status}, {calls!r}"
 
-    def helps(tree):
+    def helps(tree: Tree) -> str | None:
         page = (tree.top / "tools/help/trace_cli").read_text()
         for words in ((), ("-h",), ("--help",)):
             output, errors, status, calls = tree.run(words=words)
@@ -149,7 +153,7 @@ def rows():
         output, errors, status, calls = tree.run(words=())
         return None if (output, errors, status, calls) == (page, [], 0, []) else f"built: got {output!r}, {errors!r}, {status}"
 
-    def where_it_is(tree):
+    def where_it_is(tree: Tree) -> str | None:
         place = f"{tree.top}/crates/trace_cli/out/trace_cli\n"
         output, errors, status, calls = tree.run(words=("--built",))
         if (output, status, calls, len(errors)) != (place, 0, BUILD, 2):
@@ -159,11 +163,11 @@ def rows():
         got = tree.run(far, words=("--built",))
         return None if got == (place, [], 0, []) else f"built: got {got}"
 
-    def whether_it_is(tree):
+    def whether_it_is(tree: Tree) -> str | None:
         got = [tree.run(words=("--is-built",)), *([] if tree.is_run(BUILD) else [tree.run(words=("--is-built",))])]
         return None if got == [("", [], 1, []), ("", [], 0, [])] else f"got {got}"
 
-    def from_python(tree):
+    def from_python(tree: Tree) -> str | None:
         """A script that calls the program builds nothing unasked. Asked, it shows how far the build is, and calls what was built."""
         shutil.copytree(TOP / "tools" / "loops", tree.top / "tools" / "loops")
         script = "import sys; from loops.programs import TREE, call; print(call(TREE / 'trace_cli', ['seq', sys.argv[1]], 'given\\n', (3,)), end='')"
@@ -179,36 +183,36 @@ def rows():
         good = right and len(told) == 2 and "not built for these sources yet" in told[0] and "proved and built in" in told[1]
         return None if good else f"got {done}"
 
-    def with_kept_work(tree):
+    def with_kept_work(tree: Tree) -> str | None:
         (tree.top / "crates/low/out/incremental").mkdir(parents=True)
         return tree.is_run(BUILD)
 
-    def after(change, calls):
-        def check(tree):
+    def after(change: Callable[[Tree], object], calls: list[str]) -> Check:
+        def check(tree: Tree) -> str | None:
             tree.is_run(BUILD)
             change(tree)
             return tree.is_run(calls) or tree.is_run([])
         return check
 
-    def with_an_old_time(tree):
+    def with_an_old_time(tree: Tree) -> None:
         path = tree.write("crates/low/src/lib.rt", "LOW")
         os.utime(path, (0, 0))
 
-    def touched(tree):
+    def touched(tree: Tree) -> None:
         (tree.top / "crates/low/src/lib.rt").touch()
 
-    def links(tree):
+    def links(tree: Tree) -> str | None:
         far, near = tree.bin / "far", tree.bin / "near"
         far.symlink_to(tree.top / "trace_cli")
         near.symlink_to("far")
         return tree.is_run(BUILD, near) or tree.is_run([], far)
 
-    def another_program(tree):
+    def another_program(tree: Tree) -> str | None:
         (tree.top / "bench").symlink_to("trace_cli")
         return (tree.is_run(["bench build", *BUILD[:2]], tree.top / "bench") or tree.is_run([], tree.top / "bench")
                 or tree.is_run(BUILD[2:]))
 
-    def all_programs(tree):
+    def all_programs(tree: Tree) -> str | None:
         (tree.top / "bench").symlink_to("trace_cli")
         output, errors, status, calls = tree.run(tree.top / "tools/build", words=())
         good = (output, status, calls, len(errors)) == ("", 0, ["bench build", *BUILD], 2)
@@ -217,29 +221,29 @@ def rows():
         again = tree.run(tree.top / "tools/build", words=())
         return tree.is_run([]) or tree.is_run([], tree.top / "bench") or (None if again == ("", [], 0, []) else f"again: got {again}")
 
-    def all_programs_with_one_refused(tree):
+    def all_programs_with_one_refused(tree: Tree) -> str | None:
         (tree.top / "bench").symlink_to("trace_cli")
         output, errors, status, _ = tree.run(tree.top / "tools/build", words=(), REFUSED="bench")
         wanted = "programs: bench is not proved and built; out/programs.log has what the checker says, which ends so:"
         return None if (output, status) == ("", 1) and wanted in errors and "said of bench" in errors else f"got {output!r}, {errors!r}, {status}"
 
-    def from_its_folder(tree):
+    def from_its_folder(tree: Tree) -> str | None:
         tree.is_run(BUILD)
         done = subprocess.run(["sh", "trace_cli", "seq"], cwd=tree.top, input="", text=True, capture_output=True, check=False)
         return None if (done.stdout, done.stderr, done.returncode) == ("words seq\n", "", 3) else f"got {done}"
 
-    def refused(tree):
+    def refused(tree: Tree) -> str | None:
         output, errors, status, calls = tree.run(REFUSED="middle")
         good = output == "" and status == 126 and calls == BUILD[:2] and "said of middle" in errors
         good = good and "trace_cli: middle is not proved and built; out/trace_cli.log has what the checker says, which ends so:" in errors
         return tree.is_run(BUILD[1:]) if good else f"got {output!r}, {errors!r}, {status}, {calls!r}"
 
-    def no_program(tree):
+    def no_program(tree: Tree) -> str | None:
         output, errors, status, _ = tree.run(NOTHING="1")
         good = output == "" and status == 126 and any("nothing was made of trace_cli" in line for line in errors)
         return None if good else f"got {output!r}, {errors!r}, {status}"
 
-    def without_rt(tree):
+    def without_rt(tree: Tree) -> str | None:
         if shutil.which("rt", path="/usr/bin:/bin"):
             print("left out: no rt, since one is installed beside sh")
             return None
@@ -252,7 +256,7 @@ def rows():
         output, errors, status, _ = tree.run(path=tree.top)
         return None if (errors, status) == ([], 3) else f"built, and without rt: {errors!r}, {status}"
 
-    def quick(tree):
+    def quick(tree: Tree) -> str | None:
         tree.is_run(BUILD)
         best = 1e9
         for _ in range(10):
@@ -298,7 +302,7 @@ def rows():
     ]
 
 
-def main():
+def main() -> int:
     failed = 0
     checks = rows()
     for name, check in checks:

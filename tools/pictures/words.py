@@ -1,46 +1,58 @@
 """Sentences on a run, for people."""
 
+from collections.abc import Sequence
+from typing import Protocol
+
+from loops import Entry, Image, Violation
+
+from .attempts import Run
 from .page import COLOURS
 
 # So many names are listed; of more the first two.
 MOST_NAMES = 4
 
 
-def plural(count, word):
+class Lost(Protocol):
+    """What these sentences need of a run."""
+    image: Image
+    entries: Sequence[Entry]
+
+
+def plural(count: int, word: str) -> str:
     return f"{count:,} {word}" + ("" if count == 1 else "s")
 
 
-def heading(run):
+def heading(run: Run) -> tuple[str, str]:
     """Two lines for the top of a picture."""
     one = f"{plural(run.image.epochs, 'epoch')} on {plural(run.cores, 'core')}: {plural(len(run.violations), 'rollback')}, {run.committed:,} committed"
     attempts = plural(len(run.attempts), "attempt")
     return one, f"{attempts}; {plural(run.lost, 'instruction')} lost to rollbacks"
 
 
-def bytes_of(run, violation):
+def bytes_of(run: Lost, violation: Violation) -> str:
     """`4 bytes at bins+4`."""
     return f"{plural(violation.length, 'byte')} at {run.image.name_of(violation.first)}"
 
 
-def stored_at(run, violation):
+def stored_at(run: Lost, violation: Violation) -> int | None:
     """The first byte of the blamed store, or None."""
     return violation.causers and run.entries[violation.causers.entry].address
 
 
-def named_apart(image, places):
+def named_apart(image: Image, places: list[int]) -> list[str]:
     """The names of bytes that should lie apart: of variables, or where all lie in one, or have no name, of the bytes."""
     found = [image.variable_of(place) for place in places]
     names = sorted({one.name for one in found if one})
     return names if len(names) > 1 and None not in found else [image.name_of(place) for place in places]
 
 
-def listed(names):
+def listed(names: list[str]) -> str:
     """`a, b and c`, or the first two and how many more there are."""
     kept, more = (names[:2], [f"{len(names) - 2} more"]) if len(names) > MOST_NAMES else (names[:-1], names[-1:])
     return " and ".join(filter(None, [", ".join(kept), *more]))
 
 
-def sentence(run, violation):
+def sentence(run: Lost, violation: Violation) -> str:
     """What the report says of a violation."""
     lost = f"{plural(violation.lost, 'instruction')} lost"
     spelled = run.image.spelled
@@ -58,7 +70,7 @@ def sentence(run, violation):
     return said + ("; in vain, since that epoch was undone itself" if violation.vain else "")
 
 
-def advice(run, violations):
+def advice(run: Lost, violations: list[Violation]) -> str:
     """What usually helps against the kind that lost most; no claim."""
     lost = {kind: sum(violation.lost for violation in violations if violation.kind == kind) for kind in COLOURS}
     kind = max(lost, key=lost.get)
