@@ -1,5 +1,5 @@
 -- What is told of the attempts that ended, from those that were not violated.
-use Rattle.std.proofs.Common.{◌≡◌, ℕ, ◌+◌, Bool, true, false, cond, not, codes, decimal, List, [], ◌∷◌, ◌++◌, filter, length, map, option_to_list, Option, sum_by, refl, subst, sym, ap, ap₂, ◌∙◌, arith}
+use Rattle.std.proofs.Common.{◌≡◌, ℕ, ◌+◌, Bool, true, false, cond, not, codes, List, [], ◌∷◌, ◌++◌, filter, length, map, option_to_list, Option, sum_by, refl, subst, sym, ap, ap₂, ◌∙◌, arith}
 use Rattle.std.specs.List.{flat_map}
 use Rattle.std.proofs.lemmas.List.Elements.{filter-append}
 use Rattle.std.proofs.lemmas.List.Sums.{sum_by-cons}
@@ -22,7 +22,7 @@ use Rattle.conflict_findings.specs.Sums.{sum_in}
 use Rattle.conflict_findings.specs.Tallies.{count_in, done_by, done_in, is_ended, is_same, tally_of_running}
 use Rattle.conflict_text.specs.declared.report.Totals.{Totals}
 use Rattle.conflict_text.specs.Ends.{attempt_lines, ended_line, is_told, line_by, rest_text, tally_text}
-use Rattle.conflict_text.specs.Report.{committed_text, kind_lines, sum_text, total_text}
+use Rattle.conflict_text.specs.Report.{kind_lines, total_text}
 use Rattle.conflict_text.specs.Totals.{AreTotals, last_lines}
 use Rattle.conflict_text.specs.Why.{AreCounted, AreFound}
 
@@ -80,7 +80,7 @@ abbrev tally : ℕ → ℕ → Tally
 tally n m = record { count = n; done = m }
 
 told_useful : (es : List Ended) → done_in Committed (filter is_told es) ≡ done_in Committed es
-told_useful es = (told_done Committed refl es)
+told_useful es = told_done Committed refl es
 
 told_rest : (es : List Ended) (os : List Running) → rest_text (filter is_told es) os ≡ rest_text es os
 unfolding rest_text
@@ -90,9 +90,7 @@ told_rest es os =
 
 told_total : (epochs committed : ℕ) (s : Sum) (es : List Ended) (os : List Running) → total_text epochs committed s (filter is_told es) os ≡ total_text epochs committed s es os
 unfolding total_text
-told_total epochs committed s es os =
-    ap₂ (λ (useful : ℕ) (rest : List ℕ). committed_text epochs committed useful ++ sum_text s.count s.lost ++ rest ++ codes "\n")
-    (told_useful es) (told_rest es os)
+told_total epochs committed s es os = rw (told_useful es, told_rest es os) refl
 
 told_last : (image : LoadedImage) (homefree : ℕ) (rs : List Rollback) (es : List Ended) (os : List Running) → last_lines image homefree rs (filter is_told es) os ≡ last_lines image homefree rs es os
 told_last image homefree rs es os = ap (λ (t : List ℕ). kind_lines rs ++ t) (told_total image.epochs homefree (sum_in Whole rs) es os)
