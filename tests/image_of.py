@@ -117,6 +117,10 @@ def made(folder: Path, compiler: str) -> None:
         do(*compile_, "-g", "-c", f"{name}.c", "-o", f"{name}-{compiler}.o", cwd=folder)
     do(*compile_, "-DSTEP=2", "-c", "loop.c", "-o", f"loop-{compiler}.o", cwd=folder)
     do(archive, "rc", f"lib-{compiler}.a", f"library-{compiler}.o", f"add-{compiler}.o", cwd=folder)
+    long_name = f"a-long-name-of-a-member-{compiler}.o"
+    Path(folder, long_name).write_bytes(Path(folder, f"library-{compiler}.o").read_bytes())
+    do(archive, *{"gcc": ["rcT"], "clang": ["--thin", "rc"]}[compiler], f"lib-thin-{compiler}.a", long_name, f"add-{compiler}.o", cwd=folder)
+    do(archive, "rc", f"lib-long-{compiler}.a", long_name, f"add-{compiler}.o", cwd=folder)
     do(*link, "-Ttext=0", f"loop-{compiler}.o", "-o", f"first-{compiler}.elf", cwd=folder)
     for name, further in (("own", []), ("rows", []), ("turns", ["-falign-functions=64", "-mno-relax"]), ("dead", ["-ffunction-sections"])):
         do(*compile_, "-g", *further, "-c", f"{name}.c", "-o", f"{name}-{compiler}.o", cwd=folder)
@@ -146,7 +150,8 @@ def programs(compiler: str) -> Iterator[Row]:
         yield [*some, "squares.bc"], "end done 4", {"table": words(0, 8, 16, 24)}
     yield [*by, *some, "--entry", "loop", f"second-{compiler}.o"], "end done 4", {"out": words(3, 2, 1, 0)}
     yield [*by, *some, "--stack", "64", f"library-{compiler}.o", "add.c"], "end done 4", lib
-    yield [*by, *some, "--stack", "64", f"lib-{compiler}.a"], "end done 4", lib
+    for name in ("lib", "lib-thin", "lib-long"):
+        yield [*by, *some, "--stack", "64", f"{name}-{compiler}.a"], "end done 4", lib
     yield [*some, "--version", "2", f"first-{compiler}.elf"], "end done 4", sums
     yield [*some, "--version", "2", "--stack", "64", f"far-{compiler}.elf"], "end done 4", lib
     yield [*by, *some, "--reg", "2=0x8000", "--size", "65536", f"library-{compiler}.o", f"add-{compiler}.o"], "end done 4", lib
@@ -373,6 +378,12 @@ def bad_inputs(folder: Path) -> Iterator[tuple[list[str], str]]:
     for length in (20, 60, len(whole) // 2, len(whole) - 1):
         text("cut.o", whole[:length])
         yield ["cut.o"], r"cut\.o: is a (damaged or )?truncated ELF file"
+    do("riscv64-unknown-elf-ar", "rcS", "bare.a", "good.o", cwd=folder)
+    yield ["bare.a"], r"bare\.a: is an archive without an index; make one, as by riscv64-unknown-elf-ranlib"
+    do("riscv64-unknown-elf-ar", "rc", "whole.a", "good.o", cwd=folder)
+    for length in (30, 100, 200):
+        text("cut.a", Path(folder, "whole.a").read_bytes()[:length])
+        yield ["cut.a"], r"cut\.a: is a damaged archive: (its member at \d+ ends behind the file's end|at \d+ there is no member)"
     text("noise.bin", bytes(range(256)))
     yield ["noise.bin"], r"noise\.bin: is neither an ELF file nor an archive, and its name doesn't end like that of a source"
     object_of("loop2", "unsigned a[4];\nvoid loop(unsigned e) { a[e] = e; }\n", *rv32)

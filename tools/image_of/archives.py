@@ -53,7 +53,7 @@ class Archive:
             raise self.damaged(f"at {place} there is no member")
         name = head[:16].rstrip()
         if place + HEAD + int(size) > self.length and (not self.is_thin or name in (*INDEXES, b"//")):
-            raise self.damaged(f"its member at {place} ends behind it")
+            raise self.damaged(f"its member at {place} ends behind the file's end")
         return name, int(size)
 
     def index(self, data: bytes, number: struct.Struct) -> Iterator[int]:
