@@ -1,0 +1,158 @@
+// An LLVM plug-in with the passes of tools/loops-of. `loops-keep` keeps variables as they are in the source, `loops-list` tells of each loop,
+// `loops-count` marks them, and `loops-outline` makes the iteration of one of them a function. What is told are lines on standard output, words that tabs part.
+#include "loops_of.h"
+#include "llvm/IR/DebugInfo.h"
+#include "llvm/IR/IRBuilder.h"
+#include "llvm/IR/InlineAsm.h"
+#include "llvm/IR/InstIterator.h"
+#include "llvm/IR/IntrinsicInst.h"
+#include "llvm/IR/Verifier.h"
+#include "llvm/Passes/PassBuilder.h"
+#include "llvm/Passes/PassPlugin.h"
+#include "llvm/Support/CommandLine.h"
+#include "llvm/Transforms/Utils/Cloning.h"
+#include "llvm/Transforms/Utils/ModuleUtils.h"
+
+using namespace llvm;
+using namespace loops_of;
+
+static cl::opt<unsigned> Wanted("loops-of-number", cl::init(0), cl::desc("which loop loops-outline takes, counted from 1 as loops-list does"));
+static cl::opt<unsigned> FirstMark("loops-of-first", cl::init(0), cl::desc("the number of the first loop that loops-count marks"));
+
+namespace {
+
+// --- The loops of a module -----------------------------------------------------
+
+// What LLVM knows of the functions of a module.
+class Knowledge {
+public:
+  Knowledge() {
+    PassBuilder Builder;
+    Builder.registerModuleAnalyses(MAM);
+    Builder.registerCGSCCAnalyses(CAM);
+    Builder.registerFunctionAnalyses(FAM);
+    Builder.registerLoopAnalyses(LAM);
+    Builder.crossRegisterProxies(LAM, FAM, CAM, MAM);
+  }
+
+  OneLoop of(Loop &L) {
+    Function &F = *L.getHeader()->getParent();
+    return {*F.getParent(), F, L, FAM.getResult<LoopAnalysis>(F), FAM.getResult<DominatorTreeAnalysis>(F), FAM.getResult<ScalarEvolutionAnalysis>(F), {}};
+  }
+
+  // The loops in a fixed order: functions as they stand, loops from the outside in.
+  std::vector<Loop *> loops(Module &M) {
+    std::vector<Loop *> All;
+    for (Function &F : M)
+      if (!F.isDeclaration())
+        for (Loop *L : FAM.getResult<LoopAnalysis>(F).getLoopsInPreorder()) All.push_back(L);
+    return All;
+  }
+
+private:
+  LoopAnalysisManager LAM;
+  FunctionAnalysisManager FAM;
+  CGSCCAnalysisManager CAM;
+  ModuleAnalysisManager MAM;
+};
+
+void tell(const Twine &Line) { outs() << Line << "\n"; }
+
+// Outlines a loop of a module, and tells how; or tells why it can't be.
+void outlineNumber(Module &M, unsigned Number) {
+  Knowledge Known;
+  std::vector<Loop *> All = Known.loops(M);
+  if (Number == 0 || Number > All.size()) report_fatal_error("there is no loop of this number", false);
+  OneLoop One = Known.of(*All[Number - 1]);
+  std::optional<std::string> Why = refusalOf(One.L);
+  if (!Why && mayComeAgain(One.F, One.L)) Why = copyRefusalOf(One.F, One.L);
+  if (Why) return tell("refused\t" + *Why);
+  outline(One);
+  for (const std::string &Line : One.Told) tell(Line);
+  if (verifyModule(M, &errs())) report_fatal_error("the pass made a broken module", false);
+}
+
+// --- The passes ------------------------------------------------------------------
+
+struct List : PassInfoMixin<List> {
+  PreservedAnalyses run(Module &M, ModuleAnalysisManager &) {
+    Knowledge Known;
+    unsigned Number = 0;
+    for (Loop *L : Known.loops(M)) {
+      tell("loop\t" + placeOf(*L) + "\t" + functionOf(*L->getHeader()->getParent()) + "\t" + Twine(L->getLoopDepth()));
+      // outlined in a copy, so that each loop is on its own
+      outlineNumber(*CloneModule(M), ++Number);
+    }
+    return PreservedAnalyses::all();
+  }
+};
+
+struct Outline : PassInfoMixin<Outline> {
+  PreservedAnalyses run(Module &M, ModuleAnalysisManager &) {
+    outlineNumber(M, Wanted);
+    return PreservedAnalyses::none();
+  }
+};
+
+// Keeps the variables as the source has them, and their names: else a bool is made of an int8_t, of one build and not of another.
+struct Keep : PassInfoMixin<Keep> {
+  PreservedAnalyses run(Module &M, ModuleAnalysisManager &) {
+    SmallVector<GlobalValue *, 32> All;
+    for (GlobalVariable &Each : M.globals())
+      if (Each.hasInitializer() && !Each.isConstant() && !Each.getName().startswith("llvm.")) All.push_back(&Each);
+    if (!All.empty()) appendToCompilerUsed(M, All);
+    for (Function &F : M) nameVariables(F);
+    stripNonLineTableDebugInfo(M);
+    return PreservedAnalyses::none();
+  }
+
+  // Local variables get the source's names, with a full stop behind: LLVM makes i12 of the second i of a function.
+  static void nameVariables(Function &F) {
+    for (Instruction &I : instructions(F))
+      if (auto *Declared = dyn_cast<DbgDeclareInst>(&I); Declared && Declared->getAddress())
+        Declared->getAddress()->setName(Declared->getVariable()->getName() + ".");
+  }
+};
+
+// Marks where loops are entered, where their iterations begin and where they are left: by instructions that do nothing, and that compilers don't write.
+struct Count : PassInfoMixin<Count> {
+  PreservedAnalyses run(Module &M, ModuleAnalysisManager &) {
+    Knowledge Known;
+    unsigned Number = FirstMark;
+    for (Loop *L : Known.loops(M)) mark(*L, Number++);
+    return PreservedAnalyses::none();
+  }
+
+  static void mark(Loop &L, unsigned Number) {
+    if (!L.isLoopSimplifyForm()) return;
+    markAt(L.getLoopPreheader()->getTerminator(), "xori", Number);
+    markAt(&*L.getHeader()->getFirstInsertionPt(), "ori", Number);
+    SmallVector<BasicBlock *, 8> Exits;
+    L.getUniqueExitBlocks(Exits);
+    for (BasicBlock *Exit : Exits) markAt(&*Exit->getFirstInsertionPt(), "andi", Number);
+  }
+
+  static void markAt(Instruction *Place, const char *Name, unsigned Number) {
+    constexpr unsigned Immediates = 2048;
+    std::string Text = (Twine(Name) + " x0, x" + Twine(Number / Immediates) + ", " + Twine(Number % Immediates)).str();
+    auto *Type = FunctionType::get(llvm::Type::getVoidTy(Place->getContext()), false);
+    IRBuilder<> B(Place);
+    CallInst *Mark = B.CreateCall(InlineAsm::get(Type, Text, "", true), {});
+    if (DISubprogram *Of = Place->getFunction()->getSubprogram()) Mark->setDebugLoc(DILocation::get(Place->getContext(), 0, 0, Of));
+  }
+};
+
+bool addPass(StringRef Name, ModulePassManager &Passes, ArrayRef<PassBuilder::PipelineElement>) {
+  if (Name == "loops-keep") Passes.addPass(Keep());
+  else if (Name == "loops-list") Passes.addPass(List());
+  else if (Name == "loops-count") Passes.addPass(Count());
+  else if (Name == "loops-outline") Passes.addPass(Outline());
+  else return false;
+  return true;
+}
+
+} // namespace
+
+extern "C" LLVM_ATTRIBUTE_WEAK PassPluginLibraryInfo llvmGetPassPluginInfo() {
+  return {LLVM_PLUGIN_API_VERSION, "loops-of", "1", [](PassBuilder &Builder) { Builder.registerPipelineParsingCallback(addPass); }};
+}
