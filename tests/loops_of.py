@@ -4,8 +4,9 @@
 Usage: tests/loops_of.py [COMMAND ..]
 
 COMMAND is a command of `trace_cli` that ends with the word `seq`; without it that of this repository is tested. What the listing has to say stands in the programs, behind
-`//: `, by hand. Output and status come from the compiler `cc`, memory from Unicorn: each image has to be `same`. Mistakes are planted in the plug-in, in the emulator and in
-images: the check has to say WRONG or DIFFERENT. Without the packages that tools/loops-of names it is left out, and a line says so. Exits with 1 where a check failed.
+`//: `, by hand. Output and status come from the compiler `cc`, memory from Unicorn: each image has to be `same`. Mistakes are planted in the plug-in, in the emulator
+and in images: the check has to say WRONG or DIFFERENT. Programs in loops_of/refused say in their first line why they are refused. Without the packages that
+tools/loops-of names it is left out, and a line says so; csmith's programs are left out without Debian's csmith. Exits with 1 where a check failed.
 """
 
 import os
@@ -21,6 +22,7 @@ ROOT = Path(__file__).resolve().parent.parent
 sys.path.insert(0, str(ROOT / "tools"))
 PROGRAMS = Path(__file__).with_suffix("")
 TOOL = ROOT / "tools" / "loops-of"
+SEEDS = (1, 2, 3, 5, 6, 9, 11, 12, 13, 14)                  # of random programs
 Check = tuple[str, str | None]                              # what it shows, and what is wrong or None
 
 
@@ -36,20 +38,22 @@ def called(*words: object, seconds: int = 120) -> tuple[str, str, int]:
 
 # --- The listing -----------------------------------------------------------------
 
-def expected_of(source: Path) -> dict[int, str]:
-    """What has to be said of the loop of each line."""
-    found = re.finditer(r"(?m)^.*//: (.*)$", source.read_text())
-    text = source.read_text()
-    return {text.count("\n", 0, match.start()) + 1: match[1] for match in found}
+def expected_of(source: Path) -> dict[str, str]:
+    """What has to be said of each loop, by its line, and by LINE.2 of the second one of a line."""
+    found = {}
+    for number, line in enumerate(source.read_text().splitlines(), 1):
+        for place, told in enumerate(line.split("//: ")[1:], 1):
+            found[f"{number}.{place}" if place > 1 else str(number)] = told.strip()
+    return found
 
 
-def said_of(listing: str, source: Path) -> dict[int, str]:
+def said_of(listing: str, source: Path) -> dict[str, str]:
     """What the listing says, in the words of the programs: without names of files, and without steps, which are the compiler's."""
     found = {}
     for line in listing.splitlines():
         place, _, rest = line.replace(f"{source.name}:", "").partition(" ")
         counts = re.search(r"entries (\d+) iterations (\d+)", rest)
-        found[int(place)] = (" ".join(counts.groups()) + " | " if counts else "") + rest.partition(" | ")[2]
+        found[place] = (" ".join(counts.groups()) + " | " if counts else "") + rest.partition(" | ")[2]
     return found
 
 
@@ -63,19 +67,19 @@ def listings() -> Iterator[Check]:
 
 # --- Images ------------------------------------------------------------------------
 
-def native(source: Path, folder: Path, words: list[str], given: bytes) -> tuple[bytes, int]:
+def native(source: Path, folder: Path, words: list[str], given: bytes, flags: list[str] | None = None) -> tuple[bytes, int]:
     """Output and status by the compiler of this machine."""
     made = folder / "native"
-    subprocess.run(["cc", "-O1", "-w", "-o", made, source, "-lm"], check=True)
+    subprocess.run(["cc", "-O1", "-w", *(flags or []), "-o", made, source, "-lm"], check=True)
     done = subprocess.run([made, *words], input=given, capture_output=True, check=False)
     return done.stdout, done.returncode & 0xFF if done.returncode >= 0 else 128 - done.returncode
 
 
-def emulated(source: Path, folder: Path, words: list[str], given: bytes) -> tuple[bytes, int | None]:
+def emulated(source: Path, folder: Path, words: list[str], given: bytes, flags: list[str] | None = None) -> tuple[bytes, int | None]:
     """The same as the tool runs it."""
     from loops_of.build import Builder, Layout, kit_of
     from loops_of.emulator import Given, Run
-    builder = Builder([source], [], Layout(262_144, 65_536), folder, kit_of())
+    builder = Builder([source], flags or [], Layout(262_144, 65_536), folder, kit_of())
     run = Run(builder.plain(), Given(words, given)).whole()
     return bytes(run.output), run.status
 
@@ -86,7 +90,7 @@ def natives(folder: Path) -> Iterator[Check]:
         print("SKIPPED: output beside the native compiler, since there is no cc")
         return
     for source, words, given in [*((source, [], b"") for source in sorted(PROGRAMS.glob("*.c"))), (PROGRAMS / "words.c", ["-n", "3"], b"one two\nthree\n\nfour"),
-                                 (PROGRAMS / "words.c", ["-n", "0"], b"one")]:
+                                 (PROGRAMS / "words.c", ["-n", "9"], b"one")]:
         yield f"{source.name} {words} beside cc", differs(emulated(source, folder, words, given), native(source, folder, words, given))
 
 
@@ -98,10 +102,140 @@ def same(folder: Path) -> Iterator[Check]:
         if not expected:
             continue
         out, errors, status = called("--loop", "all", "--out", folder / source.stem, "--heap", 65_536, source)
-        got = {int(line.partition(" ")[0].rpartition(":")[2]): line.split(" ")[2] for line in out.splitlines()}
+        got = {line.partition(" ")[0].rpartition(":")[2]: line.split(" ")[2] for line in out.splitlines()}
         yield f"the images of {source.name}", differs((got, status), (expected, 1 if "refused" in expected.values() else 0)) and f"{out}{errors}{status}"
         plan = read_plan(folder / source.stem / "study.toml")
         yield f"the study of {source.name}", differs(len(plan.loops), list(expected.values()).count("same:"))
+
+
+def random_programs(folder: Path) -> Iterator[Check]:
+    """Programs that csmith makes of fixed seeds: output beside the native compiler's, and no image that is wrong."""
+    if not shutil.which("csmith") or not shutil.which("cc"):
+        print("SKIPPED: random programs, since there is no csmith or no cc")
+        return
+    for seed in SEEDS:
+        source = folder / f"random{seed}.c"
+        done = subprocess.run(["csmith", "--seed", str(seed), "--max-funcs", "3", "--max-block-depth", "3", "--no-argc"], capture_output=True, check=True)
+        source.write_bytes(done.stdout)
+        expected = native(source, folder, [], b"", ["-I/usr/include/csmith"])
+        out, errors, status = called("--cflags=-I/usr/include/csmith", "--loop", "all", "--out", folder / "random", source, seconds=600)
+        wrong = [line for line in out.splitlines() if not re.search(r" (same:|refused|not entered)", line)]
+        yield f"the loops of csmith's seed {seed}", f"{wrong}{errors}{status}" if wrong or status > 1 else None
+        yield f"the output of csmith's seed {seed}", differs(emulated(source, folder, [], b"", ["-I/usr/include/csmith"]), expected)
+
+
+# --- What is refused, and what can be asked for ------------------------------------
+
+def refusals(folder: Path) -> Iterator[Check]:
+    """A loop that is refused, at its line and with its reason, in each of the programs whose first line says which; and programs that can't be taken."""
+    for source in sorted((PROGRAMS / "refused").glob("*.c")):
+        mark, _, reason = source.read_text().partition("\n")[0].partition(" ")
+        if mark in ("//:", "//!"):
+            beside = [source.with_name("main_again_other.c")] if source.stem == "main_again" else []
+            out, errors, status = called("--loop", "all", "--out", folder / "refused", source, *beside)
+            told = re.search(rf"(?m) (refused|not entered)(?: {reason})?$", out) if mark == "//:" else re.search(rf"(?m)^loops-of: {reason}", errors)
+            right = told and status == (1 if mark == "//:" else 2) and "WRONG" not in out
+            yield f"refused: {source.name}", None if right else f"{out}{errors}{status}"
+
+
+def requests(folder: Path) -> Iterator[Check]:
+    """Entries, windows and places; what is no request."""
+    forms, small, words = (PROGRAMS / name for name in ("forms.c", "small.c", "words.c"))
+    for given, status, head, told in (
+            (["--loop", "forms.c:37", "--entry", 7, forms], 0, "entry 7 of 100, with 15 iterations", "same: entry 7 of 100, 15 of 15 iterations"),
+            (["--loop", "small.c:13", "--first", 10, "--epochs", 5, small], 0, "its iterations from 10 on, 5 of them", "same: entry 1 of 1, 5 of 64 iterations"),
+            (["--loop", "small.c:24", "--first", 15, small], 0, "its iterations from 15 on, 5 of them", "same: entry 1 of 1, 5 of 20 iterations"),
+            (["--loop", "lines.c:8.2", PROGRAMS / "lines.c"], 0, "The loop at lines.c:8.2", "same: entry 1 of 1, 6 of 6 iterations"),
+            (["--loop", "words.c:9", "--args=-n 1", words], 0, "with 1 iterations", "same"),
+            (["--loop", "words.c:13", "--input", forms, words], 0, "with 999 iterations", "same"),
+            (["--loop", "small.c:14", small], 2, "", "there is no loop at small.c:14; there are: small.c:11, small.c:13"),
+            (["--loop", "forms.c:37", "--entry", 101, forms], 1, "", "is entered 100 times, so there is no entry 101"),
+            (["--loop", "small.c:13", "--first", 64, small], 1, "", "its entry 1 has 64 iterations, so none from 64 on"),
+            (["--loop", "small.c:13", "--version", 1, small], 1, "", r"needs \d+ bytes of memory, and 65536 is the most"),
+            (["--loop", "all", small], 2, "", "--loop all needs --out FOLDER"), (["--first", -1, small], 2, "", "--first takes 0 to"), ([folder / "none.c"], 2, "", "is not a file")):
+        out, errors, got = called(*given)
+        yield f"asked: {' '.join(map(str, given[:-1]))}", None if got == status and head in out and bool(out) == bool(head) and re.search(told, errors) else f"{out[:300]}{errors}{got}"
+
+
+def names() -> Iterator[Check]:
+    """What an image's remarks name: variables, what is carried, blocks of the heap by the line of malloc, arrays of the frame; lines of the loop's instructions alone."""
+    from loops import read_image
+    image = read_image(called("--loop", "lines.c:18", PROGRAMS / "lines.c")[0])
+    lengths = {one.name: one.length for one in image.variables}
+    yield "what is named", differs({name: lengths.get(name) for name in ("table", "seen", "malloc:lines.c:15", "frame", "carried.sum")},
+                                   {"table": 24, "seen": 4, "malloc:lines.c:15": 40, "frame": 32, "carried.sum": 4})
+    lines = {int(place.rpartition(":")[2]) for place in image.sources.values()}
+    yield "the lines of the code", None if {5, 19, 20} <= lines <= {5, 6, 18, 19, 20} else f"got {lines}"
+
+
+# --- Planted mistakes ------------------------------------------------------------
+
+def answer_of(source: Path, line: str, folder: Path, kit: object = None, plant: object = None) -> str:
+    """What is told of a loop, by another plug-in or with a mistake that a function plants in what makes the images."""
+    from loops_of.build import Builder, Layout, kit_of
+    from loops_of.emulator import Given
+    from loops_of.making import Choice, Maker
+    from loops_of.reasons import Otherwise, Refused
+    builder = Builder([source], [], Layout(65_536, 65_536), folder, kit or kit_of())
+    maker = Maker(builder, Given(seconds=20), Choice(first=3))
+    try:
+        return maker.made(next(loop for loop in builder.loops if loop.place == line))[1]
+    except (Otherwise, Refused) as why:
+        return str(why)
+
+
+def wrong_plugins(folder: Path) -> Iterator[Check]:
+    """The plug-in with mistakes: the epoch's number outside the loop, a store where a later branch keeps the old value, no copy of a function that comes again."""
+    from loops_of.build import Kit, build_part, join_parts, kit_of
+    for number, part, line, told in ((2, "carried", "forms.c:34", "WRONG"), (3, "carried", "forms.c:24", "WRONG"), (4, "outline", "forms.c:46", "WRONG|entered again")):
+        kit = Kit(Path(shutil.copytree(kit_of().folder, folder / f"wrong{number}")))
+        build_part(kit, part, (f"-DWRONG={number}",))
+        join_parts(kit)
+        said = answer_of(PROGRAMS / "forms.c", line, folder, kit)
+        yield f"the plug-in's mistake {number}", None if re.match(told, said) else said
+
+
+def patched(where: object, name: str, other: object, source: str, line: str, folder: Path) -> str:
+    """The same with another value of a name of a module or a class."""
+    was = getattr(where, name)
+    setattr(where, name, other)
+    try:
+        return answer_of(PROGRAMS / source, line, folder)
+    finally:
+        setattr(where, name, was)
+
+
+def wrong_images(folder: Path) -> Iterator[Check]:
+    """Images and emulators with mistakes."""
+    from loops_of import check, emulator, images, making
+
+    def without(pattern: str) -> object:
+        return lambda *given: re.sub(pattern, "", images.image_text(*given))
+
+    yield "no mistake", None if (said := answer_of(PROGRAMS / "lines.c", "lines.c:18", folder)).startswith("same") else said
+    for what, pattern, source, line in (("no thread pointer", r"(?m)^reg 4 .*\n", "lines.c", "lines.c:25"), ("no first iteration", r"(?m)^reg 6 .*\n", "small.c", "small.c:13"),
+                                        ("no stack", r"(?m)^reg 5 .*\n", "forms.c", "forms.c:34"), ("a word of the heap", r"(?m)^at 00010[5-9].*\n", "small.c", "small.c:13")):
+        said = patched(making, "image_text", without(pattern), source, line, folder)
+        yield f"an image with {what}", None if said.startswith("DIFFERENT") else said
+    said = patched(emulator.Window, "left", lambda _: None, "small.c", "small.c:13", folder)
+    yield "an emulator that doesn't hear the end", None if said.startswith("the program ends within it") else said
+    said = patched(making, "check_program", lambda plain, other: (plain.saved.clear(), check.check_program(plain, other)), "forms.c", "forms.c:109", folder)
+    yield "what setjmp saved, compared", None if said.startswith("WRONG other values at the program's end in back+") else said
+
+
+def wrong_passes(folder: Path) -> Iterator[Check]:
+    """Loads that are joined before loops are rotated carry a value around the loop; without marks of where arrays live none is an iteration's own."""
+    from loops_of import build
+    for name, other, line, right in (("BEFORE", build.BEFORE.replace("sroa,", "sroa,early-cse<memssa>,"), 32, "computed i"), ("FRONT", build.FRONT[3:], 34, "own tmp")):
+        was = getattr(build, name)
+        told = []
+        for value in (was, other):
+            setattr(build, name, value)
+            source = PROGRAMS / ("lines.c" if name == "BEFORE" else "forms.c")
+            builder = build.Builder([source], [], build.Layout(65_536, 65_536), folder, build.kit_of())
+            told += [" | ".join(loop.told.text() for loop in builder.loops if loop.line == f"{source.name}:{line}")]
+        setattr(build, name, was)
+        yield f"another {name}", None if right in told[0] and told[0] != told[1] else f"got {told}"
 
 
 def furnished(folder: Path, command: list[str]) -> None:
@@ -126,6 +260,13 @@ def checks(folder: Path) -> Iterator[Check]:
     yield from listings()
     yield from natives(folder)
     yield from same(folder)
+    yield from random_programs(folder)
+    yield from refusals(folder)
+    yield from requests(folder)
+    yield from names()
+    yield from wrong_plugins(folder)
+    yield from wrong_passes(folder)
+    yield from wrong_images(folder)
 
 
 def main() -> int:

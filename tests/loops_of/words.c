@@ -16,6 +16,7 @@ int main(int argc, char **argv)
         inside = now;
     }
     printf("%d\n", words);
+    fflush(stdout);
     if (words < least) abort();
     return words == 3;
 }

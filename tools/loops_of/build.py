@@ -260,7 +260,7 @@ class Layout:
 class Unit:
     """A source, in LLVM's form."""
 
-    def __init__(self, source: Path, number: int, flags: list[str], builder: "Builder"):
+    def __init__(self, source: Path, number: int, flags: list[str], builder: "Builder") -> None:
         self.source, self.number, self.builder, self.first_mark = source, number, builder, 0
         self.ready = self.path("ready.bc")
         raw = self.path("bc")
@@ -302,7 +302,7 @@ class Unit:
 class Builder:
     """A program's units, and what is linked of them: one is transformed at a time, and the others are compiled once."""
 
-    def __init__(self, sources: list[Path], flags: list[str], layout: Layout, folder: Path, kit: Kit):
+    def __init__(self, sources: list[Path], flags: list[str], layout: Layout, folder: Path, kit: Kit) -> None:
         self.folder, self.kit, self.layout = folder, kit, layout
         for source in sources:
             if not source.is_file():

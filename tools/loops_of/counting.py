@@ -45,7 +45,7 @@ class Iterations(ctypes.Structure):
 class Counted:
     """What was counted of a loop."""
 
-    def __init__(self, steps: Steps):
+    def __init__(self, steps: Steps) -> None:
         self.iterated = Iterations(ctypes.pointer(steps))
         self.entries = self.steps = 0
         self.system: str | None = None      # why it can't be an image, where it calls the system
@@ -67,7 +67,7 @@ class Active:
 class Counting(Run):
     """A run of a program with marks."""
 
-    def __init__(self, program: Linked, given: Given, loops: int, kit: Kit):
+    def __init__(self, program: Linked, given: Given, loops: int, kit: Kit) -> None:
         super().__init__(program, given)
         self.library = ctypes.CDLL(str(kit.steps))
         self.library.loops_now.restype = ctypes.c_uint64

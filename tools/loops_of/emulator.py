@@ -35,9 +35,11 @@ class Given:
 class Run:
     """A program that runs; hooks are there from the start, since Unicorn keeps what it has translated and doesn't hear one that comes later."""
 
-    def __init__(self, program: Linked, given: Given):
+    def __init__(self, program: Linked, given: Given) -> None:
         self.program, self.given = program, given
-        self.output, self.status, self.failed, self.read = bytearray(), None, None, 0
+        self.output, self.read = bytearray(), 0
+        self.status: int | None = None
+        self.failed: Exception | None = None
         self.saved: set[int] = set()                        # where setjmp saved registers
         self.guard, self.high = program.at("loops_guard"), program.at("loops_stack_end")
         self.machine = unicorn.Uc(unicorn.UC_ARCH_RISCV, unicorn.UC_MODE_RISCV32)
@@ -98,7 +100,7 @@ class Run:
     def called(self, machine: object, cause: int, _: object) -> None:
         """A call of the system, or what a processor stops at."""
         if cause not in (FROM_USER, FROM_MACHINE):
-            self.stop(f"exception {cause} at {self.place(self.pc())}")
+            self.stop(Unusable(f"the program faults: cause {cause}, at {self.place(self.pc())}"))
             return
         self.before_call()
         what, given = self.register(17), self.register(10)
@@ -114,7 +116,8 @@ class Run:
     def before_call(self) -> None:
         """What a kind of run does before a call of the system."""
 
-    def stop(self, why: str) -> None:
+    def stop(self, why: Exception) -> None:
+        """Stops the run, which then fails. (Nothing can be raised from within a hook.)"""
         self.failed = self.failed or why
         self.machine.emu_stop()
 
@@ -137,7 +140,7 @@ class Run:
                 raise Unusable(stack_ran_out(self.given.stack)) from None
             raise Unusable(f"the program faults: {wrong}, at {self.place(self.pc())}") from None
         if self.failed:
-            raise Unusable(self.failed)
+            raise self.failed
 
     def whole(self) -> "Run":
         """Runs the whole program."""
@@ -151,7 +154,7 @@ class Run:
 class Entries(Run):
     """A run of a program with one loop outlined: how many iterations each entry has."""
 
-    def __init__(self, program: Linked, given: Given):
+    def __init__(self, program: Linked, given: Given) -> None:
         super().__init__(program, given)
         self.iterations: list[int] = []
         self.hook("loops_drive", self.entered)
@@ -161,7 +164,7 @@ class Entries(Run):
 
     def entered(self) -> None:
         if self.inside:
-            self.stop(CAME_AGAIN)
+            self.stop(Refused(CAME_AGAIN))
         self.inside = True
         self.iterations.append(0)
 
@@ -182,7 +185,7 @@ class Block:
 class Window(Entries):
     """A run to an entry into the loop and one of its iterations, and on for so many."""
 
-    def __init__(self, program: Linked, given: Given, entry: int, first: int, count: int):
+    def __init__(self, program: Linked, given: Given, entry: int, first: int, count: int) -> None:
         self.wanted, self.first, self.count = entry, first, count
         self.memory = self.after = None
         self.registers: list[int] = []
@@ -239,22 +242,17 @@ class Window(Entries):
 
     def before_call(self) -> None:
         if self.memory and self.after is None:
-            self.stop("system")
+            self.stop(Refused(self.calling() or ENDS_WITHIN))
 
     def run(self) -> "Window":
         """Runs to the end of the window."""
-        try:
-            self.start()
-        except Unusable:
-            if self.failed != "system":
-                raise
-            raise Refused(self.calling()) from None
+        self.start()
         if self.after is None:
             raise Refused(ENDS_WITHIN)
         return self
 
-    def calling(self) -> str:
-        """The line in the loop that led to a call of the system."""
+    def calling(self) -> str | None:
+        """Why a call of the system ends the window: the line in the loop that led to it. None where the loop was left without its end being seen."""
         body = self.program.range_of("loops_body")
         inside = [pc for pc in self.returns(self.registers[2]) if pc in body]
-        return system_call(self.program.line(inside[-1]) if inside else "?")
+        return system_call(self.program.line(inside[-1])) if inside else None

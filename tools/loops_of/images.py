@@ -94,7 +94,7 @@ def remarks(program: Linked, loop: Loop, wanted: Wanted, window: Window) -> list
         told.append(f"The epochs are its iterations from {wanted.first} on, {wanted.count} of them.")
     told += [loop.told.text()] if loop.told.text() else []
     lines = [f"# {one}" for one in told] + ["# Variables, each with its address and its bytes:"]
-    lines += [f"# {name} {address:08x} {length}" for address, name, length in program.variables() if length]
+    lines += [f"# {name} {address:08x} {length}" for address, name, length in program.variables(program.at("loops_thread")) if length]
     lines += [f"# {name} {address:08x} {length}" for address, name, length in frames(program, loop, window)]
     lines += [f"# malloc:{block.line} {address:08x} {block.length}" for address, block in sorted(window.blocks.items()) if block.length]
     # lines of loads and stores: what conflicts are told of; those of all instructions would be most of the text

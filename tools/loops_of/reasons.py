@@ -15,7 +15,7 @@ class Otherwise(Exception):
 
 NOT_ENTERED = "this run doesn't enter it"
 ENDS_WITHIN = "the program ends within it, or leaves it by longjmp"
-CAME_AGAIN = "main is called again within it, by another source"
+CAME_AGAIN = "it is entered again from within, as where another source calls main"
 
 
 def system_call(place: str) -> str:

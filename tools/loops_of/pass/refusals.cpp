@@ -34,13 +34,15 @@ Reason refusalOfCall(const CallBase &Call) {
   return std::nullopt;
 }
 
+bool isAtomicCall(const CallBase &Call) { return Call.getCalledFunction() && Call.getCalledFunction()->getName().startswith("__atomic_"); }
+
 Reason refusalOfInstruction(const Instruction &I) {
+  auto *Call = dyn_cast<CallBase>(&I);
   if (isa<AllocaInst>(I)) return "takes memory of the stack whose size or number isn't fixed (alloca, an array of variable length)";
   if (isa<VAArgInst>(I)) return "takes an argument of a variable number of them (va_arg)";
-  if (I.isAtomic()) return "an atomic access, and epochs are ordered without";
+  if (I.isAtomic() || (Call && isAtomicCall(*Call))) return "an atomic access, and epochs are ordered without";
   if (I.getType()->isTokenTy()) return "a value that can't be in memory";
-  if (auto *Call = dyn_cast<CallBase>(&I)) return refusalOfCall(*Call);
-  return std::nullopt;
+  return Call ? refusalOfCall(*Call) : std::nullopt;
 }
 
 Reason refusalOfBlock(const BasicBlock &Block) {
@@ -50,7 +52,12 @@ Reason refusalOfBlock(const BasicBlock &Block) {
   return std::nullopt;
 }
 
-std::string told(const Instruction &I, const char *Why) { return placeOf(I) + ": " + Why; }
+// PLACE: REASON; the place is the instruction's, or else that of its block or its loop.
+std::string told(const Loop &L, const Instruction &I, const char *Why) {
+  std::string Place = placeOf(I);
+  if (Place == "?") Place = placeOf(I.getParent()->front());
+  return (Place == "?" ? placeOf(L) : Place) + ": " + Why;
+}
 
 bool callsOthers(const Loop &L) {
   for (const BasicBlock *Block : L.blocks())
@@ -63,9 +70,9 @@ bool callsOthers(const Loop &L) {
 
 std::optional<std::string> refusalOf(const Loop &L) {
   for (const BasicBlock *Block : L.blocks()) {
-    if (Reason Why = refusalOfBlock(*Block)) return told(*Block->getTerminator(), *Why);
+    if (Reason Why = refusalOfBlock(*Block)) return told(L, *Block->getTerminator(), *Why);
     for (const Instruction &I : *Block)
-      if (Reason Why = refusalOfInstruction(I)) return told(I, *Why);
+      if (Reason Why = refusalOfInstruction(I)) return told(L, I, *Why);
   }
   if (!L.isLoopSimplifyForm()) return placeOf(L) + ": has no single entry, or exits that others share (a computed goto)";
   return std::nullopt;

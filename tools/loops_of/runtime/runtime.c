@@ -48,6 +48,25 @@ long write(int file, const void *from, unsigned count)
 /* Time stands still, so that two runs are the same. */
 int gettimeofday(void *to, void *zone) { (void)zone; for (int i = 0; to && i < 4; i++) ((int *)to)[i] = 0; return 0; }
 
+/* Atomic accesses, of a program that has one thread. */
+#define FETCH(BYTES, T, NAME, OPERATION) T __atomic_fetch_##NAME##_##BYTES(T *at, T by, int order) { T was = *at; (void)order; *at = was OPERATION by; return was; }
+#define ATOMIC(BYTES, T) \
+    T __atomic_load_##BYTES(T *at, int order) { (void)order; return *at; } \
+    void __atomic_store_##BYTES(T *at, T to, int order) { (void)order; *at = to; } \
+    T __atomic_exchange_##BYTES(T *at, T to, int order) { T was = *at; (void)order; *at = to; return was; } \
+    int __atomic_compare_exchange_##BYTES(T *at, T *expected, T to, int order, int other) \
+    { \
+        T was = *at; int same = was == *expected; \
+        (void)order; (void)other; \
+        *(same ? at : expected) = same ? to : was; \
+        return same; \
+    } \
+    FETCH(BYTES, T, add, +) FETCH(BYTES, T, sub, -) FETCH(BYTES, T, and, &) FETCH(BYTES, T, or, |) FETCH(BYTES, T, xor, ^)
+ATOMIC(1, unsigned char)
+ATOMIC(2, unsigned short)
+ATOMIC(4, unsigned)
+ATOMIC(8, unsigned long long)
+
 extern void (*const __init_array_start[])(void), (*const __init_array_end[])(void);
 int main(int argc, char **argv);
 
