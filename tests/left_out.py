@@ -68,7 +68,7 @@ def packages() -> Results:
         for name in ("env", "python3"):
             Path(folder, name).symlink_to(sys.executable if name == "python3" else shutil.which(name))
         bare = subprocess.run([program], capture_output=True, text=True, env={**os.environ, "PATH": folder}, check=False)
-    right = whole.returncode == bare.returncode == 0 and bare.stdout.startswith("not installed: chromium chromium-driver clang gcc ")
+    right = whole.returncode == bare.returncode == 0 and bare.stdout.startswith("not installed: chromium chromium-driver clang csmith ")
     yield "tests/packages.py", None if right else f"{whole}, {bare}"
     command = bare.stdout.rpartition(". ")[2].split()
     for name in ("README.md", "CONTRIBUTING.md"):

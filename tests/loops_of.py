@@ -21,6 +21,8 @@ from pathlib import Path
 ROOT = Path(__file__).resolve().parent.parent
 sys.path.insert(0, str(ROOT / "tools"))
 PROGRAMS = Path(__file__).with_suffix("")
+EXAMPLES = ROOT / "examples" / "programs"
+SOURCES = [*sorted(PROGRAMS.glob("*.c")), *sorted(EXAMPLES.glob("*.c"))]
 TOOL = ROOT / "tools" / "loops-of"
 SEEDS = (1, 2, 3, 5, 6, 9, 11, 12, 13, 14)                  # of random programs
 Check = tuple[str, str | None]                              # what it shows, and what is wrong or None
@@ -58,7 +60,7 @@ def said_of(listing: str, source: Path) -> dict[str, str]:
 
 
 def listings() -> Iterator[Check]:
-    for source in sorted(PROGRAMS.glob("*.c")):
+    for source in SOURCES:
         expected = expected_of(source)
         if expected:
             out, errors, status = called(source)
@@ -87,9 +89,9 @@ def emulated(source: Path, folder: Path, words: list[str], given: bytes, flags: 
 def natives(folder: Path) -> Iterator[Check]:
     """Programs print and end as those of the native compiler do."""
     if not shutil.which("cc"):
-        print("SKIPPED: output beside the native compiler, since there is no cc")
+        print("left out: output beside the native compiler, since there is no cc")
         return
-    for source, words, given in [*((source, [], b"") for source in sorted(PROGRAMS.glob("*.c"))), (PROGRAMS / "words.c", ["-n", "3"], b"one two\nthree\n\nfour"),
+    for source, words, given in [*((source, [], b"") for source in SOURCES), (PROGRAMS / "words.c", ["-n", "3"], b"one two\nthree\n\nfour"),
                                  (PROGRAMS / "words.c", ["-n", "9"], b"one")]:
         yield f"{source.name} {words} beside cc", differs(emulated(source, folder, words, given), native(source, folder, words, given))
 
@@ -97,7 +99,7 @@ def natives(folder: Path) -> Iterator[Check]:
 def same(folder: Path) -> Iterator[Check]:
     """Each loop's image is `same`, but for those that the program says are refused."""
     from studies.plans import read_plan
-    for source in sorted(PROGRAMS.glob("*.c")):
+    for source in SOURCES:
         expected = {line: "refused" if "refused" in told else "same:" for line, told in expected_of(source).items()}
         if not expected:
             continue
@@ -111,7 +113,7 @@ def same(folder: Path) -> Iterator[Check]:
 def random_programs(folder: Path) -> Iterator[Check]:
     """Programs that csmith makes of fixed seeds: output beside the native compiler's, and no image that is wrong."""
     if not shutil.which("csmith") or not shutil.which("cc"):
-        print("SKIPPED: random programs, since there is no csmith or no cc")
+        print("left out: random programs, since there is no csmith or no cc")
         return
     for seed in SEEDS:
         source = folder / f"random{seed}.c"
@@ -169,6 +171,22 @@ def names() -> Iterator[Check]:
 
 
 # --- Planted mistakes ------------------------------------------------------------
+
+def gains() -> Iterator[Check]:
+    """Plain loops gain what the same loops by hand gain on four cores, within a tenth: but for the list, whose next node is one of the values that go around."""
+    from loops import Programs
+    if not (Programs().folder / "gain").exists():
+        print("left out: the gains of plain loops, since gain wasn't built beside the program that is tested")
+        return
+    source = PROGRAMS / "plain.c"
+    for number, line in enumerate(source.read_text().splitlines(), 1):
+        name = line.partition(" // ")[2]
+        if name:
+            image, errors, _ = called("--version", 1, "--heap", 0, "--stack", 4096, "--loop", f"plain.c:{number}", source)
+            by_hand, plain = ({run.store: run.gain for run in Programs().gain(text, 4).runs if run.cores == 4} for text in ((ROOT / "examples" / f"{name}.image").read_text(), image))
+            far = {store: (gain, by_hand[store]) for store, gain in plain.items() if abs(gain - by_hand[store]) > 0.1 * by_hand[store]}
+            yield f"the gains of {name}", None if bool(far) == (name == "list_walk") and len(plain) == 2 else f"got {far}, {errors}"
+
 
 def answer_of(source: Path, line: str, folder: Path, kit: object = None, plant: object = None) -> str:
     """What is told of a loop, by another plug-in or with a mistake that a function plants in what makes the images."""
@@ -264,6 +282,7 @@ def checks(folder: Path) -> Iterator[Check]:
     yield from refusals(folder)
     yield from requests(folder)
     yield from names()
+    yield from gains()
     yield from wrong_plugins(folder)
     yield from wrong_passes(folder)
     yield from wrong_images(folder)
@@ -273,7 +292,7 @@ def main() -> int:
     command = sys.argv[1:] or [str(ROOT / "trace_cli"), "seq"]
     missing = lacking()
     if missing:
-        print(f"SKIPPED: tools/loops-of, since of Debian's packages there isn't: {missing}")
+        print(f"left out: tools/loops-of, since of Debian's packages there isn't: {missing}")
         return 0
     with tempfile.TemporaryDirectory() as folder, tempfile.TemporaryDirectory() as room:
         furnished(Path(room), command)

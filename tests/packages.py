@@ -12,11 +12,11 @@ from pathlib import Path
 
 # Each package, and what it gives: a program, a module of Debian's Python, or a file.
 PROGRAMS = {
-    "chromium": "chromium", "chromium-driver": "chromedriver", "clang": "clang", "gcc": "cc", "gcc-riscv64-unknown-elf": "riscv64-unknown-elf-gcc", "lld": "ld.lld",
-    "llvm": "llvm-ar", "snakemake": "snakemake",
+    "chromium": "chromium", "chromium-driver": "chromedriver", "clang": "clang", "csmith": "csmith", "g++": "g++", "gcc": "cc",
+    "gcc-riscv64-unknown-elf": "riscv64-unknown-elf-gcc", "lld": "ld.lld", "llvm": "llvm-ar", "snakemake": "snakemake",
 }
 MODULES = {"python3-jsonschema": "jsonschema", "python3-matplotlib": "matplotlib", "python3-pyelftools": "elftools", "python3-selenium": "selenium", "python3-unicorn": "unicorn"}
-FILES = {"picolibc-riscv64-unknown-elf": "/usr/lib/picolibc/riscv64-unknown-elf/lib/rv32i/ilp32/libc.a"}
+FILES = {"llvm-14-dev": "/usr/lib/llvm-14/include/llvm/Pass.h", "picolibc-riscv64-unknown-elf": "/usr/lib/picolibc/riscv64-unknown-elf/lib/rv32i/ilp32/libc.a"}
 DEBIANS = "/usr/bin/python3"
 INSTALL = " ".join(["apt-get", "install", *sorted([*PROGRAMS, *MODULES, *FILES])])
 

@@ -68,6 +68,13 @@ def can_compile() -> bool:
     return done.returncode == 0
 
 
+@functools.cache
+def can_outline() -> bool:
+    """Whether tools/loops-of finds what it needs. It has built its plug-in then."""
+    done = subprocess.run([sys.executable, ROOT / "tools" / "loops-of", ROOT / "examples" / "programs" / "heat.c"], capture_output=True, check=False)
+    return done.returncode == 0
+
+
 def lacks(command: str, found: dict[str, Path]) -> str | None:
     """What a command needs that isn't there, or None."""
     called = [name for name in PROGRAMS if re.search(rf"\./{name}\b", command)]
@@ -80,6 +87,8 @@ def lacks(command: str, found: dict[str, Path]) -> str | None:
         return f"the Python module {module}"
     if "image-of" in command and not can_compile():
         return "what tools/image-of needs"
+    if "loops-of" in command and not can_outline():
+        return "what tools/loops-of needs"
     needed = [COMPILER] if "image-of" in command else ["clang", "ld.lld"] if command.startswith("clang") else []
     return next((one for one in needed if not shutil.which(one)), None)
 

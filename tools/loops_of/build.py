@@ -33,7 +33,7 @@ BEFORE = ("loops-keep,function(sroa,simplifycfg,loop-simplify,lcssa,loop(loop-ro
 PARTS = ("places", "refusals", "carried", "outline", "plugin")
 MEMORY = 1 << 20
 PAGE = 4096
-FIRST_DATA, SPARE = 0x10000, 0x2000         # where variables begin, and how much longer the code may become by a loop that is outlined
+SPARE = 4096                                # how much longer the code may become by a loop that is outlined, before the variables move up
 
 
 def run(*words: object, why: type[Exception] = Unusable) -> str:
@@ -254,7 +254,7 @@ class Layout:
     """How much memory a program has."""
     heap: int
     stack: int
-    data: int = FIRST_DATA                  # where its variables begin, in all builds
+    data: int = 0                           # where its variables begin, in all builds that are compared
 
 
 class Unit:
@@ -346,11 +346,7 @@ class Builder:
 
     def plain(self) -> Linked:
         """The program as it is."""
-        program = self.placed([unit.object for unit in self.units], "plain", Unusable)
-        if program.at("loops_constants_end") + SPARE > self.layout.data:
-            self.layout.data += SPARE
-            program = self.placed([unit.object for unit in self.units], "plain", Unusable)
-        return program
+        return self.placed([unit.object for unit in self.units], "plain", Unusable)
 
     def counted(self) -> Linked:
         """The program with marks at its loops, which are numbered from 0 through all units."""

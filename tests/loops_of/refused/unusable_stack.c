@@ -1,4 +1,4 @@
-//! the program's stack ran out; --stack takes more than 65536
+//! the program's stack ran out; --stack takes more than 131072
 int down(int n, char *up)
 {
     char c[1000];
@@ -9,6 +9,6 @@ int main(void)
 {
     char c[8] = "abc";
     int s = 0;
-    for (int i = 0; i < 3; i++) s += down(100, c);
+    for (int i = 0; i < 3; i++) s += down(200, c);
     return s & 1;
 }

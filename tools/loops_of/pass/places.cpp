@@ -29,8 +29,8 @@ std::string variableOf(StringRef Name) {
 }
 
 std::string functionOf(const Function &F) {
-  std::string Made;
-  for (char C : StringRef(demangle(F.getName().str())).take_until([](char C) { return C == '('; }))
+  std::string Name = demangle(F.getName().str()), Made;
+  for (char C : StringRef(Name).take_until([](char C) { return C == '('; }))
     if (C != ' ') Made += C;
   return Made;
 }
