@@ -16,7 +16,8 @@ TOKEN = re.compile(r"[^\s(){}\[\],;⟨⟩\"]+")
 PARTS = re.compile(r"::|[.◌]")
 KINDS = r"(?:(?:pub|abbrev|unfoldable|private|opaque|data|record|codata) +)*"
 HEAD = re.compile(rf"{KINDS}([^\s(){{}}:=,;]+)")
-IN_MODULE = re.compile(rf"  {KINDS}([^\s(){{}}:=,;]+) :")
+IN_MODULE = re.compile(rf" *{KINDS}([^\s(){{}}:=,;]+) :")
+MODULE = re.compile(r" *module\b")
 IMPORT = re.compile(r"(?:pub )?(?:use|mod)\b")
 DIRECTIVE = re.compile(r"(?:infix\w*|syntax|open|#)")
 OF_FUNCTIONS = ("Answers.antt", "Invariants.antt", "Proof.antt")
@@ -44,20 +45,22 @@ def without_remark(line: str, mark: str) -> str:
 
 
 def definitions_of(file: Path, roots: set[str]) -> list[Definition]:
-    """The definitions of a file, in order; what stands outside of each goes to the roots."""
+    """The definitions of a file, in order; what stands outside of each goes to the roots. Those of a module stand two columns further in."""
     found: dict[str, Definition] = {}
-    current, in_module = None, False
+    current, margins = None, [0]
     for number, whole in enumerate(file.read_text(encoding="utf-8").split("\n"), 1):
         line = without_remark(whole, "--")
         if not line or IMPORT.match(line):
             continue
-        if line[0] not in " )}]":
-            in_module = line.startswith("module")
-            outside = in_module or DIRECTIVE.match(line)
-            head = None if outside else HEAD.match(line)
-            current = found.setdefault(head[1], Definition(file, head[1], number)) if head else None
-        elif in_module and (head := IN_MODULE.match(line)):
-            current = found.setdefault(head[1], Definition(file, head[1], number))
+        column = len(line) - len(line.lstrip())
+        while column < margins[-1]:
+            margins.pop()
+        if column == margins[-1] and line[column] not in ")}]":
+            if MODULE.match(line):
+                margins.append(column + 2)
+            head = None if MODULE.match(line) or DIRECTIVE.match(line) else (IN_MODULE if column else HEAD).match(line)
+            if head or not column or MODULE.match(line):
+                current = found.setdefault(head[1], Definition(file, head[1], number)) if head else None
         if current:
             current.lines += 1
             current.words |= words_of(line)

@@ -1,10 +1,9 @@
 -- The run of a book that its schedule has made, and a survey with it.
-use Rattle.std.proofs.Common.{◌≡◌, ℕ, ◌+◌, ◌<◌, ◌≤◌, List, [], ◌∷◌, ◌++◌, All, length, get_or, take, Option, Some, None, Result, Err, IfErr, Vec, refl, sym, ap, subst, ◌∙◌, arith}
+use Rattle.std.proofs.Common.{◌≡◌, ℕ, ◌+◌, ◌<◌, List, [], ◌∷◌, ◌++◌, All, length, get_or, take, Option, Some, None, Result, Err, IfErr, Vec, refl, sym, ap, subst, ◌∙◌, arith}
 use Rattle.std.specs.declared.alloc.Global.{Global}
 use Rattle.std.specs.List.{Contains}
 use Rattle.std.proofs.lemmas.List.{get_or-map, length-map, length-take-le, map_push, take_more}
 use Rattle.std.proofs.lemmas.List.Elements.{All-get_or, All-nil, All-push, Contains-get_or}
-use Rattle.std.proofs.lemmas.List.Sums.{count_by-le-length}
 use Rattle.rv32_exec.specs.declared.sequential.End.{End}
 use Rattle.spec_history.specs.Replay.{replay}
 use Rattle.spec_history.proofs.Replay.Replays.{replayed}
@@ -19,7 +18,7 @@ use Rattle.all_schedules.specs.declared.survey.Survey.{Survey}
 use Rattle.all_schedules.specs.Schedules.{lists_of}
 use Rattle.all_schedules.specs.Made.{IsFault, IsMade}
 use Rattle.all_schedules.specs.Adding.{AddsBook}
-use Rattle.all_schedules.specs.Survey.{IsEnd, IsFaultOfOne, IsRun, Run, Surveys, is_over}
+use Rattle.all_schedules.specs.Survey.{IsEnd, IsFaultOfOne, IsRun, Run, Surveys}
 use Rattle.all_schedules.proofs.Every.{lists_of-push}
 use Rattle.all_schedules.proofs.Surveying.{none_surveyed, surveyed_more}
 
@@ -64,10 +63,6 @@ module _ {S : Type 0} (view : S → StoreView) (waits : S → Waits) (l : Loop) 
         sym (length-map so.runs (λ (run : Run). run.schedule))
         ∙ (ap length so.schedules_are
         ∙ (length-map (take i schedules) (λ (v : Vec ℕ Global). v.items) ∙ length-take-le i schedules (omega (arith, below))))
-
-    -- no more of them are over than there are
-    pub few_over : old.over ≤ i
-    few_over = omega (arith, so.come_to.over, count_by-le-length is_over so.runs, runs_so_far)
 
     -- a schedule more
     pub surveys_more : (d : Vec ℕ Global) (schedule : List ℕ) (b : BookView S) (new : Survey) → schedule ≡ (get_or schedules i d).items → IsMade view waits l schedule b

@@ -2,15 +2,6 @@
 use Rattle.std.proofs.Common.{◌≡◌, ◌++◌, ◌∙◌, ℕ, List, [], ◌∷◌, append_assoc, ap, refl, Result, Ok, Err, OnOk, is_ok, cond}
 use Rattle.std.specs.List.{flat_map}
 
--- the line of the total, part by part
-pub total_parts : (text first second third fourth fifth new a b c d u s r e : List ℕ) → first ≡ text ++ (a ++ b) → second ≡ first ++ (c ++ d) → third ≡ second ++ u
-    → fourth ≡ third ++ s → fifth ≡ fourth ++ r → new ≡ fifth ++ e → new ≡ text ++ (a ++ b ++ c ++ d ++ u ++ s ++ r ++ e)
-total_parts text first second third fourth fifth new a b c d u s r e one two three four five is = is ∙ rw (five, four, three, two, one) (simp append_assoc)
-
--- the line of an epoch, part by part
-pub epoch_parts : (text first second new a b s e : List ℕ) → first ≡ text ++ (a ++ b) → second ≡ first ++ s → new ≡ second ++ e → new ≡ text ++ (a ++ b ++ s ++ e)
-epoch_parts text first second new a b s e one two is = is ∙ rw (two, one) (simp append_assoc)
-
 -- the lines of the same list, told in two ways
 pub same_lines : {X : Type 0} (f g : X → List ℕ) → ((x : X) → f x ≡ g x) → (xs : List X) → flat_map f xs ≡ flat_map g xs
 same_lines f g each [] = refl

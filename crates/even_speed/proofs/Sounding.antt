@@ -1,6 +1,8 @@
 -- What a turn, a wake and the end of the run keep of a clock.
-use Rattle.std.proofs.Common.{◌≡◌, ℕ, ◌+◌, ◌-◌, ◌*◌, ◌≤◌, Bool, true, false, List, length, Some, refl, ap, subst, sym, ◌∙◌, arith, add-one}
+use Rattle.std.proofs.Common.{◌≡◌, ℕ, ◌+◌, ◌-◌, ◌*◌, ◌<◌, ◌≤◌, Bool, true, false, cond, ◌==◌, List, length, Some, refl, ap, subst, sym, ◌∙◌, arith, add-one}
 use Rattle.std.proofs.lemmas.Option.{same_Some}
+use Rattle.homefree.specs.declared.answer.Answer.{Answer}
+use Rattle.homefree.specs.declared.answer.Answer.TheVariants.{Go, Again, Left, Over, Stopped}
 use Rattle.homefree.specs.declared.answer.Cause.{Cause}
 use Rattle.homefree.specs.declared.answer.Cause.TheVariants.{NoEpoch, NotHomefree, NoWay, OrbFull, OrbBusy}
 use Rattle.even_speed.specs.declared.account.Account.{Account}
@@ -9,7 +11,7 @@ use Rattle.even_speed.specs.declared.clock.Next.{Next}
 use Rattle.even_speed.specs.declared.clock.Next.TheVariants.{Due, Waits, Gone}
 use Rattle.even_speed.specs.Account.{no_steps, steps_of, sum_of, with_waited}
 use Rattle.even_speed.specs.declared.clocks.Turn.{Turn}
-use Rattle.even_speed.specs.Clocks.{IsFirst, account_of, begun, clock_at, closed, dropped, due_of, ended, first_clock, woken, woken_from}
+use Rattle.even_speed.specs.Clocks.{IsFirst, account_of, answered, begun, clock_at, closed, dropped, due_of, ended, first_clock, waits_for, woken, woken_from}
 use Rattle.even_speed.specs.Kept.{AreSound, IsWaitBefore, MayWake, IsDueBy, IsSound, IsSoundNext, told}
 
 pub first_sound : IsSound 0 first_clock
@@ -17,10 +19,25 @@ first_sound = record { whole = refl; so_far = omega arith; next = (omega arith, 
 
 -- ---- time passes
 
+later_next : (now t told : ℕ) (n : Next) → now ≤ t → ((at : ℕ) → due_of n ≡ Some at → t ≤ at) → IsSoundNext now told n → IsSoundNext t told n
+later_next now t told (Due at) passes least s = (least at refl, s.1)
+later_next now t told (Waits since cause) passes least s = (omega (arith, passes, s.0), s.1)
+later_next now t told Gone passes least s = tt
+
+pub sound_later : (now t : ℕ) (c : Clock) → now ≤ t → ((at : ℕ) → due_of c.next ≡ Some at → t ≤ at) → IsSound now c → IsSound t c
+sound_later now t c passes least s = record {
+  whole = s.whole;
+  so_far = omega (arith, passes, s.so_far);
+  next = later_next now t (told c) c.next passes least s.next;
+}
+
 told_by : (t told : ℕ) (n : Next) → due_of n ≡ Some t → IsSoundNext t told n → told ≤ t
 told_by t told (Due at) due s = omega (arith, same_Some at t due, s.1)
 told_by t told (Waits since cause) due s = omega (arith, s.0, s.1)
 told_by t told Gone due s = absurd cc
+
+pub told_due : (t : ℕ) (c : Clock) → due_of c.next ≡ Some t → IsSound t c → told c ≤ t
+told_due t c due s = told_by t (told c) c.next due s.next
 
 -- ---- a wake
 
@@ -39,6 +56,9 @@ woken_next t c (Waits since cause) whole so_far s is = record {
   next = (omega arith, omega (arith, so_far, s.0, s.1));
 }
 woken_next t c Gone whole so_far s is = record { whole = whole; so_far = so_far; next = subst (IsSoundNext t (told c)) (sym is) s }
+
+pub woken_sound : (t : ℕ) (c : Clock) → IsSound t c → IsSound t (woken t c)
+woken_sound t c s = woken_next t c c.next s.whole s.so_far s.next refl
 
 may_next : (t told : ℕ) (n : Next) → IsSoundNext t told n → IsWaitBefore t n
 may_next t told (Due at) s = tt
@@ -108,6 +128,43 @@ ended_by : (t : ℕ) (c : Clock) (n : Next) (runs : Bool) → c.runs ≡ runs �
 ended_by t c n true is whole before s = rw is (record { whole = omega (arith, whole, before); so_far = omega arith; next = s })
 ended_by t c n false is whole before s = rw is (record { whole = omega (arith, whole, before); so_far = omega arith; next = s })
 
+waits_by : (t : ℕ) (c : Clock) (cause : Cause) → steps_of c.account ≡ told c → told c ≤ t → IsSound t (waits_for cause t c)
+waits_by t c NoEpoch whole before = record { whole = whole; so_far = omega (arith, before); next = tt }
+waits_by t c NotHomefree whole before = record { whole = whole; so_far = omega (arith, before); next = (omega arith, before) }
+waits_by t c NoWay whole before = record { whole = whole; so_far = omega (arith, before); next = (omega arith, before) }
+waits_by t c OrbFull whole before = record { whole = whole; so_far = omega (arith, before); next = (omega arith, before) }
+waits_by t c OrbBusy whole before = record { whole = whole; so_far = omega (arith, before); next = (omega arith, before) }
+
+pub answered_sound : (t : ℕ) (restarted : Bool) (executed : ℕ) (answer : Answer) (c : Clock) → IsSound t c → told c ≤ t
+    → IsSound t (answered t restarted executed answer c)
+answered_sound t restarted executed (Go hart) c s before = begun_by t (t + 1 + executed) c c.runs restarted refl s.whole before (omega arith)
+answered_sound t restarted executed (Again cause) c s before = waits_by t c cause s.whole before
+answered_sound t restarted executed Left c s before = ended_by t c (Due (t + 1)) c.runs refl s.whole before (omega arith, omega arith)
+answered_sound t restarted executed (Over end) c s before = ended_by t c Gone c.runs refl s.whole before tt
+answered_sound t restarted executed (Stopped cause) c s before = s
+
+-- ---- bounds
+
+woken_due : (bound t : ℕ) (c : Clock) (n : Next) → t ≤ bound → IsDueBy bound c.next → IsDueBy bound (woken_from n t c).next
+woken_due bound t c (Due at) by b = b
+woken_due bound t c (Waits since cause) by b = by
+woken_due bound t c Gone by b = b
+
+pub woken_bound : (bound t : ℕ) (c : Clock) → t ≤ bound → IsDueBy bound c.next → IsDueBy bound (woken t c).next
+woken_bound bound t c by b = woken_due bound t c c.next by b
+
+pub answered_bound : (bound t : ℕ) (restarted : Bool) (executed : ℕ) (answer : Answer) (c : Clock) → t + 1 + executed ≤ bound → IsDueBy bound c.next
+    → IsDueBy bound (answered t restarted executed answer c).next
+answered_bound bound t restarted executed (Go hart) c by b = by
+answered_bound bound t restarted executed (Again NoEpoch) c by b = tt
+answered_bound bound t restarted executed (Again NotHomefree) c by b = omega (arith, by)
+answered_bound bound t restarted executed (Again NoWay) c by b = omega (arith, by)
+answered_bound bound t restarted executed (Again OrbFull) c by b = omega (arith, by)
+answered_bound bound t restarted executed (Again OrbBusy) c by b = omega (arith, by)
+answered_bound bound t restarted executed Left c by b = omega (arith, by)
+answered_bound bound t restarted executed (Over end) c by b = tt
+answered_bound bound t restarted executed (Stopped cause) c by b = b
+
 -- ---- the account of all cores
 
 pub account_of-none : (end : ℕ) (clocks : ℕ → Clock) → account_of end clocks 0 ≡ no_steps
@@ -131,6 +188,9 @@ whole_more end n sum more new whole told grown = ap steps_of grown ∙ (steps_of
 
 -- ---- the clocks of all cores
 
+one_back : (n : ℕ) → n ≡ n + 1 - 1
+one_back n = omega arith
+
 pub all_first : (cores : ℕ) (clocks : List Clock) → length clocks ≡ cores → cores ≤ 16 → ((k : ℕ) → clock_at clocks k ≡ first_clock) → AreSound 0 cores clocks
 all_first cores clocks count few first = record {
   count = count;
@@ -143,6 +203,14 @@ all_first cores clocks count few first = record {
 
 -- where a turn is due first, all are sound at its time
 module _ (taken cores : ℕ) (clocks : List Clock) (a : AreSound taken cores clocks) (t : Turn) (first : IsFirst (clock_at clocks) cores t) where
+  due_by : (bound : ℕ) (n : Next) → due_of n ≡ Some t.at → IsDueBy bound n → t.at ≤ bound
+  due_by bound (Due at) due b = omega (arith, same_Some at t.at due, b)
+  due_by bound (Waits since cause) due b = absurd cc
+  due_by bound Gone due b = absurd cc
+
+  pub by_bound : t.at ≤ taken * 1000003
+  by_bound = due_by (taken * 1000003) (clock_at clocks t.core).next first.due (a.due t.core first.core)
+
   now_by : (n : Next) (told : ℕ) → due_of n ≡ Some t.at → IsSoundNext a.now told n → a.now ≤ t.at
   now_by (Due at) told due s = omega (arith, same_Some at t.at due, s.0)
   now_by (Waits since cause) told due s = absurd cc
@@ -150,3 +218,60 @@ module _ (taken cores : ℕ) (clocks : List Clock) (a : AreSound taken cores clo
 
   passes : a.now ≤ t.at
   passes = now_by (clock_at clocks t.core).next (told (clock_at clocks t.core)) first.due (a.each t.core first.core).next
+
+  pub sound_at : (k : ℕ) → k < cores → IsSound t.at (clock_at clocks k)
+  sound_at k below = sound_later a.now t.at (clock_at clocks k) passes (λ at due. first.least k at below due) (a.each k below)
+
+  pub told_at : told (clock_at clocks t.core) ≤ t.at
+  told_at = told_due t.at (clock_at clocks t.core) first.due (sound_at t.core first.core)
+
+  -- the clocks after the turn
+  module _ (restarted : Bool) (executed : ℕ) (answer : Answer) (few : executed ≤ 1000001) (clocks' : List Clock) (count : length clocks' ≡ length clocks)
+      (each : (k : ℕ) → clock_at clocks' k ≡ cond (k == t.core) (answered t.at restarted executed answer (clock_at clocks t.core)) (clock_at clocks k)) where
+    turned_by : (k : ℕ) (here : Bool) → (k == t.core) ≡ here → k < cores
+        → IsSound t.at (cond here (answered t.at restarted executed answer (clock_at clocks t.core)) (clock_at clocks k))
+    turned_by k true is below = answered_sound t.at restarted executed answer (clock_at clocks t.core) (sound_at t.core first.core) told_at
+    turned_by k false is below = sound_at k below
+
+    turned_each : (k : ℕ) → k < cores → IsSound t.at (clock_at clocks' k)
+    turned_each k below = subst (IsSound t.at) (sym (each k)) (turned_by k (k == t.core) refl below)
+
+    pub turned_all : (k : ℕ) → k < length clocks' → IsSound t.at (clock_at clocks' k)
+    turned_all k below = turned_each k (subst (λ n. k < n) (count ∙ a.count) below)
+
+    -- the same, where the run is over
+    pub turned_end : (k : ℕ) → k < length clocks' → IsSound (t.at + 1 - 1) (clock_at clocks' k)
+    turned_end k below = subst (λ n. IsSound n (clock_at clocks' k)) (one_back t.at) (turned_all k below)
+
+    due_more : (n : Next) → IsDueBy (taken * 1000003) n → IsDueBy ((taken + 1) * 1000003) n
+    due_more (Due at) b = omega (arith, b)
+    due_more (Waits since cause) b = omega (arith, b)
+    due_more Gone b = tt
+
+    bound_by : (k : ℕ) (here : Bool) → (k == t.core) ≡ here → k < cores
+        → IsDueBy ((taken + 1) * 1000003) (cond here (answered t.at restarted executed answer (clock_at clocks t.core)) (clock_at clocks k)).next
+    bound_by k true is below =
+        answered_bound ((taken + 1) * 1000003) t.at restarted executed answer (clock_at clocks t.core) (omega (arith, few, by_bound))
+        (due_more (clock_at clocks t.core).next (a.due t.core first.core))
+    bound_by k false is below = due_more (clock_at clocks k).next (a.due k below)
+
+    pub turned_sound : AreSound (taken + 1) cores clocks'
+    turned_sound = record {
+      count = count ∙ a.count;
+      few = a.few;
+      now = t.at;
+      each = turned_each;
+      due = λ k below. subst (λ (c : Clock). IsDueBy ((taken + 1) * 1000003) c.next) (sym (each k)) (bound_by k (k == t.core) refl below);
+      soon = omega (arith, by_bound);
+    }
+
+    pub woken_all : (clocks'' : List Clock) → length clocks'' ≡ length clocks' → ((k : ℕ) → clock_at clocks'' k ≡ woken t.at (clock_at clocks' k)) → AreSound (taken + 1) cores clocks''
+    woken_all clocks'' long are = record {
+      count = long ∙ (count ∙ a.count);
+      few = a.few;
+      now = t.at;
+      each = λ k below. subst (IsSound t.at) (sym (are k)) (woken_sound t.at (clock_at clocks' k) (turned_each k below));
+      due = λ k below. subst (λ (c : Clock). IsDueBy ((taken + 1) * 1000003) c.next) (sym (are k))
+          (woken_bound ((taken + 1) * 1000003) t.at (clock_at clocks' k) (omega (arith, by_bound)) (turned_sound.due k below));
+      soon = omega (arith, by_bound);
+    }
