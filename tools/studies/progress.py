@@ -5,7 +5,7 @@ import time
 from pathlib import Path
 
 # On a terminal the line is written anew each second; elsewhere there is a line now and then, and none of a study that is over before.
-EACH, NOW_AND_THEN = 1.0, 20.0
+EACH, NOW_AND_THEN = 1.0, 60.0
 
 
 def clock(seconds: float) -> str:
