@@ -1,6 +1,7 @@
 // The loops of examples/c as they stand in a program: the gains of their images have to be those of the images by hand.
 static const int samples[12] = {21, 17, 35, 4, 8, 35, 60, 2, 11, 59, 7, 3};
 static const unsigned char bytes[16] = {3, 1, 4, 1, 5, 9, 2, 6, 5, 3, 5, 8, 9, 7, 9, 3};
+static const char text[64] = "the quick brown fox jumps over a lazy dog, then fixes the mixer.";
 static const unsigned keys[8] = {0x25, 0x13, 0x45, 0x81, 0x26, 0x7c, 0x2d, 0x93};
 unsigned bins[12] __attribute__((aligned(16)));
 unsigned terms[16] __attribute__((aligned(16))) = {0, 1};
@@ -28,6 +29,7 @@ static void insert(unsigned key)
 int main(void)
 {
     int largest = 0, where = 0;
+    unsigned count = 0, first = 64;
     for (int i = 0; i < 16; i++) bins[bytes[i]] += 1; // histogram
     for (int i = 0; i < 12; i++) if (samples[i] > largest) { largest = samples[i]; where = i; } // maximum
     for (int i = 2; i < 16; i++) terms[i] = terms[i - 1] + terms[i - 2]; // recurrence
@@ -38,5 +40,11 @@ int main(void)
         for (; value != 1; tries++) value = value & 1 ? (value << 1) + value + 1 : value >> 1;
         steps[i] = tries;
     }
-    return largest + where + (terms[15] & 7) + (nodes[3].value & 3);
+    for (unsigned i = 0; i < 64; i += 8) // byte_search
+        for (unsigned place = i; place < i + 8; place++)
+            if (text[place] == 'x') {
+                count += 1;
+                if (place < first) first = place;
+            }
+    return largest + where + (terms[15] & 7) + (nodes[3].value & 3) + count + first;
 }

@@ -116,7 +116,8 @@ def kit_of(folder: Path = TREE / "out" / "loops-of") -> Kit:
     if lacking():
         raise Unusable("not installed, of Debian's packages: " + ", ".join(lacking()))
     sources = sorted([*(HERE / "pass").iterdir(), *(HERE / "runtime").iterdir()])
-    told = hashlib.sha256(b"".join(path.read_bytes() for path in [*sources, *archives()])).hexdigest()
+    stamps = [f"{path} {path.stat().st_size} {path.stat().st_mtime_ns}" for path in archives()]
+    told = hashlib.sha256(b"".join(path.read_bytes() for path in sources) + "".join(stamps).encode()).hexdigest()
     made = Kit(folder / told[:16])
     if not made.plugin.is_file():
         print("loops-of: builds its plug-in for LLVM, once, in a minute", file=sys.stderr)

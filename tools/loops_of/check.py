@@ -7,9 +7,10 @@ from loops import Programs
 from .build import PAGE, Linked, Loop
 from .emulator import Entries, Run, Window
 from .images import LIMIT, Wanted
-from .reasons import Otherwise, Refused, too_long
+from .reasons import Otherwise, Refused, misaligned, too_long
 
-TOO_LONG = 8                                # the cause of a fault: an epoch took more instructions than the limit
+# The machine's causes of faults: a load or a store at no multiple of its size, which Unicorn does; an epoch that takes more instructions than the limit
+MISALIGNED, TOO_LONG = 5, 8
 MOST_NAMED = 4
 
 
@@ -55,9 +56,12 @@ def check_image(text: str, loop: Loop, wanted: Wanted, window: Window) -> int:
     report = Programs().seq(text).report
     if report.ending == "fault" and report.cause == TOO_LONG:
         raise Refused(too_long(loop.line, wanted.first + report.epoch, LIMIT))
+    if report.ending == "fault" and report.cause == MISALIGNED:
+        raise Refused(misaligned(window.program.line(report.pc), wanted.first + report.epoch))
     expected = ("exit", wanted.count - 1) if wanted.whole else ("done", wanted.count)
     if (report.ending, report.epoch) != expected:
-        raise Otherwise(f"DIFFERENT the loop ends by {report.ending} {report.epoch}, and not by {expected[0]} {expected[1]}")
+        cause = f" with cause {report.cause} at {window.program.line(report.pc)}" if report.ending == "fault" else ""
+        raise Otherwise(f"DIFFERENT the loop ends by {report.ending} {report.epoch}{cause}, and not by {expected[0]} {expected[1]}")
     memory = bytearray(window.memory)
     for row in report.rows:
         memory[row.address:row.address + len(row.data)] = row.data

@@ -1,19 +1,34 @@
 """Runs a linked program on Unicorn's RISC-V: as a whole, with its loops counted, or to an entry into a loop and on to where its window ends."""
 
 import ctypes
+import sys
 from collections.abc import Callable
 from dataclasses import dataclass, field
+from pathlib import Path
+from types import ModuleType
 
 from image_of.reasons import Refused as NoUnicorn
 from image_of.setup import unicorn_module
 
 from .build import MEMORY, PAGE, Linked
-from .reasons import CAME_AGAIN, ENDS_WITHIN, Refused, Unusable, stack_ran_out, system_call
+from .reasons import CAME_AGAIN, ENDS_WITHIN, Faults, Refused, Unusable, stack_ran_out, system_call
 
-try:
-    unicorn = unicorn_module()
-except NoUnicorn:
-    unicorn = None
+
+def imported() -> ModuleType | None:
+    """Unicorn, or None. It takes one function of pkg_resources, which takes long to import: another one stands there meanwhile."""
+    stand_in = ModuleType("pkg_resources")
+    stand_in.resource_filename = lambda module, name: str(Path(sys.modules[module].__file__).with_name(name))
+    there = sys.modules.setdefault("pkg_resources", stand_in)
+    try:
+        return unicorn_module()
+    except NoUnicorn:
+        return None
+    finally:
+        if there is stand_in:
+            del sys.modules["pkg_resources"]
+
+
+unicorn = imported()
 
 FILL = 0xA5
 END, PUT, PUT_ERROR, GET = range(4)         # the system's calls, as runtime.c has them
@@ -100,7 +115,7 @@ class Run:
     def called(self, machine: object, cause: int, _: object) -> None:
         """A call of the system, or what a processor stops at."""
         if cause not in (FROM_USER, FROM_MACHINE):
-            self.stop(Unusable(f"the program faults: cause {cause}, at {self.place(self.pc())}"))
+            self.stop(Faults(f"the program faults: cause {cause}, at {self.place(self.pc())}"))
             return
         self.before_call()
         what, given = self.register(17), self.register(10)
@@ -138,7 +153,7 @@ class Run:
         except unicorn.UcError as wrong:
             if self.register(2) < self.guard + 2 * PAGE:
                 raise Unusable(stack_ran_out(self.given.stack)) from None
-            raise Unusable(f"the program faults: {wrong}, at {self.place(self.pc())}") from None
+            raise Faults(f"the program faults: {wrong}, at {self.place(self.pc())}") from None
         if self.failed:
             raise self.failed
 
@@ -237,7 +252,7 @@ class Window(Entries):
     def finish(self) -> None:
         self.after = self.snapshot()
         low, high = self.guard + PAGE, self.registers[2]
-        self.depth = next((high - at for at in range(low, high) if self.after[at] != FILL), 0)
+        self.depth = len(self.after[low:high].lstrip(bytes([FILL])))
         self.machine.emu_stop()
 
     def before_call(self) -> None:

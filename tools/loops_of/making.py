@@ -2,11 +2,11 @@
 
 from dataclasses import dataclass
 
-from .build import Builder, Loop
+from .build import Builder, Linked, Loop
 from .check import check_image, check_program
 from .emulator import Entries, Given, Run, Window
 from .images import MOST_EPOCHS, Wanted, image_text
-from .reasons import NOT_ENTERED, Refused
+from .reasons import NOT_ENTERED, Faults, Otherwise, Refused, Unusable
 
 
 @dataclass
@@ -49,7 +49,15 @@ class Maker:
         if loop.refused:
             raise Refused(loop.refused)
         self.plain_run()
-        program = self.builder.outlined(loop)
+        try:
+            return self.checked(loop, self.builder.outlined(loop))
+        except Faults as why:
+            raise Otherwise(f"WRONG {why}") from None
+        except Unusable as why:     # the unchanged program has run, and with the loop as a function it is slower and has more frames
+            raise Refused(str(why)) from None
+
+    def checked(self, loop: Loop, program: Linked) -> tuple[str, str]:
+        """The same, of a program with the loop outlined."""
         whole = Entries(program, self.given)
         whole.whole()
         check_program(self.plain_run(), whole)

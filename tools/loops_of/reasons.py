@@ -9,6 +9,10 @@ class Unusable(Exception):
     """A program that can't be built or run, or a request that names no loop."""
 
 
+class Faults(Unusable):
+    """A program that does what a processor stops at."""
+
+
 class Otherwise(Exception):
     """A check that failed: the fault is this tool's. The first word is WRONG where the program runs otherwise, and DIFFERENT where the image does."""
 
@@ -24,6 +28,10 @@ def system_call(place: str) -> str:
 
 def too_long(place: str, iteration: int, limit: int) -> str:
     return f"{place}: its iteration {iteration} takes more than {limit} instructions"
+
+
+def misaligned(place: str, iteration: int) -> str:
+    return f"{place}: its iteration {iteration} loads or stores at an address that isn't a multiple of the size, which the machine doesn't"
 
 
 def stack_ran_out(bytes_: int) -> str:

@@ -4,10 +4,12 @@
 #include "llvm/Analysis/ScalarEvolutionExpressions.h"
 #include "llvm/IR/IRBuilder.h"
 #include "llvm/IR/IntrinsicInst.h"
+#include "llvm/IR/PatternMatch.h"
 #include "llvm/Transforms/Utils/BasicBlockUtils.h"
 #include "llvm/Transforms/Utils/ScalarEvolutionExpander.h"
 
 using namespace llvm;
+using namespace llvm::PatternMatch;
 
 namespace loops_of {
 namespace {
@@ -67,6 +69,8 @@ private:
   bool leadsTo(BasicBlock *From, BasicBlock *To) const;
   bool mayKeep(Value *V, unsigned Depth = 0) const;
   Instruction *placeFor(Value *V, Instruction *At) const;
+  bool mayComeThrough(Value *V, SmallPtrSetImpl<Value *> &Seen) const;
+  Instruction *placeUnlessKept(Value *V, Instruction *Place);
   void store(Value *V, Instruction *At);
   void storeOnEdges(PHINode *Join);
   void storeUnder(SelectInst *Choice);
@@ -144,6 +148,34 @@ Instruction *Carried::placeFor(Value *V, Instruction *At) const {
   return isa<PHINode>(I) ? &*I->getParent()->getFirstInsertionPt() : I->getNextNode();
 }
 
+// Whether a value is one of two, of which one is nothing: what a condition becomes that adds.
+bool mayBeNothing(Value *V) {
+  if (auto *Wide = dyn_cast<CastInst>(V)) return Wide->getSrcTy()->isIntegerTy(1);
+  auto *Choice = dyn_cast<SelectInst>(V);
+  return Choice && (match(Choice->getTrueValue(), m_Zero()) || match(Choice->getFalseValue(), m_Zero()));
+}
+
+// Whether a value that comes out of inner loops, or that a condition adds to, may be the one that came in.
+bool Carried::mayComeThrough(Value *V, SmallPtrSetImpl<Value *> &Seen) const {
+  if (V == Load) return true;
+  auto *I = dyn_cast<Instruction>(V);
+  if (!I || !One.L.contains(I) || !Seen.insert(V).second) return false;
+  auto IsKept = [&](Value *In) { return mayComeThrough(In, Seen); };
+  if (isa<PHINode, SelectInst>(I)) return any_of(I->operands(), IsKept);
+  Value *Left, *Right;
+  if (!match(I, m_Add(m_Value(Left), m_Value(Right)))) return false;
+  return (mayBeNothing(Right) && IsKept(Left)) || (mayBeNothing(Left) && IsKept(Right));
+}
+
+// A place for the store to which only another value than that which came in leads, where it isn't seen otherwise which of them it is.
+Instruction *Carried::placeUnlessKept(Value *V, Instruction *Place) {
+  SmallPtrSet<Value *, 16> Seen;
+  if (!V->getType()->isIntOrPtrTy() || !mayComeThrough(V, Seen)) return Place;
+  IRBuilder<> B(Place);
+  Value *Changed = planted(5) ? B.CreateICmpEQ(V, Load) : B.CreateICmpNE(V, Load);
+  return SplitBlockAndInsertIfThen(Changed, Place, false, nullptr, &One.DT, &One.LI);
+}
+
 // Stores the next iteration's value, where it isn't the one that came in.
 void Carried::store(Value *V, Instruction *At) {
   if (V == Load) return;
@@ -152,7 +184,7 @@ void Carried::store(Value *V, Instruction *At) {
     if (auto *Join = dyn_cast<PHINode>(I)) return storeOnEdges(Join);
     return storeUnder(cast<SelectInst>(I));
   }
-  IRBuilder<> B(placeFor(V, At));
+  IRBuilder<> B(placeUnlessKept(V, placeFor(V, At)));
   if (I) B.SetCurrentDebugLocation(I->getDebugLoc());
   Stores.push_back(B.CreateStore(V, Slot));
 }
