@@ -9,13 +9,13 @@
     print(conflicts.total.lost, [pair.kinds.false for pair in conflicts.pairs])
 """
 
-from .conflicts import Access, Conflicts, Violation, read_conflicts
+from .conflicts import Access, Conflicts, Violation, iter_conflicts, read_conflicts
 from .images import Image, Unreadable, read_image
 from .programs import Programs, Stopped, with_trace
-from .runs import Counts, Entry, Output, Report, Survey, Trace, Traced, Verdict, read_output, read_report, read_survey, read_traced, read_verdict
-from .steps import Step, Steps, read_steps
+from .runs import Counts, Entry, Output, Report, Survey, Trace, Traced, Verdict, iter_entries, read_output, read_report, read_survey, read_traced, read_verdict
+from .steps import Step, Steps, iter_steps, read_steps
 
 __all__ = [
     "Access", "Conflicts", "Counts", "Entry", "Image", "Output", "Programs", "Report", "Step", "Steps", "Stopped", "Survey", "Trace", "Traced", "Unreadable", "Verdict",
-    "Violation", "read_conflicts", "read_image", "read_output", "read_report", "read_steps", "read_survey", "read_traced", "read_verdict", "with_trace",
+    "Violation", "iter_conflicts", "iter_entries", "iter_steps", "read_conflicts", "read_image", "read_output", "read_report", "read_steps", "read_survey", "read_traced", "read_verdict", "with_trace",
 ]

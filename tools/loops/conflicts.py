@@ -1,6 +1,7 @@
 """The report of `why`: each violation with its cause and its cost, attempts that ended otherwise, and sums. docs/conflicts.md says what each word means."""
 
 import re
+from collections.abc import Iterable, Iterator
 from dataclasses import dataclass, field
 
 from .images import Unreadable
@@ -247,6 +248,15 @@ class Conflicts:
 
 # --- Reading -----------------------------------------------------------------
 
+# What a line of the report says, and the field of the report that has it.
+Part = Violation | Cancelled | Open | OfEpoch | OfPair | OfLine | OfInstruction | OfKind | Total
+FIELDS: dict[type, str] = {
+    Violation: "violations", Cancelled: "cancelled", Open: "open", OfEpoch: "epochs", OfPair: "pairs", OfLine: "lines", OfInstruction: "instructions", OfKind: "kinds",
+    Total: "total",
+}
+# Lines that stand below that of their violation.
+BELOW = ("also", "later", "vain", "moot")
+
 NUMBER, ADDRESS, OPTIONAL = r"(\d+)", r"([0-9a-f]{8})", r"(\d+|-)"
 ACCESS = r"(?:(\d+) ([0-9a-f]{8})|- -)"
 WHERE = r"at (?:([0-9a-f]{8}) (\d+)|- -)"
@@ -312,41 +322,50 @@ def belongs(violation: Violation, what: str, words: tuple[str, ...]) -> None:
         violation.moot = True
 
 
-def sum_of(report: Conflicts, what: str, words: tuple[str, ...]) -> None:
-    """Takes in a line of sums."""
-    if what == "epoch":
-        report.epochs.append(OfEpoch(*map(int, words)))
-    elif what == "pair":
+def part_of(what: str, words: tuple[str, ...]) -> Part:
+    """What a line says that belongs to no other."""
+    if what == "hurt":
+        return violation_of(words)
+    if what == "pair":
         counts = list(map(int, words[3:14]))
-        report.pairs.append(OfPair(words[0] == "asked", int(words[1], 16), int(words[2], 16), *counts[:2], ByKind(*counts[2:6]), *counts[6:],
-                                   place_of(*words[14:16])))
-    elif what == "line":
+        return OfPair(words[0] == "asked", int(words[1], 16), int(words[2], 16), *counts[:2], ByKind(*counts[2:6]), *counts[6:], place_of(*words[14:16]))
+    if what == "line":
         counts = list(map(int, words[1:]))
-        report.lines.append(OfLine(int(words[0], 16), *counts[:2], ByKind(*counts[2:])))
-    elif what == "pc":
-        report.instructions.append(OfInstruction(int(words[0], 16), *map(int, words[1:])))
-    elif what == "kind":
-        report.kinds.append(OfKind(words[0], int(words[1]), int(words[2])))
-    else:
-        report.total = Total(*map(int, words))
+        return OfLine(int(words[0], 16), *counts[:2], ByKind(*counts[2:]))
+    if what == "pc":
+        return OfInstruction(int(words[0], 16), *map(int, words[1:]))
+    if what == "kind":
+        return OfKind(words[0], int(words[1]), int(words[2]))
+    return {"cancel": Cancelled, "open": Open, "epoch": OfEpoch, "total": Total}[what](*map(int, words))
+
+
+def iter_conflicts(lines: Iterable[str]) -> Iterator[Part]:
+    """What the lines of the report say, one after another; a violation comes with all lines that belong to it."""
+    violation: Violation | None = None
+    for line in lines:
+        what = line.split(" ", 1)[0]
+        match = FORMS[what].fullmatch(line) if what in FORMS else None
+        if match is None or (what in BELOW and violation is None):
+            raise Unreadable(f"{line!r} is no line of the report of why")
+        if what in BELOW:
+            belongs(violation, what, match.groups())
+            continue
+        if violation:
+            yield violation
+        part = part_of(what, match.groups())
+        violation = part if isinstance(part, Violation) else None
+        if not violation:
+            yield part
+    if violation:
+        yield violation
 
 
 def read_conflicts(text: str) -> Conflicts:
     """The report that `why` printed."""
     report = Conflicts()
-    for line in text.splitlines():
-        what = line.split(" ", 1)[0]
-        match = FORMS[what].fullmatch(line) if what in FORMS else None
-        if match is None or (what in ("also", "later", "vain", "moot") and not report.violations):
-            raise Unreadable(f"{line!r} is no line of the report of why")
-        if what == "hurt":
-            report.violations.append(violation_of(match.groups()))
-        elif what in ("also", "later", "vain", "moot"):
-            belongs(report.violations[-1], what, match.groups())
-        elif what == "cancel":
-            report.cancelled.append(Cancelled(*map(int, match.groups())))
-        elif what == "open":
-            report.open.append(Open(*map(int, match.groups())))
+    for part in iter_conflicts(text.splitlines()):
+        if isinstance(part, Total):
+            report.total = part
         else:
-            sum_of(report, what, match.groups())
+            getattr(report, FIELDS[type(part)]).append(part)
     return report

@@ -3,12 +3,13 @@
 import argparse
 import os
 import subprocess
-from collections.abc import Sequence
+import tempfile
+from collections.abc import Iterator, Sequence
 from dataclasses import dataclass, field
 from functools import cache
 from pathlib import Path
 
-from .conflicts import Conflicts, read_conflicts
+from .conflicts import Conflicts, Part, iter_conflicts, read_conflicts
 from .gains import Gains, read_gains
 from .images import Image
 from .runs import Output, Survey, Trace, Traced, Verdict, read_output, read_survey, read_verdict
@@ -79,6 +80,24 @@ def call(program: str | Path, words: list[str], text: str, right: tuple[int, ...
     return done.stdout.decode("ascii")
 
 
+def iter_call(program: str | Path, words: list[str], source: Path, right: tuple[int, ...] = ENDED) -> Iterator[str]:
+    """The lines that a program prints on a file, one after another, without their line feeds. After the last one Stopped as `call` has it."""
+    with tempfile.TemporaryFile() as errors, source.open("rb") as given:
+        try:
+            running = subprocess.Popen([built(program), *words], stdin=given, stdout=subprocess.PIPE, stderr=errors)
+        except OSError as wrong:
+            raise Stopped(127, f"{program}: {wrong.strerror}; LOOPS_PROGRAMS names the folder of the programs\n") from None
+        with running:
+            try:
+                yield from (line.decode("ascii").removesuffix("\n") for line in running.stdout or ())
+            except GeneratorExit:       # its further lines aren't wanted
+                running.kill()
+                raise
+        if running.returncode not in right:
+            errors.seek(0)
+            raise Stopped(running.returncode, text_in(errors.read()))
+
+
 @dataclass
 class Programs:
     """The programs of a folder. An input is an image or its text, as it stands in a file."""
@@ -128,8 +147,15 @@ class Programs:
 
     def steps(self, text: str, store: str, cores: int | None = None) -> Steps:
         """A run turn by turn, with what changed: that of the lines of turns below an image, for so many cores, or of a trace below it."""
-        words = ["steps", store] + ([] if cores is None else [str(cores)])
-        return read_steps(call(self.folder / "replay", words, text))
+        return read_steps(call(self.folder / "replay", steps_words(store, cores), text))
+
+    def step_lines(self, source: Path, store: str, cores: int | None = None) -> Iterator[str]:
+        """The lines of the same, of an input that stands in a file; `iter_steps` reads the turns from them."""
+        return iter_call(self.folder / "replay", steps_words(store, cores), source)
+
+    def iter_why(self, source: Path) -> Iterator[Part]:
+        """What `why` says of a trace that stands in a file, line by line."""
+        return iter_conflicts(iter_call(self.why_command or self.folder / "why", [], source, (0,)))
 
     def gain(self, image: Image | str, cores: int) -> Gains:
         """What the loop gains on up to so many cores."""
@@ -138,6 +164,10 @@ class Programs:
     def replay_all(self, image: Image | str, store: str, cores: int, turns: int) -> Survey:
         """Every schedule of so many turns."""
         return read_survey(call(self.folder / "replay", ["all", store, str(cores), str(turns)], text_of(image), (0,)))
+
+
+def steps_words(store: str, cores: int | None) -> list[str]:
+    return ["steps", store] + ([] if cores is None else [str(cores)])
 
 
 def text_of(given: Image | Traced | str) -> str:

@@ -1,9 +1,12 @@
 """What `seq`, `run` and `replay` print: the report, the counts and the trace; and what `replay all` sums up."""
 
 import re
+from collections.abc import Iterable, Iterator
 from dataclasses import dataclass, field
 
 from .images import Bytes, Image, Unreadable, bytes_of, read_image
+
+HEAD = re.compile(r"trace \d+")
 
 
 @dataclass
@@ -144,15 +147,25 @@ def entry_of(place: int, line: str) -> Entry:
     raise Unreadable(f"{line!r} is no entry")
 
 
+def iter_entries(lines: Iterable[str]) -> Iterator[Entry]:
+    """The entries of the lines below a trace's head, one after another."""
+    kept = (line for line in lines if line and not line.startswith("#"))
+    return (entry_of(place, line) for place, line in enumerate(kept))
+
+
+def cores_of(line: str) -> int | None:
+    """How many cores a trace is of, where the line is its head."""
+    return int(line.split(" ")[1]) if HEAD.fullmatch(line) else None
+
+
 def read_entries(lines: list[str]) -> Trace:
     """The trace of lines of which the first is its head."""
-    kept = [line for line in lines[1:] if line and not line.startswith("#")]
-    return Trace(int(lines[0].split(" ")[1]), [entry_of(place, line) for place, line in enumerate(kept)])
+    return Trace(int(lines[0].split(" ")[1]), list(iter_entries(lines[1:])))
 
 
 def head_of(lines: list[str]) -> int | None:
     """Where the trace begins."""
-    return next((place for place, line in enumerate(lines) if re.fullmatch(r"trace \d+", line)), None)
+    return next((place for place, line in enumerate(lines) if HEAD.fullmatch(line)), None)
 
 
 def read_traced(text: str) -> Traced:

@@ -1,10 +1,11 @@
 """What `replay steps` prints: each turn of a run with its entries, and what it changed in what the store and the cores hold."""
 
-from collections.abc import Iterator
+from collections.abc import Iterable, Iterator
 from dataclasses import dataclass, field
 
 from .images import Unreadable
 from .runs import Entry, Output, entry_of, read_output
+from .texts import iter_split
 
 # How many words of each line of a change name its place. Those behind them are what stands there now.
 PLACE_WORDS = {"attempt": 2, "hart": 2, "line": 4, "orb": 2, "kept": 3, "at": 2}
@@ -41,30 +42,47 @@ class Steps:
         return "".join(step.text() for step in self.steps) + "end\n" + self.output.text()
 
 
-def take_line(steps: list[Step], place: int, line: str) -> int:
-    """Takes one line of the turns in. The place is that of the next entry, and what is answered is that of the one after this line."""
+def step_of(line: str) -> Step:
+    """The turn that a line `turn` begins."""
+    words = line.split(" ", 3)
+    return Step(int(words[1]), int(words[2]), "".join(words[3:]))
+
+
+def take_line(step: Step, place: int, line: str) -> int:
+    """Takes one line below a turn's first in. The place is that of the next entry, and what is answered is that of the one after this line."""
     words = line.split(" ")
-    if words[0] == "turn":
-        steps.append(Step(int(words[1]), int(words[2]), " ".join(words[3:])))
-    elif words[0] == "entry":
-        steps[-1].entries.append(entry_of(place, " ".join(words[1:])))
+    if words[0] == "entry":
+        step.entries.append(entry_of(place, line[6:]))
         return place + 1
-    else:
-        named = PLACE_WORDS[words[0]]
-        steps[-1].changes[" ".join(words[:named])] = " ".join(words[named:])
+    named = PLACE_WORDS[words[0]]
+    step.changes[" ".join(words[:named])] = " ".join(words[named:])
     return place
+
+
+def iter_steps(lines: Iterable[str]) -> Iterator[Step]:
+    """The turns of the lines that `replay steps` prints, one after another. Of an iterator all lines to `end` are taken, and those of the output are left."""
+    step: Step | None = None
+    place = 0
+    for number, line in enumerate(lines, 1):
+        if line == "end":
+            if step:
+                yield step
+            return
+        try:
+            if line.startswith("turn "):
+                before, step = step, step_of(line)
+                if before:
+                    yield before
+            elif step is None:
+                raise ValueError
+            else:
+                place = take_line(step, place, line)
+        except (ValueError, IndexError, KeyError):
+            raise Unreadable(f"line {number} of the steps: {line!r}") from None
+    raise Unreadable("the steps have no line `end`")
 
 
 def read_steps(text: str) -> Steps:
     """The turns that `replay steps` printed."""
-    steps: list[Step] = []
-    head, end, below = ("\n" + text).partition("\nend\n")
-    place = 0
-    for number, line in enumerate(head[1:].splitlines(), 1):
-        try:
-            place = take_line(steps, place, line)
-        except (ValueError, IndexError, KeyError):
-            raise Unreadable(f"line {number} of the steps: {line!r}") from None
-    if not end:
-        raise Unreadable("the steps have no line `end`")
-    return Steps(steps, read_output(below))
+    lines = iter_split([text])
+    return Steps(list(iter_steps(lines)), read_output("\n".join(lines)))

@@ -1,7 +1,10 @@
 """Text from outside. It comes in and goes out as UTF-8, with bytes that are none kept as they are; where people read it, `shown` takes out what isn't to be seen."""
 
 import re
+import shutil
 import sys
+from collections.abc import Iterable, Iterator
+from pathlib import Path
 
 # What would break XML, drive a terminal, end a line, or turn the direction of what stands beside it: control characters, line and paragraph separators, the marks and
 # embeddings of the Unicode Bidirectional Algorithm (UAX 9), halves of surrogate pairs (so bytes that aren't UTF-8), and what is no character.
@@ -22,6 +25,24 @@ def text_out(text: str) -> bytes:
 def read_input() -> str:
     """All of standard input."""
     return text_in(sys.stdin.buffer.read())
+
+
+def keep_input(path: Path) -> None:
+    """All of standard input as a file, for what reads it more than once and keeps none of it in memory."""
+    with path.open("wb") as kept:
+        shutil.copyfileobj(sys.stdin.buffer, kept)
+
+
+def iter_lines(path: Path) -> Iterator[str]:
+    """The lines of a file, each with its line feed. Nothing but a line feed ends one, as in the programs."""
+    with path.open("rb") as source:
+        for line in source:
+            yield text_in(line)
+
+
+def iter_split(texts: Iterable[str]) -> Iterator[str]:
+    """The lines of all texts, without their ends, as `splitlines` has them."""
+    return (line for text in texts for line in text.splitlines())
 
 
 def write_output(text: str) -> None:
