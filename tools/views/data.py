@@ -1,8 +1,13 @@
-"""What the page has of a run: its turns with what they changed, lanes, code and names."""
+"""What the page has of a run: its turns with what they changed, lanes, code and names. Turns are taken one after another, and those that aren't shown aren't kept."""
 
+from collections.abc import Mapping
+from dataclasses import dataclass, field
+from typing import Any
+
+from loops import Entry, Image, Step, Violation
 from loops.instructions import spelled
-from pictures.attempts import Run
 
+from .lanes import Lanes
 from .words import CAUSES, moves_told, turn_told
 
 ROW = 16
@@ -10,54 +15,91 @@ ROW = 16
 MOST_UNTOUCHED = 64
 
 
-def with_waits(steps):
-    """The changes of each turn, with one more place: what a core waits for, `wait 0`: `NoWay`."""
-    waits = {}
-    for step in steps:
+@dataclass(slots=True)
+class Shown:
+    """A turn that is shown: which of the run it is, what it changed, and of its core the epoch and the instruction."""
+    number: int
+    step: Step
+    changes: dict[str, str]
+    epoch: int | None
+    pc: int
+    moved: str
+
+
+class Turns:
+    """The turns of a run from one number to another, and of these at most so many; and what the page needs of all others."""
+
+    def __init__(self, first: int, last: int | None, most: int):
+        self.first, self.last, self.most = first, last, most
+        self.count = 0
+        self.low: int | None = None             # the first turn that is shown
+        self.high: int | None = None            # the first one beyond
+        self.before: dict[str, str] = {}        # what stands at each place before the first one
+        self.shown: list[Shown] = []
+        self.rows: set[int] = set()             # the rows of memory that a turn touches
+        self.lanes = Lanes()
+        self._state: dict[str, str] = {}
+        self._waits: dict[int, str] = {}
+        self._epochs: dict[int, int] = {}
+
+    def take(self, step: Step) -> None:
+        """Takes the next turn."""
+        self._bound(step.turn)
+        for entry in step.entries:
+            if entry.address is not None:
+                self.rows.update(rows_of(entry.address, entry.width or 0))
+        self.rows.update(int(place[3:], 16) for place in step.changes if place.startswith("at "))
+        if self.high is None or self.low is None:
+            self._follow(step)
+        self.lanes.take(self.count, step.entries)
+        self.count += 1
+        if self.low is None:
+            self.lanes.drop_before(self.count)
+
+    def end(self) -> None:
+        """No turn follows."""
+        self.low = self.count if self.low is None else self.low
+        self.high = max(self.low, self.count if self.high is None else self.high)
+        if self.low == self.count:
+            self.before = self._state
+        self.lanes.end(self.count)
+
+    def _bound(self, turn: int) -> None:
+        """Whether the next turn is the first one that is shown, or the first one beyond."""
+        if self.low is None and turn >= self.first:
+            self.low, self.before = self.count, dict(self._state)
+        if self.high is None and (self.last is not None and turn > self.last or self.low is not None and self.count >= self.low + self.most):
+            self.high = self.count
+        self.lanes.closed = self.low is not None and self.high is not None
+
+    def _follow(self, step: Step) -> None:
+        """What a turn changes; and the turn, where it is shown."""
+        changes, shown = self._with_wait(step), self.low is not None
+        moved = moves_told(step, self._state) if shown else ""
+        self._state.update(changes)
+        running, hart = self._state.get(f"attempt {step.core}", "-"), self._state.get(f"hart {step.core}", "-")
+        if running != "-":
+            self._epochs[step.core] = int(running.split(" ")[0])
+        if shown:
+            pc = int(hart.split(" ")[0], 16) - 4 if hart != "-" else 0
+            self.shown.append(Shown(self.count, step, changes, self._epochs.get(step.core), pc, moved))
+
+    def _with_wait(self, step: Step) -> dict[str, str]:
+        """The changes of a turn, with one more place: what its core waits for, `wait 0`: `NoWay`."""
         words = step.answer.split(" ")
         now = words[1] if words[0] == "again" else "-"
-        yield step.changes if waits.get(step.core, "-") == now else {**step.changes, f"wait {step.core}": now}
-        waits[step.core] = now
+        before, self._waits[step.core] = self._waits.get(step.core, "-"), now
+        return step.changes if before == now else {**step.changes, f"wait {step.core}": now}
 
 
-def step_of_turns(steps):
-    """Of each turn with an act of its own in the trace, which turn of the schedule it is; and one beyond the end."""
-    acting = [number for number, step in enumerate(steps) if any(entry.what not in ("hurt", "cancel", "publish") for entry in step.entries)]
-    return [*acting, len(steps)]
+@dataclass
+class Told:
+    """What sentences need of a run: its image, and the entries that they name."""
+    image: Image
+    entries: Mapping[int, Entry] = field(default_factory=dict)
 
 
-def lanes(run, steps):
-    """The attempts: core, epoch, number, first turn, the turn at which it ends, how it ended, and the turn of its violation or None."""
-    at = step_of_turns(steps)
-    last = len(at) - 1
-    found = []
-    for attempt in run.attempts:
-        end = at[last] if attempt.last is None else at[min(attempt.last, last)] + (attempt.fate in ("committed", "fault"))
-        undone = None if attempt.undone is None else at[min(attempt.undone, last)]
-        found.append([attempt.core, attempt.epoch, attempt.number, at[min(attempt.first, last)], end, attempt.fate, undone])
-    return found
-
-
-def rollbacks(steps, violations):
-    """The turn of each, the core that made it and the core that was rolled back."""
-    return [[number, entry.core, violations[entry.place].core] for number, step in enumerate(steps) for entry in step.entries if entry.place in violations]
-
-
-def told(run, steps, changes, violations):
-    """What each turn did, and what the caches did in it."""
-    state, epochs = {}, {}
-    for step, changed in zip(steps, changes):
-        moved = moves_told(step, state)
-        state.update(changed)
-        running = state.get(f"attempt {step.core}", "-")
-        if running != "-":
-            epochs[step.core] = int(running.split(" ")[0])
-        hart = state.get(f"hart {step.core}", "-")
-        pc = int(hart.split(" ")[0], 16) - 4 if hart != "-" else 0
-        yield turn_told(run, step, epochs.get(step.core), pc, violations), moved
-
-
-def loaded(image):
+def loaded(image: Image) -> bytearray:
     """Memory as it is loaded."""
     memory = bytearray(image.size)
     memory[:len(image.code)] = image.code
@@ -66,49 +108,44 @@ def loaded(image):
     return memory
 
 
-def rows_of(address, length):
+def rows_of(address: int, length: int) -> range:
     return range(address // ROW * ROW, address + max(length, 1), ROW)
 
 
-def first_memory(image, steps):
+def first_memory(image: Image, touched: set[int]) -> dict[str, str]:
     """The rows of 16 committed bytes that are shown: those that a turn touches, and those of variables and data, where they are few; as they are loaded."""
-    touched = {row for step in steps for entry in step.entries if entry.address is not None for row in rows_of(entry.address, entry.width)}
-    touched |= {int(place.split(" ")[1], 16) for step in steps for place in step.changes if place.startswith("at ")}
     named = {row for one in image.variables for row in rows_of(one.address, one.length)} | {row for part in image.data for row in rows_of(part.address, len(part.data))}
     rows = touched | (named if len(named - touched) <= MOST_UNTOUCHED else set())
     memory = loaded(image)
     return {f"at {row:08x}": bytes(memory[row:row + ROW]).hex() for row in sorted(rows) if row < image.size}
 
 
-def page_data(traced, violations, steps, store):
+def rollbacks(turns: Turns, violations: Mapping[int, Violation]) -> list[list[int]]:
+    """The turn of each that is shown, the core that made it and the core that was rolled back."""
+    return [[one.number - turns.low, entry.core, violations[entry.place].core] for one in turns.shown for entry in one.step.entries if entry.place in violations]
+
+
+def cut(turns: Turns) -> dict[str, str]:
+    """That turns aren't shown, and which are."""
+    low, high, count = turns.low, turns.high, turns.count
+    if high - low == count:
+        return {}
+    shown = f"Turns {turns.shown[0].step.turn:,} to {turns.shown[-1].step.turn:,} of {count:,} are on this page" if low < high else f"No turn of {count:,} is on this page"
+    return {"cut": f"{shown}: --from and --to of tools/view choose others."}
+
+
+def page_data(run: Told, turns: Turns, cores: int, violations: Mapping[int, Violation], store: str) -> dict[str, Any]:
     """All that the page shows."""
-    image, run, of_place = traced.image, Run(traced, violations), {violation.place: violation for violation in violations}
-    changes = list(with_waits(steps))
+    image = run.image
     words = [(pc, int.from_bytes(image.code[pc:pc + 4], "little")) for pc in range(0, len(image.code), 4)]
     return {
-        "about": image.about, "store": store, "cores": traced.trace.cores, "length": image.line_length, "epochs": image.epochs, "all": len(steps),
+        "about": image.about, "store": store, "cores": cores, "length": image.line_length, "epochs": image.epochs, "all": turns.count,
         "variables": [[one.name, one.address, one.length] for one in image.variables],
         "code": {f"{pc:08x}": spelled(word, pc) for pc, word in words},
         "sources": {f"{pc:08x}": line for pc, line in image.sources.items()}, "causes": CAUSES,
-        "start": first_memory(image, steps), "attempts": lanes(run, steps), "rollbacks": rollbacks(steps, of_place),
-        "steps": [[step.turn, step.core, [entry.text().rstrip() for entry in step.entries], changed, said, moved]
-                  for step, changed, (said, moved) in zip(steps, changes, told(run, steps, changes, of_place))],
+        "start": first_memory(image, turns.rows) | turns.before, "attempts": turns.lanes.between(turns.low, turns.high),
+        "rollbacks": rollbacks(turns, violations),
+        "steps": [[one.step.turn, one.step.core, [entry.text().rstrip() for entry in one.step.entries], one.changes,
+                   turn_told(run, one.step, one.epoch, one.pc, violations), one.moved] for one in turns.shown],
+        **cut(turns),
     }
-
-
-def window(data, first, last, most):
-    """The turns from one number to another, and of these at most so many; what was before them is in the start, and a line says what isn't shown."""
-    steps = data["steps"]
-    low = next((place for place, step in enumerate(steps) if step[0] >= first), len(steps))
-    high = next((place for place, step in enumerate(steps) if last is not None and step[0] > last), len(steps))
-    high = max(low, min(high, low + most))
-    for step in steps[:low]:
-        data["start"] |= step[3]
-    if high - low < len(steps):
-        shown = f"Turns {steps[low][0]:,} to {steps[high - 1][0]:,} of {len(steps):,} are on this page" if low < high else f"No turn of {len(steps):,} is on this page"
-        data["cut"] = f"{shown}: --from and --to of tools/view choose others."
-    data["steps"] = steps[low:high]
-    data["attempts"] = [[*one[:3], one[3] - low, one[4] - low, one[5], None if one[6] is None else one[6] - low] for one in data["attempts"]
-                        if one[3] < high and one[4] >= low]
-    data["rollbacks"] = [[number - low, *cores] for number, *cores in data["rollbacks"] if low <= number < high]
-    return data
