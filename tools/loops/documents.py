@@ -5,8 +5,9 @@ The content is the fields of the form's class by their names. Bytes are hexadeci
 
 import json
 import types
-from collections.abc import Callable
+from collections.abc import Callable, Iterable
 from dataclasses import fields, is_dataclass
+from functools import cache
 from pathlib import Path
 from typing import Any, Union, get_args, get_origin, get_type_hints
 
@@ -31,7 +32,13 @@ BEGINNINGS = {
 
 def form_of(text: str) -> str:
     """The name of a text's form, by its first words."""
-    first = next((line for line in text.split("\n") if line and not line.startswith("#")), "").split(" ")
+    return form_of_lines(text.split("\n"))
+
+
+def form_of_lines(lines: Iterable[str]) -> str:
+    """The same by its lines, of which no more are read than it takes."""
+    rest = iter(lines)
+    first = next((line for line in rest if line and not line.startswith("#")), "").split(" ")
     if first[:2] == ["open", "epoch"]:
         return "conflicts"
     if first == ["end"]:
@@ -40,13 +47,22 @@ def form_of(text: str) -> str:
         return BEGINNINGS[first[0]]
     if first == [""]:
         raise Unreadable("there is nothing to read")
-    return "traced" if "\ntrace " in text else "image"
+    return "traced" if any(line.startswith("trace ") for line in rest) else "image"
+
+
+@cache
+def names_of(kind: type) -> tuple[str, ...]:
+    """The fields of a class, none where it isn't a record's."""
+    return tuple(one.name for one in fields(kind)) if is_dataclass(kind) else ()
 
 
 def plain(value: Any) -> Any:
     """A value as JSON has it."""
-    if is_dataclass(value):
-        return {one.name: plain(getattr(value, one.name)) for one in fields(value)}
+    if value is None or isinstance(value, (int, str)):
+        return value
+    names = names_of(type(value))
+    if names:
+        return {name: plain(getattr(value, name)) for name in names}
     if isinstance(value, bytes):
         return value.hex()
     if isinstance(value, dict):
