@@ -13,15 +13,18 @@ import os
 import re
 import subprocess
 import sys
+import tempfile
 from pathlib import Path
 
 ROOT = Path(__file__).resolve().parent.parent
 sys.path.insert(0, str(ROOT / "tools"))
 
 from loops import Programs, Stopped, read_conflicts, read_image, with_trace  # noqa: E402
-from loops.documents import FORMS, SCHEMA, content_of, document, form_of  # noqa: E402
+from loops.documents import FORMS, SCHEMA, content_of, document, form_of, to_json  # noqa: E402
 from loops.programs import call  # noqa: E402
 from loops.runs import read_output  # noqa: E402
+from loops.streams import iter_document  # noqa: E402
+from loops.texts import text_out  # noqa: E402
 
 try:
     from jsonschema import Draft202012Validator, ValidationError
@@ -83,7 +86,17 @@ def wrong_with(form, text):
         found = next(Draft202012Validator(json.loads(SCHEMA.read_text(encoding="utf-8"))).iter_errors(told), None)
         if found is not None:
             return f"isn't as the schema says: {found.message[:200]}"
+    if streamed(text) != to_json(text):
+        return "is another where it is written while it is read"
     return None if content_of(told).text() == text else "isn't written as it was"
+
+
+def streamed(text: str) -> str:
+    """A text as JSON, by the way that tools/json goes."""
+    with tempfile.TemporaryDirectory() as folder:
+        source = Path(folder, "text")
+        source.write_bytes(text_out(text))
+        return "".join(iter_document(source)) + "\n"
 
 
 def tool(name, text, *words):
