@@ -125,6 +125,11 @@ def streams(room: Path, programs: Programs) -> Checks:
         yield "a program that refuses", f"gives {list(programs.step_lines(source, 'caches'))}"
     except Stopped as stopped:
         yield "a program that refuses", None if (stopped.status, stopped.line) == (2, "image 2 Line\n") else f"{stopped.status}, {stopped.line!r}"
+    try:
+        yield "a program that says nothing", f"gives {list(Programs(room, '/bin/false').iter_why(source))}"
+    except Stopped as stopped:
+        got = (stopped.status, stopped.line)
+        yield "a program that says nothing", None if got == (1, "false ended with status 1\n") else f"{got}"
 
 
 # --- Pages -----------------------------------------------------------------------

@@ -95,7 +95,7 @@ def iter_call(program: str | Path, words: list[str], source: Path, right: tuple[
                 raise
         if running.returncode not in right:
             errors.seek(0)
-            raise Stopped(running.returncode, text_in(errors.read()))
+            raise Stopped(running.returncode, text_in(errors.read()) or f"{Path(program).name} ended with status {running.returncode}\n")
 
 
 @dataclass
