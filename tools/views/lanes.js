@@ -2,7 +2,11 @@
 const LANE = 22, BAR = 15, MARGIN = 52;
 // So many pixels a box needs for its hatch and its name, and a turn for the signs of its rollback.
 const LEAST_BOX = 8, LEAST_TURN = 2;
-const FILLS = { committed: "#7fb7d9", fault: "#7fb7d9", violated: "#f5c66b" };
+// The colours of the page's style, by their names there: others where the reader's system is dark.
+const FILLS = { committed: "--commits", fault: "--commits", violated: "--lost" };
+const FATES = { committed: "commits", fault: "faults", violated: "is rolled back", cancelled: "is cancelled", open: "is open at the end" };
+
+const colour = name => getComputedStyle(document.documentElement).getPropertyValue(name).trim();
 
 const across = number => MARGIN + number * (element("lanes").clientWidth - MARGIN) / Math.max(1, steps.length);
 
@@ -11,7 +15,7 @@ function hatch(pen, left, top, wide) {
   pen.beginPath();
   pen.rect(left, top, wide, BAR);
   pen.clip();
-  pen.strokeStyle = "#b36b00";
+  pen.strokeStyle = colour("--hatch");
   pen.beginPath();
   for (let x = left - BAR; x < left + wide; x += 6) {
     pen.moveTo(x, top + BAR);
@@ -23,11 +27,11 @@ function hatch(pen, left, top, wide) {
 
 // Words that can be read on a hatch too.
 function write(pen, words, x, y) {
-  pen.strokeStyle = "#fff";
+  pen.strokeStyle = colour("--paper");
   pen.lineWidth = 3;
   pen.strokeText(words, x, y);
   pen.lineWidth = 1;
-  pen.fillStyle = "#000";
+  pen.fillStyle = colour("--ink");
   pen.fillText(words, x, y);
 }
 
@@ -35,12 +39,14 @@ function write(pen, words, x, y) {
 function drawAttempt(pen, [core, epoch, number, first, end, fate, undone]) {
   const stop = fate === "violated" ? undone + 0.5 : end, left = across(Math.max(first, 0)), top = core * LANE + 3;
   const wide = Math.max(1, across(Math.min(stop, steps.length)) - left), name = number > 1 ? `e${epoch} #${number}` : `e${epoch}`;
-  pen.fillStyle = FILLS[fate] ?? "#ddd";
+  pen.fillStyle = colour(FILLS[fate] ?? "--other");
   pen.fillRect(left, top, wide, BAR);
   if (wide < LEAST_BOX) return;
   if (fate === "violated") hatch(pen, left, top, wide);
-  pen.strokeStyle = "#333";
+  pen.strokeStyle = colour("--edge");
+  pen.setLineDash(fate in FILLS ? [] : [3, 2]);
   pen.strokeRect(left + 0.5, top + 0.5, wide - 1, BAR);
+  pen.setLineDash([]);
   pen.beginPath();
   pen.moveTo(left + wide, top + BAR / 2);
   pen.lineTo(across(Math.min(end, steps.length)), top + BAR / 2);
@@ -52,11 +58,11 @@ function drawAttempt(pen, [core, epoch, number, first, end, fate, undone]) {
 function drawRollback(pen, [number, by, victim]) {
   const x = across(number + 0.5), middle = core => core * LANE + 3 + BAR / 2;
   if (across(1) - across(0) < LEAST_TURN) {
-    pen.fillStyle = "#000";
+    pen.fillStyle = colour("--ink");
     pen.fillRect(x, victim * LANE + 3 + BAR, 1, LANE - BAR - 3);
     return;
   }
-  pen.strokeStyle = pen.fillStyle = "#000";
+  pen.strokeStyle = pen.fillStyle = colour("--ink");
   pen.beginPath();
   pen.moveTo(x, middle(by));
   pen.lineTo(x, middle(victim));
@@ -77,9 +83,23 @@ function drawLanes() {
   const pen = canvas.getContext("2d");
   pen.scale(sharp, sharp);
   pen.font = "11px sans-serif";
-  for (let core = 0; core < run.cores; core++) pen.fillText(`core ${core}`, 4, core * LANE + 14);
   for (const attempt of run.attempts) drawAttempt(pen, attempt);
   for (const one of run.rollbacks) drawRollback(pen, one);
+}
+
+function nameLanes() {
+  element("cores-of-lanes").replaceChildren(...Array.from({ length: run.cores }, (_, core) => made("li", `core ${core}`)));
+}
+
+// The lanes as a table, which is made when a reader opens it.
+function tellLanes() {
+  const table = element("attempts");
+  if (table.rows.length) return;
+  table.append(headRow("core", "epoch", "attempt", "from turn", "to turn", "and then"));
+  for (const [core, epoch, number, first, end, fate, undone] of run.attempts) {
+    const last = Math.min(fate === "violated" ? undone : end - 1, steps.length - 1), from = first < 0 ? "before" : steps[first][TURN];
+    table.insertRow().append(headCell(`core ${core}`, "row"), ...[epoch, number, from, steps[Math.max(last, 0)][TURN], FATES[fate]].map(text => made("td", String(text))));
+  }
 }
 
 function showCursor() {

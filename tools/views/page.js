@@ -44,9 +44,10 @@ const keys = { Home: "first", ArrowLeft: "back", ArrowRight: "on", End: "last", 
 
 function addCoreButtons(core) {
   const ofCore = step => step[CORE] === core, group = made("span", "", "group");
-  for (const [id, text, turn] of [[`back-${core}`, "\u25c0", back], [`on-${core}`, "\u25b6", on]]) {
+  for (const [id, text, turn, name] of [[`back-${core}`, "\u25c0", back, `turn before of core ${core}`], [`on-${core}`, "\u25b6", on, `next turn of core ${core}`]]) {
     const button = made("button", text);
     button.id = id;
+    button.setAttribute("aria-label", name);
     go[id] = button.onclick = () => turn(ofCore);
     group.append(button);
   }
@@ -54,10 +55,21 @@ function addCoreButtons(core) {
   element("by-core").append(group);
 }
 
+// What is typed is gone to, and left: from there on digits are cores again.
+function leaveTyped() {
+  const typed = element("turn").valueAsNumber;
+  element("turn").blur();
+  if (Number.isFinite(typed) && typed !== steps[now][TURN]) toTurn(typed);
+  else show(now);
+}
+
+// In the field of the turn digits are typed; all other keys do there what they do elsewhere.
 function byKey(event) {
-  if (event.target.tagName === "INPUT" || event.ctrlKey || event.altKey || event.metaKey) return;
-  const digit = /^Digit(\d)$/.exec(event.code)?.[1] ?? /^\d$/.exec(event.key)?.[0];
+  if (event.ctrlKey || event.altKey || event.metaKey) return;
+  const isTyped = event.target === element("turn"), digit = isTyped ? null : /^Digit(\d)$/.exec(event.code)?.[1] ?? /^\d$/.exec(event.key)?.[0];
   const name = keys[event.key] ?? (digit && `${event.shiftKey ? "back" : "on"}-${digit}`);
+  if (isTyped && event.key === "Escape") element("turn").value = steps[now][TURN];
+  if (isTyped && (name in go || event.key === "Enter" || event.key === "Escape")) leaveTyped();
   if (!(name in go)) return;
   go[name]();
   event.preventDefault();
@@ -72,18 +84,20 @@ const fromLink = () => toTurn(Number(/turn=(\d+)/.exec(location.hash)?.[1] ?? st
 
 function begin() {
   const store = run.store === "caches" ? "caches" : "the plain store";
-  element("about").textContent = run.about || "A run, turn by turn";
   element("of").textContent = `${run.epochs} epochs on ${run.cores} cores over ${store}, ${run.all.toLocaleString("en")} turns, ${run.rollbacks.length.toLocaleString("en")} rollbacks`;
   element("cut").textContent = run.cut ?? "";
   for (let core = 0; core < run.cores; core++) addCoreButtons(core);
   if (!steps.length) return;
   for (const id of Object.values(keys)) element(id).onclick = go[id];
   element("turn").max = steps[steps.length - 1][TURN];
-  element("turn").onchange = event => toTurn(Number(event.target.value));
+  element("turn").onchange = event => Number.isFinite(event.target.valueAsNumber) ? toTurn(event.target.valueAsNumber) : show(now);
   element("drawn").onclick = event => show(Math.floor((event.offsetX - MARGIN) * steps.length / (element("lanes").clientWidth - MARGIN)));
   addEventListener("keydown", byKey);
   addEventListener("hashchange", fromLink);
+  element("told-lanes").ontoggle = tellLanes;
   addEventListener("resize", () => { drawLanes(); showCursor(); });
+  matchMedia("(prefers-color-scheme: dark)").addEventListener("change", drawLanes);
+  nameLanes();
   walkTo(0);
   makeMemory();
   drawLanes();

@@ -1,5 +1,13 @@
 // The parts of the page that show places.
 const SETS = 4, WAYS = 2, MOST_CODE = 120, AROUND = 20;
+const OWN = "its epoch has loaded from it or stored to it";
+const STATES = {
+  S: "shared: other cores may hold the line too",
+  E: "exclusive: no other core holds the line",
+  M: "modified: no other core holds the line, and memory may be stale",
+  SpS: `speculative and shared: ${OWN}, and other cores may hold the line too`,
+  SpE: `speculative and exclusive: ${OWN}, and no other core holds the line`,
+};
 
 const hex = (number, digits) => number.toString(16).padStart(digits, "0");
 
@@ -18,6 +26,18 @@ function made(tag, text = "", kind = "") {
   one.textContent = text;
   if (kind) one.className = kind;
   return one;
+}
+
+function headCell(text, scope) {
+  const cell = made("th", text);
+  cell.scope = scope;
+  return cell;
+}
+
+function headRow(...texts) {
+  const row = made("tr");
+  row.append(...texts.map(text => headCell(text, "col")));
+  return row;
 }
 
 // In a word, how a place isn't as it was before the turn.
@@ -53,6 +73,12 @@ function bytesShown(bytes, mask, was, alone = false) {
   return all;
 }
 
+function stateShown(kind) {
+  const shown = made("abbr", kind, kind.startsWith("Sp") ? "state speculative" : "state");
+  shown.title = STATES[kind] ?? kind;
+  return shown;
+}
+
 function wayCell(place) {
   const cell = placed("td", place), text = at(place);
   if (text === "-") {
@@ -61,7 +87,7 @@ function wayCell(place) {
   }
   const [address, kind, loaded, mask, bytes] = text.split(" "), stored = parseInt(mask, 16);
   const [oldAddress, , , , oldBytes] = (before[now][place] ?? "-").split(" ");
-  cell.append(made("span", address, "address"), " ", made("b", kind, kind.startsWith("Sp") ? "state speculative" : "state"));
+  cell.append(made("span", address, "address"), " ", stateShown(kind));
   if (loaded === "loaded") cell.append(" ", made("span", "loaded", "mark"));
   if (stored) cell.append(" mask ", made("span", mask.slice(-run.length / 4), "mask"));
   cell.append(made("br"), bytesShown(bytes, stored, oldAddress === address ? oldBytes : undefined));
@@ -70,11 +96,12 @@ function wayCell(place) {
 }
 
 function cacheTable(core) {
-  const table = made("table", "", "cache"), head = table.insertRow();
-  head.append(made("th", "set"), ...Array.from({ length: WAYS }, (_, way) => made("th", `way ${way}`)));
+  const table = made("table", "", "cache");
+  table.setAttribute("aria-label", `Cache of core ${core}`);
+  table.append(headRow("", ...Array.from({ length: WAYS }, (_, way) => `way ${way}`)));
   for (let set = 0; set < SETS; set++) {
     const row = table.insertRow();
-    row.append(made("th", String(set)), ...Array.from({ length: WAYS }, (_, way) => wayCell(`line ${core} ${set} ${way}`)));
+    row.append(headCell(`set ${set}`, "row"), ...Array.from({ length: WAYS }, (_, way) => wayCell(`line ${core} ${set} ${way}`)));
   }
   return table;
 }
@@ -88,8 +115,9 @@ function bufferPart(core) {
 
 // Over the plain store: the bytes that an epoch has read and stored.
 function keptTable(core) {
-  const table = made("table"), head = table.insertRow(), changes = steps[now][CHANGES];
-  head.append(...["keeps of", "read (mask)", "stored (mask)", "stored bytes"].map(text => made("th", text)));
+  const table = made("table"), changes = steps[now][CHANGES];
+  table.setAttribute("aria-label", `What core ${core} keeps`);
+  table.append(headRow("keeps of", "read (mask)", "stored (mask)", "stored bytes"));
   for (const place of [...state.keys()].filter(one => one.startsWith(`kept ${core} `)).sort()) {
     const [read, own, bytes] = at(place).split(" "), address = place.split(" ")[2];
     if (read + own === "00000000" && !(place in changes)) continue;
@@ -104,7 +132,7 @@ function keptTable(core) {
 const attemptAt = core => run.attempts.findLast(([by, , , first, end]) => by === core && first <= now && now <= end);
 
 function attemptPart(core) {
-  const part = placed("h3", `attempt ${core}`), [epoch, mode] = at(`attempt ${core}`).split(" "), last = attemptAt(core);
+  const part = placed("h2", `attempt ${core}`), [epoch, mode] = at(`attempt ${core}`).split(" "), last = attemptAt(core);
   const undone = last && last[6] !== null && last[6] <= now;
   const idle = undone ? `epoch ${last[1]}, attempt ${last[2]}, was ${last[5] === "violated" ? "rolled back" : "cancelled"}` : "no epoch";
   part.append(`Core ${core}: ${epoch === "-" ? idle : `epoch ${epoch}, attempt ${last ? last[2] : 1}, ${mode}`}`);
@@ -127,11 +155,18 @@ function waitPart(core) {
   return part;
 }
 
+// What the states mean that stand in a cache.
+function statesPart(table) {
+  const kinds = new Set([...table.querySelectorAll(".state")].map(one => one.textContent));
+  return made("p", Object.keys(STATES).filter(kind => kinds.has(kind)).map(kind => `${kind} is ${STATES[kind]}.`).join(" "), "states");
+}
+
 function coreCard(core) {
   const card = made("div", "", steps[now][CORE] === core ? "core turns" : "core");
   card.id = `core-${core}`;
   card.append(attemptPart(core), hartPart(core), waitPart(core));
-  card.append(...(run.store === "caches" ? [bufferPart(core), cacheTable(core)] : [keptTable(core)]));
+  const table = run.store === "caches" ? cacheTable(core) : keptTable(core);
+  card.append(...(run.store === "caches" ? [bufferPart(core), table, statesPart(table)] : [table]));
   return card;
 }
 
@@ -147,9 +182,10 @@ function memoryCell(place) {
 
 function makeMemory() {
   const rows = [...state.keys()].filter(place => place.startsWith("at ")).sort();
+  element("memory").append(headRow("address", "variables", "bytes"));
   for (const place of rows) {
     const row = element("memory").insertRow(), address = place.slice(3);
-    row.append(made("th", address), made("td", namesIn(parseInt(address, 16), 16), "names"), memoryCell(place));
+    row.append(headCell(address, "row"), made("td", namesIn(parseInt(address, 16), 16), "names"), memoryCell(place));
     memoryRows.set(place, row);
   }
 }
@@ -170,11 +206,11 @@ function showCode() {
   }
   const middle = Math.max(0, pcs.indexOf(at(`hart ${steps[now][CORE]}`).split(" ")[0]));
   const shown = pcs.length <= MOST_CODE ? pcs : pcs.slice(Math.max(0, middle - AROUND), middle + AROUND);
-  element("code").replaceChildren(...shown.map(pc => {
+  element("code").replaceChildren(headRow("address", "instruction", ...(hasSources ? ["source"] : []), "next of"), ...shown.map(pc => {
     const row = made("tr", "", cores.has(pc) ? "here" : ""), next = cores.get(pc) ?? [];
-    row.append(made("th", pc), made("td", run.code[pc]));
+    row.append(headCell(pc, "row"), made("td", run.code[pc]));
     if (hasSources) row.append(made("td", run.sources[pc] ?? ""));
-    row.append(made("td", next.length ? `\u25c0 next of core ${next.join(", ")}` : ""));
+    row.append(made("td", next.length ? `\u25c0 core ${next.join(", ")}` : ""));
     return row;
   }));
 }
