@@ -15,12 +15,16 @@ import shutil
 import subprocess
 import sys
 import tempfile
+from collections.abc import Iterator
 from pathlib import Path
+from typing import Any
 
 ROOT = Path(__file__).resolve().parent.parent
 DEBIANS = "/usr/bin/python3"
 # So long may a script take in the browser, and so many keys are pressed by one.
 SECONDS, AT_ONCE = 100, 20
+# What a check shows, and what is wrong or None.
+Result = tuple[str, str | None]
 sys.path.insert(0, str(ROOT / "tools"))
 sys.dont_write_bytecode = True
 
@@ -296,6 +300,149 @@ def moves(page, steps):
     yield "the link of what is shown", None if hash == f"#turn={steps.steps[1].turn}" else hash
 
 
+# --- Who reads it ---------------------------------------------------------------------
+
+# The name of each button as the accessibility tree has it comes from aria-label or from its text; a name is of letters.
+BUTTONS = "return [...document.querySelectorAll('button')].map(one => one.getAttribute('aria-label') ?? one.textContent)"
+# The texts whose ratio of contrast with what is behind them is below 4.5, by WCAG 2.1 (relative luminance, 1.4.3): each with the ratio. A background that is partly
+# clear lies over the one behind it.
+CONTRAST = """
+const rgba = text => { const all = text.match(/[\\d.]+/g).map(Number); return all.length < 4 ? [...all, 1] : all; };
+const part = value => value / 255 <= 0.03928 ? value / 255 / 12.92 : ((value / 255 + 0.055) / 1.055) ** 2.4;
+const luminance = ([red, green, blue]) => 0.2126 * part(red) + 0.7152 * part(green) + 0.0722 * part(blue);
+const over = (top, below) => [0, 1, 2].map(at => top[at] * top[3] + below[at] * (1 - top[3]));
+function behind(one) {
+  const own = rgba(getComputedStyle(one).backgroundColor);
+  return own[3] === 1 ? own : over(own, one.parentElement ? behind(one.parentElement) : [255, 255, 255]);
+}
+const seen = [...document.querySelectorAll('body *')].filter(one => one.checkVisibility() && [...one.childNodes].some(node => node.nodeType === 3 && node.data.trim()));
+const ratios = seen.map(one => {
+  const [low, high] = [luminance(over(rgba(getComputedStyle(one).color), behind(one))), luminance(behind(one))].sort((a, b) => a - b);
+  return [(high + 0.05) / (low + 0.05), one.tagName + '.' + one.className + ': ' + one.textContent.trim().slice(0, 30)];
+});
+return [ratios.length, ratios.filter(([ratio]) => ratio < 4.5)];
+"""
+SIZES = [("400 pixels", 400, 1), ("200 % of 1280 pixels", 640, 2), ("400 % of 1280 pixels", 320, 4)]
+
+
+def emulate(browser: Any, width: int, scale: int = 1, scheme: str = "light") -> None:
+    """A window so many CSS pixels wide, each of so many of the screen's in a row, in light or dark."""
+    browser.execute_cdp_cmd("Emulation.setDeviceMetricsOverride", {"width": width, "height": 1000, "deviceScaleFactor": scale, "mobile": False})
+    browser.execute_cdp_cmd("Emulation.setEmulatedMedia", {"features": [{"name": "prefers-color-scheme", "value": scheme}]})
+
+
+def named_parts(page: Page) -> Iterator[Result]:
+    """Names of buttons, lanes and sets, as a screen reader has them."""
+    buttons = page.browser.execute_script(BUTTONS)
+    core = [f"{which} of core {core}" for core in range(3) for which in ("turn before", "next turn")]
+    wanted = ["first turn", "turn before", "turn after", "last turn", "rollback before", "next rollback", "wait before", "next wait", *core]
+    yield "the names of its buttons", None if buttons == wanted else f"{buttons}"
+    told = page.browser.find_elements(page.by.CSS_SELECTOR, "#cores-of-lanes li")
+    yield "the names of its lanes", None if [one.text for one in told] == ["core 0", "core 1", "core 2"] else f"{[one.text for one in told]}"
+    told = [one.text for one in page.browser.find_elements(page.by.CSS_SELECTOR, "#core-0 .cache th[scope=row]")]
+    yield "the names of sets", None if told == ["set 0", "set 1", "set 2", "set 3"] else f"{told}"
+    page.link("#turn=18")
+    states = {one.text: one.get_attribute("title") for one in page.browser.find_elements(page.by.CSS_SELECTOR, "#core-2 .state")}
+    said = page.browser.find_element(page.by.CSS_SELECTOR, "#core-2 .states").text
+    wrong = [name for name, told in states.items() if f"{name} is {told}." not in said]
+    yield "what its states mean", None if set(states) == {"SpS", "SpE"} and "no other core holds the line" in states["SpE"] and not wrong else f"{states}, {said!r}"
+    page.browser.find_element(page.by.TAG_NAME, "summary").click()
+    rows = [row.text for row in page.browser.find_elements(page.by.CSS_SELECTOR, "#attempts tr")]
+    wanted = ["core epoch attempt from turn to turn and then", 22, "core 0 3 1 14 19 is rolled back"]
+    yield "its lanes as text", None if [rows[0], len(rows) - 1, next((row for row in rows if row.startswith("core 0 3 1 ")), "")] == wanted else f"{rows}"
+
+
+def keyboard(page: Page, steps: Any) -> Iterator[Result]:
+    """All by the keyboard, wherever the focus is."""
+    from selenium.webdriver import ActionChains
+    keys = page.keys
+
+    def pressed(*words: str) -> int:
+        ActionChains(page.browser).send_keys(*words).perform()
+        return page.turn()
+
+    def typed(*words: str) -> int:
+        page.browser.execute_script("element('turn').focus()")
+        ActionChains(page.browser).key_down(keys.CONTROL).send_keys("a").key_up(keys.CONTROL).perform()
+        return pressed(*words)
+
+    def focused() -> str:
+        return page.browser.execute_script("return document.activeElement.id")
+
+    turns = [step.turn for step in steps.steps]
+    of_one = [step.turn for step in steps.steps if step.core == 1]
+    page.browser.refresh()
+    reached = []
+    for _ in range(16):
+        pressed(keys.TAB)
+        reached.append(focused())
+    ids = page.browser.execute_script("return [...document.querySelectorAll('nav button, nav input, summary')].map(one => one.id)")
+    yield "the tabulator reaches all", None if reached == ids[:16] and len(ids) == 16 else f"{reached}, and not {ids}"
+    pressed(keys.HOME)
+    page.browser.execute_script("element('on').focus()")
+    told = [pressed(keys.SPACE), pressed(keys.ENTER), pressed(keys.ARROW_RIGHT)]
+    yield "keys on a button", None if told == turns[1:4] else f"{told}"
+    told = [typed("12", keys.ENTER), pressed(keys.ARROW_RIGHT), pressed("1")]
+    wanted = [turns[12], turns[13], next(turn for turn in of_one if turn > turns[13])]
+    yield "keys after a number and Enter", None if told == wanted else f"{told}, and not {wanted}"
+    told = [typed("20", keys.ARROW_RIGHT), pressed(keys.END), pressed(keys.HOME)]
+    wanted = [turns[21], turns[-1], turns[0]]
+    yield "keys right after a number", None if told == wanted else f"{told}, and not {wanted}"
+    told = [typed(keys.BACKSPACE, keys.ENTER), typed("5", keys.ESCAPE), focused()]
+    yield "no number, and one that is taken back", None if told == [turns[0], turns[0], ""] else f"{told}"
+
+
+def sizes(page: Page) -> Iterator[Result]:
+    """Nothing scrolls sideways, in both colours, and all texts can be read."""
+    for name, width, scale in SIZES:
+        emulate(page.browser, width, scale)
+        wide, room, inner = page.browser.execute_script("const all = document.documentElement; return [all.scrollWidth, all.clientWidth, innerWidth]")
+        yield f"no sideways scroll at {name}", None if wide <= room and inner == width else f"{wide} of {room}, {inner}"
+    grounds = {}
+    for scheme in ("light", "dark"):
+        emulate(page.browser, 1280, 1, scheme)
+        count, low = page.browser.execute_script(CONTRAST)
+        yield f"contrast in {scheme}", None if count > 80 and not low else f"{count}, {low[:5]}"
+        grounds[scheme] = page.browser.execute_script("return [getComputedStyle(document.body).backgroundColor, getComputedStyle(document.body).color, colour('--commits')]")
+    yield "its colours in the dark", None if grounds == {"light": ["rgb(255, 255, 255)", "rgb(28, 28, 28)", "#7fb7d9"],
+                                                         "dark": ["rgb(22, 25, 29)", "rgb(232, 234, 237)", "#2f6f96"]} else f"{grounds}"
+    drawn = page.browser.execute_script("return [...element('drawn').getContext('2d').getImageData(MARGIN + 45, 6, 1, 1).data.slice(0, 3)]")
+    yield "its lanes in the dark", None if drawn == [0x2F, 0x6F, 0x96] else f"{drawn}"
+    page.browser.execute_cdp_cmd("Emulation.clearDeviceMetricsOverride", {})
+
+
+def without_script(browser: Any, path: Path) -> Iterator[Result]:
+    """What stands there without JavaScript."""
+    browser.execute_cdp_cmd("Emulation.setScriptExecutionDisabled", {"value": True})
+    page = Page(browser, path)
+    told = page.browser.find_element(page.by.TAG_NAME, "body").text
+    browser.execute_cdp_cmd("Emulation.setScriptExecutionDisabled", {"value": False})
+    wanted = ["A histogram: epoch e adds 1 to the bin that its sample names.", "This page shows its run by JavaScript, which is off here."]
+    yield "without JavaScript", None if all(text in told for text in wanted) and "rollback" not in told and "Code" not in told else told
+
+
+def for_everyone(views: "Views") -> Iterator[Result]:
+    """The page of a trace, as it is read in all these ways; and one with the lines of its source."""
+    traced = (ROOT / "examples" / "traces" / "histogram.trace").read_text()
+    steps = views.programs.steps(traced, "caches", None)
+    page, _ = views.page(traced)
+    yield from named_parts(page)
+    yield from keyboard(page, steps)
+    page.link("#turn=18")
+    yield from sizes(page)
+    yield "for everyone: no errors in the browser", page.errors() or None
+    yield from without_script(views.browser, views.folder / f"{views.made}.html")
+    page, _ = views.page(views.evenly(example("own_counters"), "caches", 4), "--cores", "4")
+    told = [row.text for row in page.browser.find_elements(page.by.CSS_SELECTOR, "#code tr")]
+    wanted = dict(re.findall(r"^# code (\w{8}) (\S+)$", example("own_counters"), re.MULTILINE))
+    rows = [row for row in told[1:] if wanted.get(row[:8], "?") in row]
+    yield "the source's lines beside the code", None if told[0] == "address instruction source next of" and len(wanted) > 1 and len(rows) == len(wanted) else f"{told}"
+    emulate(views.browser, 400)
+    wide, room = page.browser.execute_script("return [document.documentElement.scrollWidth, document.documentElement.clientWidth]")
+    yield "no sideways scroll beside a source", None if wide <= room else f"{wide} of {room}"
+    views.browser.execute_cdp_cmd("Emulation.clearDeviceMetricsOverride", {})
+
+
 # --- The checks -----------------------------------------------------------------------
 
 class Views:
@@ -409,7 +556,7 @@ def in_browser(folder, command):
         return
     try:
         views = Views(browser, folder, Programs(Path(folder)))
-        for part in (runs, found, windows):
+        for part in (runs, found, windows, for_everyone):
             yield from part(views)
     finally:
         browser.quit()

@@ -4,12 +4,13 @@ import html
 import json
 import re
 from pathlib import Path
+from typing import Any
 
 HERE = Path(__file__).resolve().parent
 SCRIPTS = ("state.js", "parts.js", "lanes.js", "page.js")
 
 
-def page(data):
+def page(data: dict[str, Any]) -> str:
     """The whole page, which stands alone."""
     told = json.dumps(data, separators=(",", ":")).replace("<", "\\u003c")
     script = "".join((HERE / name).read_text(encoding="utf-8") for name in SCRIPTS)
