@@ -302,8 +302,6 @@ def moves(page, steps):
 
 # --- Who reads it ---------------------------------------------------------------------
 
-# The name of each button as the accessibility tree has it comes from aria-label or from its text; a name is of letters.
-BUTTONS = "return [...document.querySelectorAll('button')].map(one => one.getAttribute('aria-label') ?? one.textContent)"
 # The texts whose ratio of contrast with what is behind them is below 4.5, by WCAG 2.1 (relative luminance, 1.4.3): each with the ratio. A background that is partly
 # clear lies over the one behind it.
 CONTRAST = """
@@ -322,6 +320,8 @@ const ratios = seen.map(one => {
 });
 return [ratios.length, ratios.filter(([ratio]) => ratio < 4.5)];
 """
+# What a reader has to be able to ask for by name.
+NAMED = {"button", "spinbutton", "image", "table", "navigation", "region", "heading"}
 SIZES = [("400 pixels", 400, 1), ("200 % of 1280 pixels", 640, 2), ("400 % of 1280 pixels", 320, 4)]
 
 
@@ -331,12 +331,21 @@ def emulate(browser: Any, width: int, scale: int = 1, scheme: str = "light") -> 
     browser.execute_cdp_cmd("Emulation.setEmulatedMedia", {"features": [{"name": "prefers-color-scheme", "value": scheme}]})
 
 
+def accessible(browser: Any) -> list[tuple[str, str]]:
+    """Role and name of what the browser tells a screen reader of the page."""
+    nodes = browser.execute_cdp_cmd("Accessibility.getFullAXTree", {})["nodes"]
+    return [(node["role"]["value"], node.get("name", {}).get("value", "")) for node in nodes if not node["ignored"]]
+
+
 def named_parts(page: Page) -> Iterator[Result]:
     """Names of buttons, lanes and sets, as a screen reader has them."""
-    buttons = page.browser.execute_script(BUTTONS)
+    parts = accessible(page.browser)
+    buttons = [name for role, name in parts if role == "button"]
     core = [f"{which} of core {core}" for core in range(3) for which in ("turn before", "next turn")]
     wanted = ["first turn", "turn before", "turn after", "last turn", "rollback before", "next rollback", "wait before", "next wait", *core]
     yield "the names of its buttons", None if buttons == wanted else f"{buttons}"
+    bare = [role for role, name in parts if role in NAMED and not re.search("[a-z]", name)]
+    yield "each part has a name", None if not bare and NAMED <= {role for role, _ in parts} else f"{bare}, {sorted({role for role, _ in parts})}"
     told = page.browser.find_elements(page.by.CSS_SELECTOR, "#cores-of-lanes li")
     yield "the names of its lanes", None if [one.text for one in told] == ["core 0", "core 1", "core 2"] else f"{[one.text for one in told]}"
     told = [one.text for one in page.browser.find_elements(page.by.CSS_SELECTOR, "#core-0 .cache th[scope=row]")]

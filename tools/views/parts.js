@@ -65,10 +65,11 @@ function placed(tag, place) {
 function bytesShown(bytes, mask, was, alone = false) {
   const all = made("span", "", "bytes"), count = bytes.length / 2;
   for (let place = 0; place < count; place++) {
-    if (place) all.append(place % 16 ? place % 4 ? "" : " " : made("br"));
+    if (place && place % 4 === 0) all.append(place % 16 ? " " : made("br"));
+    if (place % 4 === 0) all.append(made("span", "", "four"));
     const byte = bytes.slice(2 * place, 2 * place + 2), isStored = mask >>> place & 1, isNew = was !== undefined && was.slice(2 * place, 2 * place + 2) !== byte;
     const kinds = [isStored ? "stored" : "", isNew ? "new" : ""].filter(Boolean).join(" "), shown = alone && !isStored ? "--" : byte;
-    all.append(kinds ? made("span", shown, kinds) : shown);
+    all.lastChild.append(kinds ? made("span", shown, kinds) : shown);
   }
   return all;
 }
