@@ -12,6 +12,7 @@ import subprocess
 import sys
 import tempfile
 import xml.etree.ElementTree as xml
+from collections.abc import Iterator
 from pathlib import Path
 
 ROOT = Path(__file__).resolve().parent.parent
@@ -85,6 +86,30 @@ def rows(folder):
     yield "a flow for each violation", [told["ph"] for told in events if told.get("cat") == "rollback"] == ["s", "i", "f"]
     refused = picture(folder, "", error="trace 3 Line", status=2)
     yield "a refused trace", (refused.stdout, refused.stderr, refused.returncode) == ("", "trace 3 Line\n", 2)
+
+
+def shapes(root: xml.Element, tag: str) -> set[str]:
+    """What is drawn by elements that have a hover text, without their places and their colours: the fill's hatch, the dashes and the corners."""
+    fills = {f"url(#{fill.get('id')})": " ".join(f"{one.tag} {one.get('d')}" for one in fill if one.tag != f"{SVG}rect") for fill in root.iter(f"{SVG}pattern")}
+    told = [one for one in root.iter(f"{SVG}{tag}") if one.find(f"{SVG}title") is not None and one.get("width") != "0.0"]
+    return {f"{fills.get(one.get('fill'), 'plain')} {one.get('stroke-dasharray')}" for one in told}
+
+
+def signs(root: xml.Element) -> set[tuple[int, bool]]:
+    """The signs of kinds, each by its corners and whether it is flat above; a dot has none."""
+    corners = [one.get("points", "").replace(",", " ").split() for tag in ("circle", "polygon") for one in root.iter(f"{SVG}{tag}")
+               if one.get("fill") != "none" and one.get("r") != "0.9"]
+    return {(len(one) // 2, one[1:2] == one[3:4]) for one in corners}
+
+
+def kinds(folder: str) -> Iterator[tuple[str, bool]]:
+    """Each kind is told by its hatch, its dashes and its sign, not by its colour alone."""
+    reports = [REPORT, REPORT.replace("true", "silent"), BESIDE, FULL, BARE]
+    drawn = [[xml.fromstring(picture(folder, report, *words).stdout) for report in reports] for words in ([], ["--overview"])]
+    yield "a hatch for each kind", len({frozenset(shapes(root, "rect")) for root in drawn[1]}) == 5
+    yield "dashes for each kind", len({frozenset(shapes(root, "path")) for root in drawn[0]}) == 5
+    for name, roots in zip(("an arrow's foot", "a line's foot"), drawn):
+        yield f"a sign for each kind at {name}", len({frozenset(signs(root)) for root in roots}) == 5 and all(len(signs(root)) == 1 for root in roots)
 
 
 def long_run(pairs, cores=2):
@@ -163,7 +188,7 @@ def traces(folder):
 
 def main():
     with tempfile.TemporaryDirectory() as folder:
-        results = [*rows(folder), *gathered(folder), *names(folder), *traces(folder)]
+        results = [*rows(folder), *kinds(folder), *gathered(folder), *names(folder), *traces(folder)]
     for name, holds in results:
         if not holds:
             print(f"FAILED {name}")

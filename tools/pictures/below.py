@@ -1,6 +1,6 @@
 """What stands below each picture: the pairs of instructions to blame, and how to read it."""
 
-from .page import COLOURS, GONE, INK, LOST, MEANINGS, PALE, STRAIGHT, USEFUL
+from .page import CANCELLED, COLOURS, INK, LOST, MEANINGS, PALE, STRAIGHT, USEFUL, Page, hatched
 from .words import advice, plural
 
 MOST_PAIRS = 6
@@ -18,9 +18,9 @@ def blame(page, run, x, y):
     top = max(1, max(sum(v.lost for v in violations) for _, violations in pairs))
     for (store, load, full), violations in pairs[:MOST_PAIRS]:
         at = x
-        for kind, colour in COLOURS.items():
+        for kind in COLOURS:
             part = sum(v.lost for v in violations if v.kind == kind)
-            page.box(at, y + 4, BAR * part / top, 14, colour, tip=f"{kind}: {plural(part, 'instruction')} lost")
+            page.box(at, y + 4, BAR * part / top, 14, hatched(kind), tip=f"{kind}: {plural(part, 'instruction')} lost")
             at += BAR * part / top
         names = sorted({run.image.name_of(first) if found is None else found.name
                         for first in {v.first for v in violations} - {None} for found in [run.image.variable_of(first)]})
@@ -38,6 +38,12 @@ def blame(page, run, x, y):
     return y
 
 
+def kind_shown(page: Page, x: float, y: float, kind: str) -> None:
+    """What is drawn of a kind: its arrow, and a box of its fill."""
+    page.arrow(x, y - 3, x + 26, y - 3, kind)
+    page.box(x, y + 2, 26, 5, hatched(kind))
+
+
 def legend(page, run, x, y, lanes):
     """How to read the picture: what occurs in it."""
     def bar(fill):
@@ -48,16 +54,16 @@ def legend(page, run, x, y, lanes):
     if any(attempt.straight is not None for attempt in run.attempts) and lanes:
         rows.append((bar(STRAIGHT), "straight: published, its stores are committed at once"))
     if any(attempt.fate in ("cancelled", "open") for attempt in run.attempts):
-        rows.append((bar(GONE), "cancelled by the loop's exit, or not over at the end"))
+        rows.append((bar(CANCELLED), "cancelled by the loop's exit, or not over at the end"))
     if lanes:
         rows += [(lambda a, b: page.line(a + 8, b - 6, a + 8, b + 1, INK, 1.4), "a load"),
                  (lambda a, b: page.box(a + 5.5, b - 3, 5, 7, INK), "a store"),
-                 (lambda a, b: page.ring(a + 13, b, COLOURS["true"]), "ringed: the victim's access to blame; a store in that colour: what hit it"),
+                 (lambda a, b: page.ring(a + 13, b, COLOURS["true"]), "ringed: the victim's access to blame; a sign as at an arrow's foot in place of a store: what hit it"),
                  (lambda a, b: page.line(a, b, a + 26, b, COLOURS["true"], 1.2, "2 3"), "violated, not begun again yet"),
                  (lambda a, b: page.flag(a + 9, b - 5), "commit")]
     for kind in COLOURS:
         if any(violation.kind == kind for violation in run.violations):
-            rows.append((lambda a, b, colour=COLOURS[kind]: page.arrow(a, b, a + 26, b, colour), MEANINGS[kind]))
+            rows.append((lambda a, b, kind=kind: kind_shown(page, a, b, kind), MEANINGS[kind]))
     page.text(x, y, "How to read it", 13, bold=True)
     for shape, words in rows:
         y += 19

@@ -1,7 +1,7 @@
 """A short run, entry by entry: a lane for each core, from left to right the turns that made an entry."""
 
 from .below import blame, legend
-from .page import COLOURS, GONE, GRID, INK, LOST, PALE, STRAIGHT, USEFUL, Page
+from .page import CANCELLED, COLOURS, GRID, INK, LOST, PALE, STRAIGHT, USEFUL, Page
 from .words import heading, plural, sentence
 
 LEFT, TOP, LANE, BAR = 74, 108, 66, 30
@@ -58,7 +58,7 @@ class Lanes:
             if self.x(end) > self.x(right) + 2:
                 page.line(self.x(right), y + BAR / 2, self.x(end), y + BAR / 2, COLOURS["true"], 1.2, "2 3")
         else:
-            page.box(left, y, self.x(right) - left - 1, BAR, USEFUL if attempt.fate in ("committed", "fault") else GONE, INK, tip, 0.8)
+            page.box(left, y, self.x(right) - left - 1, BAR, USEFUL if attempt.fate in ("committed", "fault") else CANCELLED, INK, tip, 0.8)
             if attempt.straight is not None:
                 page.box(self.x(attempt.straight), y, self.x(right) - self.x(attempt.straight) - 1, BAR, STRAIGHT, INK, tip + "; straight from here", 0.8)
         self.accesses(attempt)
@@ -95,8 +95,7 @@ class Lanes:
         self.blamed(violation, colour)
         down = violation.core > violation.by_core
         start, end = self.y(violation.by_core) + (BAR if down else 0), self.y(violation.core) + (0 if down else BAR)
-        page.dot(x, start, 2.6, colour)
-        page.arrow(x, start, x, end, colour, sentence(self.run, violation))
+        page.arrow(x, start, x, end, violation.kind, sentence(self.run, violation))
         if violation.first is not None:
             self.label(x, end + (-16 if down else 15), self.run.image.name_of(violation.first), colour)
 
@@ -109,7 +108,7 @@ class Lanes:
             if core == violation.core:
                 self.page.ring(x, self.y(core) + (7 if what == "load" else BAR - 6.5), colour)
             elif what == "store":
-                self.page.box(x - 3, self.y(core) + BAR - 10.5, 6, 8, colour, "#fff", "the store that is blamed", 0.7)
+                self.page.mark(x, self.y(core) + BAR - 6.5, 4, violation.kind, "the store that is blamed")
 
     def label(self, x, base, words, colour):
         """The name of the bytes beside an arrow, where it has room."""

@@ -1,7 +1,7 @@
 """A long run, by epochs: what each lost to rollbacks, and below it the cores over turns."""
 
 from .below import blame, legend
-from .page import COLOURS, GONE, GRID, INK, LOST, PALE, USEFUL, Page
+from .page import CANCELLED, COLOURS, DASHES, GRID, INK, LOST, PALE, USEFUL, Page, hatched
 from .words import heading, plural, sentence
 
 LEFT, TOP, HIGH, LANE, COUNTS, MOST_SLOTS = 74, 104, 150, 16, 40, 300
@@ -58,16 +58,16 @@ class Overview:
         for violation in sorted(violations, key=lambda v: list(COLOURS).index(v.kind)):
             y -= violation.lost * scale
             self.page.box(LEFT + slot * self.column, y, max(self.column - (1.5 if self.column > 5 else 0.5), 1), violation.lost * scale,
-                          COLOURS[violation.kind], "#fff", sentence(self.run, violation), 0.6)
+                          hatched(violation.kind), "#fff", sentence(self.run, violation), 0.6)
 
     def kinds(self, slot, violations, base, scale):
         """The same bar with one block for each kind."""
         y = base
-        for kind, colour in COLOURS.items():
+        for kind in COLOURS:
             of_kind = [violation.lost for violation in violations if violation.kind == kind]
             if of_kind:
                 y -= sum(of_kind) * scale
-                self.page.box(LEFT + slot * self.column, y, max(self.column - (1.5 if self.column > 5 else 0.5), 1), sum(of_kind) * scale, colour,
+                self.page.box(LEFT + slot * self.column, y, max(self.column - (1.5 if self.column > 5 else 0.5), 1), sum(of_kind) * scale, hatched(kind),
                               tip=f"{kind}: {plural(len(of_kind), 'rollback')}, {plural(sum(of_kind), 'instruction')} lost")
 
     def strip(self, y):
@@ -76,7 +76,7 @@ class Overview:
         turns, wide = max(1, run.turns), self.slots * self.column if self.slots > 8 else 700.0
         page.text(LEFT, y, "the same run: cores over turns; " + (
             f"a pixel is {turns / wide:.0f} turns, from below what was lost, cancelled and useful"
-            if self.gathered else "hatched is lost, a line leads from the dot at the cause to the victim"), 11, PALE)
+            if self.gathered else "hatched is lost, a line leads from the sign at the cause to the victim"), 11, PALE)
         y += 8
         for core in range(run.cores):
             page.text(LEFT - 6, y + core * LANE + 11, f"core {core}", 10, anchor="end")
@@ -91,7 +91,7 @@ class Overview:
         run, steps = self.run, {}
         for (core, column), shares in run.shares(wide).items():
             top = y + core * LANE + LANE - 2
-            for fill, share in zip((LOST, GONE, USEFUL), (shares[1], shares[2], shares[0])):
+            for fill, share in zip((LOST, CANCELLED, USEFUL), (shares[1], shares[2], shares[0])):
                 high = round(share * wide / max(1, run.turns) * (LANE - 4), 1)
                 if high >= 0.1:
                     steps.setdefault(fill, []).append(f"M{LEFT + column} {top:.1f}h1v{-high:g}h-1z")
@@ -116,7 +116,7 @@ class Overview:
                     steps.setdefault(kind, []).append(f"M{LEFT + column} {at:.1f}h1v{-high:g}h-1z")
                     at -= high
         for kind, parts in steps.items():
-            self.page.path("".join(parts), fill=COLOURS[kind])
+            self.page.path("".join(parts), fill=hatched(kind))
         self.page.text(LEFT - 6, base - 2, "rollbacks", 10, anchor="end")
         self.page.text(LEFT, base + 12, f"a pixel has {plural(most, 'rollback')} at most", 9.5, PALE)
         return base + 14
@@ -126,14 +126,14 @@ class Overview:
         page, run = self.page, self.run
         for attempt in run.attempts:
             _, right = run.span(attempt)
-            fill = {"violated": LOST, "committed": USEFUL, "fault": USEFUL}.get(attempt.fate, GONE)
+            fill = {"violated": LOST, "committed": USEFUL, "fault": USEFUL}.get(attempt.fate, CANCELLED)
             page.box(LEFT + attempt.first * wide / turns, y + attempt.core * LANE + 2, (right - attempt.first) * wide / turns, LANE - 4, fill, "#fff",
                      f"epoch {attempt.epoch}, try {attempt.number}: {attempt.fate}", 0.4)
         for violation in run.violations:
             x = LEFT + (run.turn_of[violation.place] + 0.5) * wide / turns
             ends = [y + core * LANE + LANE / 2 for core in (violation.by_core, violation.core)]
-            page.dot(x, ends[0], 2, COLOURS[violation.kind])
-            page.line(x, ends[0], x, ends[1], COLOURS[violation.kind], 1.1)
+            page.mark(x, ends[0], 2, violation.kind)
+            page.line(x, ends[0], x, ends[1], COLOURS[violation.kind], 1.1, DASHES[violation.kind])
 
 
 def draw(run):
