@@ -68,6 +68,18 @@ def bars(root):
     return {name: sorted(parts, key=lambda part: -part[2]) for name, parts in found.items()}
 
 
+def hatches(root: xml.Element) -> dict[str, str]:
+    """Of each part of bars the lines of its hatch, without colours; empty where it has none."""
+    lines = {f"url(#{one.get('id')})": "".join(path.get("d", "") for path in one.iter(f"{SVG}path")) for one in root.iter(f"{SVG}pattern")}
+    found = {}
+    for group in root.iter(f"{SVG}g"):
+        named = re.fullmatch(r"\w+-(?:caches|plain)-\d+-(\w+)", group.get("id", ""))
+        if named:
+            fill = re.match(r"fill: ([^;]+)", group.find(f"{SVG}path").get("style"))
+            found[named[1]] = lines.get(fill[1], "")
+    return found
+
+
 def plots(words):
     """(what it shows, what is wrong or None) of the plot of all inputs."""
     out, errors, status = plot(*words)
@@ -93,7 +105,8 @@ def plots(words):
         got = {part: round(100 * (high - low) / whole) for part, low, high in found[name]}
         yield f"the parts of {name}", None if list(got.items()) == list(wanted.items()) else f"{got}"
     yield "the same bytes again", None if plot(*words)[0] == out else "others"
-    yield "no colour alone", None if out.count("url(#h") >= 4 else "too few hatches"
+    found = hatches(root)
+    yield "no colour alone", None if len(found) >= 6 and len(set(found.values())) == len(found) else f"{ {name: hash(one) for name, one in found.items()} }"
 
 
 def tables(words, folder):

@@ -28,7 +28,7 @@ REST = [
     Part("noway", "waiting for a way in a full set", "#d9ecc0", "||||"),
     Part("orbfull", "waiting for room in the own buffer", "#cfe8dc", "oo"),
     Part("orbbusy", "waiting for another's buffer", "#c3dff0", "OO"),
-    Part("idle", "idle: without an epoch", "#ffffff", ""),
+    Part("idle", "idle: without an epoch", "#ffffff", "\\"),
 ]
 PARTS = [USEFUL, *KINDS, *REST]
 
