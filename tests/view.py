@@ -15,7 +15,7 @@ import shutil
 import subprocess
 import sys
 import tempfile
-from collections.abc import Iterator
+from collections.abc import Callable, Iterator
 from pathlib import Path
 from typing import Any
 
@@ -24,7 +24,7 @@ DEBIANS = "/usr/bin/python3"
 # So long may a script take in the browser, and so many keys are pressed by one.
 SECONDS, AT_ONCE = 100, 20
 # What a check shows, and what is wrong or None.
-Result = tuple[str, str | None]
+Result = tuple[str, Any]
 sys.path.insert(0, str(ROOT / "tools"))
 sys.dont_write_bytecode = True
 
@@ -68,17 +68,17 @@ function walked(key, times) {
 """
 
 
-def image(code, epochs=2, remarks=""):
+def image(code: str, epochs: int = 2, remarks: str = "") -> str:
     return f"{remarks}size 256\nepochs {epochs}\nlimit 100\ncode {code}\n"
 
 
-def example(name):
+def example(name: str) -> str:
     return (ROOT / "examples" / f"{name}.image").read_text(encoding="latin-1")
 
 
 # --- What needs no browser ----------------------------------------------------
 
-def spelled_by_as(text, word, pc):
+def spelled_by_as(text: str, word: int, pc: int) -> str:
     """The text of a row of the vectors, as the GNU assembler takes it, in the manner of the page: `beq x6,x7,.+8` has its target as an address."""
     if text.startswith("fence") and word & 0x7000 == 0 or word & 0x707F == 0x0F:
         return "fence"
@@ -86,7 +86,7 @@ def spelled_by_as(text, word, pc):
     return re.sub(r"\.([+-]\d+)$", lambda found: f"{(pc + int(found[1])) & 0xFFFFFFFF:08x}", f"{name} {rest}".strip())
 
 
-def disassembly():
+def disassembly() -> Iterator[Result]:
     """Each instruction of the vectors, and words that are none."""
     pc, seen = 0x1000, set()
     for path in sorted((ROOT / "tests" / "vectors").glob("*.txt")):
@@ -98,7 +98,7 @@ def disassembly():
     yield "all instructions", None if len(seen - {".word"}) == 40 else f"{len(seen)}: {sorted(seen)}"
 
 
-def forms():
+def forms() -> Iterator[Result]:
     """What isn't of the form is refused, and what is can be written again."""
     text = ("turn 0 1 go\nentry 1 load 00000040 4 00000000\nattempt 1 0 speculative\nhart 1 00000004 1\norb 1 00000040\norb 1\nat 00000040 00\n"
             "turn 1 1 over fault 0 5 00000000\nend\nopen 1\n")
@@ -113,13 +113,13 @@ def forms():
 
 # --- The browser ----------------------------------------------------------------
 
-def find_selenium():
+def find_selenium() -> None:
     """Runs this program anew by Debian's Python, where the one that runs it has no selenium."""
     if importlib.util.find_spec("selenium") is None and Path(DEBIANS).exists() and Path(DEBIANS).resolve() != Path(sys.executable).resolve():
         os.execv(DEBIANS, [DEBIANS, *sys.argv])
 
 
-def driver():
+def driver() -> Any:
     """A browser, or None where one isn't installed."""
     try:
         from selenium import webdriver
@@ -141,42 +141,42 @@ def driver():
 class Page:
     """A page in the browser: what a person does to it, and what it shows."""
 
-    def __init__(self, browser, path, link=""):
+    def __init__(self, browser: Any, path: Path, link: str = "") -> None:
         from selenium.webdriver.common.by import By
         from selenium.webdriver.common.keys import Keys
         self.browser, self.by, self.keys = browser, By, Keys
         browser.get("about:blank")
         browser.get(f"file://{path}{link}")
 
-    def element(self, name):
+    def element(self, name: str) -> Any:
         return self.browser.find_element(self.by.ID, name)
 
-    def text(self, name):
+    def text(self, name: str) -> str:
         return " ".join(self.element(name).text.split())
 
-    def shown(self):
+    def shown(self) -> dict[str, Any]:
         return self.browser.execute_script(SCRIPT + "return shown()")
 
-    def walked(self, key, times):
+    def walked(self, key: str, times: int) -> list[dict[str, Any]]:
         """What is shown before each press of a key, so many times, and at the end; some presses a call, so that none takes long on a busy machine."""
         all_shown = [self.shown()]
         for place in range(0, times, AT_ONCE):
             all_shown += self.browser.execute_script(SCRIPT + "return walked(...arguments)", key, min(AT_ONCE, times - place))[1:]
         return all_shown
 
-    def press(self, *keys):
+    def press(self, *keys: str) -> None:
         self.browser.find_element(self.by.TAG_NAME, "body").send_keys(*keys)
 
-    def click(self, name):
+    def click(self, name: str) -> None:
         self.element(name).click()
 
-    def turn(self):
+    def turn(self) -> int:
         return int(self.element("turn").get_attribute("value"))
 
-    def link(self, hash):
+    def link(self, hash: str) -> None:
         self.browser.execute_script("location.hash = arguments[0]", hash)
 
-    def press_until(self, key, words, most=400):
+    def press_until(self, key: str, words: str, most: int = 400) -> int | None:
         """Presses a key until the page says these words. Answers the turn, or None."""
         for _ in range(most):
             if words in self.text("said"):
@@ -184,13 +184,13 @@ class Page:
             self.press(key)
         return None
 
-    def errors(self):
+    def errors(self) -> list[str]:
         return [it["message"] for it in self.browser.get_log("browser") if it["level"] == "SEVERE"]
 
 
 # --- What a page has to show of a place ---------------------------------------------
 
-def of_line(text, got):
+def of_line(text: str, got: dict[str, Any]) -> bool:
     if text == "-":
         return got["none"] == "empty"
     address, state, loaded, mask, data = text.split(" ")
@@ -198,23 +198,23 @@ def of_line(text, got):
         address, state, "loaded" if loaded == "loaded" else "", int(mask, 16), int(mask, 16), data)
 
 
-def of_buffer(text, got):
+def of_buffer(text: str, got: dict[str, Any]) -> bool:
     lines = re.findall(r"\b[0-9a-f]{8}\b", got["text"])
     return lines == text.split() and got["text"].startswith(f"buffer, {len(lines)} of ")
 
 
-def of_kept(text, got):
+def of_kept(text: str, got: dict[str, Any]) -> bool:
     read, own, data = text.split(" ")
     stored = "".join(data[2 * at:2 * at + 2] if int(own, 16) >> at & 1 else "--" for at in range(16))
     return [got["mark"], got["mask"], got["stored"], got["bytes"]] == [read, own, int(own, 16), stored]
 
 
-def of_hart(text, got):
+def of_hart(text: str, got: dict[str, Any]) -> bool:
     pc, _, done = text.partition(" ")
     return got["text"] == "nothing in hand" if pc == "-" else got["text"].startswith(f"{done} executed; next {pc} ")
 
 
-def of_attempt(text, got):
+def of_attempt(text: str, got: dict[str, Any]) -> bool:
     epoch, _, mode = text.partition(" ")
     if epoch == "-":
         return got["text"].endswith(("no epoch", "was rolled back", "was cancelled"))
@@ -224,7 +224,7 @@ def of_attempt(text, got):
 OF_PLACE = {"line": of_line, "orb": of_buffer, "kept": of_kept, "hart": of_hart, "attempt": of_attempt, "at": lambda text, got: got["bytes"] == text}
 
 
-def framed(place, old, new):
+def framed(place: str, old: str, new: str) -> int:
     """The bytes that aren't as they were, as a mask: of committed memory, and of a line that the way had before."""
     if place.startswith("line ") and old.split(" ")[0] != new.split(" ")[0] or new == "-":
         return 0
@@ -232,7 +232,7 @@ def framed(place, old, new):
     return sum(1 << at for at in range(len(now)) if before[at] != now[at])
 
 
-def differences(shown, state, step, before):
+def differences(shown: dict[str, Any], state: dict[str, str], step: Any, before: dict[str, str]) -> Iterator[str]:
     """Where the page shows something else than the state after a turn, or doesn't say what changed from the state before."""
     places, waits = shown["places"], step.answer.split(" ")[1] if step.answer.startswith("again ") else ""
     for place, text in state.items():
@@ -251,7 +251,7 @@ def differences(shown, state, step, before):
         yield f"turn {shown['turn']}, and not {step.turn} {step.answer}: {shown['cores'][step.core][:100]}"
 
 
-def whole_run(page, steps):
+def whole_run(page: Page, steps: Any) -> Iterator[Result]:
     """(what it shows, what is wrong or None) of all turns, by the keys."""
     states, count = [dict(state) for state in steps.states()], len(steps.steps)
     for number in range(3):
@@ -268,7 +268,7 @@ def whole_run(page, steps):
     yield "no turn beyond the last", None if page.turn() == steps.steps[-1].turn else f"{page.turn()}"
 
 
-def moves(page, steps):
+def moves(page: Page, steps: Any) -> Iterator[Result]:
     """(what it shows, what is wrong or None) of buttons, keys, links and the lanes."""
     hurts = [step.turn for step in steps.steps if any(entry.what == "hurt" for entry in step.entries)]
     page.click("first")
@@ -446,9 +446,13 @@ def for_everyone(views: "Views") -> Iterator[Result]:
     wanted = dict(re.findall(r"^# code (\w{8}) (\S+)$", example("own_counters"), re.MULTILINE))
     rows = [row for row in told[1:] if wanted.get(row[:8], "?") in row]
     yield "the source's lines beside the code", None if told[0] == "address instruction source next of" and len(wanted) > 1 and len(rows) == len(wanted) else f"{told}"
+    page, _ = views.page(views.evenly(example("first_match"), "caches", 4), "--cores", "4")
+    page.browser.find_element(page.by.TAG_NAME, "summary").click()
+    told = [row.text for row in page.browser.find_elements(page.by.CSS_SELECTOR, "#attempts tr")]
+    yield "lanes of a loop with an exit, as text", None if any(row.endswith(" is cancelled") for row in told) and any(row.endswith(" commits") for row in told) else f"{told}"
     emulate(views.browser, 400)
     wide, room = page.browser.execute_script("return [document.documentElement.scrollWidth, document.documentElement.clientWidth]")
-    yield "no sideways scroll beside a source", None if wide <= room else f"{wide} of {room}"
+    yield "no sideways scroll of another run", None if wide <= room else f"{wide} of {room}"
     views.browser.execute_cdp_cmd("Emulation.clearDeviceMetricsOverride", {})
 
 
@@ -457,16 +461,16 @@ def for_everyone(views: "Views") -> Iterator[Result]:
 class Views:
     """Makes pages of inputs, by the programs of a folder."""
 
-    def __init__(self, browser, folder, programs):
+    def __init__(self, browser: Any, folder: str, programs: Programs) -> None:
         self.browser, self.folder, self.programs, self.made = browser, Path(folder), programs, 0
 
-    def view(self, text, *words):
+    def view(self, text: str, *words: str) -> tuple[str, str, int]:
         """Standard output, the error stream and the status."""
         done = subprocess.run([sys.executable, ROOT / "tools" / "view", *words], input=text.encode("latin-1"), capture_output=True,
                               env={**os.environ, "LOOPS_PROGRAMS": str(self.programs.folder)}, check=False)
         return done.stdout.decode("utf-8"), done.stderr.decode("latin-1"), done.returncode
 
-    def page(self, text, *words, link=""):
+    def page(self, text: str, *words: str, link: str = "") -> tuple[Page, str]:
         """The page in the browser, and the file that it stands in."""
         out, errors, status = self.view(text, *words)
         if errors or status:
@@ -476,12 +480,12 @@ class Views:
         path.write_text(out, encoding="utf-8")
         return Page(self.browser, path, link), out
 
-    def evenly(self, text, store, cores):
+    def evenly(self, text: str, store: str, cores: int) -> str:
         """An image with the turns at even speed."""
         return text + " ".join(["turns", *map(str, self.programs.even(text, store, cores).turns)]) + "\n"
 
 
-def runs(views):
+def runs(views: Views) -> Iterator[Result]:
     """Whole runs: a trace, and turns over both stores."""
     traced = (ROOT / "examples" / "traces" / "histogram.trace").read_text()
     inputs = [("a histogram's trace", traced, "caches", None, True), ("wide lines", views.evenly(example("wide_lines"), "caches", 3), "caches", 3, False),
@@ -495,11 +499,11 @@ def runs(views):
         yield f"{name}: no errors in the browser", page.errors() or None
 
 
-def first_turn(steps, holds):
+def first_turn(steps: Any, holds: Callable[[Any], bool]) -> int | None:
     return next((step.turn for step in steps.steps if holds(step)), None)
 
 
-def found(views):
+def found(views: Views) -> Iterator[Result]:
     """What a person looks for, found by keys; `replay steps` says where it is."""
     inputs = [("a full set", views.evenly(example("queens"), "caches", 2), 2, "w", "both ways of the set hold lines", lambda step: step.answer == "again NoWay"),
               ("a full buffer", image(LOADS_FIRST) + f"turns {FIVE_LINES}\n", 2, "w", "its buffer, which is full", lambda step: step.answer == "again OrbFull"),
@@ -519,7 +523,7 @@ def found(views):
         yield f"{name}: no errors in the browser", page.errors() or None
 
 
-def windows(views):
+def windows(views: Views) -> Iterator[Result]:
     """Parts of runs, and what is refused."""
     text = views.evenly(example("histogram"), "caches", 2)
     steps = views.programs.steps(text, "caches", 2)
@@ -543,7 +547,7 @@ def windows(views):
         yield f"refused: {name}", None if got == answer else f"{got}"
 
 
-def beside(command):
+def beside(command: list[str]) -> dict[str, Path]:
     """The programs that were built beside a command of `trace_cli`."""
     given = Path(command[0]).resolve()
     top = ROOT if given == ROOT / "trace_cli" else given.parents[2] if len(given.parents) > 2 else given.parent
@@ -551,7 +555,7 @@ def beside(command):
     return {name: path for name, path in found_there.items() if path.is_file()}
 
 
-def in_browser(folder, command):
+def in_browser(folder: str, command: list[str]) -> Iterator[Result]:
     """The checks that need programs and a browser."""
     programs = beside(command)
     if len(programs) < 2:
@@ -571,7 +575,7 @@ def in_browser(folder, command):
         browser.quit()
 
 
-def main():
+def main() -> int:
     find_selenium()
     command = sys.argv[1:] or [str(ROOT / "trace_cli"), "seq"]
     with tempfile.TemporaryDirectory() as folder:

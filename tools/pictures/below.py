@@ -1,5 +1,8 @@
 """What stands below each picture: the pairs of instructions to blame, and how to read it."""
 
+from collections.abc import Callable
+
+from .attempts import Run
 from .page import CANCELLED, COLOURS, INK, LOST, MEANINGS, PALE, STRAIGHT, USEFUL, Page, hatched
 from .words import advice, plural
 
@@ -7,7 +10,7 @@ MOST_PAIRS = 6
 BAR = 160.0
 
 
-def blame(page, run, x, y):
+def blame(page: Page, run: Run, x: float, y: float) -> float:
     """The pairs that lost most, each with a bar by kinds. Answers where it ends."""
     pairs = run.pairs()
     if not pairs:
@@ -44,9 +47,9 @@ def kind_shown(page: Page, x: float, y: float, kind: str) -> None:
     page.box(x, y + 2, 26, 5, hatched(kind))
 
 
-def legend(page, run, x, y, lanes):
+def legend(page: Page, run: Run, x: float, y: float, lanes: bool) -> float:
     """How to read the picture: what occurs in it."""
-    def bar(fill):
+    def bar(fill: str) -> Callable[[float, float], None]:
         return lambda a, b: page.box(a, b - 7, 26, 14, fill, INK, line=0.6)
 
     rows = [(bar(USEFUL), "an attempt that commits (e5 try 3, e5 #3 or #3: the third try of epoch 5)" if lanes else "epochs: attempts that commit"),

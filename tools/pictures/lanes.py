@@ -1,5 +1,8 @@
 """A short run, entry by entry: a lane for each core, from left to right the turns that made an entry."""
 
+from loops import Violation
+
+from .attempts import Attempt, Run
 from .below import blame, legend
 from .page import CANCELLED, COLOURS, GRID, INK, LOST, PALE, STRAIGHT, USEFUL, Page
 from .words import heading, plural, sentence
@@ -8,19 +11,19 @@ LEFT, TOP, LANE, BAR = 74, 108, 66, 30
 
 
 class Lanes:
-    def __init__(self, run):
+    def __init__(self, run: Run) -> None:
         self.run, self.page = run, Page()
         self.turns = max(1, run.turns)
         self.column = max(7.0, min(20.0, 1400.0 / self.turns))
-        self.labels = []                # (left, right, base) of the labels that stand
+        self.labels: list[tuple[float, float, float]] = []     # (left, right, base) of the labels that stand
 
-    def x(self, turn):
+    def x(self, turn: float) -> float:
         return LEFT + turn * self.column
 
-    def y(self, core):
+    def y(self, core: int) -> float:
         return TOP + core * LANE + (LANE - BAR) / 2
 
-    def whole(self):
+    def whole(self) -> str:
         one, two = heading(self.run)
         self.page.text(16, 26, self.run.image.about, 12.5)
         self.page.text(16, 48, one, 17, bold=True)
@@ -36,7 +39,7 @@ class Lanes:
         self.page.reach(self.x(self.turns), 0)
         return self.page.whole(one)
 
-    def grid(self):
+    def grid(self) -> None:
         page, bottom = self.page, TOP + LANE * self.run.cores
         page.text(LEFT, TOP - 8, "turns that made an entry, from left to right", 10.5, PALE)
         step = max(1, round(60 / self.column / 5) * 5)
@@ -48,7 +51,7 @@ class Lanes:
             page.line(LEFT, middle, self.x(self.turns), middle, "#d5dade")
             page.text(LEFT - 12, middle + 4, f"core {core}", 12, anchor="end", bold=True)
 
-    def attempt(self, attempt):
+    def attempt(self, attempt: Attempt) -> None:
         page, y, left = self.page, self.y(attempt.core), self.x(attempt.first) + 1
         end = self.turns if attempt.last is None else attempt.last
         right = attempt.undone + 0.5 if attempt.fate == "violated" else end + (attempt.fate in ("committed", "fault"))
@@ -68,7 +71,7 @@ class Lanes:
             page.text(self.x(right) - 4, y + BAR - 4, "!", 14, COLOURS["true"], "end", bold=True)
         self.name(attempt, left)
 
-    def accesses(self, attempt):
+    def accesses(self, attempt: Attempt) -> None:
         y = self.y(attempt.core)
         for turn, entry in attempt.accesses:
             ink = "#fff" if attempt.straight is not None and turn >= attempt.straight else INK
@@ -78,7 +81,7 @@ class Lanes:
             else:
                 self.page.box(middle - 2.5, y + BAR - 10, 5, 7, ink, tip=tip)
 
-    def name(self, attempt, left):
+    def name(self, attempt: Attempt, left: float) -> None:
         """The longest name that has room before the core's next attempt."""
         following = [other.first for other in self.run.attempts if other.core == attempt.core and other.first > attempt.first]
         room = self.x(min(following)) - left - 3 if following else 1000
@@ -87,7 +90,7 @@ class Lanes:
         fits = next((name for name in names if len(name) * 6.4 <= room), "")
         self.page.text(left + 1, self.y(attempt.core) - 4, fits, 10, bold=attempt.fate == "committed")
 
-    def violation(self, violation):
+    def violation(self, violation: Violation) -> None:
         page, colour = self.page, COLOURS[violation.kind]
         turn = self.run.turn_of[violation.place]
         beside = [other for other in self.run.violations if self.run.turn_of[other.place] == turn]
@@ -99,7 +102,7 @@ class Lanes:
         if violation.first is not None:
             self.label(x, end + (-16 if down else 15), self.run.image.name_of(violation.first), colour)
 
-    def blamed(self, violation, colour):
+    def blamed(self, violation: Violation, colour: str) -> None:
         for access, core in ((violation.victims, violation.core), (violation.causers, violation.by_core)):
             if access is None:
                 continue
@@ -110,7 +113,7 @@ class Lanes:
             elif what == "store":
                 self.page.mark(x, self.y(core) + BAR - 6.5, 4, violation.kind, "the store that is blamed")
 
-    def label(self, x, base, words, colour):
+    def label(self, x: float, base: float, words: str, colour: str) -> None:
         """The name of the bytes beside an arrow, where it has room."""
         width = len(words) * 6.0
         for left in (x + 5, x - 4 - width):
@@ -120,5 +123,5 @@ class Lanes:
                 return
 
 
-def draw(run):
+def draw(run: Run) -> str:
     return Lanes(run).whole()

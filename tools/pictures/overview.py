@@ -1,5 +1,8 @@
 """A long run, by epochs: what each lost to rollbacks, and below it the cores over turns."""
 
+from loops import Violation
+
+from .attempts import Run
 from .below import blame, legend
 from .page import CANCELLED, COLOURS, DASHES, GRID, INK, LOST, PALE, USEFUL, Page, hatched
 from .words import heading, plural, sentence
@@ -11,18 +14,18 @@ STEPS = [step * 10 ** power for power in range(10) for step in (1, 2, 5)]
 
 
 class Overview:
-    def __init__(self, run):
+    def __init__(self, run: Run) -> None:
         self.run, self.page = run, Page()
         epochs = max([attempt.epoch for attempt in run.attempts], default=0) + 1
         self.epochs_of_slot = -(-epochs // MOST_SLOTS)
         self.slots = -(-epochs // self.epochs_of_slot)
         self.column = max(3.0, min(44.0, 1200.0 / self.slots))
         self.gathered = len(run.entries) > MOST_ENTRIES
-        self.by_slot = [[] for _ in range(self.slots)]
+        self.by_slot: list[list[Violation]] = [[] for _ in range(self.slots)]
         for violation in run.violations:
             self.by_slot[violation.epoch // self.epochs_of_slot].append(violation)
 
-    def whole(self):
+    def whole(self) -> str:
         one, two = heading(self.run)
         self.page.text(16, 26, self.run.image.about, 12.5)
         self.page.text(16, 48, one, 17, bold=True)
@@ -32,7 +35,7 @@ class Overview:
         legend(self.page, self.run, max(760, self.page.width * 0.55), bottom + 36, lanes=False)
         return self.page.whole(one)
 
-    def lost(self):
+    def lost(self) -> float:
         """A bar for each epoch, or for so many epochs: a block for each rollback, as high as what it lost. Answers where it ends."""
         page = self.page
         most = max([sum(v.lost for v in violations) for violations in self.by_slot] + [1])
@@ -53,14 +56,14 @@ class Overview:
         page.reach(LEFT + self.slots * self.column, 0)
         return base + 14
 
-    def bar(self, slot, violations, base, scale):
+    def bar(self, slot: int, violations: list[Violation], base: float, scale: float) -> None:
         y = base
         for violation in sorted(violations, key=lambda v: list(COLOURS).index(v.kind)):
             y -= violation.lost * scale
             self.page.box(LEFT + slot * self.column, y, max(self.column - (1.5 if self.column > 5 else 0.5), 1), violation.lost * scale,
                           hatched(violation.kind), "#fff", sentence(self.run, violation), 0.6)
 
-    def kinds(self, slot, violations, base, scale):
+    def kinds(self, slot: int, violations: list[Violation], base: float, scale: float) -> None:
         """The same bar with one block for each kind."""
         y = base
         for kind in COLOURS:
@@ -70,7 +73,7 @@ class Overview:
                 self.page.box(LEFT + slot * self.column, y, max(self.column - (1.5 if self.column > 5 else 0.5), 1), sum(of_kind) * scale, hatched(kind),
                               tip=f"{kind}: {plural(len(of_kind), 'rollback')}, {plural(sum(of_kind), 'instruction')} lost")
 
-    def strip(self, y):
+    def strip(self, y: float) -> float:
         """The cores over the turns. Answers where it ends."""
         page, run = self.page, self.run
         turns, wide = max(1, run.turns), self.slots * self.column if self.slots > 8 else 700.0
@@ -86,7 +89,7 @@ class Overview:
         self.attempts(y, turns, wide)
         return y + LANE * run.cores
 
-    def columns(self, y, wide):
+    def columns(self, y: float, wide: int) -> float:
         """Each core in columns of one pixel, with the shares of what it ran. Answers where it ends."""
         run, steps = self.run, {}
         for (core, column), shares in run.shares(wide).items():
@@ -100,7 +103,7 @@ class Overview:
             self.page.path("".join(parts), fill=fill)
         return self.counts(y + LANE * run.cores, wide)
 
-    def counts(self, y, wide):
+    def counts(self, y: float, wide: int) -> float:
         """How many rollbacks a pixel has, a block for each kind. Answers where it ends."""
         run, counts = self.run, {}
         for violation in run.violations:
@@ -121,7 +124,7 @@ class Overview:
         self.page.text(LEFT, base + 12, f"a pixel has {plural(most, 'rollback')} at most", 9.5, PALE)
         return base + 14
 
-    def attempts(self, y, turns, wide):
+    def attempts(self, y: float, turns: int, wide: float) -> None:
         """Each attempt as a box, and each rollback as a line from its cause to its victim."""
         page, run = self.page, self.run
         for attempt in run.attempts:
@@ -136,5 +139,5 @@ class Overview:
             page.line(x, ends[0], x, ends[1], COLOURS[violation.kind], 1.1, DASHES[violation.kind])
 
 
-def draw(run):
+def draw(run: Run) -> str:
     return Overview(run).whole()

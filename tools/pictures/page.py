@@ -43,34 +43,36 @@ CHARACTER = 0.62
 class Page:
     """Shapes, and the room that they take."""
 
-    def __init__(self):
-        self.parts, self.width, self.height = [], 0, 0
+    def __init__(self) -> None:
+        self.parts: list[str] = []
+        self.width: float = 0
+        self.height: float = 0
 
-    def reach(self, x, y):
+    def reach(self, x: float, y: float) -> None:
         self.width, self.height = max(self.width, x), max(self.height, y)
 
-    def text(self, x, y, words, size=11, fill=INK, anchor="start", bold=False, halo=False):
+    def text(self, x: float, y: float, words: str, size: float = 11, fill: str = INK, anchor: str = "start", bold: bool = False, halo: bool = False) -> None:
         style = ' stroke="#fff" stroke-width="3" paint-order="stroke" stroke-linejoin="round"' if halo else ""
         weight = ' font-weight="bold"' if bold else ""
         self.parts.append(f'<text x="{x:.1f}" y="{y:.1f}" font-size="{size:g}" fill="{fill}" text-anchor="{anchor}"{weight}{style}>'
                           f"{escape(words)}</text>")
         self.reach(x + (len(words) * size * CHARACTER if anchor == "start" else 4), y + 6)
 
-    def box(self, x, y, width, height, fill, stroke="none", tip="", line=1.0):
+    def box(self, x: float, y: float, width: float, height: float, fill: str, stroke: str = "none", tip: str = "", line: float = 1.0) -> None:
         title = f"<title>{escape(tip)}</title>" if tip else ""
         self.parts.append(f'<rect x="{x:.1f}" y="{y:.1f}" width="{max(width, 0):.1f}" height="{max(height, 0):.1f}" fill="{fill}" '
                           f'stroke="{stroke}" stroke-width="{line:g}">{title}</rect>')
         self.reach(x + width, y + height)
 
-    def line(self, x1, y1, x2, y2, stroke, width=1.0, dashes=""):
+    def line(self, x1: float, y1: float, x2: float, y2: float, stroke: str, width: float = 1.0, dashes: str = "") -> None:
         dashed = f' stroke-dasharray="{dashes}"' if dashes else ""
         self.parts.append(f'<line x1="{x1:.1f}" y1="{y1:.1f}" x2="{x2:.1f}" y2="{y2:.1f}" stroke="{stroke}" stroke-width="{width:g}"{dashed}/>')
 
-    def path(self, steps, fill="none", stroke="none", width=1.0, tip="", dashes=""):
+    def path(self, steps: str, fill: str = "none", stroke: str = "none", width: float = 1.0, tip: str = "", dashes: str = "") -> None:
         title, dashed = f"<title>{escape(tip)}</title>" if tip else "", f' stroke-dasharray="{dashes}"' if dashes else ""
         self.parts.append(f'<path d="{steps}" fill="{fill}" stroke="{stroke}" stroke-width="{width:g}"{dashed}>{title}</path>')
 
-    def ring(self, x, y, colour):
+    def ring(self, x: float, y: float, colour: str) -> None:
         self.parts.append(f'<circle cx="{x:.1f}" cy="{y:.1f}" r="5" fill="none" stroke="{colour}" stroke-width="1.8"/>')
 
     def mark(self, x: float, y: float, size: float, kind: str, tip: str = "") -> None:
@@ -93,11 +95,11 @@ class Page:
         self.path(f"M{x1:.1f} {y1:.1f} L{x2:.1f} {y2:.1f}", stroke=colour, width=1.8, tip=tip, dashes=DASHES[kind])
         self.path(f"M{corners[0][0]:.1f} {corners[0][1]:.1f} L{x2:.1f} {y2:.1f} L{corners[1][0]:.1f} {corners[1][1]:.1f} Z", fill=colour, tip=tip)
 
-    def flag(self, x, y, tip=""):
+    def flag(self, x: float, y: float, tip: str = "") -> None:
         """The sign of a commit."""
         self.path(f"M{x:.1f} {y:.1f} v10 l9 -5 z", fill="#1b7f3b", tip=tip)
 
-    def whole(self, title):
+    def whole(self, title: str) -> str:
         width, height = math.ceil(self.width) + 24, math.ceil(self.height) + 16
         return (f'<svg xmlns="http://www.w3.org/2000/svg" width="{width}" height="{height}" viewBox="0 0 {width} {height}" '
                 f'font-family="DejaVu Sans, Helvetica, Arial, sans-serif">\n<title>{escape(title)}</title>\n'

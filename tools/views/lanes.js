@@ -97,7 +97,7 @@ function tellLanes() {
   if (table.rows.length) return;
   table.append(headRow("core", "epoch", "attempt", "from turn", "to turn", "and then"));
   for (const [core, epoch, number, first, end, fate, undone] of run.attempts) {
-    const last = Math.min(fate === "violated" ? undone : end - 1, steps.length - 1), from = first < 0 ? "before" : steps[first][TURN];
+    const last = Math.min(undone ?? end - 1, steps.length - 1), from = first < 0 ? "before" : steps[first][TURN];
     table.insertRow().append(headCell(`core ${core}`, "row"), ...[epoch, number, from, steps[Math.max(last, 0)][TURN], FATES[fate]].map(text => made("td", String(text))));
   }
 }
