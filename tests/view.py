@@ -329,12 +329,20 @@ def emulate(browser: Any, width: int, scale: int = 1, scheme: str = "light") -> 
     """A window so many CSS pixels wide, each of so many of the screen's in a row, in light or dark."""
     browser.execute_cdp_cmd("Emulation.setDeviceMetricsOverride", {"width": width, "height": 1000, "deviceScaleFactor": scale, "mobile": False})
     browser.execute_cdp_cmd("Emulation.setEmulatedMedia", {"features": [{"name": "prefers-color-scheme", "value": scheme}]})
+    browser.execute_async_script("const end = arguments[0]; requestAnimationFrame(() => requestAnimationFrame(() => end()))")
 
 
 def accessible(browser: Any) -> list[tuple[str, str]]:
     """Role and name of what the browser tells a screen reader of the page."""
     nodes = browser.execute_cdp_cmd("Accessibility.getFullAXTree", {})["nodes"]
     return [(node["role"]["value"], node.get("name", {}).get("value", "")) for node in nodes if not node["ignored"]]
+
+
+def lanes_as_text(page: Page) -> list[str]:
+    """The rows of the table of lanes, which the page makes soon after it is opened."""
+    page.browser.find_element(page.by.TAG_NAME, "summary").click()
+    page.browser.execute_async_script("const end = arguments[0], look = () => element('attempts').rows.length ? end() : setTimeout(look, 10); look()")
+    return [row.text for row in page.browser.find_elements(page.by.CSS_SELECTOR, "#attempts tr")]
 
 
 def named_parts(page: Page) -> Iterator[Result]:
@@ -350,13 +358,12 @@ def named_parts(page: Page) -> Iterator[Result]:
     yield "the names of its lanes", None if [one.text for one in told] == ["core 0", "core 1", "core 2"] else f"{[one.text for one in told]}"
     told = [one.text for one in page.browser.find_elements(page.by.CSS_SELECTOR, "#core-0 .cache th[scope=row]")]
     yield "the names of sets", None if told == ["set 0", "set 1", "set 2", "set 3"] else f"{told}"
-    page.link("#turn=18")
+    page.browser.execute_script("toTurn(18)")
     states = {one.text: one.get_attribute("title") for one in page.browser.find_elements(page.by.CSS_SELECTOR, "#core-2 .state")}
     said = page.browser.find_element(page.by.CSS_SELECTOR, "#core-2 .states").text
     wrong = [name for name, told in states.items() if f"{name} is {told}." not in said]
     yield "what its states mean", None if set(states) == {"SpS", "SpE"} and "no other core holds the line" in states["SpE"] and not wrong else f"{states}, {said!r}"
-    page.browser.find_element(page.by.TAG_NAME, "summary").click()
-    rows = [row.text for row in page.browser.find_elements(page.by.CSS_SELECTOR, "#attempts tr")]
+    rows = lanes_as_text(page)
     wanted = ["core epoch attempt from turn to turn and then", 22, "core 0 3 1 14 19 is rolled back"]
     yield "its lanes as text", None if [rows[0], len(rows) - 1, next((row for row in rows if row.startswith("core 0 3 1 ")), "")] == wanted else f"{rows}"
 
@@ -410,8 +417,10 @@ def sizes(page: Page) -> Iterator[Result]:
     grounds = {}
     for scheme in ("light", "dark"):
         emulate(page.browser, 1280, 1, scheme)
-        count, low = page.browser.execute_script(CONTRAST)
-        yield f"contrast in {scheme}", None if count > 80 and not low else f"{count}, {low[:5]}"
+        for turn in (0, 18, 19):
+            page.browser.execute_script("toTurn(arguments[0])", turn)
+            count, low = page.browser.execute_script(CONTRAST)
+            yield f"contrast in {scheme} at turn {turn}", None if count > 80 and page.turn() == turn and not low else f"{count}, {low[:5]}"
         grounds[scheme] = page.browser.execute_script("return [getComputedStyle(document.body).backgroundColor, getComputedStyle(document.body).color, colour('--commits')]")
     yield "its colours in the dark", None if grounds == {"light": ["rgb(255, 255, 255)", "rgb(28, 28, 28)", "#7fb7d9"],
                                                          "dark": ["rgb(22, 25, 29)", "rgb(232, 234, 237)", "#2f6f96"]} else f"{grounds}"
@@ -437,7 +446,7 @@ def for_everyone(views: "Views") -> Iterator[Result]:
     page, _ = views.page(traced)
     yield from named_parts(page)
     yield from keyboard(page, steps)
-    page.link("#turn=18")
+    page.browser.execute_script("toTurn(18)")
     yield from sizes(page)
     yield "for everyone: no errors in the browser", page.errors() or None
     yield from without_script(views.browser, views.folder / f"{views.made}.html")
@@ -447,8 +456,7 @@ def for_everyone(views: "Views") -> Iterator[Result]:
     rows = [row for row in told[1:] if wanted.get(row[:8], "?") in row]
     yield "the source's lines beside the code", None if told[0] == "address instruction source next of" and len(wanted) > 1 and len(rows) == len(wanted) else f"{told}"
     page, _ = views.page(views.evenly(example("first_match"), "caches", 4), "--cores", "4")
-    page.browser.find_element(page.by.TAG_NAME, "summary").click()
-    told = [row.text for row in page.browser.find_elements(page.by.CSS_SELECTOR, "#attempts tr")]
+    told = lanes_as_text(page)
     yield "lanes of a loop with an exit, as text", None if any(row.endswith(" is cancelled") for row in told) and any(row.endswith(" commits") for row in told) else f"{told}"
     emulate(views.browser, 400)
     wide, room = page.browser.execute_script("return [document.documentElement.scrollWidth, document.documentElement.clientWidth]")
