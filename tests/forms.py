@@ -14,16 +14,17 @@ import re
 import subprocess
 import sys
 import tempfile
+from collections.abc import Iterator
 from pathlib import Path
 
 ROOT = Path(__file__).resolve().parent.parent
 sys.path.insert(0, str(ROOT / "tools"))
 
-from loops import Programs, Stopped, read_conflicts, read_image, with_trace  # noqa: E402
+from loops import Programs, Stopped, pieces, read_conflicts, read_image, with_trace  # noqa: E402
 from loops.documents import FORMS, SCHEMA, content_of, document, form_of, to_json  # noqa: E402
 from loops.programs import call  # noqa: E402
 from loops.runs import read_output  # noqa: E402
-from loops.streams import iter_document  # noqa: E402
+from loops.streams import iter_document, iter_text  # noqa: E402
 from loops.texts import text_out  # noqa: E402
 
 try:
@@ -88,6 +89,8 @@ def wrong_with(form, text):
             return f"isn't as the schema says: {found.message[:200]}"
     if streamed(text) != to_json(text):
         return "is another where it is written while it is read"
+    if back(to_json(text)) != text:
+        return "isn't written as it was where the document is read in pieces"
     return None if content_of(told).text() == text else "isn't written as it was"
 
 
@@ -97,6 +100,60 @@ def streamed(text: str) -> str:
         source = Path(folder, "text")
         source.write_bytes(text_out(text))
         return "".join(iter_document(source)) + "\n"
+
+
+def back(told: str) -> str:
+    """The text of a document, by the way that tools/json goes."""
+    with tempfile.TemporaryDirectory() as folder:
+        source = Path(folder, "document")
+        source.write_bytes(text_out(told))
+        return "".join(iter_text(source))
+
+
+def turned(value: object) -> object:
+    """The same JSON with the keys of each object in the other order."""
+    if isinstance(value, dict):
+        return {key: turned(one) for key, one in reversed(value.items())}
+    return [turned(one) for one in value] if isinstance(value, list) else value
+
+
+def in_pieces() -> Iterator[tuple[str, str | None]]:
+    """Documents of which few bytes are read at once, in other orders and without blanks. The last text has characters of several bytes, and a byte that is no UTF-8."""
+    usual = pieces.CHUNK
+    texts = [text for _, text in TEXTS] + ["# \u00e9\u20ac\U0001f600\udcff\n" + TEXTS[1][1]]
+    for size in (1, 2, 7, 64):
+        pieces.CHUNK = size
+        wrong = [text for text in texts if back(to_json(text)) != text]
+        yield f"{size} bytes at once", f"{wrong[0][:40]!r} is another" if wrong else None
+    pieces.CHUNK = usual
+    for text in texts:
+        told = document(text)
+        content = {key: told[key] for key in ("form", "version")} | {"content": turned(told["content"])}
+        orders = {"no blanks": json.dumps(told, separators=(",", ":")), "each key at its other end": json.dumps(turned(told), ensure_ascii=False),
+                  "the content's keys at their other end": json.dumps(content, indent="\t") + "\r\n"}
+        for name, order in orders.items():
+            if name == "no blanks" or form_of(text) != "steps":     # what a turn changes is said in the order of its keys
+                yield f"{text[:30]!r}, {name}", None if back(order) == text else "is another"
+
+
+def refused_back() -> Iterator[tuple[str, str | None]]:
+    """Documents with which something is wrong: nothing is written, and what is said is what Python says of the whole document."""
+    good = to_json(TEXTS[1][1])
+    for name, told, said in (
+        ("nothing", "", "Expecting value: line 1 column 1 (char 0)"),
+        ("no end", good[:-3], f"Expecting ',' delimiter: line {good.count(chr(10)) - 1} column 3 (char {len(good) - 3})"),
+        ("more behind its end", good + "{}", f"Extra data: line {good.count(chr(10)) + 1} column 1 (char {len(good)})"),
+        ("no comma", good.replace('"cores": 2,', '"cores": 2'), None),
+        ("a number that goes on", good.replace('"cores": 2,', '"cores": 2x,'), None),
+        ("no width of the last entry", "\n".join(good.rsplit('\n     "width": null,\n', 1)), "'width'"),
+        ("an address that is a word", good.replace('"address": 32', '"address": "x"'), "Unknown format code 'x' for object of type 'str'"),
+        ("half of a surrogate pair", good.replace('"publish"', '"\\ud800"'), "'utf-8' codec can't encode character '\\ud800' in position 133: surrogates not allowed"),
+    ):
+        got = tool("json", told, "--back")
+        right = got[0] == "" and got[1].startswith("json: ") and got[2] == 2 and (said is None or got[1] == f"json: {said}\n")
+        yield f"back from a document with {name}", None if right else f"got {got}"
+    twice = good.replace('"version": 1,', '"version": 2,\n "version": 1,', 1)
+    yield "a key that is said twice", None if tool("json", twice, "--back") == (TEXTS[1][1], "", 0) else "is another"
 
 
 def tool(name, text, *words):
@@ -226,7 +283,7 @@ def beside(command):
 
 def main():
     command = sys.argv[1:] or [str(ROOT / "trace_cli"), "seq"]
-    results = [*by_hand(), *packages(), *schema(), *examples(command)]
+    results = [*by_hand(), *in_pieces(), *refused_back(), *packages(), *schema(), *examples(command)]
     for name, wrong in results:
         if wrong:
             print(f"FAILED {name}: {wrong}")

@@ -67,7 +67,7 @@ def memory(most: int) -> str | None:
 # --- JSON ----------------------------------------------------------------------
 
 def documents(room: Path) -> Checks:
-    """A long trace as JSON, and one whose last line is wrong."""
+    """A long trace as JSON and back, and one whose last line is wrong."""
     source = room / "long.trace"
     source.write_text(IMAGE.format(EPOCHS) + trace(EPOCHS))
     out, errors, status, most = measured(room, "json", source)
@@ -75,9 +75,23 @@ def documents(room: Path) -> Checks:
     wanted = {"form": "traced", "version": 1, "content": {"image": image, "trace": {"cores": 1, "entries": entries(EPOCHS)}}}
     yield "a long trace as JSON", None if (out, errors, status) == (json.dumps(wanted, indent=1) + "\n", "", 0) else f"{out[:300]!r}, {errors[:300]!r}, {status}"
     yield "its memory", memory(most)
+    yield from back(room, out)
     source.write_text(IMAGE.format(EPOCHS) + trace(EPOCHS) + "0 begin 0\n")
     out, errors, status, most = measured(room, "json", source)
     yield "its last line is wrong", None if (out, errors, status) == ("", "json: '0 begin 0' is no entry\n", 2) else f"{out[:300]!r}, {errors[:300]!r}, {status}"
+
+
+def back(room: Path, told: str) -> Checks:
+    """The long document as text again, and one whose last entry is wrong."""
+    source = room / "long.json"
+    source.write_text(told)
+    out, errors, status, most = measured(room, "json", source, "--back")
+    yield "a long document as text", None if (out, errors, status) == (IMAGE.format(EPOCHS) + trace(EPOCHS), "", 0) else f"{out[:300]!r}, {errors[:300]!r}, {status}"
+    yield "its memory", memory(most)
+    source.write_text("commit".join(told.rsplit('"commit"', 1)))
+    out, errors, status, _ = measured(room, "json", source, "--back")
+    right = (out, status) == ("", 2) and errors.startswith("json: Expecting value: line ")
+    yield "its last entry is wrong", None if right else f"{out[:300]!r}, {errors[:300]!r}, {status}"
 
 
 # --- Iterators -----------------------------------------------------------------

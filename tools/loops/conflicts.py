@@ -3,6 +3,7 @@
 import re
 from collections.abc import Iterable, Iterator
 from dataclasses import dataclass, field
+from itertools import chain
 
 from .images import Unreadable
 
@@ -241,9 +242,15 @@ class Conflicts:
     kinds: list[OfKind] = field(default_factory=list)
     total: Total | None = None
 
+    def parts(self) -> Iterator[str]:
+        """The text, in parts."""
+        lists = (self.violations, self.cancelled, self.open, self.epochs, self.pairs, self.lines, self.instructions, self.kinds)
+        yield from (part.text() for part in chain.from_iterable(lists))
+        if self.total:
+            yield self.total.text()
+
     def text(self) -> str:
-        parts = [*self.violations, *self.cancelled, *self.open, *self.epochs, *self.pairs, *self.lines, *self.instructions, *self.kinds]
-        return "".join(part.text() for part in parts) + (self.total.text() if self.total else "")
+        return "".join(self.parts())
 
 
 # --- Reading -----------------------------------------------------------------

@@ -14,6 +14,7 @@ from typing import Any, Union, get_args, get_origin, get_type_hints
 from .conflicts import Conflicts, read_conflicts
 from .gains import Gains, read_gains
 from .images import Image, Unreadable, read_image
+from .pieces import Items
 from .runs import Output, Survey, Traced, Verdict, read_output, read_survey, read_traced, read_verdict
 from .steps import Steps, read_steps
 
@@ -56,6 +57,12 @@ def names_of(kind: type) -> tuple[str, ...]:
     return tuple(one.name for one in fields(kind)) if is_dataclass(kind) else ()
 
 
+@cache
+def types_of(kind: type) -> dict[str, Any]:
+    """The types of the fields of a record's class."""
+    return get_type_hints(kind)
+
+
 def plain(value: Any) -> Any:
     """A value as JSON has it."""
     if value is None or isinstance(value, (int, str)):
@@ -71,15 +78,16 @@ def plain(value: Any) -> Any:
 
 
 def made(kind: Any, value: Any) -> Any:
-    """The value of a type that JSON's says."""
+    """The value of a type that JSON's says. Of a list that isn't kept, each item is made when it is asked for."""
     if get_origin(kind) in (Union, types.UnionType):
         return None if value is None else made(next(one for one in get_args(kind) if one is not type(None)), value)
     if get_origin(kind) is list:
-        return [made(get_args(kind)[0], one) for one in value]
+        part = get_args(kind)[0]
+        return Items(lambda: (made(part, one) for one in value)) if isinstance(value, Items) else [made(part, one) for one in value]
     if get_origin(kind) is dict:
         return {get_args(kind)[0](key): one for key, one in value.items()}
     if is_dataclass(kind):
-        return kind(**{name: made(one, value[name]) for name, one in get_type_hints(kind).items()})
+        return kind(**{name: made(one, value[name]) for name, one in types_of(kind).items()})
     return bytes.fromhex(value) if kind is bytes else value
 
 

@@ -72,8 +72,13 @@ class Trace:
     cores: int
     entries: list[Entry] = field(default_factory=list)
 
+    def parts(self) -> Iterator[str]:
+        """The text, in parts."""
+        yield f"trace {self.cores}\n"
+        yield from (entry.text() for entry in self.entries)
+
     def text(self) -> str:
-        return f"trace {self.cores}\n" + "".join(entry.text() for entry in self.entries)
+        return "".join(self.parts())
 
 
 @dataclass
@@ -82,8 +87,13 @@ class Traced:
     image: Image
     trace: Trace
 
+    def parts(self) -> Iterator[str]:
+        """The text, in parts."""
+        yield self.image.text()
+        yield from self.trace.parts()
+
     def text(self) -> str:
-        return self.image.text() + self.trace.text()
+        return "".join(self.parts())
 
 
 @dataclass
@@ -94,9 +104,20 @@ class Output:
     trace: Trace | None = None
     turns: list[int] | None = None      # the schedule, where the program prints it
 
+    def parts(self) -> Iterator[str]:
+        """The text, in parts."""
+        if self.turns is not None:
+            yield "turns"
+            yield from (f" {turn}" for turn in self.turns)
+            yield "\n"
+        yield self.report.text()
+        if self.counts:
+            yield self.counts.text()
+        if self.trace:
+            yield from self.trace.parts()
+
     def text(self) -> str:
-        turns = "" if self.turns is None else " ".join(["turns", *map(str, self.turns)]) + "\n"
-        return turns + self.report.text() + "".join(part.text() for part in (self.counts, self.trace) if part)
+        return "".join(self.parts())
 
 
 @dataclass

@@ -38,8 +38,14 @@ class Steps:
             state.update(step.changes)
             yield state
 
+    def parts(self) -> Iterator[str]:
+        """The text, in parts."""
+        yield from (step.text() for step in self.steps)
+        yield "end\n"
+        yield from self.output.parts()
+
     def text(self) -> str:
-        return "".join(step.text() for step in self.steps) + "end\n" + self.output.text()
+        return "".join(self.parts())
 
 
 def step_of(line: str) -> Step:

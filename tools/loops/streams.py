@@ -1,20 +1,21 @@
-"""Texts of forms that may be long, as JSON that is written while they are read: of a trace, of turns and of violations one at a time is in memory.
+"""Texts of forms that may be long, as JSON that is written while they are read, and back: of a trace, of turns and of violations one at a time is in memory.
 
-A document is the same to the byte as `to_json` writes it.
+A document is the same to the byte as `to_json` writes it, and a text as `from_json` does.
 """
 
 import json
-from collections.abc import Callable, Iterable, Iterator
+from collections.abc import Callable, Iterator
 from itertools import takewhile
 from pathlib import Path
 from typing import Any
 
 from .conflicts import BELOW, Total, iter_conflicts
-from .documents import FORMS, VERSION, form_of_lines, plain
+from .documents import FORMS, VERSION, content_of, form_of_lines, from_json, plain
 from .images import Unreadable, read_image
+from .pieces import LIST, Items, read_document
 from .runs import cores_of, iter_entries, read_output
 from .steps import iter_steps
-from .texts import iter_lines, iter_split
+from .texts import iter_lines, iter_split, text_in, text_out
 
 Lines = Callable[[], Iterator[str]]
 # The fields of a report of `why` that are lists, and the first words of their lines.
@@ -22,22 +23,13 @@ WORDS = {
     "violations": ("hurt", *BELOW), "cancelled": ("cancel",), "open": ("open",), "epochs": ("epoch",), "pairs": ("pair",), "lines": ("line",),
     "instructions": ("pc",), "kinds": ("kind",),
 }
-
-
-class Items:
-    """A list of which no item is kept: they are read anew each time."""
-
-    def __init__(self, begin: Callable[[], Iterable[Any]]):
-        self.begin = begin
-
-    def __iter__(self) -> Iterator[Any]:
-        return iter(self.begin())
-
-    def check(self) -> "Items":
-        """Reads all once, so that what is wrong with one is told before anything is written."""
-        for _ in self:
-            pass
-        return self
+# Where the long lists stand in the content of each form.
+OUTPUT = {"trace": {"entries": LIST}, "turns": LIST}
+LISTS: dict[str, dict[str, Any]] = {
+    "traced": {"trace": {"entries": LIST}}, "output": OUTPUT, "steps": {"steps": LIST, "output": OUTPUT}, "conflicts": dict.fromkeys(WORDS, LIST),
+}
+# What a document raises that says no text.
+WRONG = (ValueError, LookupError, TypeError, AttributeError, RecursionError)
 
 
 def below(lines: Iterator[str], holds: Callable[[str], bool]) -> Iterator[str]:
@@ -128,3 +120,18 @@ def iter_document(path: Path, form: str | None = None) -> Iterator[str]:
     name = form or form_of_lines(line.removesuffix("\n") for line in iter_lines(path))
     content = LONG[name](path) if name in LONG else FORMS[name][1]("".join(iter_lines(path)))
     return iter_json({"form": name, "version": VERSION, "content": content})
+
+
+def iter_text(path: Path) -> Iterator[str]:
+    """The text of a document that stands in a file, in parts. What is wrong with it may be raised behind some of them."""
+    content = content_of(read_document(path, LISTS))
+    return content.parts() if hasattr(content, "parts") else iter([content.text()])
+
+
+def write_text(source: Path, target: Path) -> None:
+    """Writes the text of a document that stands in a file to another file. One with which something is wrong is read whole, and refused as `from_json` does."""
+    try:
+        with target.open("wb") as out:
+            out.writelines(map(text_out, iter_text(source)))
+    except WRONG:
+        target.write_bytes(text_out(from_json(text_in(source.read_bytes()))))
