@@ -23,6 +23,8 @@ Row = tuple[list[str | Path], str, dict[str, bytes]]
 ROOT = Path(__file__).resolve().parent.parent
 TOOLS = ROOT / "tools"
 GCC = ["riscv64-unknown-elf-gcc", "-march=rv32i", "-mabi=ilp32", "-O2", "-ffreestanding", "-msmall-data-limit=0"]
+# What each compiler needs besides.
+NEEDED = {"gcc": [GCC[0]], "clang": ["clang", "ld.lld", "llvm-ar", "llvm-as"]}
 CLANG = ["clang", "--target=riscv32-unknown-elf", "-march=rv32i", "-mabi=ilp32", "-O2", "-ffreestanding", "-msmall-data-limit=0"]
 LD = ["riscv64-unknown-elf-ld", "--no-warn-rwx-segments", "-m", "elf32lriscv", "-e", "body"]
 LLD = ["ld.lld", "-m", "elf32lriscv", "-e", "body"]
@@ -290,10 +292,15 @@ def warned(folder: Path, compiler: str) -> Results:
     yield f"no warning of beside.c by {compiler}", None if got[1:] == ("", 0) else f"got {got}"
 
 
+def lacking(compiler: str) -> list[str]:
+    """The programs that a compiler needs and that aren't installed."""
+    return [name for name in NEEDED[compiler] if not shutil.which(name)]
+
+
 def lines_told(folder: Path) -> Results:
-    """The lines of the source of the two stores, by each compiler."""
-    for compiler in ("gcc", "clang"):
-        if shutil.which(compiler if compiler == "clang" else GCC[0]):
+    """The lines of the source of the two stores, by each compiler that has all it needs."""
+    for compiler in NEEDED:
+        if not lacking(compiler):
             yield from linked_lines(folder, compiler)
             yield from lines_at_zero(folder, compiler)
             yield from warned(folder, compiler)
@@ -321,8 +328,8 @@ def whole_way(command: list[str], folder: Path) -> Results:
     source = ROOT / "examples" / "c" / "own_counters.c"
     lines = source.read_text().splitlines()
     load, store = (1 + next(place for place, line in enumerate(lines) if words in line) for words in ("old = counter[", "] = old + 1"))
-    for compiler in ("gcc", "clang"):
-        if not shutil.which(compiler if compiler == "clang" else GCC[0]):
+    for compiler in NEEDED:
+        if lacking(compiler):
             continue
         image = image_of(folder, "--compiler", compiler, "-g", source)[0]
         made = re.search(r"(?m)^# Made from own_counters\.c by image-of, with (.+) -O2 -g\.$", image)
@@ -464,10 +471,9 @@ def refused(folder: Path) -> Results:
 def checks(command: list[str], folder: Path) -> Results:
     """All checks for which there are the tools."""
     furnish(folder)
-    for compiler, needed in (("gcc", [GCC[0]]), ("clang", ["clang", "ld.lld", "llvm-ar", "llvm-as"])):
-        lacking = [name for name in needed if not shutil.which(name)]
-        if lacking:
-            print(f"left out: programs by {compiler}, since {' and '.join(lacking)} isn't installed")
+    for compiler in NEEDED:
+        if lacks := lacking(compiler):
+            print(f"left out: programs by {compiler}, since {' and '.join(lacks)} isn't installed")
             continue
         made(folder, compiler)
         if compiler == "clang":
