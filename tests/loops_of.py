@@ -112,8 +112,8 @@ def same(folder: Path) -> Iterator[Check]:
 
 def random_programs(folder: Path) -> Iterator[Check]:
     """Programs that csmith makes of fixed seeds: output beside the native compiler's, and no image that is wrong."""
-    if not shutil.which("csmith") or not shutil.which("cc"):
-        print("left out: random programs, since there is no csmith or no cc")
+    if not shutil.which("csmith") or not shutil.which("cc") or not Path("/usr/include/csmith/csmith.h").is_file():
+        print("left out: random programs, since there is no csmith, no libcsmith-dev or no cc")
         return
     for seed in SEEDS:
         source = folder / f"random{seed}.c"

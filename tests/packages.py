@@ -16,7 +16,10 @@ PROGRAMS = {
     "gcc-riscv64-unknown-elf": "riscv64-unknown-elf-gcc", "lld": "ld.lld", "llvm": "llvm-ar", "snakemake": "snakemake",
 }
 MODULES = {"python3-jsonschema": "jsonschema", "python3-matplotlib": "matplotlib", "python3-pyelftools": "elftools", "python3-selenium": "selenium", "python3-unicorn": "unicorn"}
-FILES = {"llvm-14-dev": "/usr/lib/llvm-14/include/llvm/Pass.h", "picolibc-riscv64-unknown-elf": "/usr/lib/picolibc/riscv64-unknown-elf/lib/rv32i/ilp32/libc.a"}
+FILES = {
+    "libcsmith-dev": "/usr/include/csmith/csmith.h", "llvm-14-dev": "/usr/lib/llvm-14/include/llvm/Pass.h",
+    "picolibc-riscv64-unknown-elf": "/usr/lib/picolibc/riscv64-unknown-elf/lib/rv32i/ilp32/libc.a",
+}
 DEBIANS = "/usr/bin/python3"
 INSTALL = " ".join(["apt-get", "install", *sorted([*PROGRAMS, *MODULES, *FILES])])
 
