@@ -377,8 +377,8 @@ def bad_inputs(folder: Path) -> Iterator[tuple[list[str], str]]:
     object_of("call", asm.format("ecall"), *rv32)
     yield ["call.o"], r"body\+0, .*: the instruction 00000073 is a system instruction: there is no system to call"
     text("multiplies.s", " .globl body\nbody:\n mul a0, a0, a0\n ret\n")
-    for compiler in ("gcc", "clang"):
-        if compiler == "gcc" or shutil.which("clang"):
+    for compiler in NEEDED:
+        if not lacking(compiler):
             yield ["--compiler", compiler, "multiplies.s"], r"multiplies\.s:3: the instruction needs the extension M"
     object_of("good", body, *rv32)
     whole = Path(folder, "good.o").read_bytes()
