@@ -21,9 +21,19 @@ impl<S: EpochStore> EpochStore for Refusing<S> {
 
     ghost budget = { λ r. S.budget r.store };
 
+    ghost makes = { λ r call r'. S.makes r.store call r'.store };
+
+    ghost alike = { λ r r'. S.alike r.store r'.store };
+
+    ghost starts = { λ image cores r. S.starts image cores r.store };
+
     fn fresh(alloc: Global, image: &Image, cores: u32) -> Result<Refusing<S>, NoMemory> {
         let store = S::fresh(alloc, image, cores)?;
         Ok(Refusing { store, grants: 2 })
+    }
+
+    fn calls_are_fixed() {
+        S::calls_are_fixed();
     }
 
     fn look(&self) {

@@ -1,6 +1,7 @@
 mod CoreCopies
 mod CommittedMemory
 mod SameRooms
+mod Making
 pub mod Bytes
 mod Surveys
 mod Tellings

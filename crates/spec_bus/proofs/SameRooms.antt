@@ -28,7 +28,12 @@ use Rattle.bus_states.proofs.Accesses.{invalid-unmarked}
 use Rattle.spec_bus.specs.declared.bus_core.Core.{Core}
 use Rattle.spec_bus.specs.Cached.{CachedView, bus, room}
 use Rattle.spec_bus.specs.Parts.{room_in, state_or_none, line_or_none, victim_or_none}
-use Rattle.spec_bus.specs.Laws.{Call, Begin, Load, Store, Publish, StraightLoad, StraightStore, Leave, Cancel, after_call, unless_waiting, IsPlacedCore, Lead, AreAlike}
+use Rattle.violations.specs.Calls.{Call, Reserve, Begin, Load, Store, Publish, StraightLoad, StraightStore, Leave, Cancel, IsFixed, FixWaits}
+use Rattle.violations.specs.View.{StoreView}
+use Rattle.violations.specs.Rule.{IsSameView}
+use Rattle.bus_states.specs.Views.{view_of}
+use Rattle.spec_bus.specs.Cached.{store_view, waits}
+use Rattle.spec_bus.specs.Laws.{after_call, unless_waiting, IsPlacedCore, IsPlacedFor, Lead, AreAlike, Makes, HoldTheSame}
 
 -- ---- one line
 
@@ -233,47 +238,110 @@ module _ (b : Bus) (core addr offset width : ℕ) (r s : Option Room) (one : IsO
       (with_core core (with_copy addr (changed_copy (copy_with_number offset width value (own b core addr)) (unmarked_next M)) (b.core core)) b) after)
       (same_message b message (room_for b core addr r) (room_for b core addr s) (unmarked_next (cond (is_alone b message) M S)) (same_for b core addr r s one))
 
-same_call : (call : Call) (b : Bus) (f g : ℕ → ℕ → Option Room) → ((k a : ℕ) → IsOneRoom (f k a) (g k a)) → after_call call b f ≡ after_call call b g
+-- the rooms of an access are one
+abbrev pub AreOneFor : Call → (f g : ℕ → ℕ → Option Room) → Type 0
+AreOneFor (Load core addr width) f g = (a : ℕ) → IsOneRoom (f core a) (g core a)
+AreOneFor (Store core addr width value) f g = (a : ℕ) → IsOneRoom (f core a) (g core a)
+AreOneFor (StraightLoad core addr width) f g = (a : ℕ) → IsOneRoom (f core a) (g core a)
+AreOneFor (StraightStore core addr width value) f g = (a : ℕ) → IsOneRoom (f core a) (g core a)
+AreOneFor call f g = Unit {0}
+
+same_call : (call : Call) (b : Bus) (f g : ℕ → ℕ → Option Room) → AreOneFor call f g → after_call call b f ≡ after_call call b g
+same_call Reserve b f g one = refl
 same_call (Begin core epoch) b f g one = refl
 same_call (Load core addr width) b f g one =
     let n = line_of b.line_length addr in
     let x = offset_of b.line_length addr in
-    (λ i. unless_waiting (same_load_wait b core n x width (f core n) (g core n) (one core n) i) (same_load b core n x width (f core n) (g core n) (one core n) i) b)
+    (λ i. unless_waiting (same_load_wait b core n x width (f core n) (g core n) (one n) i) (same_load b core n x width (f core n) (g core n) (one n) i) b)
 same_call (Store core addr width value) b f g one =
     let n = line_of b.line_length addr in
     let x = offset_of b.line_length addr in
-    (λ i. unless_waiting (same_store_wait b core n x width (f core n) (g core n) (one core n) i) (same_store b core n x width (f core n) (g core n) (one core n) value i) b)
+    (λ i. unless_waiting (same_store_wait b core n x width (f core n) (g core n) (one n) i) (same_store b core n x width (f core n) (g core n) (one n) value i) b)
 same_call (Publish core) b f g one = refl
 same_call (StraightLoad core addr width) b f g one =
-    let n = line_of b.line_length addr in same_straight_load b core n (offset_of b.line_length addr) width (f core n) (g core n) (one core n)
+    let n = line_of b.line_length addr in same_straight_load b core n (offset_of b.line_length addr) width (f core n) (g core n) (one n)
 same_call (StraightStore core addr width value) b f g one =
-    let n = line_of b.line_length addr in same_straight_store b core n (offset_of b.line_length addr) width (f core n) (g core n) (one core n) value
+    let n = line_of b.line_length addr in same_straight_store b core n (offset_of b.line_length addr) width (f core n) (g core n) (one n) value
 same_call (Leave core) b f g one = refl
 same_call (Cancel core) b f g one = refl
 
 -- ---- lists of calls
 
-same_rooms : (v w : CachedView) → ((k : ℕ) → IsPlacedCore v.cores k) → ((k : ℕ) → IsPlacedCore w.cores k) → bus v ≡ bus w
-    → (k a : ℕ) → IsOneRoom (room v k a) (room w k a)
-same_rooms v w p q same k a = core_room (slice_get v.cores k) (slice_get w.cores k) (p k) (q k) (ap (λ (b : Bus). b.core k) same) a
+same_rooms : (v w : CachedView) (k : ℕ) → IsPlacedCore v.cores k → IsPlacedCore w.cores k → bus v ≡ bus w
+    → (a : ℕ) → IsOneRoom (room v k a) (room w k a)
+same_rooms v w k p q same a = core_room (slice_get v.cores k) (slice_get w.cores k) p q (ap (λ (b : Bus). b.core k) same) a
+
+rooms_for : (call : Call) (v w : CachedView) → IsPlacedFor v.cores call → IsPlacedFor w.cores call → bus v ≡ bus w → AreOneFor call (room v) (room w)
+rooms_for Reserve v w p q same = tt
+rooms_for (Begin core epoch) v w p q same = tt
+rooms_for (Load core addr width) v w p q same = same_rooms v w core p q same
+rooms_for (Store core addr width value) v w p q same = same_rooms v w core p q same
+rooms_for (Publish core) v w p q same = tt
+rooms_for (StraightLoad core addr width) v w p q same = same_rooms v w core p q same
+rooms_for (StraightStore core addr width value) v w p q same = same_rooms v w core p q same
+rooms_for (Leave core) v w p q same = tt
+rooms_for (Cancel core) v w p q same = tt
+
+placed_for : (call : Call) (cores : List Core) → ((k : ℕ) → IsPlacedCore cores k) → IsPlacedFor cores call
+placed_for Reserve cores p = tt
+placed_for (Begin core epoch) cores p = tt
+placed_for (Load core addr width) cores p = p core
+placed_for (Store core addr width value) cores p = p core
+placed_for (Publish core) cores p = tt
+placed_for (StraightLoad core addr width) cores p = p core
+placed_for (StraightStore core addr width value) cores p = p core
+placed_for (Leave core) cores p = tt
+placed_for (Cancel core) cores p = tt
+
+same_load_waits : (v w : CachedView) (core addr width : ℕ) → IsPlacedCore v.cores core → IsPlacedCore w.cores core → bus v ≡ bus w
+    → (waits v).load core addr width ≡ (waits w).load core addr width
+same_load_waits v w core addr width p q same =
+    let n = line_of (bus v).line_length addr in
+    same_load_wait (bus v) core n 0 width (room v core n) (room w core n) (same_rooms v w core p q same n)
+    ∙ ap (λ (b : Bus). load_wait b core (line_of b.line_length addr) (room w core (line_of b.line_length addr))) same
+
+same_store_waits : (v w : CachedView) (core addr width : ℕ) → IsPlacedCore v.cores core → IsPlacedCore w.cores core → bus v ≡ bus w
+    → (waits v).store core addr width ≡ (waits w).store core addr width
+same_store_waits v w core addr width p q same =
+    let n = line_of (bus v).line_length addr in
+    same_store_wait (bus v) core n (offset_of (bus v).line_length addr) width (room v core n) (room w core n) (same_rooms v w core p q same n)
+    ∙ ap (λ (b : Bus). store_wait b core (line_of b.line_length addr) (offset_of b.line_length addr) width (room w core (line_of b.line_length addr))) same
 
 alike : (v w : CachedView) → ((k : ℕ) → IsPlacedCore v.cores k) → ((k : ℕ) → IsPlacedCore w.cores k) → bus v ≡ bus w → AreAlike v w
 alike v w p q same = record {
   holds = same;
-  load = λ core addr width.
-      let n = line_of (bus v).line_length addr in
-      same_load_wait (bus v) core n 0 width (room v core n) (room w core n) (same_rooms v w p q same core n)
-      ∙ ap (λ (b : Bus). load_wait b core (line_of b.line_length addr) (room w core (line_of b.line_length addr))) same;
-  store = λ core addr width.
-      let n = line_of (bus v).line_length addr in
-      same_store_wait (bus v) core n (offset_of (bus v).line_length addr) width (room v core n) (room w core n) (same_rooms v w p q same core n)
-      ∙ ap (λ (b : Bus). store_wait b core (line_of b.line_length addr) (offset_of b.line_length addr) width (room w core (line_of b.line_length addr))) same;
+  load = λ core addr width. same_load_waits v w core addr width (p core) (q core) same;
+  store = λ core addr width. same_store_waits v w core addr width (p core) (q core) same;
 }
 
 pub calls_fixed : (calls : List Call) (v v' w w' : CachedView) → bus v ≡ bus v' → Lead calls v w → Lead calls v' w' → AreAlike w w'
 calls_fixed [] v v' w w' same one two = rw (one.1, two.1) (alike v v' one.0 two.0 same)
 calls_fixed (call ∷ calls) v v' w w' same one two =
     let next : bus one.1 ≡ bus two.1 =
-    one.2 ∙ (same_call call (bus v) (room v) (room v') (same_rooms v v' one.0 two.0 same)
+    one.2 ∙ (same_call call (bus v) (room v) (room v') (rooms_for call v v' (placed_for call v.cores one.0) (placed_for call v'.cores two.0) same)
     ∙ (ap (λ (b : Bus). after_call call b (room v')) same ∙ sym two.2)) in
     calls_fixed calls one.1 two.1 w w' next one.3 two.3
+
+-- ---- one call
+
+pub fixed : IsFixed Makes HoldTheSame
+fixed v w v' w' call same one two =
+    two.bus_is ∙ (ap (λ (b : Bus). after_call call b (room v')) same
+    ∙ (sym (same_call call (bus v) (room v) (room v') (rooms_for call v v' one.placed two.placed (sym same))) ∙ sym one.bus_is))
+
+pub views : (v w : CachedView) → HoldTheSame v w → IsSameView (store_view v) (store_view w)
+views v w same = subst (λ (b : Bus). IsSameView (store_view v) (view_of b)) (sym same) (no_change (store_view v))
+  where
+    no_change : (x : StoreView) → IsSameView x x
+    no_change x = record {
+      shape = refl;
+      cached = refl;
+      committed = λ a. refl;
+      cores = λ k. record { attempt = refl; own = λ a. refl; guarded = λ a. refl; sees = λ a. refl };
+    }
+
+pub waiting : FixWaits Makes HoldTheSame waits
+waiting = record {
+  load = λ v w v' w' core addr width same one two. same_load_waits v v' core addr width one.placed two.placed (sym same);
+  store = λ v w v' w' core addr width value same one two. same_store_waits v v' core addr width one.placed two.placed (sym same);
+}

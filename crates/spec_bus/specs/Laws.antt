@@ -1,25 +1,17 @@
 -- What the law of the caches says: their contracts fix what they hold after any calls.
 use Rattle.std.specs.Prelude.{◌≡◌, ℕ, List, [], ◌∷◌, Option, Some, None, slice_get}
 use Rattle.cache_lines.specs.Placed.{IsPlaced}
+use Rattle.rv32_image.specs.Image.{LoadedImage}
 use Rattle.violations.specs.declared.step.WaitCause.{WaitCause}
+use Rattle.violations.specs.Calls.{Call, Reserve, Begin, Load, Store, Publish, StraightLoad, StraightStore, Leave, Cancel}
 use Rattle.bus_states.specs.Attempts.{after_begin, after_leave, after_cancel}
 use Rattle.bus_states.specs.Bus.{Bus, line_of, offset_of}
 use Rattle.bus_states.specs.Messages.{Room}
 use Rattle.bus_states.specs.Speculative.{after_load, load_wait, after_store, store_wait}
 use Rattle.bus_states.specs.Straight.{after_publish, after_straight_load, after_straight_store}
 use Rattle.spec_bus.specs.Cached.{CachedView, bus, room, waits}
+use Rattle.spec_bus.specs.Fresh.{fresh_bus}
 use Rattle.spec_bus.specs.declared.bus_core.Core.{Core}
-
--- a call: its core, and its epoch, or its address, width and value
-pub data Call : Type 0 where
-  Begin : ℕ → ℕ → Call
-  Load : ℕ → ℕ → ℕ → Call
-  Store : ℕ → ℕ → ℕ → ℕ → Call
-  Publish : ℕ → Call
-  StraightLoad : ℕ → ℕ → ℕ → Call
-  StraightStore : ℕ → ℕ → ℕ → ℕ → Call
-  Leave : ℕ → Call
-  Cancel : ℕ → Call
 
 -- where an access waits, the bus is as it was
 abbrev pub unless_waiting : Option WaitCause → Bus → Bus → Bus
@@ -28,6 +20,7 @@ unless_waiting (Some cause) done before = before
 
 -- the bus that the contract of the call names, where the lines take these rooms
 abbrev pub after_call : Call → Bus → (ℕ → ℕ → Option Room) → Bus
+after_call Reserve b room = b
 after_call (Begin core epoch) b room = after_begin b core epoch
 after_call (Load core addr width) b room =
     let line = line_of b.line_length addr in
@@ -65,3 +58,26 @@ pub record AreAlike (v w : CachedView) : Type 0 where
 abbrev pub CallsAreFixed : Type 0
 CallsAreFixed =
     (calls : List Call) (v v' w w' : CachedView) → bus v ≡ bus v' → Lead calls v w → Lead calls v' w' → AreAlike w w'
+
+-- ---- one call
+
+-- where the call is an access, each line stands in its place in the cache of its core
+abbrev pub IsPlacedFor : List Core → Call → Type 0
+IsPlacedFor cores (Load core addr width) = IsPlacedCore cores core
+IsPlacedFor cores (Store core addr width value) = IsPlacedCore cores core
+IsPlacedFor cores (StraightLoad core addr width) = IsPlacedCore cores core
+IsPlacedFor cores (StraightStore core addr width value) = IsPlacedCore cores core
+IsPlacedFor cores call = Unit {0}
+
+-- a call makes the caches `w` of the caches `v`, also an access that waits
+pub record Makes (v : CachedView) (call : Call) (w : CachedView) : Type 0 where
+  pub placed : IsPlacedFor v.cores call
+  pub bus_is : bus w ≡ after_call call (bus v) (room v)
+
+-- they hold the same copies in the same ways
+abbrev pub HoldTheSame : CachedView → CachedView → Type 0
+HoldTheSame v w = bus w ≡ bus v
+
+-- the caches as they are made
+abbrev pub Starts : LoadedImage → ℕ → CachedView → Type 0
+Starts image cores v = bus v ≡ fresh_bus image cores

@@ -11,6 +11,8 @@ ghost use Rattle.bus_states.specs.Straight as straight;
 ghost use Rattle.spec_bus.specs.Cached as spec;
 ghost use Rattle.spec_bus.specs.Fresh.{fresh_bus};
 ghost use Rattle.spec_bus.specs.Laws.{IsPlacedCore};
+ghost use Rattle.spec_bus.specs.Laws as laws;
+ghost use Rattle.violations.specs.Calls as call;
 ghost use Rattle.spec_bus.specs.Answers.{MatchAnswer, IsLoaded, IsStored};
 
 use crate::cores::idle_cores;
@@ -133,6 +135,14 @@ impl EpochStore for CachedBus {
 
     ghost budget = { λ _. 4 };
 
+    ghost use Rattle.spec_bus.specs.Laws.{Makes, HoldTheSame, Starts};
+
+    ghost makes = { Makes };
+
+    ghost alike = { HoldTheSame };
+
+    ghost starts = { Starts };
+
     /// A bus with the image's memory, and so many cores that hold nothing and run nothing. The cores are 1 to the most that the
     /// image's version allows.
     ///
@@ -140,6 +150,7 @@ impl EpochStore for CachedBus {
     fn fresh(alloc: Global, image: &Image, cores: u32) -> Result<CachedBus, NoMemory>
         requires cores { rule.IsCoreCount image.now cores }
         ensures bus { IfOk result (λ made. (spec.bus made) ≡ fresh_bus image.now cores) }
+        ensures starts { IfOk result (λ made. laws.Starts image.now cores made) }
         ensures fresh { IfOk result (λ made. rule.IsFresh image.now cores (spec.store_view made)) }
     {
         let limits = image.version().limits();
@@ -160,6 +171,9 @@ impl EpochStore for CachedBus {
         })
     }
 
+    /// What the caches hold is fixed by the image, the cores and the calls: this call does nothing, and its contract is the law.
+    fn calls_are_fixed() {}
+
     /// What every store keeps, and that the bus is coherent: this call does nothing, and its contract is the law.
     fn look(&self)
         ensures settled { view_spec.IsSettled (spec.store_view self.now) }
@@ -172,6 +186,7 @@ impl EpochStore for CachedBus {
     fn reserve(&mut self) -> Result<(), NoMemory>
         ensures ok { IsOk result }
         ensures same { self.new ≡ self.old }
+        ensures makes { laws.Makes self.old call.Reserve self.new }
     {
         Ok(())
     }
@@ -180,6 +195,7 @@ impl EpochStore for CachedBus {
     fn begin(&mut self, core: u32, epoch: u32)
         requires may { view_spec.MayBegin (spec.store_view self.old) core epoch }
         ensures bus { (spec.bus self.new) ≡ attempts.after_begin (spec.bus self.old) core epoch }
+        ensures makes { laws.Makes self.old (call.Begin core epoch) self.new }
         ensures begins { rule.Begins (spec.store_view self.old) (spec.store_view self.new) core epoch }
     {
         self.parts.begin(core as usize, epoch);
@@ -197,6 +213,7 @@ impl EpochStore for CachedBus {
             (spec.room self.old core (spec.line_of self.old addr)) ≡ Some cause) × (self.new ≡ self.old)) }
         ensures loads { MatchStep result (λ value hurt. rule.Loads (spec.store_view self.old) (spec.store_view self.new) core addr width value hurt)
             (self.new ≡ self.old) }
+        ensures makes { laws.Makes self.old (call.Load core addr width) self.new }
     {
         let line = self.line_of(addr);
         self.parts.look_room(core as usize, line);
@@ -216,6 +233,7 @@ impl EpochStore for CachedBus {
             (spec.room self.old core (spec.line_of self.old addr)) ≡ Some cause) × (self.new ≡ self.old)) }
         ensures stores { MatchStep result
             (λ answer hurt. (answer ≡ 0) × rule.Stores (spec.store_view self.old) (spec.store_view self.new) core addr width value hurt) (self.new ≡ self.old) }
+        ensures makes { laws.Makes self.old (call.Store core addr width value) self.new }
     {
         let line = self.line_of(addr);
         self.parts.look_room(core as usize, line);
@@ -228,6 +246,7 @@ impl EpochStore for CachedBus {
     fn publish(&mut self, core: u32) -> CoreSet
         requires may { view_spec.MayPublish (spec.store_view self.old) core }
         ensures bus { (spec.bus self.new) ≡ straight.after_publish (spec.bus self.old) core }
+        ensures makes { laws.Makes self.old (call.Publish core) self.new }
         ensures hurt { (k : ℕ) → is_in result k ≡ straight.publish_violates (spec.bus self.old) core k }
         ensures publishes { rule.Publishes (spec.store_view self.old) (spec.store_view self.new) core (is_in result) }
     {
@@ -242,6 +261,7 @@ impl EpochStore for CachedBus {
             (spec.room self.old core (spec.line_of self.old addr)) }
         ensures hurt { (k : ℕ) → is_in result.1 k ≡ straight.straight_load_violates (spec.bus self.old) core (spec.line_of self.old addr) k }
         ensures loads { rule.LoadsStraight (spec.store_view self.old) (spec.store_view self.new) core addr width result.0 (is_in result.1) }
+        ensures makes { laws.Makes self.old (call.StraightLoad core addr width) self.new }
     {
         let line = self.line_of(addr);
         self.parts.look_room(core as usize, line);
@@ -258,6 +278,7 @@ impl EpochStore for CachedBus {
         ensures hurt { (k : ℕ) → is_in result k ≡ straight.straight_store_violates (spec.bus self.old) core (spec.line_of self.old addr)
             (spec.offset_of self.old addr) width value k }
         ensures stores { rule.StoresStraight (spec.store_view self.old) (spec.store_view self.new) core addr width value (is_in result) }
+        ensures makes { laws.Makes self.old (call.StraightStore core addr width value) self.new }
     {
         let line = self.line_of(addr);
         self.parts.look_room(core as usize, line);
@@ -270,6 +291,7 @@ impl EpochStore for CachedBus {
     fn leave(&mut self, core: u32)
         requires runs { view_spec.Runs (spec.store_view self.old) core true }
         ensures bus { (spec.bus self.new) ≡ attempts.after_leave (spec.bus self.old) core }
+        ensures makes { laws.Makes self.old (call.Leave core) self.new }
         ensures leaves { rule.Ends (spec.store_view self.old) (spec.store_view self.new) core }
     {
         self.parts.leave(core as usize);
@@ -279,6 +301,7 @@ impl EpochStore for CachedBus {
     fn cancel(&mut self, core: u32)
         requires runs { view_spec.Runs (spec.store_view self.old) core false }
         ensures bus { (spec.bus self.new) ≡ attempts.after_cancel (spec.bus self.old) core }
+        ensures makes { laws.Makes self.old (call.Cancel core) self.new }
         ensures cancels { rule.Ends (spec.store_view self.old) (spec.store_view self.new) core }
     {
         self.parts.cancel(core as usize);

@@ -6,6 +6,7 @@ ghost use Rattle.bus_states.specs.Bus.{committed, is_later};
 ghost use Rattle.bus_states.specs.Coherent.{IsCoherent};
 ghost use Rattle.bus_states.specs.Messages as message_spec;
 ghost use Rattle.spec_bus.specs.CoreStates.{state_of};
+ghost use Rattle.spec_bus.specs.Laws.{IsPlacedCore};
 ghost use Rattle.spec_bus.specs.Parts.{bus_in, room_at};
 ghost use Rattle.bus_states.specs.Messages.{IsRoom};
 
@@ -175,12 +176,15 @@ impl Parts {
         line
     }
 
-    /// The room for a line at `addr` in this core's cache is a line that the core holds, without marks.
+    /// The room for a line at `addr` in this core's cache is a line that the core holds, without marks, and each line stands in its
+    /// place there.
     pub(crate) fn look_room(&self, core: usize, addr: u32)
         requires { core < length self.now.cores.items }
-        ensures { IsRoom ((bus_in self.now).core core) (room_at self.now.cores.items core addr) }
+        ensures room { IsRoom ((bus_in self.now).core core) (room_at self.now.cores.items core addr) }
+        ensures placed { IsPlacedCore self.now.cores.items core }
     {
         let cache = &self.core(core).cache;
+        let _first = cache.line(addr, 0);
         match cache.victim(addr) {
             Some(way) => {
                 let _line = cache.line(addr, way);

@@ -4,3 +4,4 @@ pub mod Calls
 pub mod Accesses
 pub mod Publishing
 pub mod Opening
+pub mod Fixed

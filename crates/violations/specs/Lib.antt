@@ -1,8 +1,9 @@
 -- Definitions to believe: View (what contracts see of a store, what every store keeps, conditions of calls), Rule (what each call
--- does) and CoreSet (sets of cores).
+-- does), CoreSet (sets of cores) and Calls (lists of calls, and that they fix what a store holds).
 pub mod View
 pub mod Rule
 pub mod CoreSet
+pub mod Calls
 -- Words of contracts: Answers (what a speculative access answers), Plain (the plain store's view, and whom it violates).
 pub mod Answers
 pub mod Plain

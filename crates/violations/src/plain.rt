@@ -5,6 +5,7 @@ ghost use Rattle.violations.specs.Rule as rule;
 ghost use Rattle.violations.specs.Answers.{MatchStep, wait_of};
 ghost use Rattle.violations.specs.View.{is_accessed};
 ghost use Rattle.violations.specs.CoreSet.{is_in};
+ghost use Rattle.violations.specs.Calls as call;
 
 use crate::attempt::Attempt;
 use crate::core_set::CoreSet;
@@ -98,7 +99,7 @@ impl PlainStore {
 }
 
 impl EpochStore for PlainStore {
-    ghost use Rattle.violations.specs.Plain.{store_view};
+    ghost use Rattle.violations.specs.Plain.{store_view, Makes, AreAlike, Starts};
     ghost use Rattle.violations.specs.View.{never_waits};
 
     ghost view = { store_view };
@@ -106,6 +107,12 @@ impl EpochStore for PlainStore {
     ghost waits = { λ _. never_waits };
 
     ghost budget = { λ p. p.budget };
+
+    ghost makes = { Makes };
+
+    ghost alike = { AreAlike };
+
+    ghost starts = { Starts };
 
     fn fresh(alloc: Global, image: &Image, cores: u32) -> Result<PlainStore, NoMemory> {
         let committed = Vec::from_slice(alloc, image.bytes()).map_err(|_| NoMemory)?;
@@ -119,6 +126,8 @@ impl EpochStore for PlainStore {
             budget: 0,
         })
     }
+
+    fn calls_are_fixed() {}
 
     fn look(&self) {
         let _ = &self.code;
@@ -148,6 +157,7 @@ impl EpochStore for PlainStore {
         ensures loads { MatchStep result (λ value hurt. rule.Loads (spec.store_view self.old) (spec.store_view self.new) core addr width value hurt) ⊥ }
         ensures guards { spec.GuardsLoaded (spec.store_view self.old) (spec.store_view self.new) core addr width }
         ensures nobody { MatchStep result (λ value hurt. (k : ℕ) → hurt k ≡ false) ⊥ }
+        ensures makes { spec.Makes self.old (call.Load core addr width) self.new }
         ensures budget { self.old.budget ≤ self.new.budget + 1 }
     {
         let state = &mut self.states[core as usize];
@@ -167,6 +177,7 @@ impl EpochStore for PlainStore {
         ensures waits { wait_of result ≡ None }
         ensures stores { MatchStep result (λ answer hurt. (answer ≡ 0) × rule.Stores (spec.store_view self.old) (spec.store_view self.new) core addr width value hurt) ⊥ }
         ensures nobody { MatchStep result (λ answer hurt. (k : ℕ) → hurt k ≡ false) ⊥ }
+        ensures makes { spec.Makes self.old (call.Store core addr width value) self.new }
         ensures budget { self.old.budget ≤ self.new.budget + 1 }
     {
         let state = &mut self.states[core as usize];
@@ -184,6 +195,7 @@ impl EpochStore for PlainStore {
         requires may { view_spec.MayPublish (spec.store_view self.old) core }
         ensures publishes { rule.Publishes (spec.store_view self.old) (spec.store_view self.new) core (is_in result) }
         ensures violates { spec.ViolatesReaders core ((spec.store_view self.old).own core) (is_in result) (spec.store_view self.old) }
+        ensures makes { spec.Makes self.old (call.Publish core) self.new }
         ensures budget { self.old.budget ≤ self.new.budget + 1 }
     {
         let own = &self.states[core as usize].own;
@@ -202,6 +214,7 @@ impl EpochStore for PlainStore {
         requires access { view_spec.IsLoad (spec.store_view self.old).shape addr width }
         ensures loads { rule.LoadsStraight (spec.store_view self.old) (spec.store_view self.new) core addr width result.0 (is_in result.1) }
         ensures nobody { (k : ℕ) → is_in result.1 k ≡ false }
+        ensures makes { spec.Makes self.old (call.StraightLoad core addr width) self.new }
         ensures budget { self.old.budget ≤ self.new.budget + 1 }
     {
         let value = self.states[core as usize]
@@ -217,6 +230,7 @@ impl EpochStore for PlainStore {
         requires access { view_spec.IsStore (spec.store_view self.old).shape addr width value }
         ensures stores { rule.StoresStraight (spec.store_view self.old) (spec.store_view self.new) core addr width value (is_in result) }
         ensures violates { spec.ViolatesReaders core (is_accessed addr width) (is_in result) (spec.store_view self.old) }
+        ensures makes { spec.Makes self.old (call.StraightStore core addr width value) self.new }
         ensures budget { self.old.budget ≤ self.new.budget + 1 }
     {
         let hurt = readers_from(self.states.as_slice(), core, addr, width);

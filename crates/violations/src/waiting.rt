@@ -16,6 +16,7 @@ pub struct Waiting<S: EpochStore> {
 
 impl<S: EpochStore> EpochStore for Waiting<S> {
     ghost use Rattle.violations.specs.View.{always_waits};
+    ghost use Rattle.violations.specs.Calls.{but_for_accesses};
     ghost use Rattle.violations.specs.declared.step.WaitCause.TheVariants.{NoWay};
 
     ghost view = { λ w. S.view w.store };
@@ -24,9 +25,19 @@ impl<S: EpochStore> EpochStore for Waiting<S> {
 
     ghost budget = { λ w. S.budget w.store };
 
+    ghost makes = { λ w call w'. but_for_accesses call (S.makes w.store call w'.store) (w'.store ≡ w.store) };
+
+    ghost alike = { λ w w'. S.alike w.store w'.store };
+
+    ghost starts = { λ image cores w. S.starts image cores w.store };
+
     fn fresh(alloc: Global, image: &Image, cores: u32) -> Result<Waiting<S>, NoMemory> {
         let store = S::fresh(alloc, image, cores)?;
         Ok(Waiting { store })
+    }
+
+    fn calls_are_fixed() {
+        S::calls_are_fixed();
     }
 
     fn look(&self) {

@@ -13,3 +13,6 @@ pub returns-clause-cancels : goal.returns-clause-cancels
 returns-clause-cancels c =
     let runs = subst (λ v. Runs (store_view v) c.args.core false) (sym c.self.view_is) c.requires.runs in
     rw (← c.self.view_is) (cancels c.self.inside.parts c.cancel.new.self c.args.core c.self.invariant runs c.cancel.ensures)
+
+pub returns-clause-makes : goal.returns-clause-makes
+returns-clause-makes c = rw (← c.self.view_is) (record { placed = tt; bus_is = c.cancel.ensures })

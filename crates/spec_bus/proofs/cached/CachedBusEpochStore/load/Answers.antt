@@ -5,6 +5,7 @@ use Rattle.spec_bus.specs.Cached.{CachedView, bus, store_view}
 use Rattle.bus_states.specs.Speculative.{load_wait}
 use Rattle.spec_bus.specs.Parts.{bus_in, room_at}
 use Rattle.spec_bus.proofs.Keeping.{Accesses, loaded, loads, load_waits}
+use Rattle.spec_bus.proofs.Making.{load_makes}
 use Rattle.spec_bus.proofs.cached.CachedBusEpochStore.load.Goals as goal
 
 accesses : (c : goal.After-load) → Accesses c.self.inside.parts c.args.core c.args.addr c.args.width false c.line_of-line.result (room_at c.self.inside.parts.cores.items c.args.core c.line_of-line.result)
@@ -13,7 +14,7 @@ accesses c = record {
   runs = subst (λ v. Runs (store_view v) c.args.core false) (sym c.self.view_is) c.requires.runs;
   access = subst (λ v. IsLoad (store_view v).shape c.args.addr c.args.width) (sym c.self.view_is) c.requires.access;
   line_is = subst (λ (v : CachedView). c.line_of-line.result ≡ line_of (bus v).line_length c.args.addr) (sym c.self.view_is) c.line_of-line.ensures.value;
-  victim = c.look_room.ensures;
+  victim = c.look_room.ensures.room;
 }
 
 pub invariant_of-self : goal.invariant_of-self
@@ -31,3 +32,8 @@ returns-clause-waits c =
     rw (← c.self.view_is)
     (load_waits c.load.result parts c.load.new.self c.args.core _ c.args.width c.line_of-line.result _ c.load.ensures
     ∙ ap (λ (line : ℕ). load_wait (bus_in parts) c.args.core line (room_at parts.cores.items c.args.core line)) (accesses c).line_is)
+
+pub returns-clause-makes : goal.returns-clause-makes
+returns-clause-makes c =
+    rw (← c.self.view_is)
+    (load_makes c.load.result c.self.inside.parts c.load.new.self c.args.core c.args.addr c.args.width c.line_of-line.result (accesses c).line_is c.look_room.ensures.placed c.load.ensures)

@@ -15,3 +15,6 @@ returns-clause-publishes c =
     let may = subst (λ v. MayPublish (store_view v) c.args.core) (sym c.self.view_is) c.requires.may in
     rw (← c.self.view_is)
     (publishes c.self.inside.parts c.publish.new.self c.args.core (is_in c.publish.result) c.self.invariant may c.publish.ensures.bus c.publish.ensures.hurt)
+
+pub returns-clause-makes : goal.returns-clause-makes
+returns-clause-makes c = rw (← c.self.view_is) (record { placed = tt; bus_is = c.publish.ensures.bus })

@@ -7,6 +7,7 @@ use Rattle.spec_bus.specs.Parts.{bus_in, room_at}
 use Rattle.violations.specs.CoreSet.{is_in}
 use Rattle.bus_states.specs.declared.notice.Notice.TheVariants.{Publish}
 use Rattle.spec_bus.proofs.Keeping.{Accesses, stored_straight, stores_straight, straight_free}
+use Rattle.spec_bus.proofs.Making.{straight_store_makes}
 use Rattle.spec_bus.proofs.cached.CachedBusEpochStore.straight_store.Goals as goal
 
 pub straight_store-requires-clause-free : goal.straight_store-requires-clause-free
@@ -20,7 +21,7 @@ accesses c = record {
   runs = subst (λ v. Runs (store_view v) c.args.core true) (sym c.self.view_is) c.requires.runs;
   access = subst (λ v. IsLoad (store_view v).shape c.args.addr c.args.width) (sym c.self.view_is) c.requires.access;
   line_is = subst (λ (v : CachedView). c.line_of-line.result ≡ line_of (bus v).line_length c.args.addr) (sym c.self.view_is) c.line_of-line.ensures.value;
-  victim = c.look_room.ensures;
+  victim = c.look_room.ensures.room;
 }
 
 pub invariant_of-self : goal.invariant_of-self
@@ -41,3 +42,8 @@ returns-clause-bus c =
     (c.straight_store.ensures.bus
     ∙ ap (λ (line : ℕ). after_straight_store (bus_in parts) c.args.core line (offset_of parts.limits.line_length c.args.addr) c.args.width c.args.value
     (room_at parts.cores.items c.args.core line)) (accesses c).line_is)
+
+pub returns-clause-makes : goal.returns-clause-makes
+returns-clause-makes c =
+    rw (← c.self.view_is)
+    (straight_store_makes c.self.inside.parts c.straight_store.new.self c.args.core c.args.addr c.args.width c.args.value c.line_of-line.result (accesses c).line_is c.look_room.ensures.placed c.straight_store.ensures.bus)

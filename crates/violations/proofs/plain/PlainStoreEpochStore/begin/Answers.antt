@@ -1,5 +1,5 @@
 use Rattle.std.proofs.Common.{refl, sym, subst, arith}
-use Rattle.violations.specs.View.{MayBegin}
+use Rattle.violations.specs.View.{MayBegin, IsSettled}
 use Rattle.violations.specs.Plain.{store_view}
 use Rattle.violations.specs.PlainInside.{view_of}
 use Rattle.violations.proofs.Changing.{state_there}
@@ -29,3 +29,10 @@ returns-clause-begins c =
     let state = c.index_mut-state.result.now in
     let there = state_there p.states p.states c.args.core state refl may.there c.index_mut-state.ensures.value in
     rw (← c.self.view_is) (begins p c.args.core c.args.epoch p.budget state may there)
+
+pub returns-clause-makes : goal.returns-clause-makes
+returns-clause-makes c = record {
+  before = subst (λ v. IsSettled (store_view v)) c.self.view_is c.self.invariant.settled;
+  after = (invariant_of-self c).settled;
+  made = returns-clause-begins c;
+}

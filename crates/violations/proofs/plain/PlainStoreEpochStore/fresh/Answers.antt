@@ -18,17 +18,18 @@ invariant_of-result c =
       settled = fresh_settled p (length p.committed) (c.in_ok-states.ensures.idle (length p.committed));
     }
 
-pub returns : goal.returns
-returns c =
+pub returns-clause-fresh : goal.returns-clause-fresh
+returns-clause-fresh c =
     let image = c.args.image.now in
     let items : c.in_ok-committed.committed.items ≡ image.bytes = search rules in
     let size = ap length items ∙ c.size.ensures.limits.byte_count in
     let count = c.in_ok-states.ensures.count in
     let code = c.code.ensures.code in
     let limits = c.limits.ensures ∙ ap limits_of c.version.ensures.version in record {
-      fresh = record {
-        shape = cc (size, count, code, limits);
-        committed = λ a. ap (λ xs. slice_index xs a) items;
-        idle = λ k. (idle_out c.size.result c.in_ok-states.states.items (c.in_ok-states.ensures.idle c.size.result) k).attempt;
-      };
+      shape = cc (size, count, code, limits);
+      committed = λ a. ap (λ xs. slice_index xs a) items;
+      idle = λ k. (idle_out c.size.result c.in_ok-states.states.items (c.in_ok-states.ensures.idle c.size.result) k).attempt;
     }
+
+pub returns-clause-starts : goal.returns-clause-starts
+returns-clause-starts c = record { settled = (invariant_of-result c).settled; fresh = returns-clause-fresh c }

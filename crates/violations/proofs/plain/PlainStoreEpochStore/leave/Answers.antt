@@ -1,5 +1,5 @@
 use Rattle.std.proofs.Common.{true, length, refl, sym, subst, arith}
-use Rattle.violations.specs.View.{Runs, attempt_of}
+use Rattle.violations.specs.View.{Runs, attempt_of, IsSettled}
 use Rattle.violations.specs.Plain.{store_view}
 use Rattle.violations.specs.PlainInside.{view_of}
 use Rattle.violations.proofs.Changing.{state_there}
@@ -27,3 +27,10 @@ returns-clause-leaves c =
     let runs = subst (λ v. Runs (store_view v) c.args.core true) (sym c.self.view_is) c.requires.runs in
     let below = c.self.invariant.settled.there c.args.core (attempt_of runs.epoch true) runs.is in
     rw (← c.self.view_is) (ends p c.args.core p.budget c.drop_attempt.new.self below c.drop_attempt.ensures.idle)
+
+pub returns-clause-makes : goal.returns-clause-makes
+returns-clause-makes c = record {
+  before = subst (λ v. IsSettled (store_view v)) c.self.view_is c.self.invariant.settled;
+  after = (invariant_of-self c).settled;
+  made = returns-clause-leaves c;
+}

@@ -1,5 +1,5 @@
 use Rattle.std.proofs.Common.{length, ◌≡◌, ◌≤◌, ◌+◌, ◌-◌, false, refl, sym, subst, arith}
-use Rattle.violations.specs.View.{Runs, attempt_of}
+use Rattle.violations.specs.View.{Runs, attempt_of, IsSettled}
 use Rattle.violations.specs.Plain.{store_view}
 use Rattle.violations.specs.PlainInside.{view_of}
 use Rattle.violations.proofs.Changing.{state_there}
@@ -55,3 +55,10 @@ returns-clause-guards c =
     let there = state_there p.states p.states c.args.core state refl below c.index_mut-state.ensures.value in
     rw (← c.self.view_is) (guards_loaded p c.args.core c.args.addr c.args.width (c.self.inside.budget - 1) state c.load-value.new.self c.self.invariant.settled runs there
     (rw c.as_slice.ensures.value at c.load-value.ensures.guards))
+
+pub returns-clause-makes : goal.returns-clause-makes
+returns-clause-makes c = record {
+  before = subst (λ v. IsSettled (store_view v)) c.self.view_is c.self.invariant.settled;
+  after = (invariant_of-self c).settled;
+  made = record { value = c.load-value.result; hurt = is_in c.none.result; loads = returns-clause-loads c; guards = returns-clause-guards c; nobody = c.none.ensures };
+}

@@ -2,7 +2,7 @@ use Rattle.std.proofs.Common.{◌≡◌, ◌<◌, length, false, slice_get, refl
 use Rattle.rv32_image.proofs.SmallFacts.{one_value}
 use Rattle.violations.specs.declared.core_state.CoreState.{CoreState}
 use Rattle.violations.specs.CoreState.{AreReaders, bytes_in}
-use Rattle.violations.specs.View.{MayPublish, attempt_of}
+use Rattle.violations.specs.View.{MayPublish, attempt_of, IsSettled}
 use Rattle.violations.specs.CoreSet.{is_in}
 use Rattle.violations.specs.Plain.{store_view}
 use Rattle.violations.specs.PlainInside.{view_of}
@@ -74,3 +74,10 @@ returns-clause-violates c =
     let same : c.index.result.now ≡ state = one_value (slice_get p.states c.args.core) c.index.result.now state first there in
     let readers = subst (λ (l : CoreState). AreReaders c.args.core (bytes_in l.own.cells) p.states hurt) same (rw c.as_slice.ensures.value at c.readers_of-hurt.ensures) in
     rw (← c.self.view_is) (owned_readers p c.args.core hurt state c.self.invariant.settled readers there)
+
+pub returns-clause-makes : goal.returns-clause-makes
+returns-clause-makes c = record {
+  before = subst (λ v. IsSettled (store_view v)) c.self.view_is c.self.invariant.settled;
+  after = (invariant_of-self c).settled;
+  made = record { hurt = is_in c.readers_of-hurt.result; publishes = returns-clause-publishes c };
+}

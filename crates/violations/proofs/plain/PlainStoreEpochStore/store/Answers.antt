@@ -1,5 +1,5 @@
 use Rattle.std.proofs.Common.{◌≤◌, ◌-◌, false, refl, sym, subst, arith, rules}
-use Rattle.violations.specs.View.{Runs, attempt_of}
+use Rattle.violations.specs.View.{Runs, attempt_of, IsSettled}
 use Rattle.violations.specs.Plain.{store_view}
 use Rattle.violations.specs.PlainInside.{view_of}
 use Rattle.violations.proofs.Changing.{state_there}
@@ -54,3 +54,10 @@ returns-clause-stores c =
       rw (← c.self.view_is) (stores p c.args.core c.args.addr c.args.width c.args.value (c.self.inside.budget - 1) state (record state { own = c.keep.new.self }) (is_in c.none.result) c.none.ensures
           c.self.invariant.settled runs there refl refl c.keep.ensures.kept),
     )
+
+pub returns-clause-makes : goal.returns-clause-makes
+returns-clause-makes c = record {
+  before = subst (λ v. IsSettled (store_view v)) c.self.view_is c.self.invariant.settled;
+  after = (invariant_of-self c).settled;
+  made = record { hurt = is_in c.none.result; stores = (returns-clause-stores c).1; nobody = c.none.ensures };
+}

@@ -1,5 +1,5 @@
 use Rattle.std.proofs.Common.{true, sym, subst, ◌∙◌}
-use Rattle.violations.specs.View.{Runs, is_accessed}
+use Rattle.violations.specs.View.{Runs, is_accessed, IsSettled}
 use Rattle.violations.specs.CoreSet.{is_in}
 use Rattle.violations.specs.Plain.{store_view}
 use Rattle.violations.specs.PlainInside.{view_of}
@@ -28,3 +28,10 @@ returns-clause-violates c =
     let p = view_of c.self.inside in
     let hurt = is_in c.readers_from-hurt.result in
     rw (← c.self.view_is) (violates_readers p c.args.core (is_accessed c.args.addr c.args.width) hurt c.self.invariant.settled (rw c.as_slice.ensures.value at c.readers_from-hurt.ensures))
+
+pub returns-clause-makes : goal.returns-clause-makes
+returns-clause-makes c = record {
+  before = subst (λ v. IsSettled (store_view v)) c.self.view_is c.self.invariant.settled;
+  after = (invariant_of-self c).settled;
+  made = record { runs = c.requires.runs; hurt = is_in c.readers_from-hurt.result; stores = returns-clause-stores c; violates = returns-clause-violates c };
+}

@@ -1,0 +1,15 @@
+use Rattle.std.proofs.Common.{sym, ◌∙◌}
+use Rattle.spec_bus.proofs.SameRooms.{fixed, views, waiting}
+use Rattle.spec_bus.proofs.cached.CachedBusEpochStore.calls_are_fixed.Goals as goal
+
+pub returns-clause-starts : goal.returns-clause-starts
+returns-clause-starts c = λ image cores v w one two. two ∙ sym one
+
+pub returns-clause-fixed : goal.returns-clause-fixed
+returns-clause-fixed c = fixed
+
+pub returns-clause-views : goal.returns-clause-views
+returns-clause-views c = views
+
+pub returns-clause-waits : goal.returns-clause-waits
+returns-clause-waits c = waiting
