@@ -1,5 +1,6 @@
 -- From what the register noted and what the store did to each case of a turn.
 pub mod Acting
+pub mod Moving
 pub mod Standing
 pub mod Accessing
 pub mod GoingStraight

@@ -3,3 +3,4 @@ pub mod Fields
 pub mod Cases
 pub mod Violations
 pub mod Books
+pub mod Fixed

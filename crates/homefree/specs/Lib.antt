@@ -19,6 +19,9 @@ pub mod Steps
 pub mod AtStop
 pub mod Acted
 pub mod Came
+pub mod Moves
+pub mod Standing
+pub mod Fixed
 pub mod Noted
 pub mod Arms
 pub mod Again

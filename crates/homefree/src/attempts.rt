@@ -1,8 +1,11 @@
 //! The attempts of the cores that an exit cancels.
-ghost use Rattle.std.specs.Prelude.{◌≡◌, ◌≢◌, ◌≤◌, ℕ, length};
+ghost use Rattle.std.specs.Prelude.{◌≡◌, ◌≢◌, ◌≤◌, ◌∷◌, [], ℕ, length, is_some, if◌then◌else◌};
 ghost use Rattle.homefree.specs.Arms.{HasAttempt, EndsAttempt};
 ghost use Rattle.homefree.specs.Kept.{running_at};
 ghost use Rattle.homefree.specs.Turned.{CancelsOthers};
+ghost use Rattle.homefree.specs.Moves.{cancel_calls};
+ghost use Rattle.violations.specs.Calls.{Leads};
+ghost use Rattle.violations.specs.Calls as call;
 
 use crate::register::Running;
 use violations::EpochStore;
@@ -12,6 +15,7 @@ pub(crate) fn cancel_attempts<S: EpochStore>(store: &mut S, running: &Vec<Option
     requires few { length running.now.items ≤ 16 }
     requires runs { (k : ℕ) → k ≢ by → HasAttempt (S.view store.old) k (running_at running.now.items k) }
     ensures cancels { CancelsOthers (S.view store.old) (S.view store.new) by }
+    ensures moves { Leads S.makes (cancel_calls (length running.now.items) by (S.view store.old)) store.old store.new }
     ensures budget { S.budget store.new ≡ S.budget store.old }
 {
     let count = running.len() as u32;
@@ -26,6 +30,7 @@ pub(crate) fn cancel_attempts<S: EpochStore>(store: &mut S, running: &Vec<Option
 fn end_attempt<S: EpochStore>(store: &mut S, core: u32, now: Option<Running>)
     requires { HasAttempt (S.view store.old) core now }
     ensures ends { EndsAttempt (S.view store.old) (S.view store.new) core }
+    ensures moves { Leads S.makes (if is_some ((S.view store.old).attempt core) then call.Cancel core ∷ [] else []) store.old store.new }
     ensures budget { S.budget store.new ≡ S.budget store.old }
 {
     if let Some(now) = now {

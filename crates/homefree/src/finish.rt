@@ -1,11 +1,14 @@
 //! Epochs that have ended or faulted.
-ghost use Rattle.std.specs.Prelude.{List, Option, ◌≡◌, ◌≢◌, ◌+◌, ◌≤◌, ℕ, true, false, length, vec_len, vec_capacity, Some};
+ghost use Rattle.std.specs.Prelude.{List, Option, ◌∷◌, [], ◌++◌, ◌≡◌, ◌≢◌, ◌+◌, ◌≤◌, ℕ, true, false, length, vec_len, vec_capacity, Some};
 ghost use Rattle.rv32_exec.specs.Sequential as spec;
 ghost use Rattle.homefree.specs.Came.{answer_of};
 ghost use Rattle.homefree.specs.Acted.{Acted};
 ghost use Rattle.homefree.specs.Arms.{Arrives, RunsEpoch, Settled, running_by};
 ghost use Rattle.homefree.specs.Turned as turn;
 ghost use Rattle.homefree.specs.declared.register.Running.{Running};
+ghost use Rattle.homefree.specs.Moves.{Moves, publish_calls, stop_calls, is_exit};
+ghost use Rattle.violations.specs.Calls.{Leads};
+ghost use Rattle.violations.specs.Calls as call;
 
 use crate::answer::{Came, Cause};
 use crate::attempts::cancel_attempts;
@@ -26,7 +29,9 @@ impl<S: EpochStore> Parts<S> {
         requires budget { 2 ≤ S.budget self.old.store }
         requires arrives { Arrives self.old.register (S.view self.old.store) shares.old core (running_by now arrived.now.base) arrived.now arrived.now.at }
         requires ended { arrived.now.at ≡ Stop.Ended }
-        ensures { Acted self.old.register self.new.register (S.waits self.old.store) (S.view self.old.store) (S.view self.new.store) shares.old shares.new core (Some arrived.entry.now) (answer_of self.new.register.running.items core result) }
+        ensures acted { Acted self.old.register self.new.register (S.waits self.old.store) (S.view self.old.store) (S.view self.new.store) shares.old shares.new core (Some arrived.entry.now) (answer_of self.new.register.running.items core result) }
+        ensures moves { Moves S.makes S.view (stop_calls self.old.register.image (S.waits self.old.store) self.old.register.homefree core (running_by now arrived.entry.now.base) arrived.entry.now.now Stop.Ended)
+            (is_exit self.old.register.image self.old.register.homefree (running_by now arrived.entry.now.base) arrived.entry.now.now Stop.Ended) (length self.old.register.running.items) core self.old.store self.new.store }
     {
         if now.epoch != self.register.homefree {
             return Came::Again(Cause::NotHomefree);
@@ -45,6 +50,7 @@ impl<S: EpochStore> Parts<S> {
         requires room { vec_len self.old.register.history + length self.old.register.running.items ≤ vec_capacity self.old.register.history }
         requires homefree { now.epoch ≡ self.old.register.homefree }
         ensures settled { Settled self.old.register self.new.register (S.view self.old.store) (S.view self.new.store) core (running_by now arrived.entry.now.base) }
+        ensures moves { Leads S.makes (publish_calls now.straight core) self.old.store self.new.store }
         ensures budget { S.budget self.old.store ≤ S.budget self.new.store + 1 }
     {
         let _ = arrived;
@@ -62,7 +68,8 @@ impl<S: EpochStore> Parts<S> {
         requires ended { arrived.now.at ≡ Stop.Ended }
         requires homefree { now.epoch ≡ self.old.register.homefree }
         requires stays { spec.exits self.old.register.image arrived.now.now ≡ false }
-        ensures { Acted self.old.register self.new.register (S.waits self.old.store) (S.view self.old.store) (S.view self.new.store) shares.old shares.new core (Some arrived.entry.now) (answer_of self.new.register.running.items core result) }
+        ensures acted { Acted self.old.register self.new.register (S.waits self.old.store) (S.view self.old.store) (S.view self.new.store) shares.old shares.new core (Some arrived.entry.now) (answer_of self.new.register.running.items core result) }
+        ensures moves { Leads S.makes (publish_calls now.straight core ++ call.Leave core ∷ []) self.old.store self.new.store }
     {
         self.settle(core, now, arrived);
         self.register.commit(shares, core, now, arrived);
@@ -77,7 +84,8 @@ impl<S: EpochStore> Parts<S> {
         requires ended { arrived.now.at ≡ Stop.Ended }
         requires homefree { now.epoch ≡ self.old.register.homefree }
         requires exits { spec.exits self.old.register.image arrived.now.now ≡ true }
-        ensures { Acted self.old.register self.new.register (S.waits self.old.store) (S.view self.old.store) (S.view self.new.store) shares.old shares.new core (Some arrived.entry.now) (answer_of self.new.register.running.items core result) }
+        ensures acted { Acted self.old.register self.new.register (S.waits self.old.store) (S.view self.old.store) (S.view self.new.store) shares.old shares.new core (Some arrived.entry.now) (answer_of self.new.register.running.items core result) }
+        ensures moves { Moves S.makes S.view (publish_calls now.straight core) true (length self.old.register.running.items) core self.old.store self.new.store }
     {
         self.settle(core, now, arrived);
         cancel_attempts(&mut self.store, &self.register.running, core);
@@ -100,7 +108,8 @@ impl<S: EpochStore> Parts<S> {
         requires budget { 2 ≤ S.budget self.old.store }
         requires arrives { Arrives self.old.register (S.view self.old.store) shares.old core (running_by now arrived.now.base) arrived.now arrived.now.at }
         requires faulted { arrived.now.at ≡ Stop.Fault cause pc }
-        ensures { Acted self.old.register self.new.register (S.waits self.old.store) (S.view self.old.store) (S.view self.new.store) shares.old shares.new core (Some arrived.entry.now) (answer_of self.new.register.running.items core result) }
+        ensures acted { Acted self.old.register self.new.register (S.waits self.old.store) (S.view self.old.store) (S.view self.new.store) shares.old shares.new core (Some arrived.entry.now) (answer_of self.new.register.running.items core result) }
+        ensures moves { Leads S.makes (stop_calls self.old.register.image (S.waits self.old.store) self.old.register.homefree core (running_by now arrived.entry.now.base) arrived.entry.now.now (Stop.Fault cause pc)) self.old.store self.new.store }
     {
         let _ = shares;
         let epoch = now.epoch;

@@ -1,9 +1,13 @@
 //! The book's register and store, which may be out of step within a turn: one method for each case of a turn.
-ghost use Rattle.std.specs.Prelude.{◌≡◌, ◌<◌, ◌≤◌, ℕ, length, None, Some, true, option_copied};
+ghost use Rattle.std.specs.Prelude.{◌≡◌, ◌∷◌, [], ◌<◌, ◌≤◌, ℕ, length, None, Some, true, option_copied};
 ghost use Rattle.homefree.specs.Came.{answer_of};
 ghost use Rattle.homefree.specs.Acted.{Acted, MayNote, IfArrived};
 ghost use Rattle.homefree.specs.Arms.{Arrives, running_by};
 ghost use Rattle.homefree.specs.Kept.{Fits, running_at};
+ghost use Rattle.homefree.specs.Moves.{Moves, TurnMoves, stop_calls, is_exit, start_calls};
+ghost use Rattle.homefree.specs.Standing.{standing};
+ghost use Rattle.violations.specs.Calls.{Leads};
+ghost use Rattle.violations.specs.Calls as call;
 
 use crate::answer::{Came, Cause};
 use crate::register::{Register, Running};
@@ -29,7 +33,8 @@ impl<S: EpochStore> Parts<S> {
         requires fits { Fits self.old.register (S.view self.old.store) }
         requires going { self.old.register.end ≡ None }
         requires next { IfArrived self.old.register.image (option_copied next) }
-        ensures { Acted self.old.register self.new.register (S.waits self.old.store) (S.view self.old.store) (S.view self.new.store) shares.old shares.new core (option_copied next.entry) (answer_of self.new.register.running.items core result) }
+        ensures acted { Acted self.old.register self.new.register (S.waits self.old.store) (S.view self.old.store) (S.view self.new.store) shares.old shares.new core (option_copied next.entry) (answer_of self.new.register.running.items core result) }
+        ensures moves { TurnMoves S.makes S.view (standing self.old.register (S.waits self.old.store) core (option_copied next.entry)) self.old.store self.new.store }
     {
         match &self.register.running[core as usize] {
             None => self.start(shares, core, next),
@@ -58,7 +63,9 @@ impl<S: EpochStore> Parts<S> {
     fn run(&mut self, shares: &mut Shares, core: u32, now: Attempt, arrived: &Arrived) -> Came
         requires budget { 2 ≤ S.budget self.old.store }
         requires arrives { Arrives self.old.register (S.view self.old.store) shares.old core (running_by now arrived.now.base) arrived.now arrived.now.at }
-        ensures { Acted self.old.register self.new.register (S.waits self.old.store) (S.view self.old.store) (S.view self.new.store) shares.old shares.new core (Some arrived.entry.now) (answer_of self.new.register.running.items core result) }
+        ensures acted { Acted self.old.register self.new.register (S.waits self.old.store) (S.view self.old.store) (S.view self.new.store) shares.old shares.new core (Some arrived.entry.now) (answer_of self.new.register.running.items core result) }
+        ensures moves { Moves S.makes S.view (stop_calls self.old.register.image (S.waits self.old.store) self.old.register.homefree core (running_by now arrived.entry.now.base) arrived.entry.now.now arrived.entry.now.at)
+            (is_exit self.old.register.image self.old.register.homefree (running_by now arrived.entry.now.base) arrived.entry.now.now arrived.entry.now.at) (length self.old.register.running.items) core self.old.store self.new.store }
     {
         let at = arrived.at();
         match at {
@@ -94,7 +101,8 @@ impl<S: EpochStore> Parts<S> {
         requires fits { Fits self.old.register (S.view self.old.store) }
         requires going { self.old.register.end ≡ None }
         requires idle { running_at self.old.register.running.items core ≡ None }
-        ensures { Acted self.old.register self.new.register (S.waits self.old.store) (S.view self.old.store) (S.view self.new.store) shares.old shares.new core (option_copied next.entry) (answer_of self.new.register.running.items core result) }
+        ensures acted { Acted self.old.register self.new.register (S.waits self.old.store) (S.view self.old.store) (S.view self.new.store) shares.old shares.new core (option_copied next.entry) (answer_of self.new.register.running.items core result) }
+        ensures moves { Leads S.makes (start_calls self.old.register.image.epochs self.old.register.next_epoch core) self.old.store self.new.store }
     {
         let _ = shares;
         let _ = next;
@@ -123,7 +131,8 @@ impl<S: EpochStore> Parts<S> {
         requires going { self.old.register.end ≡ None }
         requires runs { running_at self.old.register.running.items core ≡ Some now.now }
         requires hurt { now.now.hurt ≡ true }
-        ensures { Acted self.old.register self.new.register (S.waits self.old.store) (S.view self.old.store) (S.view self.new.store) shares.old shares.new core (option_copied next.entry) (answer_of self.new.register.running.items core result) }
+        ensures acted { Acted self.old.register self.new.register (S.waits self.old.store) (S.view self.old.store) (S.view self.new.store) shares.old shares.new core (option_copied next.entry) (answer_of self.new.register.running.items core result) }
+        ensures moves { Leads S.makes (call.Begin core now.entry.now.epoch ∷ []) self.old.store self.new.store }
     {
         let _ = next;
         self.store.look();

@@ -1,9 +1,12 @@
 //! Accesses of a core that isn't straight.
-ghost use Rattle.std.specs.Prelude.{◌≡◌, ◌≤◌, ℕ, Bool, false, Some};
+ghost use Rattle.std.specs.Prelude.{◌≡◌, ◌==◌, ◌&&◌, ◌≤◌, ℕ, Bool, false, is_some, Some};
 ghost use Rattle.homefree.specs.Came.{answer_of};
 ghost use Rattle.homefree.specs.Acted.{Acted};
 ghost use Rattle.homefree.specs.Arms.{Arrives, running_by};
 ghost use Rattle.homefree.specs.Turned as turn;
+ghost use Rattle.homefree.specs.Moves.{access_calls};
+ghost use Rattle.violations.specs.Calls.{Leads};
+ghost use Rattle.violations.specs.Calls as call;
 
 use crate::answer::{Came, Cause};
 use crate::parts::Parts;
@@ -26,7 +29,8 @@ impl<S: EpochStore> Parts<S> {
         requires arrives { Arrives self.old.register (S.view self.old.store) shares.old core (running_by now arrived.now.base) arrived.now arrived.now.at }
         requires speculates { now.straight ≡ false }
         requires load { (signed : Bool) × (rd : ℕ) × (arrived.now.at ≡ Stop.Load addr width signed rd) }
-        ensures { Acted self.old.register self.new.register (S.waits self.old.store) (S.view self.old.store) (S.view self.new.store) shares.old shares.new core (Some arrived.entry.now) (answer_of self.new.register.running.items core result) }
+        ensures acted { Acted self.old.register self.new.register (S.waits self.old.store) (S.view self.old.store) (S.view self.new.store) shares.old shares.new core (Some arrived.entry.now) (answer_of self.new.register.running.items core result) }
+        ensures moves { Leads S.makes (access_calls false (is_some ((S.waits self.old.store).load core addr width) && (now.epoch == self.old.register.homefree)) core (call.Load core addr width) (call.StraightLoad core addr width)) self.old.store self.new.store }
     {
         match self.store.load(core, addr, width) {
             Step::Done { value, hurt } => {
@@ -59,7 +63,8 @@ impl<S: EpochStore> Parts<S> {
         requires arrives { Arrives self.old.register (S.view self.old.store) shares.old core (running_by now arrived.now.base) arrived.now arrived.now.at }
         requires speculates { now.straight ≡ false }
         requires store { arrived.now.at ≡ Stop.Store addr width value }
-        ensures { Acted self.old.register self.new.register (S.waits self.old.store) (S.view self.old.store) (S.view self.new.store) shares.old shares.new core (Some arrived.entry.now) (answer_of self.new.register.running.items core result) }
+        ensures acted { Acted self.old.register self.new.register (S.waits self.old.store) (S.view self.old.store) (S.view self.new.store) shares.old shares.new core (Some arrived.entry.now) (answer_of self.new.register.running.items core result) }
+        ensures moves { Leads S.makes (access_calls false (is_some ((S.waits self.old.store).store core addr width) && (now.epoch == self.old.register.homefree)) core (call.Store core addr width value) (call.StraightStore core addr width value)) self.old.store self.new.store }
     {
         match self.store.store(core, addr, width, value) {
             Step::Done { value: _, hurt } => {

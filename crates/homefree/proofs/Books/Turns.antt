@@ -21,7 +21,7 @@ use Rattle.violations.specs.Rule.{IsSameView, IsCoreCount, IsFresh}
 use Rattle.homefree.specs.declared.answer.Answer.{Answer}
 use Rattle.homefree.specs.declared.answer.StopCause.{StopCause}
 use Rattle.homefree.specs.declared.answer.StopCause.TheVariants as stop
-use Rattle.homefree.specs.declared.fault.TurnFault.TheVariants.{HistoryFull, NoMemory}
+use Rattle.homefree.specs.declared.fault.TurnFault.TheVariants.{NoMemory}
 use Rattle.homefree.specs.declared.register.Register.{Register}
 use Rattle.homefree.specs.Agrees.{Agrees}
 use Rattle.homefree.specs.Acted.{Acted, AreFew, MayNote, turn_of}

@@ -1,5 +1,6 @@
 use Rattle.std.proofs.Common.{option_copied}
 use Rattle.homefree.proofs.Books.Turns.{fits_same, book_same, turned_refused, turned_acts, may_note, book_acts, acts_most, same_most, has_free, has_room}
+use Rattle.homefree.proofs.Cases.Moving.{turn_takes}
 use Rattle.homefree.proofs.book.turn_within.Goals as goal
 
 pub returns-in_default-make_room-clause-book : goal.returns-in_default-make_room-clause-book
@@ -38,7 +39,7 @@ returns-clause-book g c =
     let free = has_free p.register c.free_entries-free.result c.args.room c.len.result c.free_entries-free.ensures c.len.ensures c.if-room-len.false c.requires.book.within in
     book_acts g.S.EpochStore.view p.register q.register c.turn-came.new.self.register p.store q.store c.turn-came.new.self.store c.args.room c.args.core c.args.stopped
     c.args.shares.now c.turn-came.new.shares (option_copied c.args.next) _ c.requires.book c.in_default.is c.in_default-stopped.is c.make_room.ensures.register c.requires.core free c.look.ensures
-    (fits_same p.register q.register (g.S.EpochStore.view p.store) (g.S.EpochStore.view q.store) c.requires.book.fits c.make_room.ensures.register c.make_room.ensures.store) c.turn-came.ensures
+    (fits_same p.register q.register (g.S.EpochStore.view p.store) (g.S.EpochStore.view q.store) c.requires.book.fits c.make_room.ensures.register c.make_room.ensures.store) c.turn-came.ensures.acted
 
 pub returns-clause-turned : goal.returns-clause-turned
 returns-clause-turned g c =
@@ -47,7 +48,7 @@ returns-clause-turned g c =
     let free = has_free p.register c.free_entries-free.result c.args.room c.len.result c.free_entries-free.ensures c.len.ensures c.if-room-len.false c.requires.book.within in
     rw c.answer_of.ensures (turned_acts g.S.EpochStore.view g.S.EpochStore.waits p.register q.register p.store q.store c.args.room c.args.core c.args.stopped c.args.shares.now
     (option_copied c.args.next) c.requires.book.fits c.in_default.is c.in_default-stopped.is free c.make_room.ensures.register c.make_room.ensures.store c.make_room.ensures.waits
-    c.turn-came.new.self.register c.turn-came.new.self.store c.turn-came.new.shares _ c.turn-came.ensures)
+    c.turn-came.new.self.register c.turn-came.new.self.store c.turn-came.new.shares _ c.turn-came.ensures.acted)
 
 pub returns-in_default-make_room-clause-most : goal.returns-in_default-make_room-clause-most
 returns-in_default-make_room-clause-most g c =
@@ -59,4 +60,11 @@ returns-clause-most g c =
     let p = c.args.parts.now in
     let q = c.make_room.new.parts in
     acts_most g.S.EpochStore.view p.register q.register c.turn-came.new.self.register p.store q.store c.turn-came.new.self.store c.args.room c.args.core c.args.stopped
-    c.args.shares.now c.turn-came.new.shares (option_copied c.args.next) _ c.requires.book c.make_room.ensures.register c.turn-came.ensures
+    c.args.shares.now c.turn-came.new.shares (option_copied c.args.next) _ c.requires.book c.make_room.ensures.register c.turn-came.ensures.acted
+
+pub returns-clause-moves : goal.returns-clause-moves
+returns-clause-moves g c = λ s answer replays may is.
+    let p = c.args.parts.now in
+    let q = c.make_room.new.parts in
+    turn_takes g.S.EpochStore.makes g.S.EpochStore.view g.S.EpochStore.waits p.register q.register p.store q.store c.turn-came.new.self.store c.args.room c.args.core c.args.stopped
+    (option_copied c.args.next) c.requires.book.fits c.make_room.ensures.register c.make_room.ensures.waits c.in-Ok.ensures.makes c.turn-came.ensures.moves s replays

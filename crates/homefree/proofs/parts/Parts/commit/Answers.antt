@@ -42,8 +42,8 @@ leave-requires-clause-runs g c =
     let mid = c.settle.new.self in
     leaves old.register mid.register (view old.store) (view mid.store) c.args.core (running_by c.args.now c.args.arrived.now.base) c.requires.arrives.running c.requires.homefree c.settle.ensures.settled
 
-pub returns : goal.returns
-returns g c =
+pub returns-clause-acted : goal.returns-clause-acted
+returns-clause-acted g c =
     let view = g.S.EpochStore.view in
     let old = c.args.self.now in
     let mid = c.settle.new.self in

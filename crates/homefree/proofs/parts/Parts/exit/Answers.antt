@@ -1,4 +1,4 @@
-use Rattle.std.proofs.Common.{◌<◌, ◌^◌, arith, sym, subst}
+use Rattle.std.proofs.Common.{◌<◌, ◌^◌, ◌∷◌, [], ◌++◌, length, arith, sym, subst}
 use Rattle.rv32_exec.specs.declared.stop.Stop.TheVariants.{Ended}
 use Rattle.run_ledger.specs.declared.counts.Counts.{Counts}
 use Rattle.run_ledger.specs.Counts.{no_counts}
@@ -7,6 +7,9 @@ use Rattle.homefree.proofs.Cases.Standing.{few_cores}
 use Rattle.homefree.proofs.Cases.Accessing.{at_this}
 use Rattle.homefree.proofs.Cases.Ending.{room_mid}
 use Rattle.homefree.proofs.Cases.Exiting.{others_attempts, homefree_last, room_last, totals_last, at_last, exited}
+use Rattle.violations.specs.Calls.{Leave, Leads}
+use Rattle.homefree.specs.Moves.{cancel_calls}
+use Rattle.homefree.proofs.Cases.Moving.{leads_one}
 use Rattle.homefree.proofs.parts.Parts.exit.Goals as goal
 
 pub cancel_attempts-requires-clause-few : goal.cancel_attempts-requires-clause-few
@@ -74,8 +77,8 @@ commit-requires-clause-at g c =
     (at_this old.register c.args.core (running_by c.args.now c.args.arrived.now.base) c.args.arrived.now Ended c.requires.arrives.is_at c.requires.ended) c.requires.exits c.cancel_all.new.self c.cancel_all.ensures.steps
     c.cancel_all.ensures.own
 
-pub returns : goal.returns
-returns g c =
+pub returns-clause-acted : goal.returns-clause-acted
+returns-clause-acted g c =
     let view = g.S.EpochStore.view in
     let old = c.args.self.now in
     let mid = c.settle.new.self in
@@ -83,3 +86,16 @@ returns g c =
     (at_this old.register c.args.core (running_by c.args.now c.args.arrived.now.base) c.args.arrived.now Ended c.requires.arrives.is_at c.requires.ended) c.requires.exits c.cancel_all.new.self c.cancel_all.ensures.steps
     c.commit.new.self (view c.cancel_attempts.new.store) (view c.leave.new.self) c.args.shares.now c.commit.new.shares _
     c.cancel_attempts.ensures.cancels c.leave.ensures.leaves (c.left_or_over.ensures c.commit.new.self.running.items c.args.core) c.commit.ensures.end c.commit.ensures.steps
+
+pub returns-clause-moves : goal.returns-clause-moves
+returns-clause-moves g c =
+    let makes = g.S.EpochStore.makes in
+    let mid = c.settle.new.self in
+    let core = c.args.core in
+    let seen = g.S.EpochStore.view mid.store in record {
+      mid = mid.store;
+      leads = c.settle.ensures.moves;
+      rest = subst (λ n. Leads makes (cancel_calls n core seen ++ Leave core ∷ []) mid.store c.leave.new.self) (c.settle.ensures.settled.steps no_counts).cores
+          (leads_one makes (cancel_calls (length mid.register.running.items) core seen) (Leave core) mid.store c.cancel_attempts.new.store c.leave.new.self c.cancel_attempts.ensures.moves
+          c.leave.ensures.makes);
+    }

@@ -2,8 +2,8 @@ use Rattle.std.proofs.Common.{◌<◌, option_copied, arith}
 use Rattle.homefree.proofs.Cases.Acting.{found_none, started, may_start}
 use Rattle.homefree.proofs.parts.Parts.start.Goals as goal
 
-pub returns-then-epoch-epochs : goal.returns-then-epoch-epochs
-returns-then-epoch-epochs g c =
+pub returns-then-epoch-epochs-clause-acted : goal.returns-then-epoch-epochs-clause-acted
+returns-then-epoch-epochs-clause-acted g c =
     let old = c.args.self.now in
     found_none old.register (g.S.EpochStore.view old.store) c.args.shares.now c.args.core (option_copied c.args.next) c.requires.fits c.requires.idle (rw (← c.epochs.ensures.epochs) c.if-epoch-epochs.true)
 
@@ -12,8 +12,8 @@ begin-requires-clause-may g c =
     let old = c.args.self.now in
     may_start old.register (g.S.EpochStore.view old.store) c.args.core c.requires.fits c.requires.going c.requires.core c.requires.idle
 
-pub returns : goal.returns
-returns g c =
+pub returns-clause-acted : goal.returns-clause-acted
+returns-clause-acted g c =
     let old = c.args.self.now in
     let more = c.if-epoch-epochs.false in
     let epochs = c.epochs.ensures.epochs in

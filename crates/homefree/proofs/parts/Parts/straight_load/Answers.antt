@@ -40,8 +40,8 @@ load-requires-clause-at g c =
     let mid = c.go_straight-straight.new.self in
     at_after old.register mid.register (view old.store) (view mid.store) c.args.core (running_by c.args.now c.args.arrived.now.base) (running_by c.go_straight-straight.result c.args.arrived.now.base) c.args.arrived.now _ c.go_straight-straight.ensures.straight c.requires.arrives.is_at
 
-pub returns : goal.returns
-returns g c =
+pub returns-clause-acted : goal.returns-clause-acted
+returns-clause-acted g c =
     let view = g.S.EpochStore.view in
     let old = c.args.self.now in
     let mid = c.go_straight-straight.new.self in

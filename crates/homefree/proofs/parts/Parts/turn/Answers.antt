@@ -1,23 +1,42 @@
 use Rattle.std.proofs.Common.{◌≢◌, option_copied, sym, ◌∙◌}
 use Rattle.homefree.proofs.Fields.Batches.{running_read}
 use Rattle.homefree.proofs.Cases.Acting.{told, none_stale, other_stale, differs, same_hart, handed_in, arrives}
+use Rattle.homefree.specs.Standing.{standing}
+use Rattle.homefree.proofs.Cases.Moving.{moves_told}
 use Rattle.homefree.proofs.parts.Parts.turn.Goals as goal
 
-pub returns-in-None-next : goal.returns-in-None-next
-returns-in-None-next g c =
+pub returns-in-None-next-clause-acted : goal.returns-in-None-next-clause-acted
+returns-in-None-next-clause-acted g c =
     let old = c.args.self.now in
     let now = c.in-Some.now in
     let runs = running_read old.register.running.items c.args.core c.index.result.now c.requires.core c.index.ensures ∙ c.in-Some.is in
     rw runs (told old.register (g.S.EpochStore.view old.store) c.args.shares.now c.args.core (option_copied c.args.next) now c.requires.fits runs c.if-now.false (none_stale c.args.next now.hart c.in-None-next.is))
 
-pub returns-else-eq : goal.returns-else-eq
-returns-else-eq g c =
+pub returns-else-eq-clause-acted : goal.returns-else-eq-clause-acted
+returns-else-eq-clause-acted g c =
     let old = c.args.self.now in
     let now = c.in-Some.now in
     let runs = running_read old.register.running.items c.args.core c.index.result.now c.requires.core c.index.ensures ∙ c.in-Some.is in
     let other : c.in-Some-next.arrived.now.base ≢ now.hart = λ same. differs c.base.result.now now.hart (sym c.eq.ensures ∙ c.if-eq.false) (c.base.ensures ∙ same) in
     rw runs (told old.register (g.S.EpochStore.view old.store) c.args.shares.now c.args.core (option_copied c.args.next) now c.requires.fits runs c.if-now.false
     (other_stale c.args.next c.in-Some-next.arrived now.hart c.in-Some-next.is other))
+
+pub returns-in-None-next-clause-moves : goal.returns-in-None-next-clause-moves
+returns-in-None-next-clause-moves g c =
+    let old = c.args.self.now in
+    let now = c.in-Some.now in
+    let runs = running_read old.register.running.items c.args.core c.index.result.now c.requires.core c.index.ensures ∙ c.in-Some.is in
+    moves_told g.S.EpochStore.makes g.S.EpochStore.view (standing old.register (g.S.EpochStore.waits old.store) c.args.core (option_copied c.args.next)) old.store now runs c.if-now.false
+    (none_stale c.args.next now.hart c.in-None-next.is)
+
+pub returns-else-eq-clause-moves : goal.returns-else-eq-clause-moves
+returns-else-eq-clause-moves g c =
+    let old = c.args.self.now in
+    let now = c.in-Some.now in
+    let runs = running_read old.register.running.items c.args.core c.index.result.now c.requires.core c.index.ensures ∙ c.in-Some.is in
+    let other : c.in-Some-next.arrived.now.base ≢ now.hart = λ same. differs c.base.result.now now.hart (sym c.eq.ensures ∙ c.if-eq.false) (c.base.ensures ∙ same) in
+    moves_told g.S.EpochStore.makes g.S.EpochStore.view (standing old.register (g.S.EpochStore.waits old.store) c.args.core (option_copied c.args.next)) old.store now runs c.if-now.false
+    (other_stale c.args.next c.in-Some-next.arrived now.hart c.in-Some-next.is other)
 
 pub run-requires-clause-arrives : goal.run-requires-clause-arrives
 run-requires-clause-arrives g c κs within =

@@ -1,0 +1,95 @@
+-- The calls of the store that a turn makes.
+use Rattle.std.proofs.Common.{◌≡◌, ◌≢◌, ℕ, suc, ◌+◌, ◌==◌, ◌&&◌, not, Bool, true, false, List, [], ◌∷◌, ◌++◌, length, Option, Some, is_some, if◌then◌else◌, refl, sym, ap, subst, ◌∙◌, arith, ne_eqb, eq-eqb, true≢false}
+use Rattle.rv32_image.proofs.SmallFacts.{one_value}
+use Rattle.rv32_exec.specs.Arrival.{Arrival}
+use Rattle.spec_history.specs.FlatState.{FlatState}
+use Rattle.spec_history.specs.Replay.{replay}
+use Rattle.violations.specs.View.{StoreView, Waits}
+use Rattle.violations.specs.Calls.{Call, Reserve, Cancel, Leads}
+use Rattle.homefree.specs.declared.answer.StopCause.{StopCause}
+use Rattle.homefree.specs.declared.register.Register.{Register}
+use Rattle.homefree.specs.declared.register.Running.{Running}
+use Rattle.homefree.specs.BookInside.{IsAsBefore, book_of}
+use Rattle.homefree.specs.Kept.{Fits, Shows, running_at}
+use Rattle.homefree.specs.Moves.{Moves, TurnMoves, TakesTurn, Standing, standing_of, IsHanded, cancel_calls}
+use Rattle.homefree.specs.Standing.{standing}
+use Rattle.homefree.specs.Turned.{IsStale, turn_at}
+
+-- ---- lists of calls
+
+pub leads_then : {S : Type 0} (makes : S → Call → S → Type 0) (first last : List Call) (s t u : S) → Leads makes first s t → Leads makes last t u → Leads makes (first ++ last) s u
+leads_then makes [] last s t u leads more = subst (λ x. Leads makes last x u) leads more
+leads_then makes (call ∷ calls) last s t u leads more = (leads.0, leads.1, leads_then makes calls last leads.0 t u leads.2 more)
+
+pub leads_one : {S : Type 0} (makes : S → Call → S → Type 0) (first : List Call) (call : Call) (s t u : S) → Leads makes first s t → makes t call u → Leads makes (first ++ call ∷ []) s u
+leads_one makes first call s t u leads made = leads_then makes first (call ∷ []) s t u leads (u, made, refl)
+
+-- ---- turns that make no call
+
+-- a core whose epoch has ended, and isn't the homefree one
+pub moves_none : {S : Type 0} (makes : S → Call → S → Type 0) (view : S → StoreView) (same exits : Bool) (first : List Call) (count core : ℕ) (s : S) → same ≡ false
+    → Moves makes view (if same then first else []) (same && exits) count core s s
+moves_none makes view true exits first count core s apart = absurd (true≢false apart)
+moves_none makes view false exits first count core s apart = record { mid = s; leads = refl; rest = refl }
+
+-- a core that is told its hart
+pub moves_told : {S : Type 0} (makes : S → Call → S → Type 0) (view : S → StoreView) (t : Standing) (s : S) (r : Running) → t.running ≡ Some r → r.hurt ≡ false → IsStale t.next r.hart
+    → TurnMoves makes view t s s
+moves_told {S} makes view t s r runs unhurt stale = record {
+  handed = false;
+  is_handed = subst (λ o. IsHanded o t.next false) (sym runs) (λ h. stale);
+  moves = record {
+    mid = s;
+    leads = rw (runs, unhurt) refl;
+    rest = rw (runs, unhurt) refl;
+  };
+}
+
+-- ---- the attempts that an exit cancels
+
+-- one more core is another one
+pub other_cancelled : {S : Type 0} (makes : S → Call → S → Type 0) (v w : StoreView) (by k : ℕ) (s t u : S) → k ≢ by → w.attempt k ≡ v.attempt k → Leads makes (cancel_calls k by v) s t
+    → Leads makes (if is_some (w.attempt k) then Cancel k ∷ [] else []) t u → Leads makes (cancel_calls (k + 1) by v) s u
+other_cancelled makes v w by k s t u other same before one =
+    subst (λ n. Leads makes (cancel_calls n by v) s u) (let next : suc k ≡ k + 1 = omega arith in next)
+    (leads_then makes (cancel_calls k by v) (if not (k == by) && is_some (v.attempt k) then Cancel k ∷ [] else []) s t u before
+    (subst (λ b. Leads makes (if not b && is_some (v.attempt k) then Cancel k ∷ [] else []) t u) (sym (ne_eqb k by other))
+    (subst (λ o. Leads makes (if is_some o then Cancel k ∷ [] else []) t u) same one)))
+
+-- or it is the core itself
+pub own_cancelled : {S : Type 0} (makes : S → Call → S → Type 0) (v : StoreView) (by k : ℕ) (s t : S) → k ≡ by → Leads makes (cancel_calls k by v) s t → Leads makes (cancel_calls (k + 1) by v) s t
+own_cancelled makes v by k s t same before =
+    subst (λ n. Leads makes (cancel_calls n by v) s t) (let next : suc k ≡ k + 1 = omega arith in next)
+    (leads_then makes (cancel_calls k by v) (if not (k == by) && is_some (v.attempt k) then Cancel k ∷ [] else []) s t t before
+    (subst (λ b. Leads makes (if not b && is_some (v.attempt k) then Cancel k ∷ [] else []) t t) (sym (eq-eqb k by same)) refl))
+
+-- ---- the turn of a book
+
+module _ {S : Type 0} (makes : S → Call → S → Type 0) (view : S → StoreView) (waits : S → Waits) (r q : Register) (store reserved after : S) (room core : ℕ) (cause : Option StopCause) (next : Option Arrival)
+    (fits : Fits r (view store)) (same : IsAsBefore r q) (same_waits : waits reserved ≡ waits store) (reserves : makes store Reserve reserved) where
+  pub turn_takes : TurnMoves makes view (standing q (waits reserved) core next) reserved after → (s : FlatState) → replay r.image (length r.running.items) r.history.items ≡ Some s
+      → TakesTurn makes view waits (standing_of (turn_at waits (book_of r store room cause) s core next)) store after
+  turn_takes moves s replays = record {
+    reserved = reserved;
+    reserves = reserves;
+    waits_are = same_waits;
+    moves = subst (λ t. TurnMoves makes view t reserved after) standing_is moves;
+  }
+    where
+      state_is : fits.state ≡ s
+      state_is = one_value (replay r.image (length r.running.items) r.history.items) fits.state s fits.replays replays
+
+      shows : Shows r s
+      shows = subst (Shows r) state_is fits.shows
+
+      standing_is : standing q (waits reserved) core next ≡ standing_of (turn_at waits (book_of r store room cause) s core next)
+      standing_is = (λ i. record {
+        image = same.image i;
+        count = length (same.running i).items;
+        waits = same_waits i;
+        homefree = (same.homefree ∙ shows.homefree) i;
+        next_epoch = (same.next_epoch ∙ shows.next_epoch) i;
+        core = core;
+        running = (ap (λ v. running_at v.items core) same.running ∙ shows.running core) i;
+        next = next;
+      })
