@@ -1,27 +1,33 @@
 -- A turn of a core: what follows its answer, and a book that is stopped where the turn failed.
-use Rattle.std.proofs.Common.{◌≡◌, ◌≢◌, ℕ, ◌+◌, cond, ◌&&◌, is_none, List, Option, Some, None, Result, Ok, Err, refl, sym, ap, ◌∙◌, subst}
+use Rattle.std.proofs.Common.{◌≡◌, ◌≢◌, ◌⊎◌, ℕ, suc, ◌+◌, true, cond, ◌&&◌, is_none, List, Option, Some, None, Result, Ok, Err, IsOk, IsErr, refl, sym, ap, ◌∙◌, subst, inl, inr}
 use Rattle.std.proofs.lemmas.List.{append-nil}
 use Rattle.rv32_exec.specs.declared.sequential.End.{End}
 use Rattle.rv32_exec.specs.Arrival.{Arrival}
 use Rattle.rv32_exec.specs.Hart.{HartState}
+use Rattle.rv32_exec.specs.NextEvent.{Event, next_event}
+use Rattle.rv32_image.specs.Image.{LoadedImage}
 use Rattle.run_ledger.specs.declared.counts.Counts.{Counts}
 use Rattle.spec_history.specs.declared.entry.Entry.{Entry}
 use Rattle.spec_history.specs.FlatState.{FlatState, end_at}
 use Rattle.spec_history.specs.Replay.{replay}
+use Rattle.ticket_lock.specs.Past.{StartsWith}
 use Rattle.violations.specs.View.{StoreView, Waits}
 use Rattle.homefree.specs.declared.answer.Answer.{Answer}
 use Rattle.homefree.specs.declared.answer.Answer.TheVariants.{Go, Again, Left, Over, Stopped}
 use Rattle.homefree.specs.declared.answer.StopCause.{StopCause}
 use Rattle.homefree.specs.declared.fault.TurnFault.{TurnFault}
+use Rattle.homefree.specs.declared.book.Loop.{Loop}
 use Rattle.homefree.specs.BookView.{BookView}
+use Rattle.homefree.specs.Driven.{arrival_of}
 use Rattle.homefree.specs.LockView.{loop_of, past_of}
 use Rattle.homefree.specs.Turned.{Turn, Outcome}
 use Rattle.homefree.specs.Turned as turn
 use Rattle.core_threads.specs.declared.turns.After.{After}
-use Rattle.core_threads.specs.declared.turns.After.TheVariants.{Ends}
+use Rattle.core_threads.specs.declared.turns.After.TheVariants.{Goes, Waits as Comes, Leaves, Ends}
+use Rattle.core_threads.specs.declared.turns.LoopEnd.{LoopEnd}
 use Rattle.core_threads.specs.declared.turns.LoopEnd.TheVariants as loop
-use Rattle.core_threads.specs.Answered.{Takes, after_answer, hart_after, cause_for}
-use Rattle.core_threads.specs.Passes.{IsGoing}
+use Rattle.core_threads.specs.Answered.{EndsOrGoes, IsShut, Takes, TakesTurn, TakesTurns, after_answer, hand_after, hart_after, cause_for}
+use Rattle.core_threads.specs.Passes.{IsGoing, Knows}
 use Rattle.core_threads.proofs.Counting.{history-past}
 
 -- ---- answers
@@ -81,6 +87,29 @@ same_answer result a b x y = cc
 
 err_isnt : (answer : Answer) (fault : TurnFault) → Ok answer ≡ Err fault → ⊥
 err_isnt answer fault is = cc
+
+-- ---- its turns
+
+goes_by : (after : After) (ends : LoopEnd → Type 0) (goes : Type 0) → ((end : LoopEnd) → after ≢ Ends end) → goes → EndsOrGoes after ends goes
+goes_by Goes ends goes going so = so
+goes_by Comes ends goes going so = so
+goes_by Leaves ends goes going so = so
+goes_by (Ends end) ends goes going so = absurd (going end refl)
+
+pub isnt_goes : (after : After) (end : LoopEnd) → after ≡ Goes → after ≢ Ends end
+isnt_goes after end is ends = cc
+
+pub isnt_waits : (after : After) (end : LoopEnd) → after ≡ Comes → after ≢ Ends end
+isnt_waits after end is ends = cc
+
+pub isnt_leaves : (after : After) (end : LoopEnd) → after ≡ Leaves → after ≢ Ends end
+isnt_leaves after end is ends = cc
+
+-- a turn ends them, but not where no ticket is left
+pub turn_count : LoopEnd → ℕ
+turn_count loop.Over = 1
+turn_count loop.Stopped = 1
+turn_count loop.Spent = 0
 
 -- ---- books
 
@@ -159,3 +188,61 @@ module _ {S : Type 0} where
     turns = subst (λ (r : Result Answer TurnFault). turn.Turned view waits old s shares core next r turned shares') is t;
     follows = (new_is, after_is, hart_is);
   }
+
+  -- ---- what a core did while it held the book
+
+  by_gate : {E : Type 0} (view : S → StoreView) (waits : S → Waits) (old new : BookView S) (s : FlatState) (core : ℕ) (next : Option Arrival) (shares shares' : Counts) (hart hart' : HartState)
+      (after : After) (passed : Result Unit E) → (IsOk passed → Takes view waits old new s core next shares shares' hart hart' after) → (IsErr passed → IsShut old new s after)
+      → Takes view waits old new s core next shares shares' hart hart' after ⊎ IsShut old new s after
+  by_gate view waits old new s core next shares shares' hart hart' after (Ok done) takes shut = inl (takes refl)
+  by_gate view waits old new s core next shares shares' hart hart' after (Err fault) takes shut = inr (shut refl)
+
+  pub takes_turn : {E : Type 0} (view : S → StoreView) (waits : S → Waits) (l : Loop) (next : Option Arrival) (p hp r : Knows) (v b n : BookView S) (core : ℕ) (shares shares' : Counts)
+      (hart hart' : HartState) (after : After) (passed : Result Unit E) → loop_of v ≡ l → StartsWith (past_of v.history) p.seen → b ≡ v → core ≡ p.lo → r ≡ record hp { seen = past_of n.history }
+      → (IsOk passed → (s : FlatState) → replay b.image b.cores b.history ≡ Some s → Takes view waits b n s core next shares shares' hart hart' after)
+      → (IsErr passed → (s : FlatState) → replay b.image b.cores b.history ≡ Some s → IsShut b n s after)
+      → TakesTurn view waits l p.lo next p r shares shares' hart hart' after
+  takes_turn view waits l next p hp r v b n core shares shares' hart hart' after passed loop begins shows who release takes shut = record {
+    old = b;
+    new = n;
+    loop = ap (λ (x : BookView S). loop_of x) shows ∙ loop;
+    begins = subst (λ (x : BookView S). StartsWith (past_of x.history) p.seen) (sym shows) begins;
+    seen = ap (λ (k : Knows). k.seen) release;
+    does = λ s replays. subst (λ k. Takes view waits b n s k next shares shares' hart hart' after ⊎ IsShut b n s after) who
+        (by_gate view waits b n s core next shares shares' hart hart' after passed (λ ok. takes ok s replays) (λ err. shut err s replays));
+  }
+
+  -- ---- its turns, one after another
+
+  module _ (view : S → StoreView) (waits : S → Waits) (l : Loop) (core : ℕ) (p mid q : Knows) (shares counted shares' : Counts) (next : Option Arrival) (hart hart' : HartState)
+      (after : After) (end : LoopEnd) (turn : TakesTurn view waits l core next p mid shares counted hart hart' after) where
+    pub one_more : (n : ℕ) (then : Option Arrival) → ((e : LoopEnd) → after ≢ Ends e) → then ≡ hand_after l.image after hart' next
+        → TakesTurns view waits l core n mid counted then q shares' end → TakesTurns view waits l core (suc n) p shares next q shares' end
+    one_more n then going is rest =
+        (mid, counted, hart, hart', after, turn, goes_by after _ _ going (subst (λ x. TakesTurns view waits l core n mid counted x q shares' end) is rest))
+
+  -- the same of its own number and of what it has in hand
+  pub its_turn : (view : S → StoreView) (waits : S → Waits) (l : Loop) (lo core : ℕ) (p q : Knows) (shares shares' : Counts) (handed next : Option Arrival) (hart hart' : HartState) (after : After)
+      → lo ≡ core → handed ≡ next → TakesTurn view waits l lo handed p q shares shares' hart hart' after → TakesTurn view waits l core next p q shares shares' hart hart' after
+  its_turn view waits l lo core p q shares shares' handed next hart hart' after who same turn =
+      subst (λ (x : ℕ × Option Arrival). TakesTurn view waits l x.0 x.1 p q shares shares' hart hart' after) (λ i. (who i, same i)) turn
+
+  pub ends_by : (view : S → StoreView) (waits : S → Waits) (l : Loop) (core : ℕ) (p q : Knows) (shares shares' : Counts) (next : Option Arrival) (hart hart' : HartState) (after : After)
+      (end : LoopEnd) → after ≡ Ends end → (after ≡ Ends loop.Spent → (q ≡ record p { out = true }) × (shares' ≡ shares))
+      → (after ≢ Ends loop.Spent → TakesTurn view waits l core next p q shares shares' hart hart' after)
+      → TakesTurns view waits l core (turn_count end) p shares next q shares' end
+  unfolding turn_count
+  ends_by view waits l core p q shares shares' next hart hart' after loop.Over is none turn =
+      (q, shares', hart, hart', Ends loop.Over, subst (λ a. TakesTurn view waits l core next p q shares shares' hart hart' a) is (turn (λ spent. absurd cc)), (refl, refl, refl))
+  ends_by view waits l core p q shares shares' next hart hart' after loop.Stopped is none turn =
+      (q, shares', hart, hart', Ends loop.Stopped, subst (λ a. TakesTurn view waits l core next p q shares shares' hart hart' a) is (turn (λ spent. absurd cc)), (refl, refl, refl))
+  ends_by view waits l core p q shares shares' next hart hart' after loop.Spent is none turn = let spent = none is in (spent.0, spent.1, refl)
+
+-- the arrival that `advance` came to from a hart
+pub arrival_is : (kept image : LoadedImage) (hart : HartState) (at : Arrival) → kept ≡ image → at.base ≡ hart → at.now ≡ (next_event image hart).now → at.at ≡ (next_event image hart).at
+    → at ≡ arrival_of kept hart
+arrival_is kept image hart at same base now stop =
+    let event : next_event image hart ≡ next_event kept hart = ap (λ i. next_event i hart) (sym same) in
+    let now_is = now ∙ ap (λ (e : Event). e.now) event in
+    let stop_is = stop ∙ ap (λ (e : Event). e.at) event in
+    λ i. record { base = base i; now = now_is i; at = stop_is i }

@@ -1,5 +1,5 @@
 //! The turns of one core.
-ghost use Rattle.std.specs.Prelude.{◌≡◌, ◌≢◌, ◌<◌, ◌≤◌, Some, true, length, IsErr, option_copied, is_none, ◌&&◌, if◌then◌else◌};
+ghost use Rattle.std.specs.Prelude.{◌≡◌, ◌≢◌, ◌<◌, ◌≤◌, ℕ, None, Some, true, length, IsOk, IsErr, option_copied, is_none, ◌&&◌, if◌then◌else◌};
 ghost use Rattle.spec_history.specs.FlatState.{FlatState};
 ghost use Rattle.spec_history.specs.Replay.{replay};
 ghost use Rattle.homefree.specs.Acted.{IfArrived};
@@ -7,7 +7,7 @@ ghost use Rattle.homefree.specs.BookView.{IsFull, IsOfSameLoop};
 ghost use Rattle.homefree.specs.Counted.{IsNoMore, counted_in};
 ghost use Rattle.homefree.specs.LockView.{loop_of, past_of};
 ghost use Rattle.core_threads.specs.Adds.{Adds};
-ghost use Rattle.core_threads.specs.Answered.{Takes, after_answer, cause_for, hart_after};
+ghost use Rattle.core_threads.specs.Answered.{IsShut, Takes, TakesTurn, TakesTurns, after_answer, cause_for, hart_after};
 ghost use Rattle.core_threads.specs.Passes.{IsLater, IsCounted, IsOver, IsGoing};
 
 use crate::gate::{Gate, Shut};
@@ -64,6 +64,7 @@ pub fn core_loop<S: EpochStore, G: Gate, R: Wait>(
     ensures over { result.2 ≡ LoopEnd.Over → IsOver lock.now.fixed result.0.seen }
     ensures stopped { result.2 ≡ LoopEnd.Stopped → IsGoing lock.now.fixed result.0.seen }
     ensures spent { result.2 ≡ LoopEnd.Spent → result.0.out ≡ true }
+    ensures turns { (n : ℕ) × TakesTurns S.view S.waits lock.now.fixed pass.lo n pass shares None result.0 result.1 result.2 }
 {
     let backoff = Backoff::new();
     let mut pass = pass;
@@ -121,7 +122,9 @@ fn one_turn<S: EpochStore, G: Gate, R: Wait>(
     ensures counted { IsCounted result.0 shares.new }
     ensures over { result.1 ≡ After.Ends LoopEnd.Over → IsOver lock.now.fixed result.0.seen }
     ensures stopped { result.1 ≡ After.Ends LoopEnd.Stopped → IsGoing lock.now.fixed result.0.seen }
-    ensures spent { result.1 ≡ After.Ends LoopEnd.Spent → result.0.out ≡ true }
+    ensures none { result.1 ≡ After.Ends LoopEnd.Spent → (result.0 ≡ record pass { out = true }) × (shares.new ≡ shares.old) }
+    ensures turn { result.1 ≢ After.Ends LoopEnd.Spent
+        → TakesTurn S.view S.waits lock.now.fixed pass.lo (option_copied next.entry) pass result.0 shares.old shares.new hart.old hart.new result.1 }
 {
     let core = pass.who() as u32;
     let passed = gate.pass(core, turn, next);
@@ -148,8 +151,9 @@ fn act<S: EpochStore>(
     requires shares { IsNoMore shares.old (counted_in book.old.history) }
     ensures adds { Adds core book.old book.new shares.old shares.new }
     ensures few { length book.new.history ≤ 1048576 }
-    ensures shut { IsErr passed → (s : FlatState) → replay book.old.image book.old.cores book.old.history ≡ Some s
-        → book.new ≡ (if is_none s.end && is_none book.old.stopped then record book.old { stopped = Some StopCause.Shut } else book.old) }
+    ensures shut { IsErr passed → (s : FlatState) → replay book.old.image book.old.cores book.old.history ≡ Some s → IsShut book.old book.new s result }
+    ensures takes { IsOk passed → (s : FlatState) → replay book.old.image book.old.cores book.old.history ≡ Some s
+        → Takes S.view S.waits book.old book.new s core (option_copied next.entry) shares.old shares.new hart.old hart.new result }
     ensures over { result ≡ After.Ends LoopEnd.Over → IsOver (loop_of book.new) (past_of book.new.history) }
     ensures stopped { result ≡ After.Ends LoopEnd.Stopped → IsGoing (loop_of book.new) (past_of book.new.history) }
     ensures spent { result ≢ After.Ends LoopEnd.Spent }

@@ -1,4 +1,5 @@
 use Rattle.core_threads.proofs.Turning.{handed_no_more, may_release, after_turn}
+use Rattle.core_threads.proofs.Taking.{takes_turn}
 use Rattle.core_threads.proofs.turns.one_turn.Goals as goal
 
 pub act-after-requires-clause-shares : goal.act-after-requires-clause-shares
@@ -15,3 +16,9 @@ returns-in-Ok-clause-counted g c =
     after_turn c.args.pass c.in-Ok.held.pass c.release.result c.in-Ok.held.value c.value.result.now c.act-after.new.book c.who-core.result c.args.shares.now c.act-after.new.shares
     c.in-Ok.ensures.pass c.in-Ok.ensures.own c.value.ensures.shows c.in-Ok.ensures.numbers c.who-core.ensures c.requires.counted.counted c.act-after.ensures.adds c.act-after.ensures.few
     c.release.ensures
+
+pub returns-in-Ok-clause-turn : goal.returns-in-Ok-clause-turn
+returns-in-Ok-clause-turn g c = λ on.
+    takes_turn g.S.EpochStore.view g.S.EpochStore.waits c.args.lock.now.fixed _ c.args.pass c.in-Ok.held.pass c.release.result c.in-Ok.held.value c.value.result.now c.act-after.new.book c.who-core.result
+    c.args.shares.now c.act-after.new.shares c.args.hart.now c.act-after.new.hart c.act-after.result c.pass-passed.result c.in-Ok.ensures.fixed c.in-Ok.ensures.begins c.value.ensures.shows c.who-core.ensures
+    c.release.ensures c.act-after.ensures.takes c.act-after.ensures.shut
