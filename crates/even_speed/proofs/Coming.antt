@@ -1,5 +1,5 @@
 -- What a turn of a book makes of the cores.
-use Rattle.std.proofs.Common.{◌≡◌, ℕ, ◌+◌, ◌==◌, not, Bool, true, false, cond, List, [], ◌++◌, Option, Some, None, Result, option_map, refl, sym, ap, subst, ◌∙◌, inl, inr, true≢false, arith, eq-eqb, ne_eqb, append_assoc}
+use Rattle.std.proofs.Common.{◌≡◌, ◌≢◌, ℕ, ◌+◌, ◌<◌, ◌==◌, not, Bool, true, false, cond, List, [], ◌++◌, length, length-append, Option, Some, None, Result, IfOk, option_map, refl, sym, ap, subst, ◌∙◌, inl, inr, true≢false, arith, eq-eqb, ne_eqb, append_assoc}
 use Rattle.std.proofs.lemmas.Option.{same_Some}
 use Rattle.rv32_image.specs.Image.{LoadedImage, IsImage}
 use Rattle.rv32_image.proofs.SmallFacts.{one_value}
@@ -14,7 +14,8 @@ use Rattle.run_ledger.specs.declared.counts.Counts.{Counts}
 use Rattle.spec_history.specs.declared.entry.Entry.{Entry}
 use Rattle.spec_history.specs.declared.entry.What.{What}
 use Rattle.spec_history.specs.declared.entry.What.TheVariants as what
-use Rattle.spec_history.specs.FlatState.{CoreState, FlatState}
+use Rattle.spec_history.specs.Effect.{after_load, after_store, effect_idle, effect_on}
+use Rattle.spec_history.specs.FlatState.{CoreState, FlatState, begun}
 use Rattle.spec_history.specs.Replay.{counts_of, replay, replay_from}
 use Rattle.spec_history.proofs.OneEntry.Accesses.{load_counts}
 use Rattle.spec_history.proofs.OneEntry.Going.{Going, homefree_run}
@@ -25,6 +26,7 @@ use Rattle.spec_history.proofs.Replay.Replays.{effect-on, effect-idle, replayed}
 use Rattle.violations.specs.View.{StoreView, Waits}
 use Rattle.homefree.specs.declared.answer.Answer.{Answer}
 use Rattle.homefree.specs.declared.answer.Answer.TheVariants.{Go, Again, Over}
+use Rattle.homefree.specs.declared.answer.StopCause.{StopCause}
 use Rattle.violations.specs.declared.step.WaitCause.{WaitCause}
 use Rattle.violations.specs.declared.step.WaitCause.TheVariants as wait
 use Rattle.homefree.specs.declared.fault.TurnFault.{TurnFault}
@@ -36,7 +38,7 @@ use Rattle.homefree.specs.Turned.{Outcome, Turn, Turned, cause_of, does, left_or
 use Rattle.homefree.specs.Turned as turn
 use Rattle.even_speed.specs.Even.{restarts}
 use Rattle.even_speed.specs.InOrder.{epoch_count, executed_in}
-use Rattle.even_speed.specs.Timed.{Came, CameBy, From, GoesTo, Leads, Leaves, StaysAt}
+use Rattle.even_speed.specs.Timed.{Adds, Came, CameBy, From, GoesTo, Leads, Leaves, StaysAt, TakesEpoch}
 use Rattle.even_speed.proofs.Moving.{AreCalm, CalmThen, calm_append, calm_then, hurts_calm, last_entry, moves_same, moves_then, restarts_in}
 
 -- ---- restarts
@@ -49,6 +51,9 @@ one_more n more one = ap not (ne_eqb (n + more) n (λ same. omega (arith, one, s
 
 no_end : (b e : Bool) (x y : End) → b ≡ false → e ≡ false → cond b (Some x) (cond e (Some y) None) ≡ None
 no_end b e x y is so = rw (is, so) refl
+
+epochs_by : (s u : FlatState) (now : CoreState) (core : ℕ) (was : Option CoreState) → s.cores core ≡ was → TakesEpoch s u now was → TakesEpoch s u now (s.cores core)
+epochs_by s u now core was is takes = subst (λ o. TakesEpoch s u now o) (sym is) takes
 
 -- ---- a core that begins, or is told its hart
 
@@ -64,6 +69,7 @@ module _ (image : LoadedImage) (count core : ℕ) (s u : FlatState) (held : Opti
         hart_is = refl;
         unhurt = refl;
         from = subst (λ o. From image held restarted (start_of image s.next_epoch) o) (sym idle) refl;
+        epochs = epochs_by s (effect_idle image s core (what.Start s.next_epoch)) (begun image s.next_epoch) core None idle (refl, refl);
         others = λ k other. moves_same _ _ (with_core_other s.cores core _ k other);
         homefree = refl;
         going = still;
@@ -81,6 +87,7 @@ module _ (image : LoadedImage) (count core : ℕ) (s u : FlatState) (held : Opti
         unhurt = refl;
         from = subst (λ o. From image held restarted (start_of image c.epoch) o) (sym at)
             (λ same. (restart, refl), λ unhurt. absurd (true≢false (sym hurt ∙ unhurt)));
+        epochs = epochs_by s (effect_on image s core c what.Restart) (begun image c.epoch) core (Some c) at (refl, refl);
         others = λ k other. moves_same _ _ (with_core_other s.cores core _ k other);
         homefree = refl;
         going = still;
@@ -95,6 +102,7 @@ module _ (image : LoadedImage) (count core : ℕ) (s u : FlatState) (held : Opti
         unhurt = unhurt;
         from = subst (λ o. From image held restarted c.hart o) (sym at)
             (λ hurt. absurd (true≢false (sym hurt ∙ unhurt)), λ free is. absurd (stale is));
+        epochs = epochs_by s s c core (Some c) at (refl, refl);
         others = λ k other. moves_same _ _ refl;
         homefree = refl;
         going = still;
@@ -118,6 +126,7 @@ module _ (image : LoadedImage) (count core : ℕ) (s u : FlatState) (held : Opti
         hart_is = ap (λ (h : HartState). after_number (next_event image h).now (next_event image h).at value) m.calmed.own.hart;
         unhurt = m.calmed.own.unhurt;
         from = from_access c (after_number (next_event image c.hart).now (next_event image c.hart).at value) at unhurt none (load_counts image c.hart address width signed rd value event);
+        epochs = epochs_by s u (after_load m.between.committed address width (after_number (next_event image d.hart).now (next_event image d.hart).at value) d) core (Some c) at (m.calmed.own.epoch, ap (λ (x : FlatState). x.next_epoch) is ∙ m.calmed.next_epoch);
         others = λ k other. moves_then _ _ _ (m.calmed.others k other) (moves_same _ _ (ap (λ (x : FlatState). x.cores k) is ∙ with_core_other m.between.cores core _ k other));
         homefree = ap (λ (x : FlatState). x.homefree) is ∙ m.calmed.homefree;
         going = ap (λ (x : FlatState). x.end) is ∙ m.legal.going;
@@ -134,6 +143,7 @@ module _ (image : LoadedImage) (count core : ℕ) (s u : FlatState) (held : Opti
         hart_is = ap (λ (h : HartState). stepped (next_event image h).now) m.calmed.own.hart;
         unhurt = m.calmed.own.unhurt;
         from = from_access c (stepped (next_event image c.hart).now) at unhurt none refl;
+        epochs = epochs_by s u (after_store address width value (stepped (next_event image d.hart).now) d) core (Some c) at (m.calmed.own.epoch, ap (λ (x : FlatState). x.next_epoch) is ∙ m.calmed.next_epoch);
         others = λ k other. moves_then _ _ _ (m.calmed.others k other) (moves_same _ _ (ap (λ (x : FlatState). x.cores k) is ∙ with_core_other m.between.cores core _ k other));
         homefree = ap (λ (x : FlatState). x.homefree) is ∙ m.calmed.homefree;
         going = ap (λ (x : FlatState). x.end) is ∙ m.legal.going;
@@ -158,7 +168,9 @@ module _ (image : LoadedImage) (count core : ℕ) (s u : FlatState) (held : Opti
         unhurt = unhurt;
         idle = ap (λ (x : FlatState). x.cores core) is ∙ with_core_same m.between.cores core None;
         others = λ k other. moves_then _ _ _ (m.calmed.others k other) (moves_same _ _ (ap (λ (x : FlatState). x.cores k) is ∙ with_core_other m.between.cores core None k other));
+        epoch = homefree;
         homefree = ap (λ (x : FlatState). x.homefree) is ∙ ap (λ n. n + 1) m.calmed.homefree;
+        next_epoch = ap (λ (x : FlatState). x.next_epoch) is ∙ m.calmed.next_epoch;
         count = counts going c at homefree unhurt ends;
       }
 
@@ -199,8 +211,16 @@ module _ (t : Turn) (v w : StoreView) (out : Outcome) (u : FlatState) (held : Op
   same : replay_from t.image t.cores t.state [] ≡ Some u → u ≡ t.state
   same replays = sym (same_Some t.state u (sym (no_entry t.image t.cores t.state) ∙ replays))
 
-  stays : (c : CoreState) → t.state.cores t.core ≡ Some c → c.hurt ≡ false → replay_from t.image t.cores t.state [] ≡ Some u → StaysAt t.state u t.core
-  stays c at unhurt replays = record { was = c; runs = at; unhurt = unhurt; same = same replays }
+  stays : (c : CoreState) → t.state.cores t.core ≡ Some c → c.hurt ≡ false → c.epoch ≢ t.state.homefree → replay_from t.image t.cores t.state [] ≡ Some u
+      → StaysAt t.state u t.core
+  stays c at unhurt isnt replays = record {
+    was = c;
+    runs = at;
+    unhurt = unhurt;
+    later = omega (arith, (going.kept.core t.core c at).from, isnt);
+    going = still;
+    same = same replays;
+  }
 
   abbrev last : What → Entry
   last x = record { by = t.core; what = x }
@@ -239,12 +259,12 @@ module _ (t : Turn) (v w : StoreView) (out : Outcome) (u : FlatState) (held : Op
   follows : turn.Follows t v w out → ComesTo out
   follows (turn.loads l) = so _ l.out_is (loads_after l.core _ l.address l.width l.value l.rd l.signed (calm_hurts l.hurt) l.comes.is_at)
   follows (turn.stores l) = so _ l.out_is (stores_after l.core _ l.address l.width l.value (calm_hurts l.hurt) l.comes.is_at)
-  follows (turn.waits l) = so _ l.out_is (λ replays none one. waits_so t.image t.state u t.core held restarted l.cause (stays l.core l.comes.is_at.runs l.comes.is_at.unhurt replays))
+  follows (turn.waits l) = so _ l.out_is (λ replays none one. waits_so t.image t.state u t.core held restarted l.cause (stays l.core l.comes.is_at.runs l.comes.is_at.unhurt l.later replays))
   follows (turn.loads_straight l) = so _ l.out_is (both _ _ _ (Go (turn.loaded_hart t.image l.core l.value)) (loads_after l.core _ l.address l.width l.value l.rd l.signed
       (calm_append t.core _ _ (calm_publish t l.core l.first l.core.straight refl) (calm_hurts l.hurt)) l.comes.is_at))
   follows (turn.stores_straight l) = so _ l.out_is (both _ _ _ (Go (turn.stored_hart t.image l.core)) (stores_after l.core _ l.address l.width l.value
       (calm_append t.core _ _ (calm_publish t l.core l.first l.core.straight refl) (calm_hurts l.hurt)) l.comes.is_at))
-  follows (turn.is_early l) = so _ l.out_is (λ replays none one. stays l.core l.comes.runs l.comes.unhurt replays)
+  follows (turn.is_early l) = so _ l.out_is (λ replays none one. stays l.core l.comes.runs l.comes.unhurt l.later replays)
   follows (turn.commits l) = so _ l.out_is (λ replays none one.
       let m = then_last _ what.Commit l.core (calm_hurts l.hurt) l.comes.is_at.runs l.comes.is_at.unhurt replays in
       let leaves = commits t.image t.cores t.core t.state u held restarted still going l.core l.comes.is_at.runs l.comes.homefree l.comes.is_at.unhurt l.comes.is_at.event m in
@@ -255,11 +275,52 @@ module _ (t : Turn) (v w : StoreView) (out : Outcome) (u : FlatState) (held : Op
 
   acts : turn.Acts t v w out → ComesTo out
   acts (turn.starts l) = so _ l.out_is (λ replays none one. begins t.image t.cores t.core t.state u held restarted still l.idle replays)
-  acts (turn.finds_none l) = so _ l.out_is (λ replays none one. (l.idle, same replays))
+  acts (turn.finds_none l) = so _ l.out_is (λ replays none one. record { idle = l.idle; left = l.left; going = still; same = same replays })
   acts (turn.restarts l) = so _ l.out_is (λ replays none one. begins_again t.image t.cores t.core t.state u held restarted still l.core l.runs l.hurt (one (restarts_in t.core [] (last what.Restart) tt)) replays)
   acts (turn.is_told l) = so _ l.out_is (λ replays none one. is_told t.image t.cores t.core t.state u held restarted still l.core l.runs l.unhurt
       (same_held t.image held l.core.hart (subst (λ n. turn.IsStale n l.core.hart) in_hand l.stale)) (same replays))
   acts (turn.follows l) = follows l
+
+  -- ---- how many entries a turn makes
+
+  abbrev AddsTo : Outcome → Type 0
+  AddsTo o = (stopped : Option StopCause) (n : ℕ) → Adds stopped (t.state.cores t.core) held n (n + length o.entries) o.answer
+
+  adds_so : (o : Outcome) → out ≡ o → AddsTo o → AddsTo out
+  adds_so o is adds = subst AddsTo (sym is) adds
+
+  goes_add : (xs : List Entry) (x : What) (hart : HartState) → AddsTo (does (xs ++ entry t.core x) (Go hart))
+  goes_add xs x hart stopped n = inl (omega (arith, length-append xs (entry t.core x)))
+
+  both_add : (xs ys : List Entry) (x : What) (hart : HartState) → AddsTo (does (xs ++ (ys ++ entry t.core x)) (Go hart))
+  both_add xs ys x hart stopped n = inl (omega (arith, length-append xs (ys ++ entry t.core x), length-append ys (entry t.core x)))
+
+  left_adds : (o : Option End) (stopped : Option StopCause) (n m : ℕ) → n < m → Adds stopped (t.state.cores t.core) held n m (left_or_over o)
+  left_adds None stopped n m more = more
+  left_adds (Some end) stopped n m more = tt
+
+  follows_adds : turn.Follows t v w out → AddsTo out
+  follows_adds (turn.loads l) = adds_so _ l.out_is (goes_add _ _ (turn.loaded_hart t.image l.core l.value))
+  follows_adds (turn.stores l) = adds_so _ l.out_is (goes_add _ _ (turn.stored_hart t.image l.core))
+  follows_adds (turn.waits l) = adds_so _ l.out_is (λ stopped n. omega arith)
+  follows_adds (turn.loads_straight l) = adds_so _ l.out_is (both_add _ _ _ (turn.loaded_hart t.image l.core l.value))
+  follows_adds (turn.stores_straight l) = adds_so _ l.out_is (both_add _ _ _ (turn.stored_hart t.image l.core))
+  follows_adds (turn.is_early l) = adds_so _ l.out_is (λ stopped n. omega arith)
+  follows_adds (turn.commits l) = adds_so _ l.out_is (λ stopped n. left_adds _ stopped n _ (omega (arith, length-append (turn.hurts_of t l.hurt) (entry t.core what.Commit))))
+  follows_adds (turn.exits_loop l) = adds_so _ l.out_is (λ stopped n. tt)
+  follows_adds (turn.faults l) = adds_so _ l.out_is (λ stopped n. tt)
+
+  acts_add : turn.Acts t v w out → AddsTo out
+  acts_add (turn.starts l) = adds_so _ l.out_is (λ stopped n. inl (omega arith))
+  acts_add (turn.finds_none l) = adds_so _ l.out_is (λ stopped n. omega arith)
+  acts_add (turn.restarts l) = adds_so _ l.out_is (λ stopped n. inl (omega arith))
+  acts_add (turn.is_told l) = adds_so _ l.out_is (λ stopped n. inr (record {
+    core = l.core;
+    runs = l.runs;
+    unhurt = l.unhurt;
+    stale = same_held t.image held l.core.hart (subst (λ next. turn.IsStale next l.core.hart) in_hand l.stale);
+  }))
+  acts_add (turn.follows l) = follows_adds l
 
 -- ---- a turn of a book
 
@@ -304,5 +365,35 @@ module _ {S : Type 0} (view : S → StoreView) (waits : S → Waits) (old new : 
   turned_comes (turn.no_memory may same grows is) = subst Comes' (sym is) tt
   turned_comes (turn.acts a) = acted a
 
+  abbrev Adds' : Result Answer TurnFault → Type 0
+  Adds' r = IfOk r (Adds old.stopped (i.state.cores core) held (length old.history) (length new.history))
+
+  turned_adds : Turned view waits old i.state shares core (option_map (arrival_of old.image) held) result new shares' → Adds' result
+  turned_adds (turn.over o same same') = subst Adds' (sym o.answer_is) tt
+  turned_adds (turn.stopped o same same') = subst Adds' (sym o.answer_is) o.stopped
+  turned_adds (turn.full o same same') = subst Adds' (sym o.answer_is) tt
+  turned_adds (turn.no_memory may same grows is) = subst Adds' (sym is) tt
+  turned_adds (turn.acts a) =
+      let grown : length new.history ≡ length old.history + length a.out.entries = ap length a.grows.history ∙ length-append old.history a.out.entries in
+      subst Adds' (sym a.answer_is) (subst (λ n. Adds old.stopped (i.state.cores core) held (length old.history) n a.out.answer) (sym grown)
+      (acts_add (turn_at waits old i.state core (option_map (arrival_of old.image) held)) a.reserved (view new.store) a.out j.state held
+      (restarts (driver old shares) (driver new shares')) refl a.may.going ((replayed old.image old.cores old.history i.state i.is_image i.replays).going a.may.going) a.acts old.stopped (length old.history)))
+
+  turned_stopped : Turned view waits old i.state shares core (option_map (arrival_of old.image) held) result new shares' → new.stopped ≡ old.stopped
+  turned_stopped (turn.over o same same') = ap (λ (b : BookView S). b.stopped) same
+  turned_stopped (turn.stopped o same same') = ap (λ (b : BookView S). b.stopped) same
+  turned_stopped (turn.full o same same') = ap (λ (b : BookView S). b.stopped) same
+  turned_stopped (turn.no_memory may same grows is) = grows.stopped
+  turned_stopped (turn.acts a) = a.grows.stopped
+
   pub leads : Turned view waits old i.state shares core (option_map (arrival_of old.image) held) result new shares' → Leads (driver old shares) (driver new shares') core held result
-  leads turned = record { before = i.state; after = j.state; led = i.replays; leads = j.replays; came = turned_comes turned }
+  leads turned = record {
+    before = i.state;
+    after = j.state;
+    led = i.replays;
+    leads = j.replays;
+    came = turned_comes turned;
+    adds = turned_adds turned;
+    few = omega (arith, j.within, j.most);
+    stopped = turned_stopped turned;
+  }

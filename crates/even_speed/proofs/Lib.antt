@@ -6,3 +6,4 @@ pub mod OneCore
 pub mod Moving
 pub mod Coming
 pub mod OnTime
+pub mod Lasting

@@ -19,7 +19,7 @@ use Rattle.even_speed.specs.Timed.{Moves}
 -- ---- another core: it runs what it ran, or is hurt
 
 pub moves_same : (o u : Option CoreState) → u ≡ o → Moves o u
-moves_same o u is = record { idle = λ none. sym is ∙ none; runs = λ d at. (d, sym is ∙ at, λ unhurt. refl) }
+moves_same o u is = record { idle = λ none. sym is ∙ none; runs = λ d at. (d, sym is ∙ at, λ unhurt. refl, refl) }
 
 pub moves_then : (o m u : Option CoreState) → Moves o m → Moves m u → Moves o u
 moves_then o m u first later = record {
@@ -27,7 +27,7 @@ moves_then o m u first later = record {
   runs = λ d at.
       let x = later.runs d at in
       let y = first.runs x.0 x.1 in
-      (y.0, y.1, λ unhurt. let same = x.2 unhurt in same ∙ y.2 (sym (ap (λ (e : CoreState). e.hurt) same) ∙ unhurt));
+      (y.0, y.1, λ unhurt. let same = x.2 unhurt in same ∙ y.2 (sym (ap (λ (e : CoreState). e.hurt) same) ∙ unhurt), x.3 ∙ y.3);
 }
 
 none_is : (c : CoreState) → Some c ≡ None → ⊥
@@ -47,6 +47,7 @@ moves_hurt epoch (Some c) = record {
         let is = same_Some _ d at in
         let b : (c.hurt || (c.epoch == epoch)) ≡ false = ap (λ (x : CoreState). x.hurt) is ∙ unhurt in
         hurt_is c d _ is (b ∙ sym (or_parts c.hurt _ b).0),
+    sym (ap (λ (x : CoreState). x.epoch) (same_Some _ d at)),
   );
 }
 
@@ -136,16 +137,17 @@ own_on image count s by c Publish calm at unhurt legal =
 own_on image count s by c Commit calm at unhurt legal = absurd calm
 own_on image count s by c (Fault cause pc) calm at unhurt legal = absurd calm
 
-same_homefree : (image : LoadedImage) (s : FlatState) (by : ℕ) (c : CoreState) (what : What) → IsCalm what → (effect_on image s by c what).homefree ≡ s.homefree
-same_homefree image s by c (Start epoch) calm = absurd calm
-same_homefree image s by c (Load address width value) calm = absurd calm
-same_homefree image s by c (Store address width value) calm = absurd calm
-same_homefree image s by c (Hurt epoch) calm = refl
-same_homefree image s by c (Cancel epoch) calm = absurd calm
-same_homefree image s by c Restart calm = absurd calm
-same_homefree image s by c Publish calm = refl
-same_homefree image s by c Commit calm = absurd calm
-same_homefree image s by c (Fault cause pc) calm = absurd calm
+same_epochs : (image : LoadedImage) (s : FlatState) (by : ℕ) (c : CoreState) (what : What) → IsCalm what
+    → ((effect_on image s by c what).homefree ≡ s.homefree) × ((effect_on image s by c what).next_epoch ≡ s.next_epoch)
+same_epochs image s by c (Start epoch) calm = absurd calm
+same_epochs image s by c (Load address width value) calm = absurd calm
+same_epochs image s by c (Store address width value) calm = absurd calm
+same_epochs image s by c (Hurt epoch) calm = (refl, refl)
+same_epochs image s by c (Cancel epoch) calm = absurd calm
+same_epochs image s by c Restart calm = absurd calm
+same_epochs image s by c Publish calm = (refl, refl)
+same_epochs image s by c Commit calm = absurd calm
+same_epochs image s by c (Fault cause pc) calm = absurd calm
 
 -- ---- such entries, one after another
 
@@ -169,12 +171,14 @@ pub record Calmed (s u : FlatState) (by : ℕ) (c : CoreState) : Type 0 where
   pub others : (k : ℕ) → k ≢ by → Moves (s.cores k) (u.cores k)
   pub own : Stays c (u.cores by)
   pub homefree : u.homefree ≡ s.homefree
+  pub next_epoch : u.next_epoch ≡ s.next_epoch
 
 calmed_none : (s : FlatState) (by : ℕ) (c : CoreState) → s.cores by ≡ Some c → c.hurt ≡ false → Calmed s s by c
 calmed_none s by c at unhurt = record {
   others = λ k other. moves_same _ _ refl;
   own = record { core = c; at = at; hart = refl; epoch = refl; unhurt = unhurt };
   homefree = refl;
+  next_epoch = refl;
 }
 
 stays_then : (c d : CoreState) (o : Option CoreState) → d.hart ≡ c.hart → d.epoch ≡ c.epoch → Stays d o → Stays c o
@@ -186,7 +190,8 @@ one_calm : (image : LoadedImage) (count : ℕ) (s : FlatState) (by : ℕ) (c : C
 one_calm image count s by c what calm at unhurt legal = rw (effect-on image s by what c at) (record {
   others = λ k other. others_on image s by c what k other (calm_keeps what calm);
   own = own_on image count s by c what calm at unhurt legal;
-  homefree = same_homefree image s by c what calm;
+  homefree = (same_epochs image s by c what calm).0;
+  next_epoch = (same_epochs image s by c what calm).1;
 })
 
 calmed_then : (s m u : FlatState) (by : ℕ) (c : CoreState) (first : Calmed s m by c) → Calmed m u by first.own.core → Calmed s u by c
@@ -194,6 +199,7 @@ calmed_then s m u by c first later = record {
   others = λ k other. moves_then _ _ _ (first.others k other) (later.others k other);
   own = stays_then c first.own.core (u.cores by) first.own.hart first.own.epoch later.own;
   homefree = later.homefree ∙ first.homefree;
+  next_epoch = later.next_epoch ∙ first.next_epoch;
 }
 
 -- the state before the last entry, which was legal there

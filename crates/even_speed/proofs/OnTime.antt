@@ -283,7 +283,7 @@ module _ {S : Type 0} (image : LoadedImage) (cores : ℕ) (s u : FlatState) (p :
 
   no_others : u ≡ s → (k : ℕ) → k ≢ t.core → Moves (s.cores k) (u.cores k)
   no_others same k other =
-      let is = ap (λ (x : FlatState). x.cores k) same in record { idle = λ none. sym is ∙ none; runs = λ d at. (d, sym is ∙ at, λ unhurt. refl) }
+      let is = ap (λ (x : FlatState). x.cores k) same in record { idle = λ none. sym is ∙ none; runs = λ d at. (d, sym is ∙ at, λ unhurt. refl, refl) }
 
   record TurnedOn (answer : Answer) : Type 0 where
     each : (k : ℕ) → k < cores → IsOnTime image (u.cores k) (with_held p.held t.core (held_after answer (p.held t.core)) k) (turned answer k)
@@ -351,7 +351,7 @@ module _ {S : Type 0} (image : LoadedImage) (cores : ℕ) (s u : FlatState) (p :
 
   comes_by : (answer : Answer) → ((end : End) → answer ≢ Over end) → Came image s u t.core (p.held t.core) (restarts old mid) answer → ((cause : StopCause) → answer ≢ Stopped cause) → TurnedOn answer
   comes_by (Go hart) going came unstopped = goes hart came
-  comes_by (Again NoEpoch) going came unstopped = stops came.0 came.1
+  comes_by (Again NoEpoch) going came unstopped = stops came.idle came.same
   comes_by (Again NotHomefree) going came unstopped = waits NotHomefree came.same refl
   comes_by (Again NoWay) going came unstopped = waits NoWay came.same refl
   comes_by (Again OrbFull) going came unstopped = waits OrbFull came.same refl

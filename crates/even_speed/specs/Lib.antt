@@ -3,6 +3,7 @@ pub mod Account
 pub mod Clocks
 pub mod Even
 pub mod InOrder
--- Words of contracts: what is kept of the clocks along a run, and what a turn makes of the cores.
+-- Words of contracts: what is kept of the clocks along a run, what a turn makes of the cores, and why a run ends.
 pub mod Kept
 pub mod Timed
+pub mod Lasting

@@ -1,5 +1,5 @@
 //! The turns of a run at even speed.
-ghost use Rattle.std.specs.Prelude.{◌≡◌, ◌≤◌, ◌<◌, ◌-◌, ◌+◌, ◌*◌, ◌^◌, [], ℕ, None, Some, Ok, length, ◌==◌, if◌then◌else◌};
+ghost use Rattle.std.specs.Prelude.{◌≡◌, ◌≢◌, ◌≤◌, ◌<◌, ◌-◌, ◌+◌, ◌*◌, ◌^◌, [], ℕ, None, Some, Ok, length, ◌==◌, if◌then◌else◌};
 ghost use Rattle.rv32_image.specs.Image.{IsImage};
 ghost use Rattle.rv32_exec.specs.Hart.{HartState};
 ghost use Rattle.rv32_exec.specs.NextEvent.{next_event};
@@ -39,8 +39,9 @@ pub struct Ran {
 /// Takes turns at even speed, up to the one that ends the loop: each of the core that is due first. It writes whose turns it took
 /// into the schedule, which is empty before.
 ///
-/// It answers what the run came to; or None where the book was stopped, or no turn was due, or there were too many. A fault is that
-/// of the last turn, and leaves the book of the turns before; `NoMemory` may also be that there was none for the schedule.
+/// It answers what the run came to. None: the book was stopped before, or its history wasn't empty; a run from an empty history goes on up to
+/// the end of its loop, unless that fills the history or memory runs out. A fault is that of the last turn, and leaves the book of the
+/// turns before; `NoMemory` may also be that there was none for the schedule.
 pub fn drive_evenly<S: EpochStore>(
     alloc: Global,
     book: &mut Book<S>,
@@ -49,8 +50,7 @@ pub fn drive_evenly<S: EpochStore>(
     schedule: &mut Vec<u32>,
     shares: &mut Shares,
 ) -> Result<Option<Ran>, TurnFault>
-    requires image { book.old.image ≡ image.now }
-    requires cores { book.old.cores ≡ cores }
+    requires book { (book.old.image ≡ image.now) × (book.old.cores ≡ cores) }
     requires schedule { schedule.old.items ≡ [] }
     requires shares { IsNoMore shares.old book.old.totals }
     ensures evenly { spec.UnlessRefused result (spec.Evenly S.view S.waits spec.at_first (driver book.old shares.old) schedule.new.items result (driver book.new shares.new)) }
@@ -61,6 +61,7 @@ pub fn drive_evenly<S: EpochStore>(
     ensures whole { spec.IfRan result (spec.IsWhole book.old.cores) }
     ensures short { spec.IfRan result spec.IsShort }
     ensures accounts { spec.IfRan result (spec.AccountsFor book.old) }
+    ensures ends { book.old.history ≡ [] → book.old.stopped ≡ None → result ≢ Ok None }
 {
     let Ok(mut clocks) = first_clocks(alloc, cores) else {
         return Err(TurnFault::NoMemory);

@@ -1,6 +1,8 @@
-use Rattle.std.proofs.Common.{◌*◌, suc, ◌<◌, None, Ok, Err, Some, List, ℕ, ◌≡◌, ◌+◌, ◌∷◌, [], length, cond, false, ◌==◌, ◌≢◌, not, refl, sym, ap, subst, ◌∙◌, arith}
+use Rattle.std.proofs.Common.{◌*◌, suc, ◌<◌, ◌≤◌, None, Ok, Err, Some, List, ℕ, ◌≡◌, ◌+◌, ◌∷◌, [], length, cond, false, ◌==◌, ◌≢◌, not, refl, sym, ap, subst, ◌∙◌, arith}
 use Rattle.std.proofs.lemmas.Result.{err_from_is_err_and}
+use Rattle.rv32_image.specs.Image.{IsImage}
 use Rattle.rv32_image.proofs.Bounds.{most_few}
+use Rattle.rv32_image.proofs.SmallFacts.{none_and_some}
 use Rattle.rv32_exec.specs.declared.sequential.End.{End}
 use Rattle.run_ledger.specs.declared.counts.Counts.{Counts}
 use Rattle.homefree.specs.declared.answer.Answer.{Answer}
@@ -20,6 +22,7 @@ use Rattle.even_speed.specs.InOrder.{steps_in_order}
 use Rattle.even_speed.specs.Timed.{IsNeverIdle, Leads}
 use Rattle.even_speed.specs.Kept.{AreSound, IsAloneClock, IsSound, NeverWaits}
 use Rattle.even_speed.proofs.Alone.{no_restarts_in, the_first}
+use Rattle.even_speed.proofs.Lasting.{first_lasts, halted, lasts_on, never_spent, never_undue}
 use Rattle.even_speed.proofs.OneCore.{first_alone, over_none, turn_alone}
 use Rattle.even_speed.proofs.Sounding.{all_first, turned_all, turned_end, turned_sound, woken_all}
 use Rattle.even_speed.proofs.OnTime.{busy_on, first_busy, over_steps, over_timed, start_on_time, timed_on}
@@ -59,7 +62,7 @@ loop-taken-init g c = record {
   same = record { image = refl; cores = refl; room = refl };
   held = λ k. subst (λ o. IfArrived c.args.book.now.image o) (sym (none_held 16 k)) tt;
   shares = c.requires.shares;
-  sound = all_first c.args.book.now.cores c.in-Ok.clocks.items (c.in-Ok.ensures.count ∙ sym c.requires.cores)
+  sound = all_first c.args.book.now.cores c.in-Ok.clocks.items (c.in-Ok.ensures.count ∙ sym c.requires.book.1)
       (omega (arith, c.look.ensures.core_count.most, most_few c.args.book.now.image.version)) c.in-Ok.ensures.first;
   drives = at_start g.S.EpochStore.view g.S.EpochStore.waits
       (record { held = harts_of (None ∷ None ∷ None ∷ None ∷ None ∷ None ∷ None ∷ None ∷ None ∷ None ∷ None ∷ None ∷ None ∷ None ∷ None ∷ None ∷ []); clocks = clock_at c.in-Ok.clocks.items })
@@ -71,6 +74,9 @@ loop-taken-init g c = record {
         (record { held = harts_of (None ∷ None ∷ None ∷ None ∷ None ∷ None ∷ None ∷ None ∷ None ∷ None ∷ None ∷ None ∷ None ∷ None ∷ None ∷ None ∷ []); clocks = clock_at c.in-Ok.clocks.items })
         none c.look.ensures.replays (is_at_first _ (λ k. ap (λ f. f k) (no_harts 16)) c.in-Ok.ensures.first),
   );
+  lasting = λ none. first_lasts c.args.book.now c.look.ensures.state (clock_at c.in-Ok.clocks.items) none c.look.ensures.replays c.in-Ok.ensures.first;
+  few = omega (arith, c.look.ensures.within, c.look.ensures.most);
+  stopped = refl;
   busy = λ fresh one. subst IsNeverIdle (sym (c.in-Ok.ensures.first 0)) first_busy;
   alone = λ one. (no_restarts_in g.S.EpochStore.view c.args.book.now c.look.ensures one, subst IsAloneClock (sym (c.in-Ok.ensures.first 0)) first_alone);
 }
@@ -120,7 +126,7 @@ returns-in-Over-clause-evenly g c =
     c.in_ok-answer.answer c.in-Over.end (clock_at c.set_clock.new.clocks.items) c.account_of-account.result c.in-Over.is
     (last_are (driver c.loop-taken.book c.loop-taken.shares) (driver c.step.new.book c.step.new.shares) (clock_at c.loop-taken.clocks.items) (clock_at c.set_clock.new.clocks.items) c.in-Some.turn c.in_ok-answer.answer (not (c.totals.result.restarts == c.totals-restarts.result.restarts))
     c.executed_by-executed.result (same_restarts c.totals.result c.totals-restarts.result c.step.new.book.totals c.loop-taken.book.totals c.totals.ensures c.totals-restarts.ensures)
-    (c.executed_by-executed.ensures.is ∙ ap (λ m. executed_by m c.in_ok-answer.answer) (sym (c.loop-taken.invariant.same.image ∙ c.requires.image)))
+    (c.executed_by-executed.ensures.is ∙ ap (λ m. executed_by m c.in_ok-answer.answer) (sym (c.loop-taken.invariant.same.image ∙ c.requires.book.0)))
     (each_by c.loop-taken.clocks.items c.set_clock.new.clocks.items c.in-Some.turn.core c.answered-clock.result
     (answered c.in-Some.turn.at (not (c.totals.result.restarts == c.totals-restarts.result.restarts)) c.executed_by-executed.result c.in_ok-answer.answer (clock_at c.loop-taken.clocks.items c.in-Some.turn.core)) c.set_clock.ensures.each
     (c.answered-clock.ensures ∙ ap (answered c.in-Some.turn.at (not (c.totals.result.restarts == c.totals-restarts.result.restarts)) c.executed_by-executed.result c.in_ok-answer.answer) c.clock_of-clock.ensures)) c.in-Over.end c.in-Over.is)
@@ -137,7 +143,7 @@ returns-in-Over-clause-driven g c =
     c.in_ok-answer.answer c.in-Over.end (clock_at c.set_clock.new.clocks.items) c.account_of-account.result c.in-Over.is
     (last_are (driver c.loop-taken.book c.loop-taken.shares) (driver c.step.new.book c.step.new.shares) (clock_at c.loop-taken.clocks.items) (clock_at c.set_clock.new.clocks.items) c.in-Some.turn c.in_ok-answer.answer (not (c.totals.result.restarts == c.totals-restarts.result.restarts))
     c.executed_by-executed.result (same_restarts c.totals.result c.totals-restarts.result c.step.new.book.totals c.loop-taken.book.totals c.totals.ensures c.totals-restarts.ensures)
-    (c.executed_by-executed.ensures.is ∙ ap (λ m. executed_by m c.in_ok-answer.answer) (sym (c.loop-taken.invariant.same.image ∙ c.requires.image)))
+    (c.executed_by-executed.ensures.is ∙ ap (λ m. executed_by m c.in_ok-answer.answer) (sym (c.loop-taken.invariant.same.image ∙ c.requires.book.0)))
     (each_by c.loop-taken.clocks.items c.set_clock.new.clocks.items c.in-Some.turn.core c.answered-clock.result
     (answered c.in-Some.turn.at (not (c.totals.result.restarts == c.totals-restarts.result.restarts)) c.executed_by-executed.result c.in_ok-answer.answer (clock_at c.loop-taken.clocks.items c.in-Some.turn.core)) c.set_clock.ensures.each
     (c.answered-clock.ensures ∙ ap (answered c.in-Some.turn.at (not (c.totals.result.restarts == c.totals-restarts.result.restarts)) c.executed_by-executed.result c.in_ok-answer.answer) c.clock_of-clock.ensures)) c.in-Over.end c.in-Over.is)
@@ -158,7 +164,7 @@ returns-in-Over-clause-accounts g c =
     let clocks = clock_at c.set_clock.new.clocks.items in
     let account = c.account_of-account.result in
     let first = first_of c.loop-taken.clocks.items c.loop-taken.book.cores turn c.loop-taken.invariant.sound.count c.in-Some.ensures in
-    let are = (last_are (driver c.loop-taken.book c.loop-taken.shares) (driver c.step.new.book c.step.new.shares) (clock_at c.loop-taken.clocks.items) (clock_at c.set_clock.new.clocks.items) c.in-Some.turn c.in_ok-answer.answer (not (c.totals.result.restarts == c.totals-restarts.result.restarts)) c.executed_by-executed.result (same_restarts c.totals.result c.totals-restarts.result c.step.new.book.totals c.loop-taken.book.totals c.totals.ensures c.totals-restarts.ensures) (c.executed_by-executed.ensures.is ∙ ap (λ m. executed_by m c.in_ok-answer.answer) (sym (c.loop-taken.invariant.same.image ∙ c.requires.image))) (each_by c.loop-taken.clocks.items c.set_clock.new.clocks.items c.in-Some.turn.core c.answered-clock.result (answered c.in-Some.turn.at (not (c.totals.result.restarts == c.totals-restarts.result.restarts)) c.executed_by-executed.result c.in_ok-answer.answer (clock_at c.loop-taken.clocks.items c.in-Some.turn.core)) c.set_clock.ensures.each (c.answered-clock.ensures ∙ ap (answered c.in-Some.turn.at (not (c.totals.result.restarts == c.totals-restarts.result.restarts)) c.executed_by-executed.result c.in_ok-answer.answer) c.clock_of-clock.ensures)) c.in-Over.end c.in-Over.is) in
+    let are = (last_are (driver c.loop-taken.book c.loop-taken.shares) (driver c.step.new.book c.step.new.shares) (clock_at c.loop-taken.clocks.items) (clock_at c.set_clock.new.clocks.items) c.in-Some.turn c.in_ok-answer.answer (not (c.totals.result.restarts == c.totals-restarts.result.restarts)) c.executed_by-executed.result (same_restarts c.totals.result c.totals-restarts.result c.step.new.book.totals c.loop-taken.book.totals c.totals.ensures c.totals-restarts.ensures) (c.executed_by-executed.ensures.is ∙ ap (λ m. executed_by m c.in_ok-answer.answer) (sym (c.loop-taken.invariant.same.image ∙ c.requires.book.0))) (each_by c.loop-taken.clocks.items c.set_clock.new.clocks.items c.in-Some.turn.core c.answered-clock.result (answered c.in-Some.turn.at (not (c.totals.result.restarts == c.totals-restarts.result.restarts)) c.executed_by-executed.result c.in_ok-answer.answer (clock_at c.loop-taken.clocks.items c.in-Some.turn.core)) c.set_clock.ensures.each (c.answered-clock.ensures ∙ ap (answered c.in-Some.turn.at (not (c.totals.result.restarts == c.totals-restarts.result.restarts)) c.executed_by-executed.result c.in_ok-answer.answer) c.clock_of-clock.ensures)) c.in-Over.end c.in-Over.is) in
     let sum = (c.account_of-account.ensures.is ∙ ap (account_of (c.in-Some.turn.at + 1) (clock_at c.set_clock.new.clocks.items)) (c.set_clock.ensures.len ∙ c.loop-taken.invariant.sound.count)) in
     let leads : Leads old mid turn.core (harts_of c.loop-taken.held turn.core) (Ok (Over end)) =
     subst (λ a. Leads old mid turn.core (harts_of c.loop-taken.held turn.core) (Ok a)) c.in-Over.is c.in_ok-answer.ensures.leads in
@@ -209,7 +215,7 @@ loop-taken-preserved g c =
     let turned_before : (k : ℕ) → k < c.loop-taken.book.cores → IsSound c.in-Some.turn.at (cond (k == c.in-Some.turn.core)
     (answered c.in-Some.turn.at (restarts (driver c.loop-taken.book c.loop-taken.shares) (driver c.step.new.book c.step.new.shares)) (executed_by c.loop-taken.book.image c.in_ok-answer.answer)
     c.in_ok-answer.answer (clock_at c.loop-taken.clocks.items k)) (clock_at c.loop-taken.clocks.items k)) =
-    λ k below. subst (IsSound c.in-Some.turn.at) (turned_are (driver c.loop-taken.book c.loop-taken.shares) (driver c.step.new.book c.step.new.shares) (clock_at c.loop-taken.clocks.items) (clock_at c.set_clock.new.clocks.items) c.in-Some.turn c.in_ok-answer.answer (not (c.totals.result.restarts == c.totals-restarts.result.restarts)) c.executed_by-executed.result (same_restarts c.totals.result c.totals-restarts.result c.step.new.book.totals c.loop-taken.book.totals c.totals.ensures c.totals-restarts.ensures) (c.executed_by-executed.ensures.is ∙ ap (λ m. executed_by m c.in_ok-answer.answer) (sym (c.loop-taken.invariant.same.image ∙ c.requires.image))) (each_by c.loop-taken.clocks.items c.set_clock.new.clocks.items c.in-Some.turn.core c.answered-clock.result (answered c.in-Some.turn.at (not (c.totals.result.restarts == c.totals-restarts.result.restarts)) c.executed_by-executed.result c.in_ok-answer.answer (clock_at c.loop-taken.clocks.items c.in-Some.turn.core)) c.set_clock.ensures.each (c.answered-clock.ensures ∙ ap (answered c.in-Some.turn.at (not (c.totals.result.restarts == c.totals-restarts.result.restarts)) c.executed_by-executed.result c.in_ok-answer.answer) c.clock_of-clock.ensures)) k)
+    λ k below. subst (IsSound c.in-Some.turn.at) (turned_are (driver c.loop-taken.book c.loop-taken.shares) (driver c.step.new.book c.step.new.shares) (clock_at c.loop-taken.clocks.items) (clock_at c.set_clock.new.clocks.items) c.in-Some.turn c.in_ok-answer.answer (not (c.totals.result.restarts == c.totals-restarts.result.restarts)) c.executed_by-executed.result (same_restarts c.totals.result c.totals-restarts.result c.step.new.book.totals c.loop-taken.book.totals c.totals.ensures c.totals-restarts.ensures) (c.executed_by-executed.ensures.is ∙ ap (λ m. executed_by m c.in_ok-answer.answer) (sym (c.loop-taken.invariant.same.image ∙ c.requires.book.0))) (each_by c.loop-taken.clocks.items c.set_clock.new.clocks.items c.in-Some.turn.core c.answered-clock.result (answered c.in-Some.turn.at (not (c.totals.result.restarts == c.totals-restarts.result.restarts)) c.executed_by-executed.result c.in_ok-answer.answer (clock_at c.loop-taken.clocks.items c.in-Some.turn.core)) c.set_clock.ensures.each (c.answered-clock.ensures ∙ ap (answered c.in-Some.turn.at (not (c.totals.result.restarts == c.totals-restarts.result.restarts)) c.executed_by-executed.result c.in_ok-answer.answer) c.clock_of-clock.ensures)) k)
     (turned_all c.loop-taken._taken c.loop-taken.book.cores c.loop-taken.clocks.items c.loop-taken.invariant.sound c.in-Some.turn (first_of c.loop-taken.clocks.items c.loop-taken.book.cores c.in-Some.turn c.loop-taken.invariant.sound.count c.in-Some.ensures) (not (c.totals.result.restarts == c.totals-restarts.result.restarts)) c.executed_by-executed.result c.in_ok-answer.answer c.executed_by-executed.ensures.few c.set_clock.new.clocks.items c.set_clock.ensures.len (each_by c.loop-taken.clocks.items c.set_clock.new.clocks.items c.in-Some.turn.core c.answered-clock.result (answered c.in-Some.turn.at (not (c.totals.result.restarts == c.totals-restarts.result.restarts)) c.executed_by-executed.result c.in_ok-answer.answer (clock_at c.loop-taken.clocks.items c.in-Some.turn.core)) c.set_clock.ensures.each (c.answered-clock.ensures ∙ ap (answered c.in-Some.turn.at (not (c.totals.result.restarts == c.totals-restarts.result.restarts)) c.executed_by-executed.result c.in_ok-answer.answer) c.clock_of-clock.ensures)) k
     (subst (λ n. k < n) (sym (c.set_clock.ensures.len ∙ c.loop-taken.invariant.sound.count)) below)) in
     let on : GoesOn (driver c.loop-taken.book c.loop-taken.shares) (driver c.step.new.book c.step.new.shares) (clock_at c.loop-taken.clocks.items) c.in-Some.turn c.in_ok-answer.answer c.loop-taken._taken c.loop-taken.book.cores c.match-answer.clocks.items = elim c.match-answer.branch [
@@ -223,7 +229,7 @@ loop-taken-preserved g c =
                 (c.answered-clock.ensures ∙ ap (answered c.in-Some.turn.at (not (c.totals.result.restarts == c.totals-restarts.result.restarts)) c.executed_by-executed.result c.in_ok-answer.answer) c.clock_of-clock.ensures));
             are = waits_are (driver c.loop-taken.book c.loop-taken.shares) (driver c.step.new.book c.step.new.shares) (clock_at c.loop-taken.clocks.items) (clock_at c.set_clock.new.clocks.items) c.in-Some.turn c.in_ok-answer.answer (not (c.totals.result.restarts == c.totals-restarts.result.restarts))
                 c.executed_by-executed.result (same_restarts c.totals.result c.totals-restarts.result c.step.new.book.totals c.loop-taken.book.totals c.totals.ensures c.totals-restarts.ensures)
-                (c.executed_by-executed.ensures.is ∙ ap (λ m. executed_by m c.in_ok-answer.answer) (sym (c.loop-taken.invariant.same.image ∙ c.requires.image)))
+                (c.executed_by-executed.ensures.is ∙ ap (λ m. executed_by m c.in_ok-answer.answer) (sym (c.loop-taken.invariant.same.image ∙ c.requires.book.0)))
                 (each_by c.loop-taken.clocks.items c.set_clock.new.clocks.items c.in-Some.turn.core c.answered-clock.result
                 (answered c.in-Some.turn.at (not (c.totals.result.restarts == c.totals-restarts.result.restarts)) c.executed_by-executed.result c.in_ok-answer.answer (clock_at c.loop-taken.clocks.items c.in-Some.turn.core)) c.set_clock.ensures.each
                 (c.answered-clock.ensures ∙ ap (answered c.in-Some.turn.at (not (c.totals.result.restarts == c.totals-restarts.result.restarts)) c.executed_by-executed.result c.in_ok-answer.answer) c.clock_of-clock.ensures)) w.in-Again.field-0 w.in-Again.is;
@@ -241,7 +247,7 @@ loop-taken-preserved g c =
                 (c.answered-clock.ensures ∙ ap (answered c.in-Some.turn.at (not (c.totals.result.restarts == c.totals-restarts.result.restarts)) c.executed_by-executed.result c.in_ok-answer.answer) c.clock_of-clock.ensures)) w.wake_all.new.clocks.items w.wake_all.ensures.len w.wake_all.ensures.each;
             are = woken_are (driver c.loop-taken.book c.loop-taken.shares) (driver c.step.new.book c.step.new.shares) (clock_at c.loop-taken.clocks.items) (clock_at c.set_clock.new.clocks.items) c.in-Some.turn c.in_ok-answer.answer (not (c.totals.result.restarts == c.totals-restarts.result.restarts))
                 c.executed_by-executed.result (same_restarts c.totals.result c.totals-restarts.result c.step.new.book.totals c.loop-taken.book.totals c.totals.ensures c.totals-restarts.ensures)
-                (c.executed_by-executed.ensures.is ∙ ap (λ m. executed_by m c.in_ok-answer.answer) (sym (c.loop-taken.invariant.same.image ∙ c.requires.image)))
+                (c.executed_by-executed.ensures.is ∙ ap (λ m. executed_by m c.in_ok-answer.answer) (sym (c.loop-taken.invariant.same.image ∙ c.requires.book.0)))
                 (each_by c.loop-taken.clocks.items c.set_clock.new.clocks.items c.in-Some.turn.core c.answered-clock.result
                 (answered c.in-Some.turn.at (not (c.totals.result.restarts == c.totals-restarts.result.restarts)) c.executed_by-executed.result c.in_ok-answer.answer (clock_at c.loop-taken.clocks.items c.in-Some.turn.core)) c.set_clock.ensures.each
                 (c.answered-clock.ensures ∙ ap (answered c.in-Some.turn.at (not (c.totals.result.restarts == c.totals-restarts.result.restarts)) c.executed_by-executed.result c.in_ok-answer.answer) c.clock_of-clock.ensures)) (clock_at w.wake_all.new.clocks.items) w.in_default-answer.not-Again w.in_default-answer.not-Over w.in_default-answer.not-Stopped w.wake_all.ensures.each;
@@ -264,6 +270,14 @@ loop-taken-preserved g c =
           (first_of c.loop-taken.clocks.items c.loop-taken.book.cores c.in-Some.turn c.loop-taken.invariant.sound.count c.in-Some.ensures) (c.loop-taken.invariant.timed fresh)
           c.in_ok-answer.answer (record { held = harts_of c.step.new.held; clocks = clock_at c.match-answer.clocks.items }) c.in_ok-answer.ensures.leads on.going on.unstopped
           c.in_ok-answer.ensures.harts on.are on.turned;
+      lasting = λ fresh. let timed = c.loop-taken.invariant.timed fresh in
+          lasts_on (driver c.loop-taken.book c.loop-taken.shares) (driver c.step.new.book c.step.new.shares)
+          (record { held = harts_of c.loop-taken.held; clocks = clock_at c.loop-taken.clocks.items }) c.in-Some.turn same
+          (first_of c.loop-taken.clocks.items c.loop-taken.book.cores c.in-Some.turn c.loop-taken.invariant.sound.count c.in-Some.ensures) c.loop-taken.invariant.sound.few
+          c.in_ok-answer.answer (clock_at c.match-answer.clocks.items) c.loop-taken._taken timed.0 c.in_ok-answer.ensures.leads on.going on.unstopped on.are timed.1 timed.2
+          (c.loop-taken.invariant.lasting fresh);
+      few = c.step.ensures.leads.few;
+      stopped = c.step.ensures.leads.stopped ∙ c.loop-taken.invariant.stopped;
       busy = λ fresh one. let was = sym same.cores ∙ one in
           busy_on (driver c.loop-taken.book c.loop-taken.shares) (driver c.step.new.book c.step.new.shares)
           (record { held = harts_of c.loop-taken.held; clocks = clock_at c.loop-taken.clocks.items }) c.in-Some.turn same
@@ -292,3 +306,21 @@ returns-clause-driven g c =
     is_driven g.S.EpochStore.view g.S.EpochStore.waits at_first (driver c.args.book.now c.args.shares.now) (driver c.loop-taken.book c.loop-taken.shares) c.loop-taken.schedule.items (Ok None)
     (no_more g.S.EpochStore.view g.S.EpochStore.waits at_first (record { held = harts_of c.loop-taken.held; clocks = clock_at c.loop-taken.clocks.items })
     (driver c.args.book.now c.args.shares.now) (driver c.loop-taken.book c.loop-taken.shares) c.loop-taken.schedule.items c.loop-taken.invariant.drives)
+
+pub returns-in_default-next_turn-clause-ends : goal.returns-in_default-next_turn-clause-ends
+returns-in_default-next_turn-clause-ends g c = λ fresh unstopped is.
+    let same = c.loop-taken.invariant.same in
+    never_undue c.loop-taken.book (clock_at c.loop-taken.clocks.items) c.loop-taken._taken (length c.loop-taken.clocks.items) c.next_turn.result
+    (subst IsImage (sym same.image) c.look.ensures.is_image) (subst (λ n. 1 ≤ n) (sym same.cores) c.look.ensures.core_count.least) c.loop-taken.invariant.sound.count
+    (c.loop-taken.invariant.lasting fresh) c.in_default-next_turn.not-Some c.next_turn.ensures
+
+pub returns-in-Stopped-clause-ends : goal.returns-in-Stopped-clause-ends
+returns-in-Stopped-clause-ends g c = λ fresh unstopped is.
+    none_and_some c.loop-taken.book.stopped c.in-Stopped.field-0 (c.loop-taken.invariant.stopped ∙ unstopped)
+    (halted (driver c.loop-taken.book c.loop-taken.shares) (driver c.step.new.book c.step.new.shares) c.in-Some.turn.core (harts_of c.loop-taken.held c.in-Some.turn.core) c.in_ok-answer.answer
+    c.in-Stopped.field-0 c.in_ok-answer.ensures.leads c.in-Stopped.is)
+
+pub returns-clause-ends : goal.returns-clause-ends
+returns-clause-ends g c = λ fresh unstopped is.
+    never_spent c.loop-taken.book (clock_at c.loop-taken.clocks.items) c.loop-taken._taken (c.loop-taken.invariant.lasting fresh) c.loop-taken.invariant.few c.loop-taken.invariant.sound.few
+    c.loop-taken-test.false

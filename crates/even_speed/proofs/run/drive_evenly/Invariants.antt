@@ -1,4 +1,4 @@
-use Rattle.std.proofs.Common.{◌≡◌, ℕ, List, [], ◌++◌, Option, Some, Result}
+use Rattle.std.proofs.Common.{◌≡◌, ◌≤◌, ℕ, List, [], ◌++◌, length, Option, Some, Result}
 use Rattle.spec_history.specs.FlatState.{FlatState}
 use Rattle.spec_history.specs.Replay.{replay}
 use Rattle.homefree.specs.declared.fault.TurnFault.{TurnFault}
@@ -10,6 +10,7 @@ use Rattle.even_speed.specs.declared.run.Ran.{Ran}
 use Rattle.even_speed.specs.Clocks.{clock_at}
 use Rattle.even_speed.specs.Even.{Evenly, at_first}
 use Rattle.even_speed.specs.Kept.{AreSound, IsAloneClock}
+use Rattle.even_speed.specs.Lasting.{IsLasting}
 use Rattle.even_speed.specs.Timed.{AreOnTime, IsNeverIdle}
 use Rattle.even_speed.proofs.run.drive_evenly.Given as goal
 
@@ -24,6 +25,9 @@ invariant-loop-taken g l = record {
       → Evenly g.S.EpochStore.view g.S.EpochStore.waits at_first (driver l.initial.book l.initial.shares) (l.schedule.items ++ rest) result new;
   timed : l.initial.book.history ≡ [] → (s : FlatState) × (replay l.book.image l.book.cores l.book.history ≡ Some s)
       × AreOnTime l.book.image l.book.cores s (record { held = harts_of l.held; clocks = clock_at l.clocks.items });
+  lasting : l.initial.book.history ≡ [] → IsLasting l.book (clock_at l.clocks.items) l._taken;
+  few : length l.book.history ≤ 1048576;
+  stopped : l.book.stopped ≡ l.initial.book.stopped;
   busy : l.initial.book.history ≡ [] → l.book.cores ≡ 1 → IsNeverIdle (clock_at l.clocks.items 0);
   alone : l.book.cores ≡ 1 → (l.book.totals.restarts ≡ 0) × IsAloneClock (clock_at l.clocks.items 0);
 }
