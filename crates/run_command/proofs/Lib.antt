@@ -2,4 +2,5 @@ pub mod Committing
 pub mod Printing
 pub mod Stopping
 pub mod Outcomes
+pub mod Lengths
 pub mod RunLegal

@@ -1,11 +1,10 @@
 -- What the law of runs says.
-use Rattle.std.specs.Prelude.{◌≡◌, ℕ, ◌≤◌, List, ◌++◌, length, codes, Ok}
+use Rattle.std.specs.Prelude.{◌≡◌, ℕ, ◌≤◌, List, ◌++◌, codes, Ok}
 use Rattle.rv32_image.specs.Image.{LoadedImage}
 use Rattle.rv32_image.specs.ImageText.{image_text}
 use Rattle.spec_history.specs.declared.entry.Entry.{Entry}
 use Rattle.violations.specs.Rule.{IsCoreCount}
 use Rattle.trace_text.specs.Printing.{printed_trace}
-use Rattle.trace_text.specs.TraceText.{longest_trace_text}
 use Rattle.trace_commands.specs.Laws.{IsFoundLegal}
 use Rattle.run_command.specs.declared.options.RunOptions.{RunOptions}
 use Rattle.run_command.specs.Run.{IsWholeHistory, loop_asked}
@@ -14,6 +13,5 @@ use Rattle.run_command.specs.Run.{IsWholeHistory, loop_asked}
 abbrev pub TracedRunIsLegal : Type 0
 TracedRunIsLegal =
     (lines : List ℕ) (image : LoadedImage) (options : RunOptions) (history : List Entry)
-    → image_text (lines ++ codes "\n") ≡ Ok image → IsCoreCount image options.cores → (whole : IsWholeHistory (loop_asked image options) history)
-    → length (lines ++ codes "\n" ++ printed_trace options.cores history) ≤ longest_trace_text
+    → image_text (lines ++ codes "\n") ≡ Ok image → IsCoreCount image options.cores → options.room ≤ 1048576 → (whole : IsWholeHistory (loop_asked image options) history)
     → IsFoundLegal (lines ++ codes "\n" ++ printed_trace options.cores history) (lines ++ codes "\n") image options.cores history whole.state.homefree
