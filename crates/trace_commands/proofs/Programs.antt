@@ -1,5 +1,5 @@
 -- What a program answers that reads and writes nothing but its error line.
-use Rattle.std.proofs.Common.{◌≡◌, ℕ, List, [], Option, Some, None}
+use Rattle.std.proofs.Common.{◌≡◌, ℕ, List, [], ◌∷◌, length, map, Option, Some, None, refl, arith}
 use Rattle.rv32_image.specs.Reading.{ForText}
 use Rattle.trace_commands.specs.declared.outcome.Outcome.{Outcome}
 use Rattle.trace_commands.specs.Outcome.{AppendsPrefix, Conclusion, error_line, status_of}
@@ -17,3 +17,8 @@ unread_answers Is Answers None output errors outcome status so is line answers =
     ([], answers [] (record { outcome = outcome; output = (so, keeps_itself None, keeps_itself output); status = is; line = line }))
 unread_answers Is Answers (Some text) output errors outcome status so is line answers =
     answers text (record { outcome = outcome; output = (so, keeps_itself (Some text), keeps_itself output); status = is; line = line })
+
+-- there are no words
+pub no_words : {A : Type 0} (text : A → List ℕ) (words : List A) → length words ≡ 0 → map text words ≡ []
+no_words text [] none = refl
+no_words text (word ∷ words) none = absurd (omega (arith, none))

@@ -1,5 +1,5 @@
 -- Words of contracts: the edge of a program: its words, and what it leaves of its streams.
-use Rattle.std.specs.Prelude.{◌≡◌, ◌≤◌, ◌&&◌, ℕ, List, Option, Some, None, Result, Ok, Err, nat_le, if◌then◌else◌}
+use Rattle.std.specs.Prelude.{◌≡◌, ◌≤◌, ◌&&◌, ℕ, List, [], ◌∷◌, Option, Some, None, Result, Ok, Err, nat_le, if◌then◌else◌}
 use Rattle.std.specs.Io.KnownBytes.{Keeps}
 use Rattle.rv32_image.specs.declared.fault.ImageFaultKind.{ImageFaultKind}
 use Rattle.rv32_image.specs.ImageText.{number_in}
@@ -16,6 +16,11 @@ up_to_16 (Err fault) = None
 -- the number that a word writes, if it is 1 to 16
 abbrev pub number_up_to_16 : List ℕ → Option ℕ
 number_up_to_16 word = up_to_16 (number_in word)
+
+-- the same of words, where there is just one
+abbrev pub only_up_to_16 : List (List ℕ) → Option ℕ
+only_up_to_16 (word ∷ []) = number_up_to_16 word
+only_up_to_16 words = None
 
 -- the bytes of a stream before and after a call, where it tells them
 pub record Stream : Type 0 where

@@ -12,7 +12,7 @@ mod write;
 
 pub use audit::{do_audit, verdict_line, verdict_of};
 pub use outcome::{CommandStop, Outcome, Verdict};
-pub use program::{ROOM, number_up_to_16, words_given};
+pub use program::{ROOM, first_word, number_up_to_16, only_number, words_given};
 pub use report::{print_open_report, print_report};
 pub use seq::do_seq;
 pub use traced::{Traced, read_traced, traced_in};

@@ -1,10 +1,11 @@
 //! What the programs have in common at their edge.
-ghost use Rattle.std.specs.Prelude.{◌≡◌, IfErr, IfSome};
+ghost use Rattle.std.specs.Prelude.{◌≡◌, [], ◌∷◌, IfErr, IfSome, MatchOption, map};
 ghost use Rattle.trace_commands.specs.Outcome as spec;
 ghost use Rattle.trace_commands.specs.Program as program;
 
 use crate::outcome::{CommandStop, Outcome};
 use rv32_image::number_in;
+use std::convert::AsStr;
 use std::env::Env;
 use std::{env, io};
 
@@ -38,5 +39,28 @@ pub fn number_up_to_16(word: &str) -> Option<u32>
     match number_in(word.as_bytes()) {
         Ok(n) if 1 <= n && n <= 16 => Some(n as u32),
         _ => None,
+    }
+}
+
+/// The first of some words, and the others. None: there are none.
+#[tactic(auto, using(crate::proofs::Programs::no_words))]
+pub fn first_word<S: AsStr>(words: &[S]) -> Option<(&str, &[S])>
+    ensures { MatchOption result (map S.text words.now ≡ []) (λ cut. map S.text words.now ≡ cut.0.now ∷ map S.text cut.1.now) }
+{
+    match words.split_first() {
+        Some((first, others)) => Some((first.as_str(), others)),
+        None => None,
+    }
+}
+
+/// The number of cores or of turns that the only one of some words writes, 1 to 16. None: another word, none, or more.
+pub fn only_number<S: AsStr>(words: &[S]) -> Option<u32>
+    ensures number { result ≡ program.only_up_to_16 (map S.text words.now) }
+    ensures few { IfSome result program.IsUpTo16 }
+{
+    let (word, others) = first_word(words)?;
+    match first_word(others) {
+        None => number_up_to_16(word),
+        Some(_) => None,
     }
 }
