@@ -4,7 +4,8 @@ pub mod Ends
 pub mod Report
 -- Definitions to believe: what the report of a history is.
 pub mod Explaining
--- Words of contracts: what the command and the program come to.
+-- Words of contracts: what the words of a command line ask for, and what the command and the program come to.
+pub mod Asked
 pub mod Why
 pub mod Work
 pub mod Totals

@@ -1,4 +1,6 @@
+ghost use Rattle.std.specs.Prelude.{◌≡◌};
 ghost use Rattle.rv32_image.specs.Reading.{ForText};
+ghost use Rattle.conflict_text.specs.Asked.{is_asked};
 ghost use Rattle.conflict_text.specs.Work as spec;
 
 use crate::command::do_why;
@@ -17,13 +19,20 @@ pub fn work<S: AsStr, R: Read, W: Write, E: Write>(
     writer: &mut W,
     errors: &mut E,
 ) -> u8
-    ensures { ForText (R.remaining reader.old) (λ text. spec.WorkAnswers text
+    ensures { ForText (R.remaining reader.old) (λ text. spec.WorkAnswers words.now text
         (record { old = R.remaining reader.old; new = R.remaining reader.new })
         (record { old = W.contents writer.old; new = W.contents writer.new })
         (record { old = E.contents errors.old; new = E.contents errors.new }) result) }
 {
-    if words.len() > 1 {
+    if !is_asked(words) {
         return Outcome::Usage.conclude(errors);
     }
     do_why(alloc, reader, writer, errors)
+}
+
+/// Whether these words ask for the report: there is none behind the program's name.
+fn is_asked<S: AsStr>(words: &[S]) -> bool
+    ensures { result ≡ is_asked words.now }
+{
+    words.len() <= 1
 }
