@@ -12,6 +12,7 @@ pub mod Cores
 pub mod Shows
 pub mod Outcomes
 pub mod Retraces
+pub mod Digits
 pub mod Works
 pub mod Alls
 pub mod Paces

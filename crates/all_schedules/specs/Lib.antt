@@ -13,7 +13,8 @@ pub mod Traced
 pub mod Replay
 pub mod AllSchedules
 pub mod Paced
--- Words of contracts: what the program answers.
+-- What the words of a command line ask for, and what the program answers them.
+pub mod Asked
 pub mod Work
 -- What the code finds.
 pub mod Longer

@@ -1,5 +1,5 @@
 -- What the program answers.
-use Rattle.std.specs.Prelude.{◌⊎◌, ℕ, ◌+◌, ◌^◌, ◌≤◌, List, IfSome}
+use Rattle.std.specs.Prelude.{ℕ, ◌+◌, ◌^◌, ◌≤◌, List, Option, Some, None, IfSome}
 use Rattle.rv32_image.specs.ImageText.{longest_image_text}
 use Rattle.rv32_image.specs.Input.{TakesAtMost}
 use Rattle.violations.specs.View.{StoreView, Waits, never_waits}
@@ -14,6 +14,7 @@ use Rattle.all_schedules.specs.declared.words.Store.TheVariants.{Caches, Plain}
 use Rattle.all_schedules.specs.declared.words.Turns.{Turns}
 use Rattle.all_schedules.specs.declared.words.Turns.TheVariants.{Given, Every, Paced}
 use Rattle.all_schedules.specs.declared.words.Request.{Request}
+use Rattle.all_schedules.specs.Asked.{request_in}
 use Rattle.all_schedules.specs.AllSchedules.{AllAnswers}
 use Rattle.all_schedules.specs.Paced.{IsPacedOutcome}
 use Rattle.all_schedules.specs.Replay.{IsReplayOutcome}
@@ -42,12 +43,11 @@ abbrev pub StoreAnswers : Store → ℕ → Turns → List ℕ → Stream → St
 StoreAnswers Caches room turns text input output errors status = TurnsAnswer caches.store_view caches.waits cached_changes room turns text input output errors status
 StoreAnswers Plain room turns text input output errors status = TurnsAnswer plain.store_view (λ _. never_waits) plain_changes room turns text input output errors status
 
--- a request was answered
-abbrev pub IsDone : ℕ → List ℕ → Stream → Stream → Stream → ℕ → Type 0
-IsDone room text input output errors status = (request : Request) × AreTurns request.turns
-    × StoreAnswers request.store room request.turns text input output errors status
+-- a request was answered; or, where the words ask for nothing, `usage`
+abbrev pub RequestAnswers : Option Request → ℕ → List ℕ → Stream → Stream → Stream → ℕ → Type 0
+RequestAnswers (Some request) room text input output errors status = StoreAnswers request.store room request.turns text input output errors status
+RequestAnswers None room text input output errors status = Conclusion (IsRefused input output) errors.old errors.new status
 
--- what the program answers for a text, with so much room for a history
-abbrev pub WorkAnswers : ℕ → List ℕ → Stream → Stream → Stream → ℕ → Type 0
-WorkAnswers room text input output errors status =
-    IsDone room text input output errors status ⊎ Conclusion (IsRefused input output) errors.old errors.new status
+-- what the program answers for these words and a text, with so much room for a history
+abbrev pub WorkAnswers : List (List ℕ) → ℕ → List ℕ → Stream → Stream → Stream → ℕ → Type 0
+WorkAnswers words room text input output errors status = RequestAnswers (request_in words) room text input output errors status

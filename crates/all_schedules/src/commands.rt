@@ -1,4 +1,4 @@
-ghost use Rattle.std.specs.Prelude.{◌≤◌};
+ghost use Rattle.std.specs.Prelude.{◌≤◌, map};
 ghost use Rattle.rv32_image.specs.Reading.{ForText};
 ghost use Rattle.all_schedules.specs.Work as spec;
 
@@ -15,9 +15,9 @@ use turn_steps::ShownStore;
 use violations::PlainStore;
 
 /// The whole program: replays over the store that the words ask for, the first of which is the program's name, or
-/// drives every schedule of so many turns, or runs by a pace, and answers its status.
+/// drives every schedule of so many turns, or runs by a pace, and answers its status: what `request_in` of `specs/Asked.antt` says.
 ///
-/// Other words are refused as `usage`, with status 2, and nothing is read or written. The room is 16 to 1,048,576 entries.
+/// Any other words are refused as `usage`, with status 2, and nothing is read or written. The room is 16 to 1,048,576 entries.
 pub fn work<S: AsStr, R: Read, W: Write, E: Write>(
     alloc: Global,
     words: &[S],
@@ -28,7 +28,7 @@ pub fn work<S: AsStr, R: Read, W: Write, E: Write>(
 ) -> u8
     requires least { 16 ≤ room }
     requires most { room ≤ 1048576 }
-    ensures { ForText (R.remaining reader.old) (λ text. spec.WorkAnswers room text
+    ensures { ForText (R.remaining reader.old) (λ text. spec.WorkAnswers (map S.text words.now) room text
         (record { old = R.remaining reader.old; new = R.remaining reader.new })
         (record { old = W.contents writer.old; new = W.contents writer.new })
         (record { old = E.contents errors.old; new = E.contents errors.new }) result) }

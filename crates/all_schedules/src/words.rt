@@ -1,10 +1,13 @@
-ghost use Rattle.std.specs.Prelude.{◌≡◌, ◌≤◌, ◌↔◌, ◌^◌, IfSome, IsTrue};
+ghost use Rattle.std.specs.Prelude.{◌≡◌, true, IfSome, map};
+ghost use Rattle.std.specs.List.{list_all};
+ghost use Rattle.std.specs.Char.{is_ascii_digit};
+ghost use Rattle.all_schedules.specs.Asked as spec;
 ghost use Rattle.all_schedules.specs.Work.{AreTurns};
 
 use crate::detail::Detail;
 use crate::paced::Pace;
 use std::convert::AsStr;
-use trace_commands::number_up_to_16;
+use trace_commands::{first_word, number_up_to_16, only_number};
 
 /// The store that a schedule runs over.
 #[derive(Clone, Copy, Debug, PartialEq, Eq)]
@@ -33,81 +36,165 @@ pub struct Request {
     pub turns: Turns,
 }
 
-/// What these words ask for, `STORE`, `STORE CORES`, both also behind `steps`, `even STORE CORES`, `seeded SEED STORE CORES` or `all STORE CORES TURNS` below the
-/// program's name. None: other words.
+/// What these words ask for; the first is the program's name. None: they are no command of the program.
+#[tactic(auto, unfolding(crate::specs::Asked::request_in))]
 pub fn request_of<S: AsStr>(words: &[S]) -> Option<Request>
-    ensures { IfSome result (λ request. AreTurns request.turns) }
+    ensures asked { result ≡ spec.request_in (map S.text words.now) }
+    ensures turns { IfSome result (λ request. AreTurns request.turns) }
 {
-    match words.len() {
-        2 => given(Detail::Whole, words[1].as_str(), None),
-        3 if words[1].as_str() == "steps" => given(Detail::Steps, words[2].as_str(), None),
-        3 => given(Detail::Whole, words[1].as_str(), Some(words[2].as_str())),
-        4 if words[1].as_str() == "steps" => {
-            given(Detail::Steps, words[2].as_str(), Some(words[3].as_str()))
-        }
-        4 if words[1].as_str() == "even" => {
-            let cores = number_up_to_16(words[3].as_str())?;
-            let pace = Pace::Even;
-            asked(words[2].as_str(), Turns::Paced { pace, cores })
-        }
-        5 if words[1].as_str() == "seeded" => {
-            let pace = Pace::Seeded(seed_in(words[2].as_str())?);
-            let cores = number_up_to_16(words[4].as_str())?;
-            asked(words[3].as_str(), Turns::Paced { pace, cores })
-        }
-        5 if words[1].as_str() == "all" => {
-            let cores = number_up_to_16(words[3].as_str())?;
-            let turns = number_up_to_16(words[4].as_str())?;
-            if !is_small(cores, turns) {
-                return None;
-            }
-            asked(words[2].as_str(), Turns::Every { cores, turns })
-        }
-        _ => None,
+    let (_program, words) = first_word(words)?;
+    let (word, words) = first_word(words)?;
+    command(word, words)
+}
+
+/// A command by its first word.
+#[tactic(auto, unfolding(crate::specs::Asked::command))]
+fn command<S: AsStr>(word: &str, words: &[S]) -> Option<Request>
+    ensures asked { result ≡ spec.command word.now (map S.text words.now) }
+    ensures turns { IfSome result (λ request. AreTurns request.turns) }
+{
+    if word == "steps" {
+        steps(words)
+    } else if word == "even" {
+        paced(Pace::Even, words)
+    } else if word == "seeded" {
+        seeded(words)
+    } else if word == "all" {
+        every(words)
+    } else {
+        given(Detail::Whole, word, words)
     }
 }
 
-/// The request of the turns of the input over the store that a word names, on so many cores as another word says.
-fn given(detail: Detail, store: &str, cores: Option<&str>) -> Option<Request>
-    ensures { IfSome result (λ request. AreTurns request.turns) }
+/// `steps STORE`, `steps STORE CORES`.
+#[tactic(auto, unfolding(crate::specs::Asked::steps))]
+fn steps<S: AsStr>(words: &[S]) -> Option<Request>
+    ensures asked { result ≡ spec.steps (map S.text words.now) }
+    ensures turns { IfSome result (λ request. AreTurns request.turns) }
 {
-    let cores = match cores {
-        Some(word) => Some(number_up_to_16(word)?),
-        None => None,
-    };
-    asked(store, Turns::Given { detail, cores })
+    let (store, words) = first_word(words)?;
+    given(Detail::Steps, store, words)
+}
+
+/// `STORE`, `STORE CORES`.
+#[tactic(auto, unfolding(crate::specs::Asked::given))]
+fn given<S: AsStr>(detail: Detail, store: &str, words: &[S]) -> Option<Request>
+    ensures asked { result ≡ spec.given detail store.now (map S.text words.now) }
+    ensures turns { IfSome result (λ request. AreTurns request.turns) }
+{
+    match first_word(words) {
+        None => {
+            let cores = None;
+            over(store, Turns::Given { detail, cores })
+        }
+        Some(_) => {
+            let cores = Some(only_number(words)?);
+            over(store, Turns::Given { detail, cores })
+        }
+    }
+}
+
+/// `even STORE CORES`, or by another pace.
+#[tactic(auto, unfolding(crate::specs::Asked::paced))]
+fn paced<S: AsStr>(pace: Pace, words: &[S]) -> Option<Request>
+    ensures asked { result ≡ spec.paced pace (map S.text words.now) }
+    ensures turns { IfSome result (λ request. AreTurns request.turns) }
+{
+    let (store, words) = first_word(words)?;
+    let cores = only_number(words)?;
+    over(store, Turns::Paced { pace, cores })
+}
+
+/// `seeded SEED STORE CORES`.
+#[tactic(auto, unfolding(crate::specs::Asked::seeded))]
+fn seeded<S: AsStr>(words: &[S]) -> Option<Request>
+    ensures asked { result ≡ spec.seeded (map S.text words.now) }
+    ensures turns { IfSome result (λ request. AreTurns request.turns) }
+{
+    let (word, words) = first_word(words)?;
+    let seed = seed_in(word)?;
+    paced(Pace::Seeded(seed), words)
+}
+
+/// `all STORE CORES TURNS`.
+#[tactic(auto, using(std::proofs::lemmas::Bool::Decides::nat_tests), unfolding(crate::specs::Asked::every))]
+fn every<S: AsStr>(words: &[S]) -> Option<Request>
+    ensures asked { result ≡ spec.every (map S.text words.now) }
+    ensures turns { IfSome result (λ request. AreTurns request.turns) }
+{
+    let (store, words) = first_word(words)?;
+    let (word, words) = first_word(words)?;
+    let cores = number_up_to_16(word)?;
+    let turns = only_number(words)?;
+    if !is_small(cores, turns) {
+        return None;
+    }
+    over(store, Turns::Every { cores, turns })
 }
 
 /// The request of these turns over the store that a word names.
-fn asked(store: &str, turns: Turns) -> Option<Request>
-    ensures { IfSome result (λ request. request.turns ≡ turns) }
+#[tactic(auto, unfolding(crate::specs::Asked::over))]
+fn over(store: &str, turns: Turns) -> Option<Request>
+    ensures asked { result ≡ spec.over store.now turns }
+    ensures turns { IfSome result (λ request. request.turns ≡ turns) }
 {
     let store = store_named(store)?;
     Some(Request { store, turns })
 }
 
 /// Whether there are at most 65,536 schedules of so many turns.
+#[tactic(auto, using(std::proofs::lemmas::Bool::Decides::nat_tests))]
 fn is_small(cores: u32, turns: u32) -> bool
-    ensures { IsTrue result ↔ (cores ^ turns ≤ 65536) }
+    ensures { result ≡ spec.is_small cores turns }
 {
-    cores
-        .checked_pow(turns)
-        .is_some_and(|count| count <= 65_536)
+    match cores.checked_pow(turns) {
+        Some(count) => count <= 65_536,
+        None => false,
+    }
 }
 
-fn store_named(word: &str) -> Option<Store> {
-    match word {
-        "caches" => Some(Store::Caches),
-        "plain" => Some(Store::Plain),
-        _ => None,
+fn store_named(word: &str) -> Option<Store>
+    ensures { result ≡ spec.store_named word.now }
+{
+    if word == "caches" {
+        Some(Store::Caches)
+    } else if word == "plain" {
+        Some(Store::Plain)
+    } else {
+        None
     }
 }
 
 /// A seed of 64 bits, in decimal digits without a sign or a leading 0.
-fn seed_in(word: &str) -> Option<u64> {
-    let digits = word.as_bytes();
-    if digits.starts_with(b"+") || (digits.len() > 1 && digits[0] == b'0') {
+#[tactic(auto, unfolding(crate::specs::Asked::seed_in))]
+fn seed_in(word: &str) -> Option<u64>
+    ensures { result ≡ spec.seed_in word.now }
+{
+    if !is_decimal(word.as_bytes()) {
         return None;
     }
-    word.parse::<u64>().ok()
+    number_of_64_bits(word)
+}
+
+/// The number that digits write, where it is of 64 bits.
+fn number_of_64_bits(digits: &str) -> Option<u64>
+    requires { spec.is_decimal digits.now ≡ true }
+    ensures { result ≡ spec.number_of_64_bits digits.now }
+{
+    match digits.parse::<u64>() {
+        Ok(number) => Some(number),
+        Err(_) => None,
+    }
+}
+
+fn is_decimal(word: &[u8]) -> bool
+    ensures { result ≡ spec.is_decimal word.now }
+{
+    !word.is_empty() && are_digits(word) && (word.len() == 1 || word[0] != b'0')
+}
+
+fn are_digits(word: &[u8]) -> bool
+    ensures { result ≡ list_all is_ascii_digit word.now }
+{
+    word.iter().all(|b| b.is_ascii_digit())
 }

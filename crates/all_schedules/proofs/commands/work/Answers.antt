@@ -1,4 +1,4 @@
-use Rattle.std.proofs.Common.{inl, sym, subst}
+use Rattle.std.proofs.Common.{map, sym, subst}
 use Rattle.violations.specs.View.{never_waits}
 use Rattle.violations.specs.Plain as plain
 use Rattle.spec_bus.specs.Cached as caches
@@ -8,43 +8,37 @@ use Rattle.run_command.proofs.Outcomes.{for_text}
 use Rattle.all_schedules.specs.declared.words.Store.{Store}
 use Rattle.trace_commands.specs.Program.{Stream}
 use Rattle.all_schedules.specs.Work.{StoreAnswers, TurnsAnswer, WorkAnswers}
-use Rattle.all_schedules.proofs.Works.{refused_answers}
+use Rattle.all_schedules.proofs.Works.{refused_answers, request_answers}
 use Rattle.all_schedules.proofs.commands.work.Goals as goal
 
 pub returns-in-Caches : goal.returns-in-Caches
 returns-in-Caches g c =
+    let words = map g.S.AsStr.text c.args.words.now in
     let request = c.in-Some.request in
     let input : Stream = record { old = g.R.Read.remaining c.args.reader.now; new = g.R.Read.remaining c.answer.new.reader } in
     let output : Stream = record { old = g.W.Write.contents c.args.writer.now; new = g.W.Write.contents c.answer.new.writer } in
     let errors : Stream = record { old = g.E.Write.contents c.args.errors.now; new = g.E.Write.contents c.answer.new.errors } in
     for_text (g.R.Read.remaining c.args.reader.now)
     (λ text. TurnsAnswer caches.store_view caches.waits cached_changes c.args.room request.turns text input output errors c.answer.result)
-    (λ text. WorkAnswers c.args.room text input output errors c.answer.result)
-    (λ text so. inl (
-      request,
-      c.in-Some.ensures,
-      subst (λ (s : Store). StoreAnswers s c.args.room request.turns text input output errors c.answer.result)
-          (sym c.in-Caches.is) so,
-    )) c.answer.ensures
+    (λ text. WorkAnswers words c.args.room text input output errors c.answer.result)
+    (λ text so. request_answers words request c.args.room text input output errors c.answer.result c.in-Some.ensures.asked
+    (subst (λ (s : Store). StoreAnswers s c.args.room request.turns text input output errors c.answer.result) (sym c.in-Caches.is) so)) c.answer.ensures
 
 pub returns-in-Plain : goal.returns-in-Plain
 returns-in-Plain g c =
+    let words = map g.S.AsStr.text c.args.words.now in
     let request = c.in-Some.request in
     let input : Stream = record { old = g.R.Read.remaining c.args.reader.now; new = g.R.Read.remaining c.answer-in-Plain.new.reader } in
     let output : Stream = record { old = g.W.Write.contents c.args.writer.now; new = g.W.Write.contents c.answer-in-Plain.new.writer } in
     let errors : Stream = record { old = g.E.Write.contents c.args.errors.now; new = g.E.Write.contents c.answer-in-Plain.new.errors } in
     for_text (g.R.Read.remaining c.args.reader.now)
     (λ text. TurnsAnswer plain.store_view (λ _. never_waits) plain_changes c.args.room request.turns text input output errors c.answer-in-Plain.result)
-    (λ text. WorkAnswers c.args.room text input output errors c.answer-in-Plain.result)
-    (λ text so. inl (
-      request,
-      c.in-Some.ensures,
-      subst (λ (s : Store). StoreAnswers s c.args.room request.turns text input output errors c.answer-in-Plain.result)
-          (sym c.in-Plain.is) so,
-    )) c.answer-in-Plain.ensures
+    (λ text. WorkAnswers words c.args.room text input output errors c.answer-in-Plain.result)
+    (λ text so. request_answers words request c.args.room text input output errors c.answer-in-Plain.result c.in-Some.ensures.asked
+    (subst (λ (s : Store). StoreAnswers s c.args.room request.turns text input output errors c.answer-in-Plain.result) (sym c.in-Plain.is) so)) c.answer-in-Plain.ensures
 
 pub returns-in-None : goal.returns-in-None
 returns-in-None g c =
-    refused_answers c.args.room (g.R.Read.remaining c.args.reader.now) (g.W.Write.contents c.args.writer.now)
+    refused_answers (map g.S.AsStr.text c.args.words.now) c.args.room (g.R.Read.remaining c.args.reader.now) (g.W.Write.contents c.args.writer.now)
     (record { old = g.E.Write.contents c.args.errors.now; new = g.E.Write.contents c.conclude.new.errors })
-    c.conclude.result c.conclude.ensures.status c.conclude.ensures.line
+    c.conclude.result c.in-None.ensures.asked c.conclude.ensures.status c.conclude.ensures.line

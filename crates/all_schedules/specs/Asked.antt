@@ -1,0 +1,98 @@
+-- What the words of a command line ask of the program; the first is the program's name. None: they ask for nothing.
+-- Source: this project.
+use Rattle.std.specs.Prelude.{ℕ, ◌^◌, Bool, not, nat_lt, nat_le, ◌==◌, ◌&&◌, ◌||◌, List, [], ◌∷◌, length, slice_index, codes, Option, Some, None, if◌then◌else◌}
+use Rattle.std.specs.Char.{is_ascii_digit}
+use Rattle.std.specs.List.{list_all}
+use Rattle.std.specs.Str.{bytes_eq}
+use Rattle.std.specs.Str.Parse.{digits_value}
+use Rattle.trace_text.specs.TraceText.{◌>>=◌}
+use Rattle.trace_commands.specs.Program.{number_up_to_16, only_up_to_16}
+use Rattle.all_schedules.specs.declared.detail.Detail.{Detail}
+use Rattle.all_schedules.specs.declared.detail.Detail.TheVariants.{Whole, Steps}
+use Rattle.all_schedules.specs.declared.paced.Pace.{Pace}
+use Rattle.all_schedules.specs.declared.paced.Pace.TheVariants.{Even, Seeded}
+use Rattle.all_schedules.specs.declared.words.Store.{Store}
+use Rattle.all_schedules.specs.declared.words.Store.TheVariants.{Caches, Plain}
+use Rattle.all_schedules.specs.declared.words.Turns.{Turns}
+use Rattle.all_schedules.specs.declared.words.Turns.TheVariants.{Given, Every, Paced}
+use Rattle.all_schedules.specs.declared.words.Request.{Request}
+
+-- ---- words
+
+-- `caches` or `plain`
+abbrev pub store_named : List ℕ → Option Store
+store_named word =
+    if bytes_eq word (codes "caches") then Some Caches
+    else if bytes_eq word (codes "plain") then Some Plain
+    else None
+
+-- decimal digits, with no leading 0 except 0 itself
+abbrev pub is_decimal : List ℕ → Bool
+is_decimal word = not (length word == 0) && list_all is_ascii_digit word && (length word == 1 || not (slice_index word 0 == 48))
+
+-- the number that digits write, where it is of 64 bits
+unfoldable pub number_of_64_bits : List ℕ → Option ℕ
+number_of_64_bits digits = if nat_lt (digits_value 10 digits) (2 ^ 64) then Some (digits_value 10 digits) else None
+
+unfoldable pub seed_in : List ℕ → Option ℕ
+seed_in word = if is_decimal word then number_of_64_bits word else None
+
+-- ---- commands
+
+-- these turns over the store of this name
+unfoldable pub over : List ℕ → Turns → Option Request
+over name turns = do
+  store ← store_named name
+  Some (record { store = store; turns = turns })
+
+-- `STORE CORES`: the turns of the input; and `STORE`: on as many cores as its trace has
+unfoldable pub given : Detail → List ℕ → List (List ℕ) → Option Request
+given detail store [] = over store (Given detail None)
+given detail store (word ∷ words) = do
+  cores ← only_up_to_16 (word ∷ words)
+  over store (Given detail (Some cores))
+
+-- `steps STORE CORES`, `steps STORE`: each of those turns is told too
+unfoldable pub steps : List (List ℕ) → Option Request
+steps [] = None
+steps (store ∷ words) = given Steps store words
+
+-- `even STORE CORES`: the run by a pace
+unfoldable pub paced : Pace → List (List ℕ) → Option Request
+paced pace [] = None
+paced pace (store ∷ words) = do
+  cores ← only_up_to_16 words
+  over store (Paced pace cores)
+
+-- `seeded SEED STORE CORES`: by the pace that a seed draws
+unfoldable pub seeded : List (List ℕ) → Option Request
+seeded [] = None
+seeded (word ∷ words) = do
+  seed ← seed_in word
+  paced (Seeded seed) words
+
+-- at most 65,536 schedules of so many turns
+abbrev pub is_small : ℕ → ℕ → Bool
+is_small cores turns = nat_le (cores ^ turns) 65536
+
+-- `all STORE CORES TURNS`: every schedule of so many turns
+unfoldable pub every : List (List ℕ) → Option Request
+every (store ∷ word ∷ words) = do
+  cores ← number_up_to_16 word
+  turns ← only_up_to_16 words
+  if is_small cores turns then over store (Every cores turns) else None
+every words = None
+
+-- a command by its first word
+unfoldable pub command : List ℕ → List (List ℕ) → Option Request
+command word words =
+    if bytes_eq word (codes "steps") then steps words
+    else if bytes_eq word (codes "even") then paced Even words
+    else if bytes_eq word (codes "seeded") then seeded words
+    else if bytes_eq word (codes "all") then every words
+    else given Whole word words
+
+-- the command that stands behind the program's name
+unfoldable pub request_in : List (List ℕ) → Option Request
+request_in (program ∷ word ∷ words) = command word words
+request_in words = None
