@@ -1,5 +1,5 @@
 -- What the program answers, from what its parts do.
-use Rattle.std.proofs.Common.{◌≡◌, ℕ, ◌+◌, List, Option, Result, Ok, Err, MatchResult, refl, sym, subst, inl, inr}
+use Rattle.std.proofs.Common.{◌≡◌, ℕ, ◌+◌, List, Option, Some, None, Result, Ok, Err, MatchResult, refl, sym, subst, inr}
 use Rattle.rv32_image.specs.declared.fault.ImageFault.{ImageFault}
 use Rattle.rv32_image.specs.declared.fault.ImageFaultKind.{ImageFaultKind}
 use Rattle.rv32_image.specs.declared.fault.ImageFaultKind.TheVariants as kind
@@ -12,10 +12,11 @@ use Rattle.trace_commands.specs.declared.outcome.Outcome.TheVariants.{BadImage, 
 use Rattle.trace_commands.specs.declared.outcome.CommandStop.TheVariants.{NoMemory}
 use Rattle.trace_commands.specs.Outcome.{AppendsPrefix, error_line, outcome_of_fault, status_of}
 use Rattle.trace_commands.proofs.Audits.{for_each, keeps_itself}
-use Rattle.trace_commands.specs.Program.{IsUpTo16, Stream}
+use Rattle.trace_commands.specs.Program.{Stream}
 use Rattle.trace_commands.proofs.Programs.{kept, unread_answers}
 use Rattle.gain.specs.Gains.{GainAnswers, IsUnwritten, IsUnwrittenOf, IsWritten, IsWrittenOf}
-use Rattle.gain.specs.Work.{WorkAnswers}
+use Rattle.gain.specs.Asked.{cores_asked}
+use Rattle.gain.specs.Work.{AskedAnswers, WorkAnswers}
 
 -- ---- of an image
 
@@ -48,15 +49,18 @@ unwritten_answers cores room output errors text outcome status is line so = inr 
 
 -- ---- of the words
 
-pub gain_answers : (cores room : ℕ) (input output errors : Stream) (status : ℕ) → IsUpTo16 cores → TakesAtMost input.old input.new (longest_image_text + 1)
-    → ForText input.old (λ text. GainAnswers cores room text output errors status) → ForText input.old (λ text. WorkAnswers room text input output errors status)
-gain_answers cores room input output errors status few taken =
-    for_each (λ text. GainAnswers cores room text output errors status) (λ text. WorkAnswers room text input output errors status) input.old
-    (λ text answers. inl (cores, few, answers, taken))
+-- they ask for so many cores
+pub gain_answers : (words : List (List ℕ)) (cores room : ℕ) (input output errors : Stream) (status : ℕ) → Some cores ≡ cores_asked words
+    → TakesAtMost input.old input.new (longest_image_text + 1)
+    → ForText input.old (λ text. GainAnswers cores room text output errors status) → ForText input.old (λ text. WorkAnswers words room text input output errors status)
+gain_answers words cores room input output errors status asked taken =
+    for_each (λ text. GainAnswers cores room text output errors status) (λ text. WorkAnswers words room text input output errors status) input.old
+    (λ text answers. subst (λ (o : Option ℕ). AskedAnswers o room text input output errors status) asked (answers, taken))
 
 -- they ask for nothing
-pub refused_answers : (room : ℕ) (input output : Option (List ℕ)) (errors : Stream) (status : ℕ)
+pub refused_answers : (words : List (List ℕ)) (room : ℕ) (input output : Option (List ℕ)) (errors : Stream) (status : ℕ) → None ≡ cores_asked words
     → status ≡ status_of Usage → AppendsPrefix errors.old errors.new (error_line Usage)
-    → ForText input (λ text. WorkAnswers room text (kept input) (kept output) errors status)
-refused_answers room input output errors status is line =
-    unread_answers (λ it. it ≡ Usage) (λ text. WorkAnswers room text (kept input) (kept output) errors status) input output errors Usage status refl is line (λ text so. inr so)
+    → ForText input (λ text. WorkAnswers words room text (kept input) (kept output) errors status)
+refused_answers words room input output errors status none is line =
+    unread_answers (λ it. it ≡ Usage) (λ text. WorkAnswers words room text (kept input) (kept output) errors status) input output errors Usage status refl is line
+    (λ text so. subst (λ (o : Option ℕ). AskedAnswers o room text (kept input) (kept output) errors status) none so)

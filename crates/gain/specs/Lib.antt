@@ -4,5 +4,6 @@ pub mod Measured
 pub mod Text
 pub mod Lines
 pub mod Gains
--- Words of contracts: what the program answers.
+-- What the words of a command line ask for, and what the program answers them.
+pub mod Asked
 pub mod Work
