@@ -24,7 +24,7 @@ import tempfile
 from pathlib import Path
 
 from audit_rows import EXIT, NINE, SIX, WAIT, illegal, legal, traced, trace_refused, without
-from seq_rows import COUNTER, FOUR, SEARCH, at, done, exited, fault, image, refused
+from seq_rows import COUNTER, FOUR, MOST_SECONDS, SEARCH, at, done, exited, fault, image, refused
 from steps_rows import COUNTED_CACHES, COUNTED_PLAIN, steps
 
 ROOT = Path(__file__).resolve().parent.parent
@@ -135,7 +135,7 @@ def run(command, shim, text, kind, number):
     os.dup2(writer, 9)
     os.close(writer)
     environment = {**os.environ, "LD_PRELOAD": str(shim), "KIND": kind, "REFUSED": str(number)}
-    result = subprocess.run(command, input=text.encode(), capture_output=True, check=False, env=environment, pass_fds=[9])
+    result = subprocess.run(command, input=text.encode(), capture_output=True, check=False, env=environment, pass_fds=[9], timeout=MOST_SECONDS)
     os.close(9)
     with os.fdopen(reader, "rb") as told:
         met = told.read() != b""

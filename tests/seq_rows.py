@@ -243,11 +243,17 @@ USAGE = [["x"], [], ["help"], ["audit", "x"], ["audit", "--help"], ["AUDIT"], ["
 
 # Words that ./trace_cli answers itself, with a page of help.
 WRAPPERS_OWN = [[], ["--help"]]
+# No run of the tests takes a minute; one that has no answer after so many seconds hangs.
+MOST_SECONDS = 600
 
 
 def run(command, words, text):
+    """Standard output, standard error and status of a call; of one that hangs, what it didn't write and no status."""
     data = text if isinstance(text, bytes) else text.encode("ascii")
-    result = subprocess.run(command + words, input=data, capture_output=True, check=False)
+    try:
+        result = subprocess.run(command + words, input=data, capture_output=True, check=False, timeout=MOST_SECONDS)
+    except subprocess.TimeoutExpired:
+        return "", f"no answer after {MOST_SECONDS} seconds", None
     return result.stdout.decode("latin-1"), result.stderr.decode("latin-1"), result.returncode
 
 

@@ -15,6 +15,8 @@ import subprocess
 import sys
 from pathlib import Path
 
+from seq_rows import MOST_SECONDS
+
 ROOT = Path(__file__).resolve().parent.parent
 LOOPS = ["byte_search", "counter", "first_match", "hash_insert", "histogram", "list_walk", "maximum", "moving_pointer", "own_counters", "padded_counters",
          "recurrence", "shift_left", "wait_for_flag", "wide_lines"]
@@ -40,7 +42,7 @@ def why_beside(command):
 
 
 def outcome(command, text):
-    done = subprocess.run([str(word) for word in command], input=text, capture_output=True, text=True, check=False)
+    done = subprocess.run([str(word) for word in command], input=text, capture_output=True, text=True, check=False, timeout=MOST_SECONDS)
     return done.stdout, done.stderr, done.returncode
 
 

@@ -1,0 +1,161 @@
+#!/usr/bin/env python3
+"""Inputs and runs as long as they may be, or longer than any body would take that gives up early: what has to be printed is worked out by hand.
+
+Usage: tests/true_length.py [COMMAND ..]
+
+COMMAND is a command of `trace_cli` that ends with the word `seq`, such as crates/trace_cli/out/trace_cli seq; `why`, `replay` and `gain` are the programs that were
+built beside it. Without it those of this repository are tested. Where one isn't built its rows are left out, and a line says so. A run that has no answer after ten
+minutes hangs. Exits with 1 where an output differs.
+"""
+
+import subprocess
+import sys
+from collections.abc import Iterator
+from pathlib import Path
+
+from audit_rows import traced
+from memory import beside
+from seq_rows import ROOT, at, done, image, run
+
+Results = Iterator[tuple[str, str | None]]
+Outcome = tuple[str, str, int]
+# Epochs of 14 loads and a return, as many as there may be: 16 entries each on one core, 1,048,560 in all, of 1,048,576 that a history may have.
+EPOCHS, LOADS = 65_535, 14
+LOAD = "83220004"  # lw x5,64(x0)
+RETURN = "67800000"
+ALL_LOADS = image(LOAD * LOADS + RETURN, epochs=EPOCHS)
+# Epoch 0 stores to 7c0 so often as register 6 says; epoch 1 loads the word beside it, at 7c4:
+# bne x10,x0,+20; addi x5,x5,1; sw x0,1984(x0); bne x5,x6,-8; jalr x0,0(x1); lw x5,1988(x0); jalr x0,0(x1)
+NEIGHBOURS = "631a0500938212002320007ce39c62fe678000008322407c67800000"
+# Each of these stores violates epoch 1: four entries. With five more there are 1,048,557.
+TIMES = 262_138
+# 125,000 instructions, 500,000 bytes: 124,995 times addi x5,x5,1; then lui x6,128; slli x7,x10,2; add x6,x6,x7; sw x5,0(x6); jalr x0,0(x1)
+ADD, STORE_SUM = "93821200", "3703080093132500330373002320530067800000"
+LONG_CODE = "version 2\n" + image(ADD * 124_995 + STORE_SUM, epochs=2, limit=125_000, size=1_048_576)
+# Epoch 0 loads a word 200,704 times, the others nothing:
+# bne x10,x0,+20; lui x5,49; lw x6,64(x0); addi x5,x5,-1; bne x5,x0,-8; jalr x0,0(x1)
+CORES, COUNTED = 16, 49 * 4096
+COUNTS_DOWN = "version 2\n" + image("631a0500b7120300032300049382f2ffe39c02fe67800000", epochs=CORES, limit=1_000_000)
+
+
+def program_of(command: list[str], name: str) -> str | None:
+    """The built program of this name that belongs to a command of `trace_cli`, or None. Without a command it is built, where it isn't."""
+    given = Path(command[0]).resolve() if command else ROOT / "trace_cli"
+    if given == ROOT / "trace_cli":
+        return subprocess.run([ROOT / name, "--built"], capture_output=True, text=True, check=True).stdout.strip()
+    found = beside(command, name)
+    return str(found) if found else None
+
+
+def differs(got: Outcome, wanted: Outcome) -> str | None:
+    """How an outcome differs from the one that is wanted, or None."""
+    if got == wanted:
+        return None
+    lines = zip(got[0].splitlines(True), wanted[0].splitlines(True))
+    place, pair = next(((number, pair) for number, pair in enumerate(lines) if pair[0] != pair[1]), (-1, None))
+    return f"status {got[2]}, not {wanted[2]}; error stream {got[1][:100]!r}; {len(got[0])} bytes, not {len(wanted[0])}; line {place} {str(pair)[:200]}"
+
+
+# --- Traces ---------------------------------------------------------------------
+
+def loads_in_order() -> str:
+    """The trace of all those loads, on one core."""
+    epochs = (["0 load 00000040 4 00000000\n" * LOADS, epoch] for epoch in range(EPOCHS))
+    return traced(ALL_LOADS, [], "trace 1") + "".join(f"0 start {epoch}\n{lines}0 commit\n" for lines, epoch in epochs)
+
+
+def beside_each_other(times: int) -> str:
+    """The trace of the neighbours: epoch 1 loads before each store of epoch 0, and is violated by it."""
+    above = image(NEIGHBOURS, epochs=2, limit=1_000_000, size=4096, more=f"reg 6 {times:08x}\n")
+    again = "1 load 000007c4 4 00000000\n0 hurt 1\n0 store 000007c0 4 00000000\n1 restart\n"
+    return traced(above, ["0 start 0", "1 start 1"]) + again * times + "0 commit\n1 load 000007c4 4 00000000\n1 commit\n"
+
+
+def report(times: int) -> str:
+    """What `why` has to say of it. Each attempt of epoch 1 had executed its branch, its load and its return: three, two of them from the load on."""
+    hurt = "hurt {} false epoch 1 try {} core 1 lost 3 entered 2 since 2 by 0 core 0 cause {} store load {} 00000014 store {} 00000008 at 000007c4 4\n"
+    lines = "".join(hurt.format(place, number, place + 1, place - 1, place + 1) for number, place in enumerate(range(3, 3 + 4 * times, 4), 1))
+    lost = f"rollbacks {times} lost {3 * times}"
+    kinds = f"true 0 silent 0 false {times} buffer 0"
+    sums = [f"epoch 1 {lost}", f"pair store 00000008 load 00000014 {lost} {kinds} stale 0 vain 0 later 0 distance 1 1 at 000007c4 4", f"line 000007c0 {lost} {kinds}",
+            f"pc 00000008 victim 0 0 causer {times} {3 * times}", f"pc 00000014 victim {times} {3 * times} causer 0 0", f"kind false {lost}",
+            f"total epochs 2 committed 2 useful {3 * times + 5} {lost} cancelled 0 dropped 0 open 0 unsettled 0"]
+    return lines + "\n".join(sums) + "\n"
+
+
+def traces(program: str, why: str | None) -> Results:
+    in_order, meeting = loads_in_order(), beside_each_other(TIMES)
+    yield "audit: 1,048,560 loads", differs(run([program], ["audit"], in_order), (f"legal {16 * EPOCHS} {EPOCHS}\n", "", 0))
+    yield "audit: 1,048,557 entries with violations", differs(run([program], ["audit"], meeting), (f"legal {4 * TIMES + 5} 2\n", "", 0))
+    if why is None:
+        return
+    total = f"total epochs {EPOCHS} committed {EPOCHS} useful {(LOADS + 1) * EPOCHS} rollbacks 0 lost 0 cancelled 0 dropped 0 open 0 unsettled 0\n"
+    yield "why: 1,048,560 loads", differs(run([why], [], in_order), (total, "", 0))
+    yield "why: 262,138 violations", differs(run([why], [], meeting), (report(TIMES), "", 0))
+
+
+# --- Runs ----------------------------------------------------------------------
+
+def long_code(program: str) -> Results:
+    """Both epochs execute all of the code, and have counted to 124,995 then."""
+    wanted = done(2, at(0x80000, (124_995).to_bytes(4, "little").hex() * 2))
+    for words in (["seq"], ["run", "--cores", "1"], ["run", "--cores", "4"]):
+        yield f"{' '.join(words)}: 500,000 bytes of code", differs(run([program], words, LONG_CODE), wanted)
+
+
+def on_threads(program: str) -> Results:
+    """Nothing is stored, so nothing is violated, and no core waits for a line: each epoch makes as many entries whatever the threads do."""
+    for cores, version, epochs in ((4, "", 20_000), (CORES, "version 2\n", 6_000)):
+        text = version + image(LOAD * 10 + RETURN, epochs=epochs)
+        output, errors, status = run([program], ["run", "--cores", str(cores), "--trace"], text)
+        above = f"end done {epochs}\ncounts {10 * epochs} 0 0 {epochs}\n"
+        name = f"{12 * epochs:,} entries on {cores} threads"
+        yield name, differs((output[:len(above)], errors, status), (above, "", 0))
+        yield f"{name}: their audit", differs(run([program], ["audit"], text + output[len(above):]), (f"legal {12 * epochs} {epochs}\n", "", 0))
+
+
+def even_turns(replay: str) -> Results:
+    """At even speed every other core asks once after each load whether it may commit. So the cores take their turns in order, one after the other: once to begin, once
+    for each load, and once to commit."""
+    turns = "turns" + " 0 1 2 3 4 5 6 7 8 9 10 11 12 13 14 15" * (COUNTED + 2)
+    begins, commits = ("".join(f"{core} {act}\n" for core, act in enumerate(acts)) for acts in ([f"start {core}" for core in range(CORES)], ["commit"] * CORES))
+    trace = begins + "0 load 00000040 4 00000000\n" * COUNTED + commits
+    wanted = f"{turns}\nend done {CORES}\ncounts {COUNTED} 0 0 {CORES}\ntrace {CORES}\n{trace}"
+    for store in ("plain", "caches"):
+        yield f"even {store}: 3,211,296 turns", differs(run([replay], ["even", store, str(CORES)], COUNTS_DOWN), (wanted, "", 0))
+
+
+def even_steps(gain: str) -> Results:
+    """Epoch 0 takes a step to begin, three for each load, one for each of its branch, its lui and its return, and one to commit; the others four, of which the last is
+    taken in the last step. From their third step on they wait for epoch 0."""
+    steps, waited = 3 * COUNTED + 5, (CORES - 1) * (3 * COUNTED + 1)
+    useful = steps + 4 * (CORES - 1)
+    causes = f"nothomefree {waited} noway 0 orbfull 0 orbbusy 0"
+    kinds = "restarts 0 true 0 silent 0 false 0 buffer 0"
+    output, errors, status = run([gain], [str(CORES)], COUNTS_DOWN)
+    lines = [line for line in output.splitlines() if f" cores {CORES} " in line]
+    wanted = [f"store {store} cores {CORES} steps {steps} gain {useful * 100 // steps // 100}.{useful * 100 // steps % 100:02} useful {useful} lost 0 dropped 0 "
+              f"waiting {waited} idle 0 {kinds} {causes}" for store in ("caches", "plain")]
+    yield "gain: 3,211,296 turns", None if (lines, errors, status) == (wanted, "", 0) else f"{lines}, {errors!r}, {status}, not {wanted}"
+
+
+def main() -> int:
+    program, why, replay, gain = (program_of(sys.argv[1:], name) for name in ("trace_cli", "why", "replay", "gain"))
+    if program is None:
+        print("left out: inputs of true length, since no program of crates/ is tested")
+        return 0
+    results = [*traces(program, why), *long_code(program), *on_threads(program)]
+    for name, found in (("why", why), ("replay", replay), ("gain", gain)):
+        if found is None:
+            print(f"left out: inputs of true length to {name}, since it wasn't built beside the program that is tested")
+    results += [*(even_turns(replay) if replay else ()), *(even_steps(gain) if gain else ())]
+    for name, wrong in results:
+        if wrong:
+            print(f"FAILED {name}: {wrong}")
+    failed = sum(wrong is not None for _, wrong in results)
+    print(f"{len(results) - failed} checks passed, {failed} failed")
+    return 1 if failed else 0
+
+
+if __name__ == "__main__":
+    sys.exit(main())
