@@ -6,6 +6,10 @@
 pub const SUM_OF_FOUR: &str =
     "size 256\nepochs 4\nlimit 100\ncode 83220004b382a2002320500467800000\n";
 
+/// The same of a hundred epochs.
+pub const SUM_OF_HUNDRED: &str =
+    "size 256\nepochs 100\nlimit 100\ncode 83220004b382a2002320500467800000\n";
+
 /// The same of three epochs.
 const SUM_OF_THREE: &str = "size 256\nepochs 3\nlimit 100\ncode 83220004b382a2002320500467800000\n";
 
@@ -26,6 +30,10 @@ const WORDS_OF_FOUR: &str = "size 256\nepochs 4\nlimit 100\ncode 9312250023a0a20
 
 /// The same of eight epochs.
 pub const WORDS_OF_EIGHT: &str = "size 256\nepochs 8\nlimit 100\ncode 9312250023a0a20467800000\n";
+
+/// The same of sixteen epochs, in version 2.
+pub const WORDS_OF_SIXTEEN: &str =
+    "version 2\nsize 256\nepochs 16\nlimit 100\ncode 9312250023a0a20467800000\n";
 
 /// Epoch 0 stores 1 to the word at 64, and epoch 1 loops until it loads that.
 ///

@@ -2,7 +2,7 @@
 
 use crate::gates::{After, Late, Meeting};
 use crate::look::{is_in_order, look, run, word_at};
-use crate::programs::{SUM_OF_FOUR, WORDS_OF_EIGHT, WORDS_OF_TWO, text_named};
+use crate::programs::{SUM_OF_FOUR, WORDS_OF_EIGHT, WORDS_OF_SIXTEEN, WORDS_OF_TWO, text_named};
 use crate::words::{cell, end_of, is_row, number};
 use core_threads::{Finished, Gate, Open};
 use homefree::Book;
@@ -114,7 +114,7 @@ fn meet<S: EpochStore, R: Abort + Threads + Wait + Sync>(
 ) -> Result<(), Fail> {
     let gate = Meeting::new(cores);
     let end = End::Done(cores);
-    ends::<S, Meeting, R>(rt, alloc, text, cores, 64, &gate, end, "0 1")?;
+    ends::<S, Meeting, R>(rt, alloc, text, cores, 256, &gate, end, "0 1")?;
     assert!(rt; gate.stores.load(Ordering::SeqCst) == cores as u64);
     Ok(())
 }
@@ -125,8 +125,10 @@ fn meet<S: EpochStore, R: Abort + Threads + Wait + Sync>(
 fn all_cores_meet_in_the_gate(rt: HostRuntime) -> Result<(), Fail> {
     meet::<PlainStore, HostRuntime>(&rt, rt.alloc(), WORDS_OF_TWO, 2)?;
     meet::<PlainStore, HostRuntime>(&rt, rt.alloc(), WORDS_OF_EIGHT, 8)?;
+    meet::<PlainStore, HostRuntime>(&rt, rt.alloc(), WORDS_OF_SIXTEEN, 16)?;
     meet::<CachedBus, HostRuntime>(&rt, rt.alloc(), WORDS_OF_TWO, 2)?;
-    meet::<CachedBus, HostRuntime>(&rt, rt.alloc(), WORDS_OF_EIGHT, 8)
+    meet::<CachedBus, HostRuntime>(&rt, rt.alloc(), WORDS_OF_EIGHT, 8)?;
+    meet::<CachedBus, HostRuntime>(&rt, rt.alloc(), WORDS_OF_SIXTEEN, 16)
 }
 
 /// A core has made one of so many first entries.
@@ -150,7 +152,7 @@ fn begin_in_turn<R: Abort + Threads + Wait + Sync>(
     let gate = Late {
         counted: AtomicU64::new(0),
     };
-    match run::<PlainStore, Late, R>(rt, alloc, &image, cores, 64, &gate) {
+    match run::<PlainStore, Late, R>(rt, alloc, &image, cores, 256, &gate) {
         Ok(whole) => {
             for core in 0..cores {
                 assert!(rt; is_among_the_first(&whole.book, cores, core));
@@ -167,7 +169,8 @@ fn begin_in_turn<R: Abort + Threads + Wait + Sync>(
 fn each_core_begins_in_the_first_round(rt: HostRuntime) -> Result<(), Fail> {
     begin_in_turn(&rt, rt.alloc(), WORDS_OF_TWO, 2)?;
     begin_in_turn(&rt, rt.alloc(), SUM_OF_FOUR, 4)?;
-    begin_in_turn(&rt, rt.alloc(), WORDS_OF_EIGHT, 8)
+    begin_in_turn(&rt, rt.alloc(), WORDS_OF_EIGHT, 8)?;
+    begin_in_turn(&rt, rt.alloc(), WORDS_OF_SIXTEEN, 16)
 }
 
 /// A gate may hold cores back until another has had a turn: the book is free then after a while.

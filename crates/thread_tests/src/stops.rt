@@ -2,7 +2,7 @@
 
 use crate::gates::ShutAt;
 use crate::look::{look, run, word_at};
-use crate::programs::SUM_OF_FOUR;
+use crate::programs::{SUM_OF_FOUR, SUM_OF_HUNDRED};
 use crate::words::prints;
 use core_threads::{Gate, Halted, LoopEnd, Open, RunFault, Shut, core_loop};
 use homefree::Book;
@@ -78,7 +78,7 @@ fn stops_at<S: EpochStore, R: Abort + Threads + Wait + Sync>(
         core: 0,
         turn: turn as u64,
     };
-    let run: Halted<S> = halted(rt, alloc, image, 1, 64, &gate, RunFault::Shut)?;
+    let run: Halted<S> = halted(rt, alloc, image, 1, 512, &gate, RunFault::Shut)?;
     let homefree = turn / 4;
     let sum = homefree.wrapping_mul(homefree.wrapping_sub(1)) / 2;
     assert_eq!(rt; reached(&run), Some((turn as usize, homefree, sum)));
@@ -104,6 +104,16 @@ fn a_shut_gate_stops_the_run_at_any_turn(rt: HostRuntime) -> Result<(), Fail> {
     let image = image_of(rt.alloc(), SUM_OF_FOUR.as_bytes())?;
     stops_at_any::<PlainStore, HostRuntime>(&rt, rt.alloc(), &image)?;
     stops_at_any::<CachedBus, HostRuntime>(&rt, rt.alloc(), &image)
+}
+
+/// A core may have had more turns than a byte counts.
+#[test]
+fn a_shut_gate_stops_the_run_at_a_late_turn(rt: HostRuntime) -> Result<(), Fail> {
+    let image = image_of(rt.alloc(), SUM_OF_HUNDRED.as_bytes())?;
+    for turn in 255..301 {
+        stops_at::<PlainStore, HostRuntime>(&rt, rt.alloc(), &image, turn)?;
+    }
+    stops_at::<CachedBus, HostRuntime>(&rt, rt.alloc(), &image, 300)
 }
 
 /// A run whose gate shuts for core 1 of four is over, or is halted for that with a legal history.
