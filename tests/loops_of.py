@@ -1,12 +1,15 @@
 #!/usr/bin/env python3
-"""Tests tools/loops-of: what it says of the loops of the programs in loops_of/, and their images, beside the native compiler and the emulator; and each mistake is told.
+"""Tests tools/loops-of: what it says of the loops of the programs in loops_of/, and their images, beside the native
+compiler and the emulator; and each mistake is told.
 
 Usage: tests/loops_of.py [COMMAND ..]
 
-COMMAND is a command of `trace_cli` that ends with the word `seq`; without it that of this repository is tested. What the listing has to say stands in the programs, behind
-`//: `, by hand. Output and status come from the compiler `cc`, memory from Unicorn: each image has to be `same`. Mistakes are planted in the plug-in, in the emulator
-and in images: the check has to say WRONG or DIFFERENT. Programs in loops_of/refused say in their first line why they are refused. Without the packages that
-tools/loops-of names it is left out, and a line says so; csmith's programs are left out without Debian's csmith. Exits with 1 where a check failed.
+COMMAND is a command of `trace_cli` that ends with the word `seq`; without it that of this repository is tested. What
+the listing has to say stands in the programs, behind `//: `, by hand. Output and status come from the compiler `cc`,
+memory from Unicorn: each image has to be `same`. Mistakes are planted in the plug-in, in the emulator and in images:
+the check has to say WRONG or DIFFERENT. Programs in loops_of/refused say in their first line why they are refused.
+Without the packages that tools/loops-of names it is left out, and a line says so; csmith's programs are left out
+without Debian's csmith. Exits with 1 where a check failed.
 """
 
 import os
@@ -50,7 +53,8 @@ def expected_of(source: Path) -> dict[str, str]:
 
 
 def said_of(listing: str, source: Path) -> dict[str, str]:
-    """What the listing says, in the words of the programs: without names of files, and without steps, which are the compiler's."""
+    """What the listing says, in the words of the programs: without names of files, and without steps, which are the
+    compiler's."""
     found = {}
     for line in listing.splitlines():
         place, _, rest = line.replace(f"{source.name}:", "").partition(" ")
@@ -64,12 +68,14 @@ def listings() -> Iterator[Check]:
         expected = expected_of(source)
         if expected:
             out, errors, status = called(source)
-            yield f"the loops of {source.name}", differs(said_of(out, source), expected) or (f"{errors}, {status}" if status > 1 else None)
+            yield (f"the loops of {source.name}", differs(said_of(out, source), expected)
+                   or (f"{errors}, {status}" if status > 1 else None))
 
 
 # --- Images ------------------------------------------------------------------------
 
-def native(source: Path, folder: Path, words: list[str], given: bytes, flags: list[str] | None = None) -> tuple[bytes, int]:
+def native(source: Path, folder: Path, words: list[str], given: bytes,
+           flags: list[str] | None = None) -> tuple[bytes, int]:
     """Output and status by the compiler of this machine."""
     made = folder / "native"
     subprocess.run(["cc", "-O1", "-w", *(flags or []), "-o", made, source, "-lm"], check=True)
@@ -77,7 +83,8 @@ def native(source: Path, folder: Path, words: list[str], given: bytes, flags: li
     return done.stdout, done.returncode & 0xFF if done.returncode >= 0 else 128 - done.returncode
 
 
-def emulated(source: Path, folder: Path, words: list[str], given: bytes, flags: list[str] | None = None) -> tuple[bytes, int | None]:
+def emulated(source: Path, folder: Path, words: list[str], given: bytes,
+             flags: list[str] | None = None) -> tuple[bytes, int | None]:
     """The same as the tool runs it."""
     from loops_of.build import Builder, Layout, kit_of
     from loops_of.emulator import Given, Run
@@ -91,9 +98,11 @@ def natives(folder: Path) -> Iterator[Check]:
     if not shutil.which("cc"):
         print("left out: output beside the native compiler, since there is no cc")
         return
-    for source, words, given in [*((source, [], b"") for source in SOURCES), (PROGRAMS / "words.c", ["-n", "3"], b"one two\nthree\n\nfour"),
+    for source, words, given in [*((source, [], b"") for source in SOURCES),
+                                 (PROGRAMS / "words.c", ["-n", "3"], b"one two\nthree\n\nfour"),
                                  (PROGRAMS / "words.c", ["-n", "9"], b"one")]:
-        yield f"{source.name} {words} beside cc", differs(emulated(source, folder, words, given), native(source, folder, words, given))
+        yield (f"{source.name} {words} beside cc", differs(emulated(source, folder, words, given),
+                                                           native(source, folder, words, given)))
 
 
 def same(folder: Path) -> Iterator[Check]:
@@ -105,7 +114,9 @@ def same(folder: Path) -> Iterator[Check]:
             continue
         out, errors, status = called("--loop", "all", "--out", folder / source.stem, "--heap", 65_536, source)
         got = {line.partition(" ")[0].rpartition(":")[2]: line.split(" ")[2] for line in out.splitlines()}
-        yield f"the images of {source.name}", differs((got, status), (expected, 1 if "refused" in expected.values() else 0)) and f"{out}{errors}{status}"
+        yield (f"the images of {source.name}",
+               differs((got, status), (expected, 1 if "refused" in expected.values() else 0))
+               and f"{out}{errors}{status}")
         plan = read_plan(folder / source.stem / "study.toml")
         yield f"the study of {source.name}", differs(len(plan.loops), list(expected.values()).count("same:"))
 
@@ -117,25 +128,30 @@ def random_programs(folder: Path) -> Iterator[Check]:
         return
     for seed in SEEDS:
         source = folder / f"random{seed}.c"
-        done = subprocess.run(["csmith", "--seed", str(seed), "--max-funcs", "2", "--max-block-depth", "2", "--no-argc"], capture_output=True, check=True)
+        done = subprocess.run(["csmith", "--seed", str(seed), "--max-funcs", "2", "--max-block-depth", "2",
+                               "--no-argc"], capture_output=True, check=True)
         source.write_bytes(done.stdout)
         expected = native(source, folder, [], b"", ["-I/usr/include/csmith"])
-        out, errors, status = called("--cflags=-I/usr/include/csmith", "--loop", "all", "--out", folder / "random", source, seconds=600)
+        out, errors, status = called("--cflags=-I/usr/include/csmith", "--loop", "all", "--out", folder / "random",
+                                     source, seconds=600)
         wrong = [line for line in out.splitlines() if not re.search(r" (same:|refused|not entered)", line)]
         yield f"the loops of csmith's seed {seed}", f"{wrong}{errors}{status}" if wrong or status > 1 else None
-        yield f"the output of csmith's seed {seed}", differs(emulated(source, folder, [], b"", ["-I/usr/include/csmith"]), expected)
+        yield (f"the output of csmith's seed {seed}",
+               differs(emulated(source, folder, [], b"", ["-I/usr/include/csmith"]), expected))
 
 
 # --- What is refused, and what can be asked for ------------------------------------
 
 def refusals(folder: Path) -> Iterator[Check]:
-    """A loop that is refused, at its line and with its reason, in each of the programs whose first line says which; and programs that can't be taken."""
+    """A loop that is refused, at its line and with its reason, in each of the programs whose first line says which; and
+    programs that can't be taken."""
     for source in sorted((PROGRAMS / "refused").glob("*.c")):
         mark, _, reason = source.read_text().partition("\n")[0].partition(" ")
         if mark in ("//:", "//!"):
             beside = [source.with_name("main_again_other.c")] if source.stem == "main_again" else []
             out, errors, status = called("--loop", "all", "--out", folder / "refused", source, *beside)
-            told = re.search(rf"(?m) (refused|not entered)(?: {reason})?$", out) if mark == "//:" else re.search(rf"(?m)^loops-of: {reason}", errors)
+            told = (re.search(rf"(?m) (refused|not entered)(?: {reason})?$", out) if mark == "//:"
+                    else re.search(rf"(?m)^loops-of: {reason}", errors))
             right = told and status == (1 if mark == "//:" else 2) and "WRONG" not in out
             yield f"refused: {source.name}", None if right else f"{out}{errors}{status}"
 
@@ -144,28 +160,39 @@ def requests(folder: Path) -> Iterator[Check]:
     """Entries, windows and places; what is no request."""
     forms, small, words = (PROGRAMS / name for name in ("forms.c", "small.c", "words.c"))
     for given, status, head, told in (
-            (["--loop", "forms.c:37", "--entry", 7, forms], 0, "entry 7 of 100, with 15 iterations", "same: entry 7 of 100, 15 of 15 iterations"),
-            (["--loop", "small.c:13", "--first", 10, "--epochs", 5, small], 0, "its iterations from 10 on, 5 of them", "same: entry 1 of 1, 5 of 64 iterations"),
-            (["--loop", "small.c:24", "--first", 15, small], 0, "its iterations from 15 on, 5 of them", "same: entry 1 of 1, 5 of 20 iterations"),
-            (["--loop", "lines.c:8.2", PROGRAMS / "lines.c"], 0, "The loop at lines.c:8.2", "same: entry 1 of 1, 6 of 6 iterations"),
+            (["--loop", "forms.c:37", "--entry", 7, forms], 0, "entry 7 of 100, with 15 iterations",
+             "same: entry 7 of 100, 15 of 15 iterations"),
+            (["--loop", "small.c:13", "--first", 10, "--epochs", 5, small], 0, "its iterations from 10 on, 5 of them",
+             "same: entry 1 of 1, 5 of 64 iterations"),
+            (["--loop", "small.c:24", "--first", 15, small], 0, "its iterations from 15 on, 5 of them",
+             "same: entry 1 of 1, 5 of 20 iterations"),
+            (["--loop", "lines.c:8.2", PROGRAMS / "lines.c"], 0, "The loop at lines.c:8.2",
+             "same: entry 1 of 1, 6 of 6 iterations"),
             (["--loop", "words.c:9", "--args=-n 1", words], 0, "with 1 iterations", "same"),
             (["--loop", "words.c:13", "--input", forms, words], 0, "with 999 iterations", "same"),
-            (["--loop", "small.c:14", small], 2, "", "there is no loop at small.c:14; there are: small.c:11, small.c:13"),
+            (["--loop", "small.c:14", small], 2, "",
+             "there is no loop at small.c:14; there are: small.c:11, small.c:13"),
             (["--loop", "forms.c:37", "--entry", 101, forms], 1, "", "is entered 100 times, so there is no entry 101"),
-            (["--loop", "small.c:13", "--first", 64, small], 1, "", "its entry 1 has 64 iterations, so none from 64 on"),
-            (["--loop", "small.c:13", "--version", 1, small], 1, "", r"needs \d+ bytes of memory, and 65536 is the most"),
-            (["--loop", "all", small], 2, "", "--loop all needs --out FOLDER"), (["--first", -1, small], 2, "", "--first takes 0 to"), ([folder / "none.c"], 2, "", "is not a file")):
+            (["--loop", "small.c:13", "--first", 64, small], 1, "",
+             "its entry 1 has 64 iterations, so none from 64 on"),
+            (["--loop", "small.c:13", "--version", 1, small], 1, "",
+             r"needs \d+ bytes of memory, and 65536 is the most"),
+            (["--loop", "all", small], 2, "", "--loop all needs --out FOLDER"),
+            (["--first", -1, small], 2, "", "--first takes 0 to"), ([folder / "none.c"], 2, "", "is not a file")):
         out, errors, got = called(*given)
-        yield f"asked: {' '.join(map(str, given[:-1]))}", None if got == status and head in out and bool(out) == bool(head) and re.search(told, errors) else f"{out[:300]}{errors}{got}"
+        yield (f"asked: {' '.join(map(str, given[:-1]))}", None if got == status and head in out
+               and bool(out) == bool(head) and re.search(told, errors) else f"{out[:300]}{errors}{got}")
 
 
 def names() -> Iterator[Check]:
-    """What an image's remarks name: variables, what is carried, blocks of the heap by the line of malloc, arrays of the frame; lines of the loop's instructions alone."""
+    """What an image's remarks name: variables, what is carried, blocks of the heap by the line of malloc, arrays of the
+    frame; lines of the loop's instructions alone."""
     from loops import read_image
     image = read_image(called("--loop", "lines.c:18", PROGRAMS / "lines.c")[0])
     lengths = {one.name: one.length for one in image.variables}
-    yield "what is named", differs({name: lengths.get(name) for name in ("table", "seen", "malloc:lines.c:15", "frame", "carried.sum")},
-                                   {"table": 24, "seen": 4, "malloc:lines.c:15": 40, "frame": 32, "carried.sum": 4})
+    yield ("what is named",
+           differs({name: lengths.get(name) for name in ("table", "seen", "malloc:lines.c:15", "frame", "carried.sum")},
+                   {"table": 24, "seen": 4, "malloc:lines.c:15": 40, "frame": 32, "carried.sum": 4}))
     lines = {int(place.rpartition(":")[2]) for place in image.sources.values()}
     yield "the lines of the code", None if {5, 19, 20} <= lines <= {5, 6, 18, 19, 20} else f"got {lines}"
 
@@ -173,7 +200,8 @@ def names() -> Iterator[Check]:
 # --- Planted mistakes ------------------------------------------------------------
 
 def gains() -> Iterator[Check]:
-    """Plain loops gain what the same loops by hand gain on four cores, within a tenth: but for the list, whose next node is one of the values that go around."""
+    """Plain loops gain what the same loops by hand gain on four cores, within a tenth: but for the list, whose next
+    node is one of the values that go around."""
     from loops import Programs
     if not (Programs().folder / "gain").exists():
         print("left out: the gains of plain loops, since gain wasn't built beside the program that is tested")
@@ -182,10 +210,14 @@ def gains() -> Iterator[Check]:
     for number, line in enumerate(source.read_text().splitlines(), 1):
         name = line.partition(" // ")[2]
         if name:
-            image, errors, _ = called("--version", 1, "--heap", 0, "--stack", 4096, "--loop", f"plain.c:{number}", source)
-            by_hand, plain = ({run.store: run.gain for run in Programs().gain(text, 4).runs if run.cores == 4} for text in ((ROOT / "examples" / f"{name}.image").read_text(), image))
-            far = {store: (gain, by_hand[store]) for store, gain in plain.items() if abs(gain - by_hand[store]) > 0.1 * by_hand[store]}
-            yield f"the gains of {name}", None if bool(far) == (name == "list_walk") and len(plain) == 2 else f"got {far}, {errors}"
+            image, errors, _ = called("--version", 1, "--heap", 0, "--stack", 4096, "--loop", f"plain.c:{number}",
+                                      source)
+            by_hand, plain = ({run.store: run.gain for run in Programs().gain(text, 4).runs if run.cores == 4}
+                              for text in ((ROOT / "examples" / f"{name}.image").read_text(), image))
+            far = {store: (gain, by_hand[store]) for store, gain in plain.items()
+                   if abs(gain - by_hand[store]) > 0.1 * by_hand[store]}
+            yield (f"the gains of {name}", None if bool(far) == (name == "list_walk") and len(plain) == 2
+                   else f"got {far}, {errors}")
 
 
 def answer_of(source: Path, line: str, folder: Path, kit: object = None, plant: object = None) -> str:
@@ -203,10 +235,11 @@ def answer_of(source: Path, line: str, folder: Path, kit: object = None, plant: 
 
 
 def wrong_plugins(folder: Path) -> Iterator[Check]:
-    """The plug-in with mistakes: the epoch's number outside the loop, a store where a later branch keeps the old value, no copy of a function that comes again, and
-    a store where the value is the one that came in."""
+    """The plug-in with mistakes: the epoch's number outside the loop, a store where a later branch keeps the old value,
+    no copy of a function that comes again, and a store where the value is the one that came in."""
     from loops_of.build import Kit, build_part, join_parts, kit_of
-    for number, part, line, told in ((2, "carried", "forms.c:78", "didn't end"), (3, "carried", "forms.c:24", "WRONG"), (4, "outline", "forms.c:46", "entered again"),
+    for number, part, line, told in ((2, "carried", "forms.c:78", "didn't end"), (3, "carried", "forms.c:24", "WRONG"),
+                                     (4, "outline", "forms.c:46", "entered again"),
                                      (5, "carried", "plain.c:43", "WRONG")):
         kit = Kit(Path(shutil.copytree(kit_of().folder, folder / f"wrong{number}")))
         build_part(kit, part, (f"-DWRONG={number}",))
@@ -232,21 +265,29 @@ def wrong_images(folder: Path) -> Iterator[Check]:
     def without(pattern: str) -> object:
         return lambda *given: re.sub(pattern, "", images.image_text(*given))
 
-    yield "no mistake", None if (said := answer_of(PROGRAMS / "lines.c", "lines.c:18", folder)).startswith("same") else said
-    for what, pattern, source, line in (("no thread pointer", r"(?m)^reg 4 .*\n", "lines.c", "lines.c:25"), ("no first iteration", r"(?m)^reg 6 .*\n", "small.c", "small.c:13"),
-                                        ("no stack", r"(?m)^reg 5 .*\n", "forms.c", "forms.c:34"), ("no memory", r"(?m)^at .*\n", "small.c", "small.c:13")):
+    yield ("no mistake", None if (said := answer_of(PROGRAMS / "lines.c", "lines.c:18", folder)).startswith("same")
+           else said)
+    for what, pattern, source, line in (("no thread pointer", r"(?m)^reg 4 .*\n", "lines.c", "lines.c:25"),
+                                        ("no first iteration", r"(?m)^reg 6 .*\n", "small.c", "small.c:13"),
+                                        ("no stack", r"(?m)^reg 5 .*\n", "forms.c", "forms.c:34"),
+                                        ("no memory", r"(?m)^at .*\n", "small.c", "small.c:13")):
         said = patched(making, "image_text", without(pattern), source, line, folder)
         yield f"an image with {what}", None if said.startswith("DIFFERENT") else said
     said = patched(emulator.Window, "left", lambda _: None, "small.c", "small.c:13", folder)
     yield "an emulator that doesn't hear the end", None if said.startswith("the program ends within it") else said
-    said = patched(making, "check_program", lambda plain, other: (plain.saved.clear(), check.check_program(plain, other)), "forms.c", "forms.c:109", folder)
-    yield "what setjmp saved, compared", None if said.startswith("WRONG other values at the program's end in back+") else said
+    said = patched(making, "check_program",
+                   lambda plain, other: (plain.saved.clear(), check.check_program(plain, other)), "forms.c",
+                   "forms.c:109", folder)
+    yield ("what setjmp saved, compared", None if said.startswith("WRONG other values at the program's end in back+")
+           else said)
 
 
 def wrong_passes(folder: Path) -> Iterator[Check]:
-    """Loads that are joined before loops are rotated carry a value around the loop; without marks of where arrays live none is an iteration's own."""
+    """Loads that are joined before loops are rotated carry a value around the loop; without marks of where arrays live
+    none is an iteration's own."""
     from loops_of import build
-    for name, other, line, right in (("BEFORE", build.BEFORE.replace("sroa,", "sroa,early-cse<memssa>,"), 32, "computed i"), ("FRONT", build.FRONT[3:], 34, "own tmp")):
+    for name, other, line, right in (("BEFORE", build.BEFORE.replace("sroa,", "sroa,early-cse<memssa>,"), 32,
+                                      "computed i"), ("FRONT", build.FRONT[3:], 34, "own tmp")):
         was = getattr(build, name)
         told = []
         for value in (was, other):
@@ -262,8 +303,9 @@ def furnished(folder: Path, command: list[str]) -> None:
     """A folder with the programs that the tools call, as LOOPS_PROGRAMS names it."""
     given = Path(command[0]).resolve()
     for name in ("trace_cli", "gain"):
-        path = ROOT / name if given == ROOT / "trace_cli" else given if name == "trace_cli" else \
-            given.parents[2] / name / "out" / name if len(given.parents) > 2 and (given.parents[2] / name).is_dir() else given.with_name(name)
+        beside = given.parents[2] / name / "out" / name if len(given.parents) > 2 else None
+        path = (ROOT / name if given == ROOT / "trace_cli" else given if name == "trace_cli"
+                else beside if beside and beside.parents[1].is_dir() else given.with_name(name))
         if path.is_file():
             (folder / name).symlink_to(path)
     os.environ["LOOPS_PROGRAMS"] = str(folder)

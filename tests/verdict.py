@@ -3,9 +3,10 @@
 
 Usage: tests/verdict.py [COMMAND ..]
 
-COMMAND is a command of `trace_cli` that ends with the word `seq`; `why`, `replay` and `gain` are the programs that were built beside it. Without it those of this
-repository are tested. The figures are those of a trial of the schedule outside the programs. Where a program isn't built, or none compiles, a line says what is left
-out. Exits with 1 where a check failed.
+COMMAND is a command of `trace_cli` that ends with the word `seq`; `why`, `replay` and `gain` are the programs that were
+built beside it. Without it those of this repository are tested. The figures are those of a trial of the schedule
+outside the programs. Where a program isn't built, or none compiles, a line says what is left out. Exits with 1 where a
+check failed.
 """
 
 import re
@@ -18,21 +19,31 @@ from pathlib import Path
 # What a check is of, and what is wrong or None
 Results = Iterator[tuple[str, str | None]]
 ROOT = Path(__file__).resolve().parent.parent
-# Epoch 1 loads the word at 40 before epoch 0 stores it. On two cores the loop takes 8 steps, on one 12; epoch 1 loses 4.
-IMAGE = ("# Two epochs, of which one waits.\n# flag 00000040 4\n# code 00000004 waits.c:7\n# code 00000014 waits.c:4\nsize 256\nepochs 2\nlimit 50\n"
+# Epoch 1 loads the word at 40 before epoch 0 stores it. On two cores the loop takes 8 steps, on one 12; epoch 1 loses
+# 4.
+IMAGE = ("# Two epochs, of which one waits.\n# flag 00000040 4\n# code 00000004 waits.c:7\n# code 00000014 waits.c:4\n"
+         "size 256\nepochs 2\nlimit 50\n"
          "code 6308050083220004e38e02fe67800000930210002320500467800000\n")
-RUN = ("turns 0 1 0 1 0 1 1 1\nend done 2\nat 00000040 01000000000000000000000000000000\ncounts 2 1 1 2\ntrace 2\n0 start 0\n1 start 1\n0 store 00000040 4 00000001\n"
+RUN = ("turns 0 1 0 1 0 1 1 1\nend done 2\nat 00000040 01000000000000000000000000000000\ncounts 2 1 1 2\ntrace 2\n"
+       "0 start 0\n1 start 1\n0 store 00000040 4 00000001\n"
        "1 load 00000040 4 00000000\n0 hurt 1\n0 commit\n1 restart\n1 load 00000040 4 00000001\n1 commit\n")
-WHY = ("hurt 4 true epoch 1 try 1 core 1 lost 3 entered 2 since 2 by 0 core 0 cause 5 commit load 3 00000004 store 2 00000014 at 00000040 4\n"
-       "kind true rollbacks 1 lost 3\ntotal epochs 2 committed 2 useful 8 rollbacks 1 lost 3 cancelled 0 dropped 0 open 0 unsettled 0\n")
-ONE = ("store {} cores 1 steps 12 gain 1.00 useful 12 lost 0 dropped 0 waiting 0 idle 0 restarts 0 true 0 silent 0 false 0 buffer 0 nothomefree 0 noway 0 orbfull 0 "
+WHY = ("hurt 4 true epoch 1 try 1 core 1 lost 3 entered 2 since 2 by 0 core 0 cause 5 commit load 3 00000004 store 2 "
+       "00000014 at 00000040 4\n"
+       "kind true rollbacks 1 lost 3\ntotal epochs 2 committed 2 useful 8 rollbacks 1 lost 3 cancelled 0 dropped 0 "
+       "open 0 unsettled 0\n")
+ONE = ("store {} cores 1 steps 12 gain 1.00 useful 12 lost 0 dropped 0 waiting 0 idle 0 restarts 0 true 0 silent 0 "
+       "false 0 buffer 0 nothomefree 0 noway 0 orbfull 0 "
        "orbbusy 0\n")
-TWO = ("store {} cores 2 steps 10 gain 1.20 useful 12 lost 4 dropped 0 waiting 0 idle 4 restarts 1 true 1 silent 0 false 0 buffer 0 nothomefree 0 noway 0 orbfull 0 "
+TWO = ("store {} cores 2 steps 10 gain 1.20 useful 12 lost 4 dropped 0 waiting 0 idle 4 restarts 1 true 1 silent 0 "
+       "false 0 buffer 0 nothomefree 0 noway 0 orbfull 0 "
        "orbbusy 0\n")
 GAIN = "".join(line.format(store) for store in ("caches", "plain") for line in (ONE, TWO))
-SAID = ("waits gains 1.20 on 2 cores at even speed: 10 steps in place of 12. Over a plain store of bytes it gains 1.20. Of all steps 60 % are useful, 20 % are lost and "
-        "20 % are idle. What holds it back over a plain store already: 1 rollback by true sharing lost 3 instructions. 3 instructions where the store at waits.c:4 hits the "
-        "load at waits.c:7 at flag: it usually helps to wait for flag, or let each epoch keep its own and put them together at the end. In 20 % of the steps cores have no "
+SAID = ("waits gains 1.20 on 2 cores at even speed: 10 steps in place of 12. Over a plain store of bytes it gains "
+        "1.20. Of all steps 60 % are useful, 20 % are lost and "
+        "20 % are idle. What holds it back over a plain store already: 1 rollback by true sharing lost 3 instructions. "
+        "3 instructions where the store at waits.c:4 hits the "
+        "load at waits.c:7 at flag: it usually helps to wait for flag, or let each epoch keep its own and put them "
+        "together at the end. In 20 % of the steps cores have no "
         "epoch: the loop has 2; it usually helps to have more, or shorter ones. What helps is advice, and no claim.")
 # The run ends in a fault of its last epoch, at the load or behind it.
 FAULTS = {
@@ -40,19 +51,28 @@ FAULTS = {
     "8 00000008": "at 00000008, behind waits.c:7, with cause 8, more instructions than the limit allows.",
     "3 00000400": "at 00000400, with cause 3, a jump out of the code.",
 }
-# What holds back six loops whose epochs wait for ways of full sets, by how they were written: the place, and the lines of the store and of the load.
+# What holds back six loops whose epochs wait for ways of full sets, by how they were written: the place, and the lines
+# of the store and of the load.
 HIDDEN = {
-    "cipher": ("state+48", "state[12] += 1", "x[i] = state[i]"), "diffusion": ("carried", "carried[0] = left", "left = carried[0]"),
-    "blocks": ("unused", "unused = (epoch", "mine = unused"), "product": ("total", "total[0] += sum", "total[0] += sum"), "count": ("ways", "ways += 1", "ways += 1"),
+    "cipher": ("state+48", "state[12] += 1", "x[i] = state[i]"),
+    "diffusion": ("carried", "carried[0] = left", "left = carried[0]"),
+    "blocks": ("unused", "unused = (epoch", "mine = unused"),
+    "product": ("total", "total[0] += sum", "total[0] += sum"), "count": ("ways", "ways += 1", "ways += 1"),
     "words": ("used", "used = first + count", "first = used"),
 }
-NEIGHBOURS = ("unsigned out[64] __attribute__((aligned(16)));\nvoid body(unsigned e)\n{\n    unsigned s = e;\n    for (unsigned i = 0; i < 20; i++) {\n        s = s * 5 + i;\n"
+NEIGHBOURS = ("unsigned out[64] __attribute__((aligned(16)));\nvoid body(unsigned e)\n{\n    unsigned s = e;\n"
+              "    for (unsigned i = 0; i < 20; i++) {\n        s = s * 5 + i;\n"
               "        out[e] += s;\n    }\n}\n")
 # Of an example on four cores: words of its verdict.
 EXAMPLES = {
-    "histogram": ["gains 2.28 on 4 cores", "plain store of bytes it gains 3.25", "hits the load at 00000018 at bins+4 and bins+20"],
-    "own_counters": ["gains 1.08 on 4 cores", "428 steps in place of 464", "plain store of bytes it gains 4.00. So the caches cost most of what there is to gain", "27 % are useful, 64 % are lost and 9 % are idle",
-                     "42 rollbacks by false sharing lost 1,050 instructions", "give counter, counter+4, counter+8 and counter+12 lines of 16 bytes of their own"],
+    "histogram": ["gains 2.28 on 4 cores", "plain store of bytes it gains 3.25", "hits the load at 00000018 at bins+4 "
+                                                                                 "and bins+20"],
+    "own_counters": ["gains 1.08 on 4 cores", "428 steps in place of 464", "plain store of bytes it gains 4.00. So the "
+                                                                           "caches cost most of what there is to gain",
+                     "27 % are useful, 64 % are lost and 9 % are idle",
+                     "42 rollbacks by false sharing lost 1,050 instructions", "give counter, counter+4, counter+8 and "
+                                                                              "counter+12 lines of 16 bytes of their "
+                                                                              "own"],
     "padded_counters": ["gains 4.00 on 4 cores", "Nothing holds it back."],
     "list_walk": ["loses on 4 cores at even speed, a gain of 0.99", "18 rollbacks by true sharing lost"],
     "queens": ["gains 1.39 on 4 cores", "wait for a way in a full set"],
@@ -62,13 +82,15 @@ EXAMPLES = {
 def stub(folder: Path | str, name: str, output: str, error: str = "", status: int = 0) -> None:
     """A program that prints this, whatever it is given."""
     path = Path(folder, name)
-    path.write_text(f"#!/bin/sh\ncat >/dev/null\ncat <<'END'\n{output}END\n" + (f"echo '{error}' >&2\n" if error else "") + f"exit {status}\n")
+    path.write_text(f"#!/bin/sh\ncat >/dev/null\ncat <<'END'\n{output}END\n"
+                    + (f"echo '{error}' >&2\n" if error else "") + f"exit {status}\n")
     path.chmod(0o755)
 
 
 def verdict(folder: Path | str, image: Path, *words: str | Path) -> tuple[str, str, int]:
     """What the tool prints, on one line, with the programs of a folder; its error line and its status."""
-    done = subprocess.run([ROOT / "tools" / "verdict", image, *words], capture_output=True, text=True, env={"PATH": "/usr/bin:/bin", "LOOPS_PROGRAMS": str(folder)}, check=False)
+    done = subprocess.run([ROOT / "tools" / "verdict", image, *words], capture_output=True, text=True,
+                          env={"PATH": "/usr/bin:/bin", "LOOPS_PROGRAMS": str(folder)}, check=False)
     return " ".join(done.stdout.split()), done.stderr, done.returncode
 
 
@@ -79,11 +101,13 @@ def by_hand(folder: Path | str) -> Results:
     for name, output in (("gain", GAIN), ("replay", RUN), ("why", WHY)):
         stub(folder, name, output)
     for words, ending, status in (([], "", 0), (["--max-lost", "20", "--min-gain", "1.2"], " Within the limits.", 0),
-                                  (["--max-lost", "19"], " Past the limits: 20.0 % of the steps are lost, more than 19 %.", 5),
+                                  (["--max-lost", "19"], " Past the limits: 20.0 % of the steps are lost, more than 19 "
+                                                         "%.", 5),
                                   (["--min-gain", "1.5"], " Past the limits: it gains 1.20, less than 1.50.", 5)):
         got = verdict(folder, image, "--cores", "2", *words)
         yield f"the verdict {words}", None if got == (SAID + ending, "", status) else f"got {got}"
-    stub(folder, "gain", GAIN.replace(ONE.format("caches"), "store caches cores 1 full\n").replace("gain 1.20", "gain -"))
+    stub(folder, "gain",
+         GAIN.replace(ONE.format("caches"), "store caches cores 1 full\n").replace("gain 1.20", "gain -"))
     got = verdict(folder, image, "--cores", "2", "--min-gain", "1.5")
     yield "full on one core", None if "so what it gains isn't known" in got[0] and got[2] == 5 else f"got {got}"
     stub(folder, "gain", GAIN.replace(TWO.format("caches"), "store caches cores 2 full\n"))
@@ -94,14 +118,17 @@ def by_hand(folder: Path | str) -> Results:
     yield "a refused image", None if got == ("", "image 3 BadSize\n", 2) else f"got {got}"
     for fault, where in FAULTS.items():
         stub(folder, "gain", GAIN)
-        stub(folder, "replay", RUN.replace("end done 2", f"end fault 1 {fault}").replace("1 commit\n", f"1 fault {fault}\n"), status=1)
+        stub(folder, "replay",
+             RUN.replace("end done 2", f"end fault 1 {fault}").replace("1 commit\n", f"1 fault {fault}\n"), status=1)
         got = verdict(folder, image, "--cores", "2", "--min-gain", "1")
-        said = f"waits ends in a fault: end fault 1 {fault.split()[0]}: epoch 1 stops {where} What it would gain isn't told."
+        said = (f"waits ends in a fault: end fault 1 {fault.split()[0]}: epoch 1 stops {where} What it would gain "
+                "isn't told.")
         yield f"a fault {fault}", None if got == (said, "", 6) else f"got {got}"
     stub(folder, "replay", RUN)
     stub(folder, "gain", GAIN.replace("steps 10 gain 1.20", "steps 15 gain 0.80"))
     got = verdict(folder, image, "--cores", "2")
-    said = "waits loses on 2 cores at even speed, a gain of 0.80: 15 steps in place of 12. Over a plain store of bytes it loses, a gain of 0.80."
+    said = ("waits loses on 2 cores at even speed, a gain of 0.80: 15 steps in place of 12. Over a plain store of "
+            "bytes it loses, a gain of 0.80.")
     yield "a loss", None if got[0].startswith(said) and got[1:] == ("", 0) else f"got {got}"
     got = verdict(folder, Path(folder, "none.image"))
     yield "no image", None if got[0] == "" and got[1].startswith("verdict: ") and got[2] == 2 else f"got {got}"
@@ -113,7 +140,8 @@ def line_of(text: str, words: str) -> int:
 
 def compiled(folder: Path | str, source: Path, compiler: str, *words: str) -> Path | None:
     """The image of a source with lines, or None where something isn't installed."""
-    done = subprocess.run([ROOT / "tools" / "image-of", "--compiler", compiler, "-g", *words, source], capture_output=True, text=True, check=False)
+    done = subprocess.run([ROOT / "tools" / "image-of", "--compiler", compiler, "-g", *words, source],
+                          capture_output=True, text=True, check=False)
     if done.returncode:
         return None
     path = Path(folder, f"{source.stem}.image")
@@ -122,24 +150,29 @@ def compiled(folder: Path | str, source: Path, compiler: str, *words: str) -> Pa
 
 
 def hidden(folder: Path | str) -> Results:
-    """What holds a loop back is told first, at its line and its byte, though its epochs wait for the caches in most of their steps."""
+    """What holds a loop back is told first, at its line and its byte, though its epochs wait for the caches in most of
+    their steps."""
     for compiler in ("gcc", "clang"):
         for name, (place, store, load) in HIDDEN.items():
             source = ROOT / "tests" / "verdicts" / f"{name}.c"
             image, text = compiled(folder, source, compiler), source.read_text()
             if image is None:
-                print(f"left out: the verdicts on loops of tests/verdicts by {compiler}, since tools/image-of lacks something")
+                print(f"left out: verdicts on tests/verdicts by {compiler}, since tools/image-of lacks something")
                 break
             got = verdict(folder, image)
             first = f"hits the load at {name}.c:{line_of(text, load)} at {place}: it usually helps to"
-            pattern = (rf"What holds it back over a plain store already: \d+ rollbacks?,? [^.]*lost [\d,]+ instructions\. [\d,]+ instructions where the store at "
+            pattern = (r"What holds it back over a plain store already: \d+ rollbacks?,? [^.]*lost [\d,]+ "
+                       r"instructions\. [\d,]+ instructions where the store at "
                        rf"{name}\.c:{line_of(text, store)} {re.escape(first)}")
-            ways = "What the caches add: " in got[0] and "wait for a way in a full set" in got[0].partition("What the caches add: ")[2]
-            yield f"the verdict on {name} by {compiler}", None if re.search(pattern, got[0]) and ways and got[1:] == ("", 0) else f"got {got}"
+            ways = ("What the caches add: " in got[0]
+                    and "wait for a way in a full set" in got[0].partition("What the caches add: ")[2])
+            yield (f"the verdict on {name} by {compiler}", None if re.search(pattern, got[0]) and ways
+                   and got[1:] == ("", 0) else f"got {got}")
 
 
 def chunks(folder: Path | str) -> Results:
-    """Neighbours of an array that share lines: so many iterations an epoch are proposed, and with the words of image-of measured."""
+    """Neighbours of an array that share lines: so many iterations an epoch are proposed, and with the words of image-of
+    measured."""
     source = Path(folder, "neighbours.c")
     source.write_text(NEIGHBOURS)
     for compiler in ("gcc", "clang"):
@@ -148,9 +181,11 @@ def chunks(folder: Path | str) -> Results:
         if image is None:
             print(f"left out: the verdict on neighbours by {compiler}, since tools/image-of lacks something")
             continue
-        proposed = "were lost where epochs use neighbours in out, 4 bytes apart, that share lines of 16 bytes: it usually helps to give an epoch 4 iterations, as image-of --chunk 4 does"
+        proposed = ("were lost where epochs use neighbours in out, 4 bytes apart, that share lines of 16 bytes: it "
+                    "usually helps to give an epoch 4 iterations, as image-of --chunk 4 does")
         got = verdict(folder, image)
-        yield f"a chunk is proposed by {compiler}", None if f"{proposed}; behind -- the words" in got[0] and got[1:] == ("", 0) else f"got {got}"
+        yield (f"a chunk is proposed by {compiler}", None if f"{proposed}; behind -- the words" in got[0]
+               and got[1:] == ("", 0) else f"got {got}")
         got = verdict(folder, image, "--", "--compiler", compiler, *words, source)
         found = re.search(rf"{proposed}\. Measured so, it takes ([\d,]+) steps and not ([\d,]+), a gain of", got[0])
         chunked, alone = [int(one.replace(",", "")) for one in found.groups()] if found else (1, 1)
@@ -177,11 +212,14 @@ def examples(folder: Path | str, command: list[str]) -> Results:
     for name, wanted in EXAMPLES.items():
         got = verdict(folder, ROOT / "examples" / f"{name}.image")
         missing = [words for words in wanted if words not in got[0]]
-        yield f"the verdict on {name}", None if not missing and got[1:] == ("", 0) else f"got {got}, which lacks {missing}"
+        yield (f"the verdict on {name}", None if not missing and got[1:] == ("", 0)
+               else f"got {got}, which lacks {missing}")
     got = verdict(folder, ROOT / "examples" / "own_counters.image", "--min-gain", "2")
-    yield "past the least gain", None if got[2] == 5 and got[0].endswith("it gains 1.08, less than 2.00.") else f"got {got}"
+    yield ("past the least gain", None if got[2] == 5 and got[0].endswith("it gains 1.08, less than 2.00.")
+           else f"got {got}")
     got = verdict(folder, ROOT / "examples" / "fault.image")
-    wanted = "fault ends in a fault: end fault 3 2: epoch 3 stops at 00000008, with cause 2, ECALL or EBREAK. What it would gain isn't told."
+    wanted = ("fault ends in a fault: end fault 3 2: epoch 3 stops at 00000008, with cause 2, ECALL or EBREAK. What it "
+              "would gain isn't told.")
     yield "the verdict on fault", None if got == (wanted, "", 6) else f"got {got}"
     yield from hidden(folder)
     yield from chunks(folder)
@@ -191,10 +229,12 @@ def examples(folder: Path | str, command: list[str]) -> Results:
         print("left out: lines of the source, since tools/image-of lacks something")
         return
     image.write_text(made.stdout)
-    stores, loads = (next(number for number, text in enumerate(source.read_text().splitlines(), 1) if text.strip().startswith(begin))
+    stores, loads = (next(number for number, text in enumerate(source.read_text().splitlines(), 1)
+                          if text.strip().startswith(begin))
                      for begin in ("counter[epoch", "unsigned old"))
     got = verdict(folder, image)
-    yield "the lines of the source", None if f"the store at own_counters.c:{stores} hits the load at own_counters.c:{loads}" in got[0] else f"got {got}"
+    yield ("the lines of the source", None if f"the store at own_counters.c:{stores} hits the load at "
+                                              f"own_counters.c:{loads}" in got[0] else f"got {got}")
 
 
 def main() -> int:

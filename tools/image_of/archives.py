@@ -1,4 +1,5 @@
-"""Archives: the members that a linker may take, read by the archive's own index. The form is that of System V and GNU, as `ar` and `llvm-ar` write it."""
+"""Archives: the members that a linker may take, read by the archive's own index. The form is that of System V and GNU,
+as `ar` and `llvm-ar` write it."""
 
 import struct
 from collections.abc import Iterator
@@ -39,7 +40,8 @@ class Archive:
                 place += HEAD + size + size % 2
             if not self.places and place < self.length:
                 raise Refused(f"{path}: is an archive without an index; make one, as by riscv64-unknown-elf-ranlib")
-            self.members = [(self.name_of(name), size, file.read(ELF_HEADER)) for place in sorted(set(self.places)) for name, size in [self.head(file, place)]]
+            self.members = [(self.name_of(name), size, file.read(ELF_HEADER)) for place in sorted(set(self.places))
+                            for name, size in [self.head(file, place)]]
 
     def damaged(self, why: str) -> Refused:
         return Refused(f"{self.path}: is a damaged archive: {why}")

@@ -22,15 +22,20 @@ from .start import Start
 Answer = TypeVar("Answer")
 
 COMMON = ["-march=rv32i", "-mabi=ilp32"]
-FLAGS = ["-Wall", "-Wextra", "-ffreestanding", "-fno-pic", "-fno-common", "-fno-asynchronous-unwind-tables", "-fomit-frame-pointer",
+FLAGS = ["-Wall", "-Wextra", "-ffreestanding", "-fno-pic", "-fno-common", "-fno-asynchronous-unwind-tables",
+         "-fomit-frame-pointer",
          "-ffunction-sections", "-msmall-data-limit=0", "-mno-save-restore", "-fno-stack-protector", "-fstack-usage"]
-# What each language takes, by the ending of a file's name. LLVM IR is compiled, but has no language left that would take flags of its own.
+# What each language takes, by the ending of a file's name. LLVM IR is compiled, but has no language left that would
+# take flags of its own.
 LANGUAGES = {
-    "c": ["-std=c11", *FLAGS], "c++": ["-std=c++17", "-fno-exceptions", "-fno-rtti", "-fno-threadsafe-statics", "-fno-use-cxa-atexit", *FLAGS],
-    "assembly": [], "llvm": ["-ffunction-sections", "-fomit-frame-pointer", "-msmall-data-limit=0", "-fno-pic", "-fstack-usage"],
+    "c": ["-std=c11", *FLAGS], "c++": ["-std=c++17", "-fno-exceptions", "-fno-rtti", "-fno-threadsafe-statics",
+                                       "-fno-use-cxa-atexit", *FLAGS],
+    "assembly": [], "llvm": ["-ffunction-sections", "-fomit-frame-pointer", "-msmall-data-limit=0", "-fno-pic",
+                             "-fstack-usage"],
 }
 ENDINGS = {
-    ".c": "c", ".cc": "c++", ".cpp": "c++", ".cxx": "c++", ".c++": "c++", ".C": "c++", ".s": "assembly", ".S": "assembly", ".ll": "llvm", ".bc": "llvm",
+    ".c": "c", ".cc": "c++", ".cpp": "c++", ".cxx": "c++", ".c++": "c++", ".C": "c++", ".s": "assembly",
+    ".S": "assembly", ".ll": "llvm", ".bc": "llvm",
 }
 REMARK = {"c": "//", "c++": "//", "assembly": "#", "llvm": ";"}
 TRUNCATED = 2000
@@ -39,7 +44,8 @@ TRUNCATED = 2000
 class Compiler:
     """A compiler with its linker and its tools: the words that each call begins with."""
 
-    def __init__(self, package: str, compiler: list[str], own: list[str], linker: list[str], lister: list[str], no_stack: list[str]):
+    def __init__(self, package: str, compiler: list[str], own: list[str], linker: list[str], lister: list[str],
+                 no_stack: list[str]):
         self.package, self.compiler, self.own = package, compiler, own
         self.linker, self.lister = linker, lister
         # what lets a function without a stack use more registers
@@ -56,7 +62,8 @@ class Compiler:
 
 COMPILERS = {
     "gcc": Compiler(
-        "gcc-riscv64-unknown-elf", ["riscv64-unknown-elf-gcc"], ["-fno-toplevel-reorder", "-fno-tree-loop-distribute-patterns"],
+        "gcc-riscv64-unknown-elf", ["riscv64-unknown-elf-gcc"],
+        ["-fno-toplevel-reorder", "-fno-tree-loop-distribute-patterns"],
         ["riscv64-unknown-elf-ld", "--no-warn-rwx-segments"], ["riscv64-unknown-elf-objdump"],
         ["-ffixed-s0"] + [f"-fcall-used-s{i}" for i in range(1, 12)]),
     "clang": Compiler(
@@ -77,7 +84,8 @@ SECTIONS
   .rela.dyn : {{ *(.rela.dyn) }}
   . = ALIGN(16);
 {heap}  top_of_data = .;
-  /DISCARD/ : {{ *(.comment) *(.riscv.attributes) *(.note .note.*) *(.eh_frame) *(.eh_frame_hdr) *(.gcc_except_table .gcc_except_table.*) }}
+  /DISCARD/ : {{ *(.comment) *(.riscv.attributes) *(.note .note.*) *(.eh_frame) *(.eh_frame_hdr)
+                *(.gcc_except_table .gcc_except_table.*) }}
 }}
 """
 # Where picolibc's malloc takes its memory
@@ -93,7 +101,8 @@ class Library:
     """A C library of Debian's, built for RV32I: its headers and its archive."""
 
     def __init__(self, package: str, folder: str):
-        self.package, self.headers, self.archive = package, Path(folder, "include"), Path(folder, "lib/rv32i/ilp32/libc.a")
+        self.package, self.headers, self.archive = (package, Path(folder, "include"),
+                                                    Path(folder, "lib/rv32i/ilp32/libc.a"))
 
 
 LIBRARIES = {"picolibc": Library("picolibc-riscv64-unknown-elf", "/usr/lib/picolibc/riscv64-unknown-elf")}
@@ -102,14 +111,16 @@ OF_GCC = ("riscv64-unknown-elf-gcc", "/usr/lib/gcc/riscv64-unknown-elf", "*/rv32
 
 
 def run(words: Sequence[str | Path]) -> tuple[int, str]:
-    """Runs a tool; answers its status and what it says on standard error. A file that grows too large refuses the program, and so does a tool that doesn't end."""
+    """Runs a tool; answers its status and what it says on standard error. A file that grows too large refuses the
+    program, and so does a tool that doesn't end."""
     try:
         done = subprocess.run([str(one) for one in words], capture_output=True, preexec_fn=limit_tool, check=False)
     except FileNotFoundError:
         raise Refused(f"{words[0]} is not installed") from None
     errors = done.stderr.decode("utf-8", "replace").rstrip()
     if done.returncode and "File too large" in errors:
-        raise Refused(f"{Path(words[0]).name} would write more than {LARGEST_FILE} bytes: code and variables are far larger than memory can be")
+        raise Refused(f"{Path(words[0]).name} would write more than {LARGEST_FILE} bytes: code and variables are far "
+                      "larger than memory can be")
     if done.returncode == -signal.SIGXCPU:
         raise Refused(f"{Path(words[0]).name} takes more than {TOOL_SECONDS} s of the processor")
     return done.returncode, errors
@@ -130,7 +141,8 @@ def kind_of(path: Path) -> str:
     if head[:2] == b"BC":
         return "llvm"
     if path.suffix not in ENDINGS:
-        raise Refused(f"{path}: is neither an ELF file nor an archive, and its name doesn't end like that of a source: {', '.join(sorted(ENDINGS))}")
+        raise Refused(f"{path}: is neither an ELF file nor an archive, and its name doesn't end like that of a source: "
+                      f"{', '.join(sorted(ENDINGS))}")
     return ENDINGS[path.suffix]
 
 
@@ -151,7 +163,8 @@ def check_llvm(source: Path) -> None:
     """Refuses LLVM IR that was made for another machine: its layout of types is another one."""
     told = re.search(r'(?m)^target triple = "([^"]*)"', text_of(source))
     if told and not told[1].startswith("riscv32"):
-        raise Refused(f"{source}: is LLVM IR for {told[1]}; make it for RV32I, by clang --target=riscv32-unknown-elf -march=rv32i -S -emit-llvm")
+        raise Refused(f"{source}: is LLVM IR for {told[1]}; make it for RV32I, by clang --target=riscv32-unknown-elf "
+                      "-march=rv32i -S -emit-llvm")
 
 
 # --- Compiling and linking ---------------------------------------------------
@@ -163,7 +176,8 @@ def further_flags(options: Namespace, language: str) -> list[str]:
     elif language == "llvm":
         given = []
     else:
-        given = [f"-D{name}" for name in options.define] + [f"-I{folder}" for folder in options.include] + options.cflags
+        given = ([f"-D{name}" for name in options.define]
+                 + [f"-I{folder}" for folder in options.include] + options.cflags)
     level = [] if language == "assembly" else [f"-O{options.optimize}"]
     return level + (["-g"] if options.g else []) + given
 
@@ -178,7 +192,8 @@ def made_with(options: Namespace) -> str:
 
 
 def words_of(source: Path, kind: str, options: Namespace) -> list[str]:
-    """How the compiler is called for a source. What lies beside the entry may be another's, and isn't looked at as closely."""
+    """How the compiler is called for a source. What lies beside the entry may be another's, and isn't looked at as
+    closely."""
     own = options.tools.words(kind)
     if kind in ("c", "c++") and not re.search(rf"\b{re.escape(options.entry)}\s*\(", text_of(source)):
         own = [one for one in own if one != "-Wextra"]
@@ -194,10 +209,13 @@ def compiled(source: Path, kind: str, number: int, options: Namespace, directory
     convention = [] if options.stack or kind in ("assembly", "llvm") else options.tools.no_stack
     strict = ["-Werror=override-module"] if kind == "llvm" and not text_of(source) else []
     # the assembler's preprocessor alone knows -D
-    language = ["-x", "assembler-with-cpp"] if kind == "assembly" and (source.suffix == ".S" or options.define or options.include) else []
-    status, errors = run([*words_of(source, kind, options), *convention, *strict, *further_flags(options, kind), *language, "-c", "-o", made, source])
+    language = (["-x", "assembler-with-cpp"] if kind == "assembly" and (source.suffix == ".S" or options.define
+                                                                        or options.include) else [])
+    status, errors = run([*words_of(source, kind, options), *convention, *strict, *further_flags(options, kind),
+                          *language, "-c", "-o", made, source])
     if status and "override-module" in errors:
-        raise Refused(f"{source}: is LLVM bitcode for another machine; make it for RV32I, by clang --target=riscv32-unknown-elf -march=rv32i -c -emit-llvm")
+        raise Refused(f"{source}: is LLVM bitcode for another machine; make it for RV32I, by clang "
+                      "--target=riscv32-unknown-elf -march=rv32i -c -emit-llvm")
     if status:
         raise Refused(refusal_of(errors))
     if errors:
@@ -208,17 +226,20 @@ def compiled(source: Path, kind: str, number: int, options: Namespace, directory
 
 
 def check_frames(usage: Path, options: Namespace) -> None:
-    """Refuses a function whose frame is larger than a slot, and warns of one whose frame grows as it runs. The compiler's figures count saved registers too."""
+    """Refuses a function whose frame is larger than a slot, and warns of one whose frame grows as it runs. The
+    compiler's figures count saved registers too."""
     stack = options.stack
     for told in usage.read_text().splitlines() if usage.is_file() else []:
         place, taken, kind = told.rsplit("\t", 2)
         name = word(place.rsplit(":", 1)[1])
         if kind == "dynamic":
-            print(f"{options.program}: warning: the frame of {name} has no fixed size, as of an array of variable length: that it stays within the slot of {stack} bytes "
+            print(f"{options.program}: warning: the frame of {name} has no fixed size, as of an array of variable "
+                  f"length: that it stays within the slot of {stack} bytes "
                   "isn't checked", file=sys.stderr)
         if int(taken) > stack and name != options.setup:
             enough = 1 << (int(taken) - 1).bit_length()
-            raise Refused(f"the frame of {name} takes {taken} bytes, more than its slot of {stack}; give --stack {enough} or more")
+            raise Refused(f"the frame of {name} takes {taken} bytes, more than its slot of {stack}; give --stack "
+                          f"{enough} or more")
 
 
 def start_code(start: Start, options: Namespace, directory: str) -> Path:
@@ -243,26 +264,33 @@ def libgcc() -> list[Path]:
 
 def undefined(errors: str) -> list[str]:
     """The names that a linker misses."""
-    return sorted(set(re.findall(r"undefined reference to `([^']+)'", errors)) | set(re.findall(r"undefined symbol: (\S+)", errors)))
+    return sorted(set(re.findall(r"undefined reference to `([^']+)'",
+                                 errors)) | set(re.findall(r"undefined symbol: (\S+)", errors)))
 
 
 def linked(objects: list[Path], options: Namespace, directory: str) -> Program:
-    """The program linked at address 0. What the compiler calls comes from its own library, where the inputs don't define it."""
+    """The program linked at address 0. What the compiler calls comes from its own library, where the inputs don't
+    define it."""
     script, made = Path(directory, "link.ld"), Path(directory, "body.elf")
-    script.write_text(LINKER_SCRIPT.format(entry=options.entry, heap=HEAP.format(options.heap) if options.heap else ""), encoding="utf-8")
-    archives = [one for one, kind in options.inputs if kind == "archive"] + ([LIBRARIES[options.libc].archive] if options.libc else [])
+    script.write_text(LINKER_SCRIPT.format(entry=options.entry, heap=HEAP.format(options.heap) if options.heap else ""),
+                      encoding="utf-8")
+    archives = ([one for one, kind in options.inputs if kind == "archive"]
+                + ([LIBRARIES[options.libc].archive] if options.libc else []))
     # compressed jumps are none of the machine's, and a linker that relaxes objects of such a kind makes some
     compressed = any(Opened(one).header.flags & COMPRESSED for one in objects)
-    command = [*options.tools.linker, "-m", "elf32lriscv", *(["--no-relax"] if compressed else []), "-T", script, "-o", made]
+    command = [*options.tools.linker, "-m", "elf32lriscv", *(["--no-relax"] if compressed else []), "-T", script, "-o",
+               made]
 
     def link(given: list[Path]) -> tuple[int, str]:
-        return run([*command, *(["-u", options.entry, "--start-group", *objects, *given, "--end-group"] if given else objects)])
+        return run([*command, *(["-u", options.entry, "--start-group", *objects, *given, "--end-group"] if given
+                                else objects)])
 
     status, errors = link(archives)
     if undefined(errors) and libgcc():
         status, errors = link(archives + libgcc())
     if undefined(errors):
-        raise Refused(missing([word(name) for name in undefined(errors)], options.entry, options.exit, bool(options.libc)))
+        raise Refused(missing([word(name) for name in undefined(errors)], options.entry, options.exit,
+                              bool(options.libc)))
     if status:
         raise Refused("the linker refuses the program:\n" + errors[:TRUNCATED])
     program = Program(made)
@@ -274,9 +302,11 @@ def linked(objects: list[Path], options: Namespace, directory: str) -> Program:
 def no_entry(program: Program, options: Namespace) -> str:
     """Why there is no entry, with the functions that are there."""
     reason = missing([options.entry], options.entry, options.exit, bool(options.libc))
-    mangled = next((name for name in program.functions() if re.match(rf"_Z{len(options.entry)}{options.entry}\w*$", name)), None)
+    mangled = next((name for name in program.functions() if re.match(rf"_Z{len(options.entry)}{options.entry}\w*$",
+                                                                     name)), None)
     if mangled:
-        return f'{reason}\nthere is the C++ function {mangled}; write extern "C" before its definition, or give --entry {mangled}'
+        return (f'{reason}\nthere is the C++ function {mangled}; write extern "C" before its definition, or give '
+                f'--entry {mangled}')
     there = ", ".join(program.functions()[:8])
     return f"{reason}\nthe global functions are: {there}" if there else reason
 
@@ -285,7 +315,8 @@ def check_sizes(objects: list[Path]) -> None:
     """Refuses objects that are far larger than memory, before anything is linked."""
     need = sum(one.size for path in objects for one in Opened(path).placed())
     if need > LARGEST_FILE:
-        raise Refused(f"code and variables need {need} bytes, more than memory can have: 65536, with --version 2 1048576")
+        raise Refused(f"code and variables need {need} bytes, more than memory can have: 65536, with --version 2 "
+                      "1048576")
 
 
 def program_of(options: Namespace, directory: str) -> Program:
@@ -318,7 +349,8 @@ def tools_of(compiler: str | None, kinds: set[str]) -> Compiler:
     for name in names:
         if COMPILERS[name].is_there():
             return COMPILERS[name]
-    raise Refused("no compiler is installed; install the Debian packages " + ", or ".join(COMPILERS[name].package for name in names))
+    raise Refused("no compiler is installed; install the Debian packages "
+                  + ", or ".join(COMPILERS[name].package for name in names))
 
 
 def with_program(options: Namespace, work: Callable[[Program], Answer]) -> Answer:

@@ -51,7 +51,8 @@ def reading(path: Path, what: str) -> Iterator[None]:
     except (Refused, OSError):
         raise
     except Exception as wrong:      # pyelftools raises whatever its parsers meet
-        raise Refused(f"{path}: is a damaged or truncated ELF file: {what} can't be read ({type(wrong).__name__}: {wrong})") from None
+        raise Refused(f"{path}: is a damaged or truncated ELF file: {what} can't be read ({type(wrong).__name__}: "
+                      f"{wrong})") from None
 
 
 @dataclass(frozen=True)
@@ -69,7 +70,8 @@ def header_of(path: Path | str, data: bytes) -> Header:
     form = HEADER.get(data[4] if len(data) > 4 else 0)
     if data[:4] != b"\x7fELF" or form is None or len(data) < struct.calcsize(form) or data[5] not in (1, 2):
         raise Refused(f"{path}: is a damaged or truncated ELF file: its header can't be read")
-    _, bits, order, _, kind, machine, _, _, _, _, flags, *_ = struct.unpack_from(form if data[5] == 1 else ">" + form[1:], data)
+    form = form if data[5] == 1 else ">" + form[1:]
+    _, bits, order, _, kind, machine, _, _, _, _, flags, *_ = struct.unpack_from(form, data)
     return Header(32 * bits, order == 1, kind, machine, flags)
 
 
@@ -82,13 +84,15 @@ def named(names: dict[str, int], number: int) -> str:
 def check_target(path: Path | str, header: Header) -> None:
     """Refuses what isn't code for 32-bit RISC-V that the machine can run."""
     if header.machine != RISCV:
-        raise Refused(f"{path}: is for the machine {named(ENUM_E_MACHINE, header.machine).lower()}, not for RISC-V; compile it with {FLAGS_OF_OBJECTS}")
+        raise Refused(f"{path}: is for the machine {named(ENUM_E_MACHINE, header.machine).lower()}, not for RISC-V; "
+                      f"compile it with {FLAGS_OF_OBJECTS}")
     if header.bits != 32:
         raise Refused(f"{path}: is for RISC-V of {header.bits} bits; compile it with {FLAGS_OF_OBJECTS}")
     if not header.little:
         raise Refused(f"{path}: is big-endian; compile it little-endian, with {FLAGS_OF_OBJECTS}")
     if header.flags & FLOAT_ABI:
-        raise Refused(f"{path}: passes numbers in floating-point registers (ABI {FLOAT_ABIS[header.flags & FLOAT_ABI]}); compile it with {FLAGS_OF_OBJECTS}")
+        raise Refused(f"{path}: passes numbers in floating-point registers (ABI "
+                      f"{FLOAT_ABIS[header.flags & FLOAT_ABI]}); compile it with {FLAGS_OF_OBJECTS}")
     if header.flags & EMBEDDED:
         raise Refused(f"{path}: is for the registers of RV32E; compile it with {FLAGS_OF_OBJECTS}")
 
@@ -144,7 +148,8 @@ def bytes_at(path: Path, offset: int, length: int) -> bytes:
 
 
 def section_of(path: Path, one: Any) -> Section:
-    return Section(path, one.name, str(one["sh_type"]), one["sh_flags"], one["sh_addr"], one["sh_offset"], one["sh_size"])
+    return Section(path, one.name, str(one["sh_type"]), one["sh_flags"], one["sh_addr"], one["sh_offset"],
+                   one["sh_size"])
 
 
 class Opened:
@@ -156,22 +161,28 @@ class Opened:
             self.header = header_of(path, file.read(64))
             elf = ELFFile(file)
             self.sections = [section_of(path, one) for one in elf.iter_sections() if one["sh_type"] != "SHT_NULL"]
-            self.segments = [Segment(one["p_vaddr"], one["p_memsz"], one["p_offset"], one["p_filesz"]) for one in elf.iter_segments() if one["p_type"] == "PT_LOAD"]
-            self.tables = [(0, elf["e_ehsize"]), (elf["e_phoff"], elf["e_phnum"] * elf["e_phentsize"]), (elf["e_shoff"], elf["e_shnum"] * elf["e_shentsize"])]
-            ends = [one["p_offset"] + one["p_filesz"] for one in elf.iter_segments()] + [first + length for first, length in self.tables]
+            self.segments = [Segment(one["p_vaddr"], one["p_memsz"], one["p_offset"], one["p_filesz"])
+                             for one in elf.iter_segments() if one["p_type"] == "PT_LOAD"]
+            self.tables = [(0, elf["e_ehsize"]), (elf["e_phoff"], elf["e_phnum"] * elf["e_phentsize"]),
+                           (elf["e_shoff"], elf["e_shnum"] * elf["e_shentsize"])]
+            ends = ([one["p_offset"] + one["p_filesz"] for one in elf.iter_segments()]
+                    + [first + length for first, length in self.tables])
             self.check_length(max([*ends, *(one.offset + one.size for one in self.sections if one.in_file)]))
             table = elf.get_section_by_name(".symtab")
-            self.symbols = [Symbol(one.name, one["st_value"], one["st_size"], str(one["st_info"]["type"]), one["st_info"]["bind"] == "STB_LOCAL")
+            self.symbols = [Symbol(one.name, one["st_value"], one["st_size"], str(one["st_info"]["type"]),
+                                   one["st_info"]["bind"] == "STB_LOCAL")
                             for one in (table.iter_symbols() if table else []) if one["st_shndx"] != "SHN_UNDEF"]
 
     def check_length(self, end: int) -> None:
         length = self.path.stat().st_size
         if end > length:
-            raise Refused(f"{self.path}: is a truncated ELF file: its sections end at {end}, and the file has {length} bytes")
+            raise Refused(f"{self.path}: is a truncated ELF file: its sections end at {end}, and the file has {length} "
+                          "bytes")
 
     def placed(self, flag: int = ALLOCATED) -> list[Section]:
         """The sections that are in memory, or those of them that are writable or executable; in order of address."""
-        return sorted((one for one in self.sections if one.flags & ALLOCATED and one.flags & flag and one.size), key=lambda one: one.address)
+        return sorted((one for one in self.sections if one.flags & ALLOCATED and one.flags & flag and one.size),
+                      key=lambda one: one.address)
 
 
 def is_linked(path: Path) -> bool:
@@ -180,7 +191,8 @@ def is_linked(path: Path) -> bool:
     check_target(path, header)
     kind = f"ET_{named(ENUM_E_TYPE, header.kind)}"
     if kind == "ET_DYN":
-        raise Refused(f"{path}: has relocations that are left to a loader (a shared object, or position-independent), and there is no loader; "
+        raise Refused(f"{path}: has relocations that are left to a loader (a shared object, or position-independent), "
+                      "and there is no loader; "
                       "link it with -static -no-pie, or give its objects")
     if kind not in ("ET_REL", "ET_EXEC"):
         raise Refused(f"{path}: is an ELF file of the type {kind}, neither an object nor a program")
@@ -203,9 +215,11 @@ class Program(Opened):
         return next((one.value for one in self.symbols if one.name == wanted), None)
 
     def variables(self, of_threads: int | None = None) -> list[tuple[int, str, int]]:
-        """Address, name and length of each variable and constant, in order. Values of thread_local ones count from an address."""
+        """Address, name and length of each variable and constant, in order. Values of thread_local ones count from an
+        address."""
         found = [(one.value, one.name, one.size) for one in self.symbols if one.kind == "STT_OBJECT"]
-        found += [(of_threads + one.value, one.name, one.size) for one in self.symbols if one.kind == "STT_TLS" and one.size and of_threads is not None]
+        found += [(of_threads + one.value, one.name, one.size) for one in self.symbols if one.kind == "STT_TLS"
+                  and one.size and of_threads is not None]
         return sorted(found)
 
     def functions(self) -> list[str]:
@@ -244,7 +258,8 @@ class Program(Opened):
 
     def place(self, pc: int, line: str | None) -> str:
         """Where an instruction is, for people: its function, its address, and the line of its source."""
-        below = [one for one in self.symbols if one.value <= pc and one.name and not one.name.startswith(("$", ".L")) and one.kind in ("STT_FUNC", "STT_NOTYPE")]
+        below = [one for one in self.symbols if one.value <= pc and one.name and not one.name.startswith(("$", ".L"))
+                 and one.kind in ("STT_FUNC", "STT_NOTYPE")]
         near = max(below, key=lambda one: (one.value, one.kind == "STT_FUNC"), default=None)
         named_so = f"{word(near.name)}+{pc - near.value}, " if near else ""
         return f"{named_so}address {pc:08x}" + (f", {line}" if line else "")
@@ -271,13 +286,16 @@ class Program(Opened):
             raise Refused(f"{self.path}: the sections {', '.join(packed)} are compressed, and nothing unpacks them")
 
     def check_segments(self) -> None:
-        """Refuses a program whose sections and segments say different bytes of memory. Its sections are small enough to be read."""
+        """Refuses a program whose sections and segments say different bytes of memory. Its sections are small enough to
+        be read."""
         for section in self.placed():
             if section.flags & THREADS and not section.in_file:
                 continue            # it takes no memory of the program's
-            segment = next((one for one in self.segments if one.address <= section.address and section.end <= one.address + one.length), None)
+            segment = next((one for one in self.segments if one.address <= section.address
+                            and section.end <= one.address + one.length), None)
             if segment is None or self.loaded(segment, section.address, section.size) != section.data():
-                raise Refused(f"{self.path}: is a damaged ELF file: its segments say other bytes at {section.address:08x} than its section {word(section.name)}")
+                raise Refused(f"{self.path}: is a damaged ELF file: its segments say other bytes at "
+                              f"{section.address:08x} than its section {word(section.name)}")
         for segment in self.segments:
             self.check_whole(segment)
 
@@ -289,11 +307,13 @@ class Program(Opened):
 
     def check_whole(self, segment: Segment) -> None:
         """Refuses bytes of a segment that are in no section, but for the file's own tables and for zeros."""
-        taken = [(one.offset, one.offset + one.size) for one in self.placed() if one.in_file] + [(first, first + length) for first, length in self.tables]
+        taken = ([(one.offset, one.offset + one.size) for one in self.placed() if one.in_file]
+                 + [(first, first + length) for first, length in self.tables])
         place, end = segment.offset, segment.offset + segment.in_file
         for first, last in sorted(taken) + [(end, end)]:
             if place < min(first, end) and any(bytes_at(self.path, place, min(first, end) - place)):
-                raise Refused(f"{self.path}: is a damaged ELF file: bytes at {segment.address + place - segment.offset:08x} are in a segment and in no section")
+                raise Refused(f"{self.path}: is a damaged ELF file: bytes at "
+                              f"{segment.address + place - segment.offset:08x} are in a segment and in no section")
             place = max(place, last)
 
 

@@ -27,7 +27,8 @@ def taken() -> int:
 
 @contextmanager
 def bounded(seconds: float | None = None) -> Iterator[None]:
-    """Raises TooLong after so many seconds of the processor, and MemoryError where more memory is asked for than MEMORY."""
+    """Raises TooLong after so many seconds of the processor, and MemoryError where more memory is asked for than
+    MEMORY."""
     def ended(_number: int, _frame: FrameType | None) -> None:
         raise TooLong(f"takes more than {seconds or SECONDS:g} s of the processor")
 
@@ -49,8 +50,8 @@ def bounded(seconds: float | None = None) -> Iterator[None]:
 
 
 def limit_tool() -> None:
-    """Lets this process, one that is about to become a compiler or a linker, write no file larger than LARGEST_FILE, of which it is told that it is too large, and
-    ends it after TOOL_SECONDS."""
+    """Lets this process, one that is about to become a compiler or a linker, write no file larger than LARGEST_FILE, of
+    which it is told that it is too large, and ends it after TOOL_SECONDS."""
     for kind, least in ((resource.RLIMIT_FSIZE, LARGEST_FILE), (resource.RLIMIT_CPU, TOOL_SECONDS)):
         now, most = resource.getrlimit(kind)
         resource.setrlimit(kind, (least if now == resource.RLIM_INFINITY else min(least, now), most))

@@ -87,21 +87,25 @@ def functions_at(unit: Any, address: int) -> list[Function]:
         low = die.attributes.get("DW_AT_low_pc")
         if die.tag != "DW_TAG_subprogram" or low is None or low.value != address:
             continue
-        chain = [die] + [die.get_DIE_from_attribute(name) for name in ("DW_AT_specification", "DW_AT_abstract_origin") if name in die.attributes]
+        chain = ([die] + [die.get_DIE_from_attribute(name) for name in ("DW_AT_specification", "DW_AT_abstract_origin")
+                          if name in die.attributes])
         lines = [one.attributes["DW_AT_decl_line"].value for one in chain if "DW_AT_decl_line" in one.attributes]
-        names = {one.attributes[name].value.decode("utf-8", "replace") for one in chain for name in ("DW_AT_name", "DW_AT_linkage_name") if name in one.attributes}
+        names = {one.attributes[name].value.decode("utf-8", "replace") for one in chain
+                 for name in ("DW_AT_name", "DW_AT_linkage_name") if name in one.attributes}
         found.append(Function(lines[0] if lines else 0, names))
     return sorted(found, key=lambda one: one.line)
 
 
 def is_name(name: str, symbol: str) -> bool:
-    """Whether a symbol is a function's of this name: as it is, with an ending of the compiler's, or as C++ spells it."""
+    """Whether a symbol is a function's of this name: as it is, with an ending of the compiler's, or as C++ spells
+    it."""
     return symbol.partition(".")[0] == name or (symbol.startswith("_Z") and f"{len(name)}{name}" in symbol)
 
 
 def is_alive(program: Program, sequence: Sequence, others: int) -> bool:
-    """Whether a sequence is that of the code where it stands. What a linker has thrown away stands at 0 for GNU's, and code may be there too. Then the name of its
-    function tells, which is the last one that is declared above its first line; and where there is none, whether no other sequence is there."""
+    """Whether a sequence is that of the code where it stands. What a linker has thrown away stands at 0 for GNU's, and
+    code may be there too. Then the name of its function tells, which is the last one that is declared above its first
+    line; and where there is none, whether no other sequence is there."""
     if sequence.first != 0:
         return True
     line = next((int(told.rpartition(":")[2]) for _, told in sequence.rows if told), 0)
@@ -126,7 +130,8 @@ def read(program: Program) -> list[Sequence]:
             unit.structs.Dwarf_dw_form.setdefault("DW_FORM_data16", Array(16, ULInt8("")))
             table = dwarf.line_program_for_CU(unit)
             found += [one for one in (sequences_of(unit, table) if table else [])
-                      if one.is_ordered() and any(place.address <= one.first and one.end <= place.end for place in places)]
+                      if one.is_ordered() and any(place.address <= one.first and one.end <= place.end
+                                                  for place in places)]
         at_zero = sum(one.first == 0 for one in found)
         return [one for one in found if is_alive(program, one, at_zero - 1)]
 

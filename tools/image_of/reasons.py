@@ -24,19 +24,23 @@ EXTENSIONS = {
     "Zifencei": "code can't change, so it isn't needed; leave it out",
     "system": "there is no system to call; leave it out",
 }
-SPELLED = {"m": "M", "zmmul": "M", "a": "A", "f": "F", "d": "F", "c": "C", "v": "V", "zicsr": "Zicsr", "zifencei": "Zifencei"}
+SPELLED = {"m": "M", "zmmul": "M", "a": "A", "f": "F", "d": "F", "c": "C", "v": "V", "zicsr": "Zicsr",
+           "zifencei": "Zifencei"}
 
 
 def advice(name: str, entry: str, exits: bool, has_library: bool) -> str:
     """What to do about a name that nothing defines."""
     if name == entry:
-        return f"a source has to define {'unsigned' if exits else 'void'} {entry}(unsigned epoch)" + (
-            ", or with --exit unsigned body(unsigned epoch)" if entry == "body" and not exits else "") + "; --entry NAME names another function"
+        return (f"a source has to define {'unsigned' if exits else 'void'} {entry}(unsigned epoch)" + (
+            ", or with --exit unsigned body(unsigned epoch)" if entry == "body" and not exits else "")
+                + "; --entry NAME names another function")
     if re.fullmatch(FLOATING, name):
         return "the machine has no float or double; count in integers, as in hundredths"
     if re.fullmatch(r"__u?(mul|div|mod)\w*", name):
-        return ("RV32I has no multiplication or division, which an index into rows may need too; add --stack 64 and the source "
-                "tools/arithmetic.c" + (", and a division of 64 bits of your own" if re.match(r"__u?(div|mod)\w*di", name) else ""))
+        return ("RV32I has no multiplication or division, which an index into rows may need too; add --stack 64 and "
+                "the source "
+                "tools/arithmetic.c" + (", and a division of 64 bits of your own"
+                                        if re.match(r"__u?(div|mod)\w*di", name) else ""))
     if re.fullmatch(r"__(ashl|ashr|lshr)di3", name):
         return "RV32I has no 64-bit shift by a variable; add --stack 64 and the source tools/arithmetic.c"
     if name in ("__heap_start", "__heap_end"):
@@ -44,7 +48,8 @@ def advice(name: str, entry: str, exits: bool, has_library: bool) -> str:
     if has_library and (name in ("stdin", "stdout", "stderr") or re.fullmatch(SYSTEM, name)):
         return "there is no system to call; leave out what reads, writes or ends a program"
     if name in COPIES.split():
-        return ("there is no C library; the compiler calls some of these to copy or fill whole objects too; add --stack 64 and the source tools/memory.c, "
+        return ("there is no C library; the compiler calls some of these to copy or fill whole objects too; add "
+                "--stack 64 and the source tools/memory.c, "
                 "or --libc picolibc")
     if name in ("malloc", "free"):
         return "there is no C library; add --stack 64 and the source tools/allocator.c, or --libc picolibc --heap 4096"
@@ -52,7 +57,8 @@ def advice(name: str, entry: str, exits: bool, has_library: bool) -> str:
         return "there is no C++ library; do without exceptions, run-time types, new and delete"
     if re.match(r"__atomic_|__sync_", name):
         return "there are no atomics; epochs are ordered without them"
-    return "it isn't in the C library; define it in one of the sources" if has_library else "there is no C library; define it in one of the sources, or give --libc picolibc"
+    return ("it isn't in the C library; define it in one of the sources" if has_library
+            else "there is no C library; define it in one of the sources, or give --libc picolibc")
 
 
 def call_reason(names: list[str]) -> str:
@@ -60,9 +66,11 @@ def call_reason(names: list[str]) -> str:
     called = [name for name in names if re.fullmatch(r"__u?(mul|div|mod)\w*", name)]
     floats = [name for name in names if re.fullmatch(FLOATING, name)]
     if floats:
-        return f"it calls {', '.join(floats[:4])}, since the machine has no float or double: give --stack 256, or count in integers"
+        return (f"it calls {', '.join(floats[:4])}, since the machine has no float or double: give --stack 256, or "
+                "count in integers")
     if called:
-        return f"it calls {', '.join(called[:4])}, since RV32I has no multiplication or division, which an index into rows may need too: give --stack 64"
+        return (f"it calls {', '.join(called[:4])}, since RV32I has no multiplication or division, which an index into "
+                "rows may need too: give --stack 64")
     return ""
 
 
@@ -78,8 +86,10 @@ def refusal_of(errors: str) -> str:
     """Why a compiler refuses a source: a line of ours for what has one, above the compiler's own."""
     header = re.search(r"(\S+:\d+):.*?(?:'([^']+)' file not found|error: (\S+): No such file)", errors)
     if header:
-        return (f"{header[1]}: there is no header {header[2] or header[3]}, since there is no C library; of headers there are the "
-                "compiler's own, as stdint.h, stdbool.h, stddef.h and limits.h; -I names a folder of others, and --libc picolibc has those of a C library")
+        return (f"{header[1]}: there is no header {header[2] or header[3]}, since there is no C library; of headers "
+                "there are the "
+                "compiler's own, as stdint.h, stdbool.h, stddef.h and limits.h; -I names a folder of others, and "
+                "--libc picolibc has those of a C library")
     needed = re.search(r"(\S+?:\d+):.*?(?:extension [`'](\w+)'|requires the following: '(\w+)')", errors)
     extension = needed and SPELLED.get((needed[2] or needed[3]).lower())
     if extension:
@@ -90,5 +100,6 @@ def refusal_of(errors: str) -> str:
 def section_reason(name: str) -> str:
     """Why a section has no place."""
     if re.match(r"\.(pre)?(init|fini)(_array)?|\.[cd]tors", name):
-        return "the machine calls body alone, so nothing can run before it or after it; set the variables without constructors"
+        return ("the machine calls body alone, so nothing can run before it or after it; set the variables without "
+                "constructors")
     return "only .text, .rodata, .data, .bss and those that begin so have a place; move what is there into one of them"

@@ -1,4 +1,5 @@
-"""The state before a loop, as a function of the program makes it: the function runs on Unicorn's RISC-V, and the memory that it leaves becomes the image's."""
+"""The state before a loop, as a function of the program makes it: the function runs on Unicorn's RISC-V, and the memory
+that it leaves becomes the image's."""
 
 import os
 import sys
@@ -29,7 +30,8 @@ def unicorn_module() -> ModuleType:
             import unicorn
             import unicorn.riscv_const
         except ImportError:
-            raise Refused("--setup needs an emulator, and unicorn is not installed; install the Debian package python3-unicorn") from None
+            raise Refused("--setup needs an emulator, and unicorn is not installed; install the Debian package "
+                          "python3-unicorn") from None
     return unicorn
 
 
@@ -39,7 +41,8 @@ class Setup:
     def __init__(self, program: Program, name: str, memory: bytes, registers: dict[int, int]):
         entry = program.symbol(name)
         if entry is None:
-            raise Refused(f"there is no function {name} for --setup; the global functions are: {', '.join(program.functions()[:8])}")
+            raise Refused(f"there is no function {name} for --setup; the global functions are: "
+                          f"{', '.join(program.functions()[:8])}")
         self.unicorn = unicorn_module()
         self.program, self.name, self.entry, self.length = program, name, entry, len(memory)
         self.failed: str | None = None
@@ -70,5 +73,6 @@ class Setup:
                 line = lines_of(self.program).at(self.pc())
             except Refused:
                 line = None
-            raise Refused(f"--setup {self.name}: {self.failed or f'it does not return within {SECONDS} s'}, at {self.program.place(self.pc(), line)}")
+            raise Refused(f"--setup {self.name}: {self.failed or f'it does not return within {SECONDS} s'}, at "
+                          f"{self.program.place(self.pc(), line)}")
         return bytes(self.machine.mem_read(0, self.length))

@@ -1,9 +1,11 @@
-"""The instructions that an epoch begins with where it needs any: they set the stack pointer, and call the entry, once or for so many iterations.
+"""The instructions that an epoch begins with where it needs any: they set the stack pointer, and call the entry, once
+or for so many iterations.
 
-One list of instructions is written as assembly, for what is linked here, or as words, for a program that was linked elsewhere.
+One list of instructions is written as assembly, for what is linked here, or as words, for a program that was linked
+elsewhere.
 
-Stacks are taken in turn, by the epoch's number modulo 16. That is enough: the epochs that run at a time follow one another, and are no more than the cores, of which
-there are at most 16; so no two of them have one stack.
+Stacks are taken in turn, by the epoch's number modulo 16. That is enough: the epochs that run at a time follow one
+another, and are no more than the cores, of which there are at most 16; so no two of them have one stack.
 """
 
 from dataclasses import dataclass
@@ -47,17 +49,24 @@ class Start:
         if not self.stack:
             return []
         turn = [Instruction("andi", 2, 10, SLOTS - 1)] if self.epochs > SLOTS else []
-        return turn + [Instruction("addi", 2, 2 if turn else 10, 1), Instruction("slli", 2, 2, self.stack.bit_length() - 1),
-                       Instruction("lui", 5, 0, "hi"), Instruction("addi", 5, 5, "lo"), Instruction("add", 2, 2, 5)]
+        return (turn + [Instruction("addi", 2, 2 if turn else 10, 1),
+                        Instruction("slli", 2, 2, self.stack.bit_length() - 1),
+                        Instruction("lui", 5, 0, "hi"), Instruction("addi", 5, 5, "lo"), Instruction("add", 2, 2, 5)])
 
     def iterations_of_epoch(self) -> list[Instruction]:
-        """The loop over the iterations of an epoch: how many are left stands in the upper half of x8, which a call keeps, and the number of the next in the lower."""
-        first = [*times(8, 10, self.chunk), *constant(5, self.iterations), Instruction("sub", 5, 5, 8), *constant(6, self.chunk)]
-        least = [Instruction("bltu", 5, 6, "fewer"), Instruction("addi", 5, 6, 0), label("fewer"), Instruction("slli", 5, 5, 16), Instruction("add", 8, 8, 5)]
-        call = [label("again"), Instruction("slli", 10, 8, 16), Instruction("srli", 10, 10, 16), Instruction("jal", 1, 0, self.entry)]
+        """The loop over the iterations of an epoch: how many are left stands in the upper half of x8, which a call
+        keeps, and the number of the next in the lower."""
+        first = [*times(8, 10, self.chunk), *constant(5, self.iterations),
+                 Instruction("sub", 5, 5, 8), *constant(6, self.chunk)]
+        least = [Instruction("bltu", 5, 6, "fewer"), Instruction("addi", 5, 6, 0), label("fewer"),
+                 Instruction("slli", 5, 5, 16), Instruction("add", 8, 8, 5)]
+        call = [label("again"), Instruction("slli", 10, 8, 16), Instruction("srli", 10, 10, 16),
+                Instruction("jal", 1, 0, self.entry)]
         leave = [Instruction("bne", 10, 0, "over")] if self.exits else []
-        on = [*constant(5, 1 - (1 << 16)), Instruction("add", 8, 8, 5), Instruction("srli", 5, 8, 16), Instruction("bne", 5, 0, "again")]
-        return [*first, *least, *call, *leave, *on, label("over"), *constant(1, EPOCH_END), Instruction("jalr", 0, 1, 0)]
+        on = [*constant(5, 1 - (1 << 16)), Instruction("add", 8, 8, 5), Instruction("srli", 5, 8, 16),
+              Instruction("bne", 5, 0, "again")]
+        return [*first, *least, *call, *leave, *on, label("over"), *constant(1, EPOCH_END),
+                Instruction("jalr", 0, 1, 0)]
 
     def instructions(self) -> list[Instruction]:
         called = self.iterations_of_epoch() if self.chunk > 1 else [Instruction("jal", 0, 0, self.entry)]
@@ -65,7 +74,8 @@ class Start:
 
     def limit(self, of_iteration: int) -> int:
         """The most instructions of an epoch, for those of one iteration."""
-        return of_iteration if self.chunk == 1 else min(MOST_INSTRUCTIONS, self.chunk * (of_iteration + OF_ITERATION) + BEFORE)
+        return (of_iteration if self.chunk == 1
+                else min(MOST_INSTRUCTIONS, self.chunk * (of_iteration + OF_ITERATION) + BEFORE))
 
     def assembly(self, top: str) -> str:
         """The text for an assembler, with the symbol where the stacks begin."""

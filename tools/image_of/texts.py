@@ -62,19 +62,22 @@ def check_linked(program: Program) -> None:
     placed, most = program.placed(), LARGEST_SIZE[2]
     last = max((one.end for one in placed), default=0)
     if last > most:
-        raise Refused(f"{program.path}: its sections end at address {last:08x}, and memory ends at {most:08x}; link it there, as by -Ttext=0x20")
+        raise Refused(f"{program.path}: its sections end at address {last:08x}, and memory ends at {most:08x}; link it "
+                      "there, as by -Ttext=0x20")
     program.check_sections([one.name for one in placed])
     if not program.placed(EXECUTABLE):
         raise Refused(f"{program.path}: no section of it is code")
     end = end_of_code(program)
     for one in program.placed(WRITABLE):
         if one.address < end:
-            raise Refused(f"{program.path}: the section {word(one.name)} can be written and lies at {one.address:08x}, before the code ends at {end:08x}; "
+            raise Refused(f"{program.path}: the section {word(one.name)} can be written and lies at {one.address:08x}, "
+                          f"before the code ends at {end:08x}; "
                           "link the code below the variables")
     held = [one for one in placed if not is_block(one)]
     for one, following in zip(held, held[1:]):
         if one.end > following.address:
-            raise Refused(f"{program.path}: its sections {word(one.name)} and {word(following.name)} overlap at {following.address:08x}")
+            raise Refused(f"{program.path}: its sections {word(one.name)} and {word(following.name)} overlap at "
+                          f"{following.address:08x}")
     program.check_segments()
 
 
@@ -89,7 +92,8 @@ def end_of_code(program: Program) -> int:
 
 
 def block_of_threads(program: Program, top: int) -> tuple[int | None, list[tuple[int, bytes]], int]:
-    """Where the thread_local variables are, the bytes that are put there, and where memory ends then: above all else, where what is theirs is another's too."""
+    """Where the thread_local variables are, the bytes that are put there, and where memory ends then: above all else,
+    where what is theirs is another's too."""
     parts = [one for one in program.placed() if one.flags & THREADS]
     if not parts:
         return None, [], top
@@ -104,7 +108,8 @@ def block_of_threads(program: Program, top: int) -> tuple[int | None, list[tuple
 
 
 def layout_of_linked(program: Program, options: Namespace) -> Layout:
-    """The layout of a program that was linked elsewhere: where its sections are, with a jump to the entry at address 0."""
+    """The layout of a program that was linked elsewhere: where its sections are, with a jump to the entry at address
+    0."""
     check_linked(program)
     entry = program.symbol(options.entry)
     if entry is None:
@@ -122,11 +127,13 @@ def layout_of_linked(program: Program, options: Namespace) -> Layout:
     begins = options.start.stack or options.start.chunk > 1 or entry
     words = options.start.words(entry, top) if begins else []
     if any(one.address < 4 * len(words) for one in placed):
-        raise Refused(f"{program.path}: {options.entry} isn't at address 0, and no {4 * len(words)} bytes are free there for what leads to it; "
+        raise Refused(f"{program.path}: {options.entry} isn't at address 0, and no {4 * len(words)} bytes are free "
+                      "there for what leads to it; "
                       f"link it from address {max(32, 4 * len(words))} on, as by -Ttext={max(32, 4 * len(words)):#x}")
     for number, one in enumerate(words):
         code[4 * number:4 * number + 4] = one.to_bytes(4, "little")
-    return Layout(bytes(code), [(one.address, one.data()) for one in placed if one.address >= end] + block, top, threads)
+    return Layout(bytes(code), [(one.address, one.data()) for one in placed if one.address >= end] + block, top,
+                  threads)
 
 
 def line_remarks(program: Program, layout: Layout) -> Iterator[str]:
@@ -150,7 +157,8 @@ def map_of(program: Program, options: Namespace, layout: Layout) -> list[str]:
     if lines:
         lines = ["# Variables, each with its address and its bytes:", *lines]
     if start.chunk > 1:
-        lines.insert(0, f"# An epoch calls {word(options.entry)} {start.chunk} times, for the iterations from {start.chunk} times its number on; there are {start.iterations}.")
+        lines.insert(0, f"# An epoch calls {word(options.entry)} {start.chunk} times, for the iterations from "
+                        f"{start.chunk} times its number on; there are {start.iterations}.")
     return lines + (list(line_remarks(program, layout)) if options.g else [])
 
 
@@ -174,7 +182,8 @@ def overlays(program: Program, options: Namespace, layout: Layout) -> Iterator[t
             raise Refused(f"--data {name}: there is no variable of this name")
         size, most = path.stat().st_size, LARGEST_SIZE[options.version] if length is None else length
         if size > most:
-            raise Refused(f"--data {name}: {path} has {size} bytes, and the {'memory' if length is None else 'variable'} {most}")
+            raise Refused(f"--data {name}: {path} has {size} bytes, and the "
+                          f"{'memory' if length is None else 'variable'} {most}")
         if address < len(layout.code):
             raise Refused(f"--data {name}: it lies in the code, at {address:08x}; files are put over variables alone")
         yield address, path.read_bytes()
@@ -186,7 +195,8 @@ def whole_lines(start: int, data: bytes) -> Iterator[str]:
         yield f"at {start + place:08x} {data[place:place + 16].hex()}"
 
 
-def set_up(program: Program, options: Namespace, layout: Layout, over: list[tuple[int, bytes]]) -> list[tuple[int, bytes]]:
+def set_up(program: Program, options: Namespace, layout: Layout,
+           over: list[tuple[int, bytes]]) -> list[tuple[int, bytes]]:
     """The memory behind the code, as the function of --setup leaves it."""
     memory = bytearray(layout.top)
     for address, data in [(0, layout.code), *layout.rest, *over]:
@@ -203,7 +213,8 @@ def size_of(top: int, options: Namespace) -> int:
     line, most = LINE[options.version], LARGEST_SIZE[options.version]
     size = options.size or max(line, (end + line - 1) // line * line)
     if end > size:
-        raise Refused(f"code, variables and stacks need {end} bytes, more than the {size} bytes of the image; give a larger --size")
+        raise Refused(f"code, variables and stacks need {end} bytes, more than the {size} bytes of the image; give a "
+                      "larger --size")
     if size > most:
         more = "; --version 2 has up to 1048576" if options.version == 1 else ""
         raise Refused(f"code, variables and stacks need {end} bytes, more than {most} bytes{more}")
@@ -211,13 +222,15 @@ def size_of(top: int, options: Namespace) -> int:
 
 
 def registers_of(program: Program, options: Namespace, layout: Layout) -> list[tuple[int, int]]:
-    """Registers at the start: those of the command line, what a linked program expects in its global pointer, and where thread_local variables are."""
+    """Registers at the start: those of the command line, what a linked program expects in its global pointer, and where
+    thread_local variables are."""
     found = dict(options.reg)
     pointer = program.symbol("__global_pointer$") if options.linked else None
     if pointer is not None:
         found.setdefault(GLOBAL_POINTER, pointer)
     if layout.threads is not None and found.setdefault(THREAD_POINTER, layout.threads) != layout.threads:
-        raise Refused(f"--reg 4 and the thread_local variables both set the thread pointer, these to {layout.threads:08x}; leave --reg 4 out")
+        raise Refused("--reg 4 and the thread_local variables both set the thread pointer, these to "
+                      f"{layout.threads:08x}; leave --reg 4 out")
     return sorted(found.items())
 
 
@@ -229,14 +242,16 @@ def check_words(program: Program) -> None:
             lines = lines_of(program)
         except Refused:
             lines = Lines([])       # the instruction is the reason, and not its line
-        raise Refused("\n".join(f"{program.place(pc, lines.at(pc))}: {unfit(extension, one)}" for extension, (pc, one) in found.items()))
+        raise Refused("\n".join(f"{program.place(pc, lines.at(pc))}: {unfit(extension, one)}"
+                                for extension, (pc, one) in found.items()))
 
 
 def check_stack(program: Program, options: Namespace, layout: Layout) -> None:
     """Refuses a program that needs a stack and has none."""
     if not options.stack and 2 not in dict(options.reg) and needs_stack(layout.code):
         calls = call_reason([one.name for one in program.symbols])
-        raise Refused("the code needs a stack; " + (calls or "make its functions inline, use fewer variables at a time, or give --stack BYTES"))
+        raise Refused("the code needs a stack; " + (calls or "make its functions inline, use fewer variables at a "
+                                                             "time, or give --stack BYTES"))
 
 
 def image_text(program: Program, options: Namespace) -> str:
@@ -246,10 +261,13 @@ def image_text(program: Program, options: Namespace) -> str:
     check_stack(program, options, layout)
     size = size_of(layout.top, options)
     names = printable(" and ".join(path.name for path, _ in options.inputs))
-    heading = remarks(*options.inputs[0]) + [f"# Made from {names} by {printable(options.program)}{made_with(options)}."] + map_of(program, options, layout)
+    heading = (remarks(*options.inputs[0]) + [f"# Made from {names} by "
+                                              f"{printable(options.program)}{made_with(options)}."]
+               + map_of(program, options, layout))
     # a version line stands above all but remarks
     lines = (["version 2"] if options.version == 2 else []) + (["exit"] if options.exit else [])
-    lines += [f"size {size}", f"epochs {options.start.epochs}", f"limit {options.start.limit(options.limit)}", f"code {layout.code.hex()}"]
+    lines += [f"size {size}", f"epochs {options.start.epochs}", f"limit {options.start.limit(options.limit)}",
+              f"code {layout.code.hex()}"]
     lines += [f"reg {register} {value:08x}" for register, value in registers_of(program, options, layout)]
     over = list(overlays(program, options, layout))
     rest, over = (set_up(program, options, layout, over), []) if options.setup else (layout.rest, over)
@@ -260,6 +278,7 @@ def image_text(program: Program, options: Namespace) -> str:
     text = "\n".join([*heading, *lines]) + "\n"
     length = len(text.encode("utf-8", "surrogateescape"))
     if length > LONGEST_TEXT:
-        raise Refused(f"the text of the image has {length} bytes, more than {LONGEST_TEXT}; use fewer bytes that aren't zero"
+        raise Refused(f"the text of the image has {length} bytes, more than {LONGEST_TEXT}; use fewer bytes that "
+                      "aren't zero"
                       + (", or leave -g out" if options.g else ""))
     return text

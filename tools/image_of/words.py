@@ -1,9 +1,11 @@
-"""Which words are instructions of RV32I. Source: The RISC-V Instruction Set Manual, Volume I, the table of opcodes and the listings of each extension."""
+"""Which words are instructions of RV32I. Source: The RISC-V Instruction Set Manual, Volume I, the table of opcodes and
+the listings of each extension."""
 
-# What compilers write to stop a program: EBREAK, and the UNIMP of LLVM and of the assemblers; and the zeros with which linkers fill what lies between functions,
-# which the manual defines to be illegal. An epoch that gets there faults.
+# What compilers write to stop a program: EBREAK, and the UNIMP of LLVM and of the assemblers; and the zeros with which
+# linkers fill what lies between functions, which the manual defines to be illegal. An epoch that gets there faults.
 TRAPS = (0x00100073, 0xC0001073, 0)
-OF_OPCODE = {0x2F: "A", 0x07: "F", 0x27: "F", 0x43: "F", 0x47: "F", 0x4B: "F", 0x4F: "F", 0x53: "F", 0x57: "V", 0x1B: "RV64I", 0x3B: "RV64I"}
+OF_OPCODE = {0x2F: "A", 0x07: "F", 0x27: "F", 0x43: "F", 0x47: "F", 0x4B: "F", 0x4F: "F", 0x53: "F", 0x57: "V",
+             0x1B: "RV64I", 0x3B: "RV64I"}
 WHOLE_OPCODES = (0x37, 0x17, 0x6F)
 WIDTHS = {0x67: (0,), 0x63: (0, 1, 4, 5, 6, 7), 0x03: (0, 1, 2, 4, 5), 0x23: (0, 1, 2)}
 
@@ -59,13 +61,15 @@ def uses_register(word: int, register: int) -> bool:
 def jump(distance: int, register: int = 0) -> int:
     """`jal register` over so many bytes."""
     bits = distance & 0x1FFFFF
-    return bits >> 20 << 31 | (bits >> 1 & 0x3FF) << 21 | (bits >> 11 & 1) << 20 | (bits >> 12 & 0xFF) << 12 | register << 7 | 0x6F
+    return (bits >> 20 << 31 | (bits >> 1 & 0x3FF) << 21 | (bits >> 11 & 1) << 20 | (bits >> 12 & 0xFF) << 12
+            | register << 7 | 0x6F)
 
 
 def branch(function: int, first: int, second: int, distance: int) -> int:
     """A branch over so many bytes, by its function."""
     bits = distance & 0x1FFF
-    return bits >> 12 << 31 | (bits >> 5 & 0x3F) << 25 | second << 20 | first << 15 | function << 12 | (bits >> 1 & 0xF) << 8 | (bits >> 11 & 1) << 7 | 0x63
+    return (bits >> 12 << 31 | (bits >> 5 & 0x3F) << 25 | second << 20 | first << 15 | function << 12
+            | (bits >> 1 & 0xF) << 8 | (bits >> 11 & 1) << 7 | 0x63)
 
 
 def immediate(number: int, source: int, target: int, function: int = 0) -> int:

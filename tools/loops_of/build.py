@@ -1,4 +1,5 @@
-"""From sources to linked programs: the program as it is, with marks at its loops, and with one loop's iteration as a function."""
+"""From sources to linked programs: the program as it is, with marks at its loops, and with one loop's iteration as a
+function."""
 
 import bisect
 import hashlib
@@ -23,17 +24,20 @@ LLVM = Path("/usr/lib/llvm-14")
 PICOLIBC = Path("/usr/lib/picolibc/riscv64-unknown-elf")
 LIBGCC = ("/usr/lib/gcc/riscv64-unknown-elf", "*/rv32i/ilp32/libgcc.a")
 TARGET = ["--target=riscv32-unknown-elf", "-march=rv32i", "-mabi=ilp32"]
-FRONT = ["-O1", "-Xclang", "-disable-llvm-passes", "-g", "-fno-discard-value-names", "-fno-pic", "-fno-common", "-fno-stack-protector", "-w"]
+FRONT = ["-O1", "-Xclang", "-disable-llvm-passes", "-g", "-fno-discard-value-names", "-fno-pic", "-fno-common",
+         "-fno-stack-protector", "-w"]
 FRONT_CPP = ["-fno-exceptions", "-fno-rtti", "-fno-threadsafe-statics", "-fno-use-cxa-atexit"]
 BACK = ["-O2", "-fno-unroll-loops", "-ffunction-sections", "-msmall-data-limit=0", "-fno-pic", "-w"]
 CPP = (".cc", ".cpp", ".cxx", ".c++", ".C")
-# No pass that joins loads before loops are rotated: a load in the loop's condition and in its body would become a value that is carried around the loop.
-BEFORE = ("loops-keep,function(sroa,simplifycfg,loop-simplify,lcssa,loop(loop-rotate),instcombine,simplifycfg,adce,loop-simplify,lcssa,loop(indvars),loop-simplify,"
-          "lcssa)")
+# No pass that joins loads before loops are rotated: a load in the loop's condition and in its body would become a value
+# that is carried around the loop.
+BEFORE = ("loops-keep,function(sroa,simplifycfg,loop-simplify,lcssa,loop(loop-rotate),instcombine,simplifycfg,adce,"
+          "loop-simplify,lcssa,loop(indvars),loop-simplify,lcssa)")
 PARTS = ("places", "refusals", "carried", "outline", "plugin")
 MEMORY = 1 << 20
 PAGE = 4096
-SPARE = 4096                                # how much longer the code may become by a loop that is outlined, before the variables move up
+# how much longer the code may become by a loop that is outlined, before the variables move up
+SPARE = 4096
 
 
 def run(*words: object, why: type[Exception] = Unusable) -> str:
@@ -57,8 +61,10 @@ def archives() -> list[Path]:
 
 def lacking() -> list[str]:
     """The Debian packages that aren't installed."""
-    there = {"clang": llvm("clang").is_file(), "lld": llvm("ld.lld").is_file(), "llvm-14-dev": (LLVM / "include/llvm/Pass.h").exists(),
-             "llvm-14": llvm("opt").is_file(), "picolibc-riscv64-unknown-elf": archives()[0].is_file(), "gcc-riscv64-unknown-elf": len(archives()) == 3,
+    there = {"clang": llvm("clang").is_file(), "lld": llvm("ld.lld").is_file(),
+             "llvm-14-dev": (LLVM / "include/llvm/Pass.h").exists(),
+             "llvm-14": llvm("opt").is_file(), "picolibc-riscv64-unknown-elf": archives()[0].is_file(),
+             "gcc-riscv64-unknown-elf": len(archives()) == 3,
              "g++": shutil.which("g++") is not None}
     return [package for package, found in there.items() if not found]
 
@@ -89,7 +95,8 @@ class Kit:
 
     def opt(self, passes: str, source: Path, *words: object) -> str:
         """What the plug-in's passes tell of a unit."""
-        return run(llvm("opt"), "-load", self.plugin, "-load-pass-plugin", self.plugin, f"-passes={passes}", source, *words)
+        return run(llvm("opt"), "-load", self.plugin, "-load-pass-plugin", self.plugin, f"-passes={passes}",
+                   source, *words)
 
 
 def build_part(kit: Kit, part: str, flags: tuple[str, ...] = ()) -> None:
@@ -103,10 +110,12 @@ def join_parts(kit: Kit) -> None:
 
 
 def build_runtime(kit: Kit) -> None:
-    """Builds what a program needs below picolibc, and what counts its steps; takes the lines out of the library's copy."""
+    """Builds what a program needs below picolibc, and what counts its steps; takes the lines out of the library's
+    copy."""
     run(llvm("clang"), "-O2", "-fPIC", "-shared", "-Wall", "-Wextra", HERE / "runtime/steps.c", "-o", kit.steps)
     run(llvm("clang"), *TARGET, "-c", HERE / "runtime/start.s", "-o", kit.runtime[0])
-    run(llvm("clang"), *TARGET, "-nostdlibinc", "-isystem", PICOLIBC / "include", "-O1", "-c", HERE / "runtime/runtime.c", "-o", kit.runtime[1])
+    run(llvm("clang"), *TARGET, "-nostdlibinc", "-isystem", PICOLIBC / "include", "-O1", "-c",
+        HERE / "runtime/runtime.c", "-o", kit.runtime[1])
     for path, made in zip(archives(), kit.archives):
         run(llvm("llvm-objcopy"), "--strip-debug", path, made)
 
@@ -266,7 +275,8 @@ class Unit:
         self.ready = self.path("ready.bc")
         raw = self.path("bc")
         language = FRONT_CPP if source.suffix in CPP else []
-        run(llvm("clang"), *TARGET, "-nostdlibinc", "-isystem", PICOLIBC / "include", *FRONT, *language, *flags, "-c", "-emit-llvm", "-o", raw, source)
+        run(llvm("clang"), *TARGET, "-nostdlibinc", "-isystem", PICOLIBC / "include", *FRONT, *language, *flags, "-c",
+            "-emit-llvm", "-o", raw, source)
         builder.kit.opt(BEFORE, raw, "-o", self.ready)
 
     def path(self, ending: str) -> Path:
@@ -326,7 +336,8 @@ class Builder:
         for word in ("heap", "stack", "data"):
             text = text.replace(f"@{word.upper()}@", str(getattr(self.layout, word)))
         script.write_text(text)
-        words = [llvm("ld.lld"), "--error-limit=0", "--discard-locals", "-m", "elf32lriscv", "-T", script, "-o", made, *objects, *self.kit.runtime,
+        words = [llvm("ld.lld"), "--error-limit=0", "--discard-locals", "-m", "elf32lriscv", "-T", script, "-o",
+                 made, *objects, *self.kit.runtime,
                  "--start-group", *self.kit.archives, "--end-group"]
         done = subprocess.run([str(word) for word in words], capture_output=True, check=False)
         errors = done.stderr.decode("utf-8", "replace")

@@ -1,4 +1,5 @@
-"""Whether a program with one loop outlined does what it did, and whether the loop's image makes of memory what the program made of it."""
+"""Whether a program with one loop outlined does what it did, and whether the loop's image makes of memory what the
+program made of it."""
 
 from collections.abc import Iterator
 
@@ -9,7 +10,8 @@ from .emulator import Entries, Run, Window
 from .images import LIMIT, Wanted
 from .reasons import Otherwise, Refused, misaligned, too_long
 
-# The machine's causes of faults: a load or a store at no multiple of its size, which Unicorn does; an epoch that takes more instructions than the limit
+# The machine's causes of faults: a load or a store at no multiple of its size, which Unicorn does; an epoch that takes
+# more instructions than the limit
 MISALIGNED, TOO_LONG = 5, 8
 MOST_NAMED = 4
 
@@ -28,7 +30,8 @@ def differing(was: bytes, now: bytes, first: int, end: int) -> Iterator[int]:
 
 def name_at(program: Linked, at: int) -> str:
     """The variable that has an address, for people."""
-    found = next((f"{name}+{at - start}" for start, name, length in program.variables() if start <= at < start + length), None)
+    found = next((f"{name}+{at - start}" for start, name, length in program.variables()
+                  if start <= at < start + length), None)
     return found or f"the memory at {at:08x}"
 
 
@@ -39,20 +42,24 @@ def moved(was: int, now: int, program: Linked) -> bool:
 
 
 def check_program(plain: Run, outlined: Entries) -> None:
-    """Output, status, variables and heap at the program's end are those of the unchanged program. What setjmp saved are registers, and may differ."""
+    """Output, status, variables and heap at the program's end are those of the unchanged program. What setjmp saved are
+    registers, and may differ."""
     if plain.status != outlined.status:
         raise Otherwise(f"WRONG the status is {outlined.status} in place of {plain.status}")
     if plain.output != outlined.output:
         raise Otherwise("WRONG the output is another one")
     program = outlined.program
-    different = [at for at in differing(plain.final, outlined.final, program.at("loops_data"), program.at("loops_guard"))
+    different = [at for at in differing(plain.final, outlined.final, program.at("loops_data"),
+                                        program.at("loops_guard"))
                  if at not in plain.saved and not moved(word_of(plain.final, at), word_of(outlined.final, at), program)]
     if different:
-        raise Otherwise("WRONG other values at the program's end in " + ", ".join(dict.fromkeys(name_at(program, at) for at in different[:MOST_NAMED])))
+        raise Otherwise("WRONG other values at the program's end in "
+                        + ", ".join(dict.fromkeys(name_at(program, at) for at in different[:MOST_NAMED])))
 
 
 def check_image(text: str, loop: Loop, wanted: Wanted, window: Window) -> int:
-    """The loop in order makes of memory what the emulator made of it. Answers how many words hold addresses of an iteration's own frame, which lies elsewhere."""
+    """The loop in order makes of memory what the emulator made of it. Answers how many words hold addresses of an
+    iteration's own frame, which lies elsewhere."""
     report = Programs().seq(text).report
     if report.ending == "fault" and report.cause == TOO_LONG:
         raise Refused(too_long(loop.line, wanted.first + report.epoch, LIMIT))
@@ -61,7 +68,8 @@ def check_image(text: str, loop: Loop, wanted: Wanted, window: Window) -> int:
     expected = ("exit", wanted.count - 1) if wanted.whole else ("done", wanted.count)
     if (report.ending, report.epoch) != expected:
         cause = f" with cause {report.cause} at {window.program.line(report.pc)}" if report.ending == "fault" else ""
-        raise Otherwise(f"DIFFERENT the loop ends by {report.ending} {report.epoch}{cause}, and not by {expected[0]} {expected[1]}")
+        raise Otherwise(f"DIFFERENT the loop ends by {report.ending} {report.epoch}{cause}, and not by {expected[0]} "
+                        f"{expected[1]}")
     memory = bytearray(window.memory)
     for row in report.rows:
         memory[row.address:row.address + len(row.data)] = row.data
@@ -71,5 +79,6 @@ def check_image(text: str, loop: Loop, wanted: Wanted, window: Window) -> int:
     own = [at for at in words if word_of(window.after, at) in dead and word_of(memory, at) >= end]
     different = sorted(set(words) - set(own))
     if different:
-        raise Otherwise(f"DIFFERENT {len(different)} words, as in " + ", ".join(dict.fromkeys(name_at(program, at) for at in different[:MOST_NAMED])))
+        raise Otherwise(f"DIFFERENT {len(different)} words, as in "
+                        + ", ".join(dict.fromkeys(name_at(program, at) for at in different[:MOST_NAMED])))
     return len(own)

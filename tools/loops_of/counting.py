@@ -39,7 +39,9 @@ class Steps(ctypes.Structure):
 
 class Iterations(ctypes.Structure):
     """The iterations of a loop, as steps.c counts them."""
-    _fields_ = [("steps", ctypes.POINTER(Steps)), *((name, ctypes.c_uint64) for name in ("count", "open", "began", "number", "longest", "longest_number"))]
+    _fields_ = [("steps", ctypes.POINTER(Steps)), *((name, ctypes.c_uint64)
+                                                    for name in ("count", "open", "began", "number", "longest",
+                                                                 "longest_number"))]
 
 
 class Counted:
@@ -77,7 +79,8 @@ class Counting(Run):
         self.hook_native(unicorn.UC_HOOK_BLOCK, self.library.loops_block, self.steps)
         for mark in marks_of(program):
             if mark.what == ITERATED:
-                self.hook_native(unicorn.UC_HOOK_CODE, self.library.loops_iteration, self.loops[mark.loop].iterated, mark.pc)
+                self.hook_native(unicorn.UC_HOOK_CODE, self.library.loops_iteration, self.loops[mark.loop].iterated,
+                                 mark.pc)
             else:
                 self.hook_mark(mark, self.entered if mark.what == ENTERED else self.left)
 
@@ -88,9 +91,12 @@ class Counting(Run):
         self.hook_at(mark.pc, hooked)
 
     def entered(self, mark: Mark, now: int) -> None:
-        """An entry. What a longjmp left goes on no more: frames below the stack pointer, and the loop itself in the same frame."""
+        """An entry. What a longjmp left goes on no more: frames below the stack pointer, and the loop itself in the
+        same frame."""
         stack = self.register(2)
-        while self.active and (self.active[-1].stack < stack or (self.active[-1].stack, self.active[-1].loop) == (stack, mark.loop)):
+        while (self.active
+               and (self.active[-1].stack < stack
+                    or (self.active[-1].stack, self.active[-1].loop) == (stack, mark.loop))):
             self.close(now)
         self.active.append(Active(mark.loop, mark.pc, stack, now))
         self.loops[mark.loop].entries += 1

@@ -1,4 +1,5 @@
-"""Runs a linked program on Unicorn's RISC-V: as a whole, with its loops counted, or to an entry into a loop and on to where its window ends."""
+"""Runs a linked program on Unicorn's RISC-V: as a whole, with its loops counted, or to an entry into a loop and on to
+where its window ends."""
 
 import ctypes
 import sys
@@ -15,7 +16,8 @@ from .reasons import CAME_AGAIN, ENDS_WITHIN, Faults, Refused, Unusable, stack_r
 
 
 def imported() -> ModuleType | None:
-    """Unicorn, or None. It takes one function of pkg_resources, which takes long to import: another one stands there meanwhile."""
+    """Unicorn, or None. It takes one function of pkg_resources, which takes long to import: another one stands there
+    meanwhile."""
     stand_in = ModuleType("pkg_resources")
     stand_in.resource_filename = lambda module, name: str(Path(sys.modules[module].__file__).with_name(name))
     there = sys.modules.setdefault("pkg_resources", stand_in)
@@ -48,7 +50,8 @@ class Given:
 
 
 class Run:
-    """A program that runs; hooks are there from the start, since Unicorn keeps what it has translated and doesn't hear one that comes later."""
+    """A program that runs; hooks are there from the start, since Unicorn keeps what it has translated and doesn't hear
+    one that comes later."""
 
     def __init__(self, program: Linked, given: Given) -> None:
         self.program, self.given = program, given
@@ -62,10 +65,12 @@ class Run:
         self.load()
         self.machine.hook_add(unicorn.UC_HOOK_INTR, self.called)
         for name in ("setjmp", "_setjmp", "sigsetjmp"):
-            self.hook(name, lambda: self.saved.update(range(self.register(10), self.register(10) + 4 * WORDS_OF_JMP_BUF)))
+            self.hook(name, lambda: self.saved.update(range(self.register(10),
+                                                            self.register(10) + 4 * WORDS_OF_JMP_BUF)))
 
     def load(self) -> None:
-        """Puts the program and its arguments into memory. Code and constants can't be written, and a page below the stack can't be touched."""
+        """Puts the program and its arguments into memory. Code and constants can't be written, and a page below the
+        stack can't be touched."""
         self.machine.mem_map(0, MEMORY)
         for one in self.program.placed():
             if one.in_file:
@@ -79,7 +84,8 @@ class Run:
             self.machine.mem_write(at, word + b"\0")
             at += len(word) + 1
         self.machine.mem_write(self.program.at("loops_argc"), len(words).to_bytes(4, "little"))
-        self.machine.mem_protect(0, self.program.at("loops_data") // PAGE * PAGE, unicorn.UC_PROT_READ | unicorn.UC_PROT_EXEC)
+        self.machine.mem_protect(0, self.program.at("loops_data") // PAGE * PAGE,
+                                 unicorn.UC_PROT_READ | unicorn.UC_PROT_EXEC)
         self.machine.mem_protect(self.guard, PAGE, unicorn.UC_PROT_NONE)
 
     def hook(self, name: str, do: Callable[[], None]) -> None:
@@ -91,10 +97,12 @@ class Run:
         self.machine.hook_add(unicorn.UC_HOOK_CODE, lambda *_: do(), begin=at, end=at)
 
     def hook_native(self, kind: int, function: object, given: ctypes.Structure, at: int | None = None) -> None:
-        """Calls a function of C, which a hook that is called often has to be: at each block, or at an instruction. (The package itself takes functions of Python alone.)"""
+        """Calls a function of C, which a hook that is called often has to be: at each block, or at an instruction. (The
+        package itself takes functions of Python alone.)"""
         bounds = (1, 0) if at is None else (at, at)
         handle = ctypes.c_size_t()
-        status = unicorn.unicorn._uc.uc_hook_add(self.machine._uch, ctypes.byref(handle), kind, ctypes.cast(function, ctypes.c_void_p), ctypes.byref(given),
+        status = unicorn.unicorn._uc.uc_hook_add(self.machine._uch, ctypes.byref(handle), kind,
+                                                 ctypes.cast(function, ctypes.c_void_p), ctypes.byref(given),
                                                  *map(ctypes.c_uint64, bounds))
         if status != unicorn.UC_ERR_OK:
             raise Unusable(f"the emulator takes no hook: error {status}")
@@ -110,7 +118,8 @@ class Run:
 
     def snapshot(self) -> bytes:
         """The memory, with zeros where the guard is."""
-        return bytes(self.machine.mem_read(0, self.guard)) + bytes(PAGE) + bytes(self.machine.mem_read(self.guard + PAGE, MEMORY - self.guard - PAGE))
+        return (bytes(self.machine.mem_read(0, self.guard)) + bytes(PAGE)
+                + bytes(self.machine.mem_read(self.guard + PAGE, MEMORY - self.guard - PAGE)))
 
     def called(self, machine: object, cause: int, _: object) -> None:
         """A call of the system, or what a processor stops at."""
@@ -125,7 +134,8 @@ class Run:
         elif what == PUT:
             self.output.append(given & 0xFF)
         elif what == GET:
-            self.machine.reg_write(self.numbers[10], self.given.input[self.read] if self.read < len(self.given.input) else 0xFFFFFFFF)
+            self.machine.reg_write(self.numbers[10], self.given.input[self.read] if self.read < len(self.given.input)
+                                   else 0xFFFFFFFF)
             self.read += 1
 
     def before_call(self) -> None:
@@ -140,7 +150,8 @@ class Run:
         return self.program.place(pc, self.program.lines.at(pc))
 
     def returns(self, high: int) -> list[int]:
-        """The instructions that called what runs now, innermost first: the words in x1 and on the stack up to an address that stand behind a call."""
+        """The instructions that called what runs now, innermost first: the words in x1 and on the stack up to an
+        address that stand behind a call."""
         words = [self.register(1), *(self.word(at) for at in range(self.register(2), high, 4))]
         inside = range(self.program.text.start + 4, self.program.text.stop + 4, 4)
         # a call is jal x1 or jalr x1
@@ -149,7 +160,8 @@ class Run:
     def start(self) -> None:
         """Runs until the program ends or a hook stops it."""
         try:
-            self.machine.emu_start(self.program.at("loops_start"), 0xFFFFFFF0, count=0, timeout=self.given.seconds * 1_000_000)
+            self.machine.emu_start(self.program.at("loops_start"), 0xFFFFFFF0, count=0,
+                                   timeout=self.given.seconds * 1_000_000)
         except unicorn.UcError as wrong:
             if self.register(2) < self.guard + 2 * PAGE:
                 raise Unusable(stack_ran_out(self.given.stack)) from None
@@ -244,7 +256,8 @@ class Window(Entries):
             self.finish()
 
     def begin(self) -> None:
-        """The window begins. What lies below the stack pointer is dead: filled, it tells how deep the loop's calls go."""
+        """The window begins. What lies below the stack pointer is dead: filled, it tells how deep the loop's calls
+        go."""
         self.memory, self.registers = self.snapshot(), [self.register(number) for number in range(32)]
         low = self.guard + PAGE
         self.machine.mem_write(low, bytes([FILL]) * (self.registers[2] - low))
@@ -267,7 +280,8 @@ class Window(Entries):
         return self
 
     def calling(self) -> str | None:
-        """Why a call of the system ends the window: the line in the loop that led to it. None where the loop was left without its end being seen."""
+        """Why a call of the system ends the window: the line in the loop that led to it. None where the loop was left
+        without its end being seen."""
         body = self.program.range_of("loops_body")
         inside = [pc for pc in self.returns(self.registers[2]) if pc in body]
         return system_call(self.program.line(inside[-1])) if inside else None

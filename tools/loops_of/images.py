@@ -11,8 +11,10 @@ from .reasons import Refused, too_large, too_much_text
 
 LIMIT = 1_000_000                           # the most instructions of an epoch
 MOST_EPOCHS = 65_535
-SLOTS = 16                                  # as many as there are cores at most: two epochs that run at once are never 16 apart
-BEYOND = 4                                  # epochs past the last one, where the number of iterations isn't known before
+# as many as there are cores at most: two epochs that run at once are never 16 apart
+SLOTS = 16
+# epochs past the last one, where the number of iterations isn't known before
+BEYOND = 4
 SMALLEST_SLOT = 64
 FARTHEST = 8                                # instructions between the parts of an address
 STACK, SLOT_END, FIRST, EPOCH = 2, 5, 6, 10  # registers
@@ -39,17 +41,20 @@ def slot_of(depth: int) -> int:
 
 
 def start_code(body: int, slot: int, first: int) -> list[int]:
-    """What leads to the body from address 0: x2 = SLOT_END + (epoch & 15) * slot, and the number of the iteration in x10."""
+    """What leads to the body from address 0: x2 = SLOT_END + (epoch & 15) * slot, and the number of the iteration in
+    x10."""
     words = []
     if slot:
-        words += [immediate(SLOTS - 1, EPOCH, STACK, 7), immediate(slot.bit_length() - 1, STACK, STACK, 1), SLOT_END << 20 | STACK << 15 | STACK << 7 | 0x33]
+        words += [immediate(SLOTS - 1, EPOCH, STACK, 7), immediate(slot.bit_length() - 1, STACK, STACK, 1),
+                  SLOT_END << 20 | STACK << 15 | STACK << 7 | 0x33]
     if first:
         words += [FIRST << 20 | EPOCH << 15 | EPOCH << 7 | 0x33]
     return [*words, jump(body - 4 * len(words))]
 
 
 def reachable(program: Linked, memory: bytes) -> set[int]:
-    """The instructions that the body may come to: its own and those of the functions that it calls; where it calls by address, of all whose addresses are in memory."""
+    """The instructions that the body may come to: its own and those of the functions that it calls; where it calls by
+    address, of all whose addresses are in memory."""
     starts = {at for at, _ in program.functions_at}
     found, work, by_address = set(), [program.at("loops_body")], False
     while work:
@@ -65,9 +70,11 @@ def reachable(program: Linked, memory: bytes) -> set[int]:
 
 
 def calls_by_address(memory: bytes, pc: int) -> bool:
-    """Whether an instruction jumps to an address in a register other than that of the return, and none that AUIPC made just before."""
+    """Whether an instruction jumps to an address in a register other than that of the return, and none that AUIPC made
+    just before."""
     word, before = (int.from_bytes(memory[at:at + 4], "little") for at in (pc, pc - 4))
-    return word & 0x7F == 0x67 and word >> 15 & 31 != 1 and not (before & 0x7F == 0x17 and before >> 7 & 31 == word >> 15 & 31)
+    return (word & 0x7F == 0x67 and word >> 15 & 31 != 1
+            and not (before & 0x7F == 0x17 and before >> 7 & 31 == word >> 15 & 31))
 
 
 def signed(value: int, bits: int) -> int:
@@ -89,14 +96,17 @@ def targets(memory: bytes, pc: int) -> list[int]:
 
 def remarks(program: Linked, loop: Loop, wanted: Wanted, window: Window) -> list[str]:
     """What the image says of itself: where it is from, what it carries, and the names of its memory and its code."""
-    told = [f"The loop at {loop.place}, in {loop.function}: entry {wanted.entry} of {wanted.entries}, with {wanted.total} iterations."]
+    told = [f"The loop at {loop.place}, in {loop.function}: entry {wanted.entry} of {wanted.entries}, with "
+            f"{wanted.total} iterations."]
     if wanted.count < wanted.total:
         told.append(f"The epochs are its iterations from {wanted.first} on, {wanted.count} of them.")
     told += [loop.told.text()] if loop.told.text() else []
     lines = [f"# {one}" for one in told] + ["# Variables, each with its address and its bytes:"]
-    lines += [f"# {name} {address:08x} {length}" for address, name, length in program.variables(program.at("loops_thread")) if length]
+    lines += [f"# {name} {address:08x} {length}"
+              for address, name, length in program.variables(program.at("loops_thread")) if length]
     lines += [f"# {name} {address:08x} {length}" for address, name, length in frames(program, loop, window)]
-    lines += [f"# malloc:{block.line} {address:08x} {block.length}" for address, block in sorted(window.blocks.items()) if block.length]
+    lines += [f"# malloc:{block.line} {address:08x} {block.length}" for address, block in sorted(window.blocks.items())
+              if block.length]
     # lines of loads and stores: what conflicts are told of; those of all instructions would be most of the text
     inside = reachable(program, window.memory)
     accesses = [pc for pc in sorted(inside) if window.memory[pc] & 0x5F == 3 and program.lines.at(pc)]

@@ -1,4 +1,5 @@
-"""Makes the image of a loop and checks it: the program with the loop outlined runs as a whole, then to the entry that is wanted, and the image runs in order."""
+"""Makes the image of a loop and checks it: the program with the loop outlined runs as a whole, then to the entry that
+is wanted, and the image runs in order."""
 
 from dataclasses import dataclass
 
@@ -42,7 +43,8 @@ class Maker:
         total = iterations[entry - 1]
         if choice.first >= total:
             raise Refused(f"its entry {entry} has {total} iterations, so none from {choice.first} on")
-        return Wanted(entry, len(iterations), choice.first, min(total - choice.first, choice.epochs or MOST_EPOCHS, MOST_EPOCHS), total)
+        return Wanted(entry, len(iterations), choice.first, min(total - choice.first, choice.epochs or MOST_EPOCHS,
+                                                                MOST_EPOCHS), total)
 
     def made(self, loop: Loop) -> tuple[str, str]:
         """The text of a loop's image, which has been checked, and what is told of it."""
@@ -53,7 +55,8 @@ class Maker:
             return self.checked(loop, self.builder.outlined(loop))
         except Faults as why:
             raise Otherwise(f"WRONG {why}") from None
-        except Unusable as why:     # the unchanged program has run, and with the loop as a function it is slower and has more frames
+        # the unchanged program has run, and with the loop as a function it is slower and has more frames
+        except Unusable as why:
             raise Refused(str(why)) from None
 
     def checked(self, loop: Loop, program: Linked) -> tuple[str, str]:

@@ -14,7 +14,8 @@ class Faults(Unusable):
 
 
 class Otherwise(Exception):
-    """A check that failed: the fault is this tool's. The first word is WRONG where the program runs otherwise, and DIFFERENT where the image does."""
+    """A check that failed: the fault is this tool's. The first word is WRONG where the program runs otherwise, and
+    DIFFERENT where the image does."""
 
 
 NOT_ENTERED = "this run doesn't enter it"
@@ -31,7 +32,8 @@ def too_long(place: str, iteration: int, limit: int) -> str:
 
 
 def misaligned(place: str, iteration: int) -> str:
-    return f"{place}: its iteration {iteration} loads or stores at an address that isn't a multiple of the size, which the machine doesn't"
+    return (f"{place}: its iteration {iteration} loads or stores at an address that isn't a multiple of the size, "
+            "which the machine doesn't")
 
 
 def stack_ran_out(bytes_: int) -> str:

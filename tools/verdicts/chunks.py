@@ -1,4 +1,5 @@
-"""Neighbours of one array that share lines of the caches: how many iterations an epoch should have, so that it has whole lines."""
+"""Neighbours of one array that share lines of the caches: how many iterations an epoch should have, so that it has
+whole lines."""
 
 from collections import Counter
 from dataclasses import dataclass
@@ -30,11 +31,13 @@ class Measured:
 
 
 def apart(losses: Losses) -> Counter[tuple[str, int, int]]:
-    """The instructions lost in false sharing between two epochs in one array, by the array, by how far neighbours lie apart in it, and by where that of epoch 0 would be."""
+    """The instructions lost in false sharing between two epochs in one array, by the array, by how far neighbours lie
+    apart in it, and by where that of epoch 0 would be."""
     found: Counter[tuple[str, int, int]] = Counter()
     for violation in losses.violations:
         stored = violation.causers and losses.entries[violation.causers.entry].address
-        if violation.kind != "false" or violation.first is None or stored is None or violation.epoch == violation.by_epoch:
+        if (violation.kind != "false" or violation.first is None or stored is None
+            or violation.epoch == violation.by_epoch):
             continue
         mine, other = losses.image.variable_of(violation.first), losses.image.variable_of(stored)
         stride, rest = divmod(violation.first - stored, violation.epoch - violation.by_epoch)

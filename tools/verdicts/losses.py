@@ -36,5 +36,6 @@ class Losses:
         groups: dict[tuple[int, int, bool], list[Violation]] = {}
         for violation in self.violations:
             if violation.victims and violation.causers:
-                groups.setdefault((violation.causers.pc, violation.victims.pc, violation.kind == "buffer"), []).append(violation)
+                groups.setdefault((violation.causers.pc, violation.victims.pc, violation.kind == "buffer"),
+                                  []).append(violation)
         return sorted(groups.items(), key=lambda group: (-sum(one.lost for one in group[1]), -len(group[1]), group[0]))

@@ -13,11 +13,14 @@ MOST_PAIRS = 3
 # A part of the steps is told as holding a loop back where it has so many hundredths of them.
 LEAST = 5
 WAYS, SETS, BUFFER = 2, 4, {16: 4, 32: 8}
-KINDS = {"true": "true sharing", "silent": "silent stores", "false": "false sharing", "buffer": "full buffers", "other": "unexplained"}
+KINDS = {"true": "true sharing", "silent": "silent stores", "false": "false sharing", "buffer": "full buffers",
+         "other": "unexplained"}
 # The causes of faults, as they are printed
 CAUSES = {
-    1: "a word that is no instruction", 2: "ECALL or EBREAK", 3: "a jump out of the code", 4: "a jump to an address that is no multiple of 4",
-    5: "an address that is no multiple of the access's width", 6: "a load outside memory", 7: "a store outside memory or into the code",
+    1: "a word that is no instruction", 2: "ECALL or EBREAK", 3: "a jump out of the code",
+    4: "a jump to an address that is no multiple of 4",
+    5: "an address that is no multiple of the access's width", 6: "a load outside memory",
+    7: "a store outside memory or into the code",
     8: "more instructions than the limit allows",
 }
 
@@ -57,19 +60,23 @@ def gained(found: Findings) -> str:
     """What the loop gains, and where the steps of its cores went."""
     caches, plain = found.caches, found.plain
     if caches.gain is None:
-        told = f"{found.name} takes {caches.steps:,} steps on {plural(caches.cores, 'core')} at even speed; on one its history is full, so what it gains isn't known."
+        told = (f"{found.name} takes {caches.steps:,} steps on {plural(caches.cores, 'core')} at even speed; on one "
+                "its history is full, so what it gains isn't known.")
     else:
         told = f"{found.name} {outcome(caches, found.one)}"
     if plain.gain is not None:
-        told += f" Over a plain store of bytes it {f'gains {plain.gain:.2f}' if plain.gain >= 1 else f'loses, a gain of {plain.gain:.2f}'}."
+        told += (" Over a plain store of bytes it "
+                 f"{f'gains {plain.gain:.2f}' if plain.gain >= 1 else f'loses, a gain of {plain.gain:.2f}'}.")
     if caches_cost(found):
         told += " So the caches cost most of what there is to gain."
-    parts = [f"{percent(count, caches):.0f} % are {word}" for word in ("useful", "lost", "dropped", "waiting", "idle") for count in [getattr(caches, word)] if count]
+    parts = [f"{percent(count, caches):.0f} % are {word}" for word in ("useful", "lost", "dropped", "waiting", "idle")
+             for count in [getattr(caches, word)] if count]
     return f"{told} Of all steps {listed(parts)}."
 
 
 def caches_cost(found: Findings) -> bool:
-    """Whether it gains over the plain store and nearly nothing over caches: less than a third of what there is to gain."""
+    """Whether it gains over the plain store and nearly nothing over caches: less than a third of what there is to
+    gain."""
     caches, plain = found.caches.gain, found.plain.gain
     return caches is not None and plain is not None and plain >= 1.2 and 3 * (caches - 1) < plain - 1
 
@@ -94,7 +101,8 @@ def pair_sentence(losses: Losses, pair: tuple[int, int, bool], violations: list[
         what = f"{at(losses, store)} asks for a line that {at(losses, load)} holds in a full buffer"
     else:
         what = f"the store at {at(losses, store)} hits the load at {at(losses, load)}{met_at(losses, violations)}"
-    return f" {plural(sum(one.lost for one in violations), 'instruction')} where {what}: it usually helps to {advice(losses, violations)}."
+    return (f" {plural(sum(one.lost for one in violations), 'instruction')} where {what}: it usually helps to "
+            f"{advice(losses, violations)}.")
 
 
 def heaviest(violations: list[Violation]) -> str:
@@ -103,8 +111,10 @@ def heaviest(violations: list[Violation]) -> str:
 
 
 def lost(losses: Losses, told_before: set[tuple[int, int, bool]]) -> str:
-    """The rollbacks by their kinds, and the pairs of instructions that lost most, with what may help; nothing where all that is to say was told before."""
-    pairs = [(pair, violations) for pair, violations in losses.pairs if pair not in told_before or heaviest(violations) != "true"]
+    """The rollbacks by their kinds, and the pairs of instructions that lost most, with what may help; nothing where all
+    that is to say was told before."""
+    pairs = [(pair, violations) for pair, violations in losses.pairs if pair not in told_before
+             or heaviest(violations) != "true"]
     if losses.pairs and not pairs:
         return ""
     counts: dict[str, int] = {}
@@ -112,7 +122,8 @@ def lost(losses: Losses, told_before: set[tuple[int, int, bool]]) -> str:
         counts[violation.kind] = counts.get(violation.kind, 0) + 1
     kinds = [f"{count} by {KINDS[kind]}" for kind, count in sorted(counts.items(), key=lambda one: -one[1])]
     count = len(losses.violations)
-    told = kinds[0].replace(" by", f" rollback{'s' * (count > 1)} by") if len(kinds) == 1 else f"{plural(count, 'rollback')}, {listed(kinds)},"
+    told = (kinds[0].replace(" by", f" rollback{'s' * (count > 1)} by") if len(kinds) == 1
+            else f"{plural(count, 'rollback')}, {listed(kinds)},")
     told += f" lost {plural(losses.lost, 'instruction')}."
     for pair, violations in pairs[:MOST_PAIRS]:
         told += pair_sentence(losses, pair, violations)
@@ -124,9 +135,12 @@ def waits(losses: Losses) -> dict[str, str]:
     """Of each cause of waiting what it is, and what usually helps."""
     length = losses.image.line_length
     return {
-        "nothomefree": "wait until the epochs before them have committed: it usually helps to give each epoch about as much work",
-        "noway": f"wait for a way in a full set: it usually helps to use fewer than {WAYS + 1} lines in one epoch whose addresses are the same modulo {SETS * length}",
-        "orbfull": f"wait for room in their own buffer: it usually helps to store in one epoch to fewer lines that other epochs use; the buffer holds {BUFFER[length]}",
+        "nothomefree": "wait until the epochs before them have committed: it usually helps to give each epoch about as "
+                       "much work",
+        "noway": f"wait for a way in a full set: it usually helps to use fewer than {WAYS + 1} lines in one epoch "
+                 f"whose addresses are the same modulo {SETS * length}",
+        "orbfull": "wait for room in their own buffer: it usually helps to store in one epoch to fewer lines that "
+                   f"other epochs use; the buffer holds {BUFFER[length]}",
         "orbbusy": "wait for another core's buffer: it usually helps to store to fewer lines that several epochs use",
     }
 
@@ -140,14 +154,19 @@ class Told:
 
 def holding(run: Gain, losses: Losses, before: Told, chunk: str = "") -> list[str]:
     """What holds a run back, what takes most steps first: a sentence each. `chunk` stands behind what is lost."""
-    parts = [("lost", lost(losses, before.pairs) + chunk)] if losses.violations and percent(run.lost, run) >= LEAST else []
+    parts = ([("lost", lost(losses, before.pairs) + chunk)] if losses.violations and percent(run.lost, run) >= LEAST
+             else [])
     parts = [one for one in parts if one[1]]
-    parts += [(cause, f"In {percent(getattr(run, cause), run):.0f} % of the steps cores {told}.") for cause, told in waits(losses).items()]
-    parts.append(("dropped", f"{percent(run.dropped, run):.0f} % of the steps are of epochs that the loop's exit cancelled, or the end cut off."))
+    parts += [(cause, f"In {percent(getattr(run, cause), run):.0f} % of the steps cores {told}.")
+              for cause, told in waits(losses).items()]
+    parts.append(("dropped", f"{percent(run.dropped, run):.0f} % of the steps are of epochs that the loop's exit "
+                             "cancelled, or the end cut off."))
     parts = sorted(parts, key=lambda one: -getattr(run, one[0]))
-    parts.append(("idle", f"In {percent(run.idle, run):.0f} % of the steps cores have no epoch: the loop has {losses.image.epochs:,}; it usually helps to have more, or shorter "
+    parts.append(("idle", f"In {percent(run.idle, run):.0f} % of the steps cores have no epoch: the loop has "
+                          f"{losses.image.epochs:,}; it usually helps to have more, or shorter "
                           "ones."))
-    kept = [(cause, told) for cause, told in parts if percent(getattr(run, cause), run) >= LEAST and cause not in before.causes]
+    kept = [(cause, told) for cause, told in parts if percent(getattr(run, cause), run) >= LEAST
+            and cause not in before.causes]
     before.causes |= {cause for cause, _ in kept} - {"lost"}
     return [told for _, told in kept]
 
@@ -157,18 +176,22 @@ def chunk_words(found: Findings) -> str:
     chunk, measured = found.chunk, found.measured
     if chunk is None:
         return ""
-    told = (f" Of these, {chunk.lost:,} of {plural(chunk.of, 'instruction')} were lost where epochs use neighbours in {chunk.array}, {plural(chunk.apart, 'byte')} apart, that "
-            f"share lines of {found.over_caches.image.line_length} bytes: it usually helps to give an epoch {chunk.size} iterations, as image-of --chunk {chunk.size} does")
+    told = (f" Of these, {chunk.lost:,} of {plural(chunk.of, 'instruction')} were lost where epochs use neighbours in "
+            f"{chunk.array}, {plural(chunk.apart, 'byte')} apart, that "
+            f"share lines of {found.over_caches.image.line_length} bytes: it usually helps to give an epoch "
+            f"{chunk.size} iterations, as image-of --chunk {chunk.size} does")
     if measured is None:
         return told + "; behind -- the words of image-of have it measured."
     if measured.caches.full or measured.caches.gain is None:
         return told + "; measured so, its history is full."
-    told += f". Measured so, it takes {measured.caches.steps:,} steps and not {found.caches.steps:,}, a gain of {measured.caches.gain:.2f}"
+    told += (f". Measured so, it takes {measured.caches.steps:,} steps and not {found.caches.steps:,}, a gain of "
+             f"{measured.caches.gain:.2f}")
     return told + ("." if measured.caches.steps < found.caches.steps else ": it doesn't help here.")
 
 
 def paragraph(found: Findings) -> str:
-    """The verdict, without the limits: what holds the loop back over the plain store first, since caches may hide it, and then what the caches add."""
+    """The verdict, without the limits: what holds the loop back over the plain store first, since caches may hide it,
+    and then what the caches add."""
     before = Told(set(), set())
     plain = holding(found.plain, found.over_plain, before) if found.over_plain is not None else []
     caches = holding(found.caches, found.over_caches, before, chunk_words(found))
@@ -177,7 +200,8 @@ def paragraph(found: Findings) -> str:
     told = [f"What holds it back over a plain store already: {' '.join(plain)}"] if plain else []
     told += [f"What {'the caches add' if plain else 'holds it back'}: {' '.join(caches)}"] if caches else []
     losses = [one for one in (found.over_plain, found.over_caches) if one]
-    lines = [] if found.over_caches.image.sources or not any(one.violations for one in losses) else ["An image made with -g names the lines of the source."]
+    lines = ([] if found.over_caches.image.sources or not any(one.violations for one in losses)
+             else ["An image made with -g names the lines of the source."])
     return " ".join([gained(found), *told, *lines, "What helps is advice, and no claim."])
 
 
@@ -186,15 +210,19 @@ def faulted(name: str, losses: Losses, report: Report) -> str:
     pc, cause = report.pc or 0, report.cause or 0
     lines = losses.image.sources
     before = max((one for one in lines if one <= pc), default=None) if pc < len(losses.image.code) else None
-    place = f"at {lines[pc]}, {pc:08x}" if pc in lines else f"at {pc:08x}" + (f", behind {lines[before]}" if before is not None else "")
-    return (f"{name} ends in a fault: end fault {report.epoch} {cause}: epoch {report.epoch} stops {place}, with cause {cause}, {CAUSES.get(cause, 'which has no name')}. "
+    place = (f"at {lines[pc]}, {pc:08x}" if pc in lines else f"at {pc:08x}"
+             + (f", behind {lines[before]}" if before is not None else ""))
+    return (f"{name} ends in a fault: end fault {report.epoch} {cause}: epoch {report.epoch} stops {place}, with cause "
+            f"{cause}, {CAUSES.get(cause, 'which has no name')}. "
             "What it would gain isn't told.")
 
 
 def past(found: Findings, most_lost: float | None, least_gain: float | None) -> list[str]:
     """The limits that the loop is past."""
     share, gain = percent(found.caches.lost, found.caches), found.caches.gain
-    told = [f"{share:.1f} % of the steps are lost, more than {most_lost:g} %"] if most_lost is not None and share > most_lost else []
+    told = ([f"{share:.1f} % of the steps are lost, more than {most_lost:g} %"] if most_lost is not None
+            and share > most_lost else [])
     if least_gain is not None and (gain is None or gain < least_gain):
-        told.append(f"it gains {'nothing that is known' if gain is None else f'{gain:.2f}'}, less than {least_gain:.2f}")
+        gains = "nothing that is known" if gain is None else f"{gain:.2f}"
+        told.append(f"it gains {gains}, less than {least_gain:.2f}")
     return told

@@ -134,7 +134,8 @@ bool Carried::mayKeep(Value *V, unsigned Depth) const {
   auto *I = dyn_cast<Instruction>(V);
   if (!I || !One.L.contains(I) || !atLevel(I) || Depth > DeepestChoice) return false;
   if (auto *Join = dyn_cast<PHINode>(I))
-    return Join->getParent() != One.L.getHeader() && any_of(Join->incoming_values(), [&](Value *In) { return mayKeep(In, Depth + 1); });
+    return Join->getParent() != One.L.getHeader() &&
+           any_of(Join->incoming_values(), [&](Value *In) { return mayKeep(In, Depth + 1); });
   auto *Choice = dyn_cast<SelectInst>(I);
   return Choice && (mayKeep(Choice->getTrueValue(), Depth + 1) || mayKeep(Choice->getFalseValue(), Depth + 1));
 }
@@ -142,9 +143,11 @@ bool Carried::mayKeep(Value *V, unsigned Depth) const {
 // Where a value is stored: where it is made, or where the ways have come together, at an instruction that it reaches.
 Instruction *Carried::placeFor(Value *V, Instruction *At) const {
   auto *I = dyn_cast<Instruction>(V);
-  if (!I || !One.L.contains(I) || !atLevel(I) || !One.DT.dominates(I, At) || !leadsTo(I->getParent(), At->getParent())) return At;
+  if (!I || !One.L.contains(I) || !atLevel(I) || !One.DT.dominates(I, At) || !leadsTo(I->getParent(), At->getParent()))
+    return At;
   // another carried value's load goes further down than here
-  if (auto *Other = dyn_cast<LoadInst>(I); Other && Other->getPointerOperand()->getName().startswith("carried.")) return At;
+  if (auto *Other = dyn_cast<LoadInst>(I); Other && Other->getPointerOperand()->getName().startswith("carried."))
+    return At;
   return isa<PHINode>(I) ? &*I->getParent()->getFirstInsertionPt() : I->getNextNode();
 }
 
@@ -167,7 +170,8 @@ bool Carried::mayComeThrough(Value *V, SmallPtrSetImpl<Value *> &Seen) const {
   return (mayBeNothing(Right) && IsKept(Left)) || (mayBeNothing(Left) && IsKept(Right));
 }
 
-// A place for the store to which only another value than that which came in leads, where it isn't seen otherwise which of them it is.
+// A place for the store to which only another value than that which came in leads, where it isn't seen otherwise which
+// of them it is.
 Instruction *Carried::placeUnlessKept(Value *V, Instruction *Place) {
   SmallPtrSet<Value *, 16> Seen;
   if (!V->getType()->isIntOrPtrTy() || !mayComeThrough(V, Seen)) return Place;
@@ -193,7 +197,8 @@ void Carried::storeOnEdges(PHINode *Join) {
   SmallVector<std::pair<Value *, BasicBlock *>, 4> Ins;
   SmallPtrSet<BasicBlock *, 4> Seen;
   for (unsigned N = 0; N < Join->getNumIncomingValues(); N++)
-    if (Seen.insert(Join->getIncomingBlock(N)).second) Ins.push_back({Join->getIncomingValue(N), Join->getIncomingBlock(N)});
+    if (Seen.insert(Join->getIncomingBlock(N)).second)
+      Ins.push_back({Join->getIncomingValue(N), Join->getIncomingBlock(N)});
   for (auto &[In, From] : Ins) {
     if (In == Load) continue;
     BasicBlock *Edge = From->getSingleSuccessor() ? From : SplitEdge(From, Join->getParent(), &One.DT, &One.LI);
@@ -205,9 +210,11 @@ void Carried::storeUnder(SelectInst *Choice) {
   Instruction *After = Choice->getNextNode();
   IRBuilder<> B(After);
   if (Choice->getTrueValue() == Load)
-    store(Choice->getFalseValue(), SplitBlockAndInsertIfThen(B.CreateNot(Choice->getCondition()), After, false, nullptr, &One.DT, &One.LI));
+    store(Choice->getFalseValue(),
+          SplitBlockAndInsertIfThen(B.CreateNot(Choice->getCondition()), After, false, nullptr, &One.DT, &One.LI));
   else if (Choice->getFalseValue() == Load)
-    store(Choice->getTrueValue(), SplitBlockAndInsertIfThen(Choice->getCondition(), After, false, nullptr, &One.DT, &One.LI));
+    store(Choice->getTrueValue(),
+          SplitBlockAndInsertIfThen(Choice->getCondition(), After, false, nullptr, &One.DT, &One.LI));
   else storeInBoth(Choice, After);
 }
 
@@ -226,7 +233,8 @@ void spellOut(OneLoop &One, Value *V) {
   auto *Call = dyn_cast<MinMaxIntrinsic>(V);
   if (!Call || !One.L.contains(Call)) return;
   IRBuilder<> B(Call);
-  Value *Made = B.CreateSelect(B.CreateICmp(Call->getPredicate(), Call->getLHS(), Call->getRHS()), Call->getLHS(), Call->getRHS());
+  Value *Made = B.CreateSelect(B.CreateICmp(Call->getPredicate(), Call->getLHS(), Call->getRHS()), Call->getLHS(),
+                               Call->getRHS());
   Call->replaceAllUsesWith(Made);
   Call->eraseFromParent();
 }
@@ -251,7 +259,8 @@ SmallVector<Instruction *, 8> Carried::users() const {
 void Carried::sinkLoad() {
   SmallVector<Instruction *, 8> Users = users();
   BasicBlock *To = nullptr;
-  for (Instruction *User : Users) To = To ? One.DT.findNearestCommonDominator(To, User->getParent()) : User->getParent();
+  for (Instruction *User : Users)
+    To = To ? One.DT.findNearestCommonDominator(To, User->getParent()) : User->getParent();
   if (!To) return;
   while (One.LI.getLoopFor(To) != &One.L) To = One.DT.getNode(To)->getIDom()->getBlock();
   auto First = find_if(*To, [&](Instruction &I) { return is_contained(Users, &I) || I.isTerminator(); });
@@ -269,7 +278,8 @@ GlobalVariable *sharedVariable(Module &M, Type *T, const Twine &Name) {
 
 Instruction *makeEpoch(OneLoop &One) {
   // in the loop, so that nothing that is made of it is hoisted out
-  Instruction *Place = planted(2) ? One.L.getLoopPreheader()->getTerminator() : &*One.L.getHeader()->getFirstInsertionPt();
+  Instruction *Place =
+      planted(2) ? One.L.getLoopPreheader()->getTerminator() : &*One.L.getHeader()->getFirstInsertionPt();
   IRBuilder<> B(Place);
   Type *Number = B.getInt32Ty();
   return B.CreateLoad(Number, UndefValue::get(PointerType::get(Number, 0)), true, "epoch");

@@ -60,7 +60,8 @@ std::optional<std::string> copyRefusalOf(const llvm::Function &F, const llvm::Lo
 llvm::GlobalVariable *sharedVariable(llvm::Module &M, llvm::Type *T, const llvm::Twine &Name);
 // A stand-in for the epoch's number, while the loop is in its function still.
 llvm::Instruction *makeEpoch(OneLoop &One);
-// Takes the phis of the header away: a value that follows from the epoch's number is computed, and any other is in memory.
+// Takes the phis of the header away: a value that follows from the epoch's number is computed, and any other is in
+// memory.
 void carryInMemory(OneLoop &One, llvm::Instruction &Epoch);
 
 // --- outline.cpp: the loop becomes a function ----------------------------------

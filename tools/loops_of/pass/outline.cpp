@@ -1,6 +1,7 @@
-// The loop's blocks become the function `unsigned loops_body(unsigned epoch)`: 0 goes on, and N > 0 leaves the loop by its Nth exit. All that iterations share is in
-// memory: what is carried in a variable each, what comes in in loop.in, and what goes out in loop.out. In the loop's place stands a call of loops_drive(), which calls
-// loops_body(0), loops_body(1), .. until one leaves.
+// The loop's blocks become the function `unsigned loops_body(unsigned epoch)`: 0 goes on, and N > 0 leaves the loop by
+// its Nth exit. All that iterations share is in memory: what is carried in a variable each, what comes in in loop.in,
+// and what goes out in loop.out. In the loop's place stands a call of loops_drive(), which calls loops_body(0),
+// loops_body(1), .. until one leaves.
 #include "loops_of.h"
 #include "llvm/ADT/SetVector.h"
 #include "llvm/IR/DIBuilder.h"
@@ -20,7 +21,8 @@ bool isIn(const User *U, const Function *Of) { return cast<Instruction>(U)->getF
 
 // --- A function that its own loop may call again ---------------------------------
 
-// Keeps what the frame has at the top of the entry block: elsewhere it would be memory of the stack whose number isn't fixed. Answers what comes behind it.
+// Keeps what the frame has at the top of the entry block: elsewhere it would be memory of the stack whose number isn't
+// fixed. Answers what comes behind it.
 Instruction *raiseFrame(BasicBlock &Entry) {
   auto IsFrame = [](Instruction &I) {
     auto *Alloca = dyn_cast<AllocaInst>(&I);
@@ -46,7 +48,8 @@ void returnCallOf(Function &Copy, Function &F, Instruction *At) {
   At->eraseFromParent();
 }
 
-// Where the function is entered again from within its loop it runs a copy of itself, since what is shared is there once. Answers the flag that says so.
+// Where the function is entered again from within its loop it runs a copy of itself, since what is shared is there
+// once. Answers the flag that says so.
 GlobalVariable *divertTo(Function &Copy, OneLoop &One) {
   Type *Flag = Type::getInt32Ty(One.M.getContext());
   GlobalVariable *Inside = sharedVariable(One.M, Flag, "loops_inside");
@@ -54,7 +57,8 @@ GlobalVariable *divertTo(Function &Copy, OneLoop &One) {
   SplitBlock(Entry, raiseFrame(*Entry), &One.DT, &One.LI);
   IRBuilder<> B(Entry->getTerminator());
   Value *IsInside = B.CreateICmpNE(B.CreateLoad(Flag, Inside), ConstantInt::get(Flag, 0));
-  returnCallOf(Copy, One.F, SplitBlockAndInsertIfThen(IsInside, Entry->getTerminator(), true, nullptr, &One.DT, &One.LI));
+  returnCallOf(Copy, One.F,
+               SplitBlockAndInsertIfThen(IsInside, Entry->getTerminator(), true, nullptr, &One.DT, &One.LI));
   return Inside;
 }
 
@@ -177,16 +181,19 @@ void Outliner::leaveBy(BasicBlock &Exit, unsigned Number) {
     Block->getTerminator()->replaceSuccessorWith(&Exit, Leave);
     IRBuilder<> B(Leave);
     for (PHINode &Phi : Exit.phis())
-      B.CreateStore(Phi.getIncomingValueForBlock(Block), B.CreateStructGEP(Out->getValueType(), Out, find(Outs, &Phi) - Outs.begin()));
+      B.CreateStore(Phi.getIncomingValueForBlock(Block),
+                    B.CreateStructGEP(Out->getValueType(), Out, find(Outs, &Phi) - Outs.begin()));
     B.CreateRet(ConstantInt::get(I32, Number));
   }
 }
 
-// Arrays that live within an iteration go along. Those that are shared live as long as the function: where the marks stand isn't known of both parts together.
+// Arrays that live within an iteration go along. Those that are shared live as long as the function: where the marks
+// stand isn't known of both parts together.
 void Outliner::settleArrays() {
   SmallVector<AllocaInst *, 16> All;
   for (Instruction &I : instructions(One.F))
-    if (auto *Alloca = dyn_cast<AllocaInst>(&I); Alloca && isa<ConstantInt>(Alloca->getArraySize())) All.push_back(Alloca);
+    if (auto *Alloca = dyn_cast<AllocaInst>(&I); Alloca && isa<ConstantInt>(Alloca->getArraySize()))
+      All.push_back(Alloca);
   for (AllocaInst *Alloca : All) {
     FrameArray Array(*Alloca, *Body);
     if (Array.UsedInside)
@@ -216,7 +223,9 @@ void Outliner::tellFrame(Value &In, uint64_t Field) {
   auto *Alloca = dyn_cast<AllocaInst>(In.stripAndAccumulateConstantOffsets(DL, Distance, true));
   auto Bits = Alloca ? Alloca->getAllocationSizeInBits(DL) : None;
   if (!Bits) return;
-  One.Told.push_back(("frame\t" + variableOf(Alloca->getName()) + "\t" + Twine(Field) + "\t" + Twine(Distance.getSExtValue()) + "\t" + Twine(Bits->getFixedSize() / 8)).str());
+  One.Told.push_back(("frame\t" + variableOf(Alloca->getName()) + "\t" + Twine(Field) + "\t" +
+                      Twine(Distance.getSExtValue()) + "\t" + Twine(Bits->getFixedSize() / 8))
+                         .str());
 }
 
 // What the loop reads and doesn't change is stored before it, and each epoch loads it.
@@ -236,14 +245,16 @@ void Outliner::takeIn(const Instruction &Epoch) {
   Inside.CreateBr(One.L.getHeader());
 }
 
-// loops_drive() calls the epochs until one leaves, then loops_left(), which is empty and marks the end; it answers the exit's number.
+// loops_drive() calls the epochs until one leaves, then loops_left(), which is empty and marks the end; it answers the
+// exit's number.
 Function *Outliner::driver() {
   LLVMContext &C = One.M.getContext();
   Function *Drive = function(FunctionType::get(I32, false), "loops_drive");
   Function *Left = function(FunctionType::get(Type::getVoidTy(C), false), "loops_left");
   for (Function *Each : {Drive, Left}) Each->addFnAttr(Attribute::OptimizeNone);
   ReturnInst::Create(C, nullptr, BasicBlock::Create(C, "entry", Left));
-  auto *Start = BasicBlock::Create(C, "start", Drive), *Next = BasicBlock::Create(C, "next", Drive), *End = BasicBlock::Create(C, "end", Drive);
+  auto *Start = BasicBlock::Create(C, "start", Drive), *Next = BasicBlock::Create(C, "next", Drive),
+       *End = BasicBlock::Create(C, "end", Drive);
   IRBuilder<> B(Start);
   B.CreateBr(Next);
   B.SetInsertPoint(Next);
@@ -268,17 +279,21 @@ void Outliner::replaceLoop(GlobalVariable *Inside) {
   if (Exits.empty()) B.CreateUnreachable();
   else {
     SwitchInst *Ways = B.CreateSwitch(Exit, Exits[0], Exits.size());
-    for (unsigned N = 1; N < Exits.size(); N++) Ways->addCase(cast<ConstantInt>(ConstantInt::get(I32, N + 1)), Exits[N]);
+    for (unsigned N = 1; N < Exits.size(); N++)
+      Ways->addCase(cast<ConstantInt>(ConstantInt::get(I32, N + 1)), Exits[N]);
   }
   Old->eraseFromParent();
-  if (One.F.getSubprogram()) Exit->setDebugLoc(One.L.getStartLoc() ? One.L.getStartLoc() : DebugLoc(DILocation::get(One.M.getContext(), 0, 0, One.F.getSubprogram())));
+  if (One.F.getSubprogram())
+    Exit->setDebugLoc(One.L.getStartLoc() ? One.L.getStartLoc()
+                                          : DebugLoc(DILocation::get(One.M.getContext(), 0, 0, One.F.getSubprogram())));
 }
 
 void Outliner::takeOut() {
   for (unsigned N = 0; N < Outs.size(); N++) {
     BasicBlock *Exit = Outs[N]->getParent();
     IRBuilder<> B(Exit, Exit->getFirstInsertionPt());
-    Outs[N]->replaceAllUsesWith(B.CreateLoad(Outs[N]->getType(), B.CreateStructGEP(Out->getValueType(), Out, N), Outs[N]->getName()));
+    Outs[N]->replaceAllUsesWith(
+        B.CreateLoad(Outs[N]->getType(), B.CreateStructGEP(Out->getValueType(), Out, N), Outs[N]->getName()));
   }
   for (PHINode *Phi : Outs) Phi->eraseFromParent();
 }
@@ -290,7 +305,8 @@ void Outliner::describe() {
   DIBuilder DIB(One.M, false, Old->getUnit());
   auto *Type = DIB.createSubroutineType(DIB.getOrCreateTypeArray(None));
   auto Flags = DISubprogram::SPFlagDefinition | DISubprogram::SPFlagOptimized;
-  DISubprogram *New = DIB.createFunction(Old->getUnit(), "loops_body", "loops_body", Old->getFile(), Old->getLine(), Type, Old->getLine(), DINode::FlagZero, Flags);
+  DISubprogram *New = DIB.createFunction(Old->getUnit(), "loops_body", "loops_body", Old->getFile(), Old->getLine(),
+                                         Type, Old->getLine(), DINode::FlagZero, Flags);
   Body->setSubprogram(New);
   for (Instruction &I : make_early_inc_range(instructions(*Body))) {
     I.setMetadata(LLVMContext::MD_loop, nullptr);

@@ -1,5 +1,6 @@
-// An LLVM plug-in with the passes of tools/loops-of. `loops-keep` keeps variables as they are in the source, `loops-list` tells of each loop,
-// `loops-count` marks them, and `loops-outline` makes the iteration of one of them a function. What is told are lines on standard output, words that tabs part.
+// An LLVM plug-in with the passes of tools/loops-of. `loops-keep` keeps variables as they are in the source,
+// `loops-list` tells of each loop, `loops-count` marks them, and `loops-outline` makes the iteration of one of them a
+// function. What is told are lines on standard output, words that tabs part.
 #include "loops_of.h"
 #include "llvm/IR/DebugInfo.h"
 #include "llvm/IR/IRBuilder.h"
@@ -16,8 +17,10 @@
 using namespace llvm;
 using namespace loops_of;
 
-static cl::opt<unsigned> Wanted("loops-of-number", cl::init(0), cl::desc("which loop loops-outline takes, counted from 1 as loops-list does"));
-static cl::opt<unsigned> FirstMark("loops-of-first", cl::init(0), cl::desc("the number of the first loop that loops-count marks"));
+static cl::opt<unsigned> Wanted("loops-of-number", cl::init(0),
+                                cl::desc("which loop loops-outline takes, counted from 1 as loops-list does"));
+static cl::opt<unsigned> FirstMark("loops-of-first", cl::init(0),
+                                   cl::desc("the number of the first loop that loops-count marks"));
 
 namespace {
 
@@ -37,7 +40,9 @@ public:
 
   OneLoop of(Loop &L) {
     Function &F = *L.getHeader()->getParent();
-    return {*F.getParent(), F, L, FAM.getResult<LoopAnalysis>(F), FAM.getResult<DominatorTreeAnalysis>(F), FAM.getResult<ScalarEvolutionAnalysis>(F), {}};
+    auto &LI = FAM.getResult<LoopAnalysis>(F);
+    auto &DT = FAM.getResult<DominatorTreeAnalysis>(F);
+    return {*F.getParent(), F, L, LI, DT, FAM.getResult<ScalarEvolutionAnalysis>(F), {}};
   }
 
   // The loops in a fixed order: functions as they stand, loops from the outside in.
@@ -94,7 +99,8 @@ struct Outline : PassInfoMixin<Outline> {
   }
 };
 
-// Keeps the variables as the source has them, and their names: else a bool is made of an int8_t, of one build and not of another.
+// Keeps the variables as the source has them, and their names: else a bool is made of an int8_t, of one build and not
+// of another.
 struct Keep : PassInfoMixin<Keep> {
   PreservedAnalyses run(Module &M, ModuleAnalysisManager &) {
     SmallVector<GlobalValue *, 32> All;
@@ -114,7 +120,8 @@ struct Keep : PassInfoMixin<Keep> {
   }
 };
 
-// Marks where loops are entered, where their iterations begin and where they are left: by instructions that do nothing, and that compilers don't write.
+// Marks where loops are entered, where their iterations begin and where they are left: by instructions that do nothing,
+// and that compilers don't write.
 struct Count : PassInfoMixin<Count> {
   PreservedAnalyses run(Module &M, ModuleAnalysisManager &) {
     Knowledge Known;
@@ -138,7 +145,8 @@ struct Count : PassInfoMixin<Count> {
     auto *Type = FunctionType::get(llvm::Type::getVoidTy(Place->getContext()), false);
     IRBuilder<> B(Place);
     CallInst *Mark = B.CreateCall(InlineAsm::get(Type, Text, "", true), {});
-    if (DISubprogram *Of = Place->getFunction()->getSubprogram()) Mark->setDebugLoc(DILocation::get(Place->getContext(), 0, 0, Of));
+    if (DISubprogram *Of = Place->getFunction()->getSubprogram())
+      Mark->setDebugLoc(DILocation::get(Place->getContext(), 0, 0, Of));
   }
 };
 
@@ -154,5 +162,6 @@ bool addPass(StringRef Name, ModulePassManager &Passes, ArrayRef<PassBuilder::Pi
 } // namespace
 
 extern "C" LLVM_ATTRIBUTE_WEAK PassPluginLibraryInfo llvmGetPassPluginInfo() {
-  return {LLVM_PLUGIN_API_VERSION, "loops-of", "1", [](PassBuilder &Builder) { Builder.registerPipelineParsingCallback(addPass); }};
+  return {LLVM_PLUGIN_API_VERSION, "loops-of", "1",
+          [](PassBuilder &Builder) { Builder.registerPipelineParsingCallback(addPass); }};
 }

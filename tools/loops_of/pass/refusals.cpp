@@ -30,15 +30,19 @@ Reason refusalOfCall(const CallBase &Call) {
   if (Call.isMustTailCall() || isa<InvokeInst>(Call)) return "a call that only its own function can make";
   auto *Asm = dyn_cast<InlineAsm>(Call.getCalledOperand());
   if (Asm && !Asm->getAsmString().empty()) return "has assembly, which may be another machine's";
-  if (looksAtFrame(Call.getIntrinsicID())) return "looks at the stack of its function (an array of variable length, va_arg)";
+  if (looksAtFrame(Call.getIntrinsicID()))
+    return "looks at the stack of its function (an array of variable length, va_arg)";
   return std::nullopt;
 }
 
-bool isAtomicCall(const CallBase &Call) { return Call.getCalledFunction() && Call.getCalledFunction()->getName().startswith("__atomic_"); }
+bool isAtomicCall(const CallBase &Call) {
+  return Call.getCalledFunction() && Call.getCalledFunction()->getName().startswith("__atomic_");
+}
 
 Reason refusalOfInstruction(const Instruction &I) {
   auto *Call = dyn_cast<CallBase>(&I);
-  if (isa<AllocaInst>(I)) return "takes memory of the stack whose size or number isn't fixed (alloca, an array of variable length)";
+  if (isa<AllocaInst>(I))
+    return "takes memory of the stack whose size or number isn't fixed (alloca, an array of variable length)";
   if (isa<VAArgInst>(I)) return "takes an argument of a variable number of them (va_arg)";
   if (I.isAtomic() || (Call && isAtomicCall(*Call))) return "an atomic access, and epochs are ordered without";
   if (I.getType()->isTokenTy()) return "a value that can't be in memory";
@@ -48,7 +52,8 @@ Reason refusalOfInstruction(const Instruction &I) {
 Reason refusalOfBlock(const BasicBlock &Block) {
   if (Block.isEHPad()) return "an exception leads into it";
   if (Block.hasAddressTaken()) return "a computed goto leads into it";
-  if (!isa<BranchInst, SwitchInst, UnreachableInst>(Block.getTerminator())) return "it is left in another way than by branches and switches (a computed goto)";
+  if (!isa<BranchInst, SwitchInst, UnreachableInst>(Block.getTerminator()))
+    return "it is left in another way than by branches and switches (a computed goto)";
   return std::nullopt;
 }
 
@@ -74,7 +79,8 @@ std::optional<std::string> refusalOf(const Loop &L) {
     for (const Instruction &I : *Block)
       if (Reason Why = refusalOfInstruction(I)) return told(L, I, *Why);
   }
-  if (!L.isLoopSimplifyForm()) return placeOf(L) + ": has no single entry, or exits that others share (a computed goto)";
+  if (!L.isLoopSimplifyForm())
+    return placeOf(L) + ": has no single entry, or exits that others share (a computed goto)";
   return std::nullopt;
 }
 
@@ -84,9 +90,12 @@ bool mayComeAgain(const Function &F, const Loop &L) {
 }
 
 std::optional<std::string> copyRefusalOf(const Function &F, const Loop &L) {
-  if (F.isVarArg()) return placeOf(L) + ": calls others, and its function has a variable number of arguments, so that there can be no copy of it";
+  if (F.isVarArg())
+    return placeOf(L) +
+           ": calls others, and its function has a variable number of arguments, so that there can be no copy of it";
   for (const BasicBlock &Block : F)
-    if (Block.hasAddressTaken()) return placeOf(L) + ": calls others, and its function has a computed goto, so that there can be no copy of it";
+    if (Block.hasAddressTaken())
+      return placeOf(L) + ": calls others, and its function has a computed goto, so that there can be no copy of it";
   return std::nullopt;
 }
 

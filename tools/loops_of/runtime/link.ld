@@ -1,4 +1,5 @@
-/* Where things are: variables, heap and stack at the same addresses in all builds of a program, and behind them what loops-of adds. @WORDS@ are filled in. */
+/* Where things are: variables, heap and stack at the same addresses in all builds of a program, and behind them what
+   loops-of adds. @WORDS@ are filled in. */
 ENTRY(loops_start)
 SECTIONS
 {
@@ -7,7 +8,9 @@ SECTIONS
   .rodata ALIGN(32) : {
     *(.rodata .rodata.*) *(.srodata .srodata.*)
     . = ALIGN(4);
-    __init_array_start = .; KEEP(*(.preinit_array)) KEEP(*(SORT_BY_INIT_PRIORITY(.init_array.*) .init_array)) __init_array_end = .;
+    __init_array_start = .;
+    KEEP(*(.preinit_array)) KEEP(*(SORT_BY_INIT_PRIORITY(.init_array.*) .init_array))
+    __init_array_end = .;
     __fini_array_start = .; KEEP(*(.fini_array .fini_array.*)) __fini_array_end = .;
   }
   loops_constants_end = .;
@@ -30,5 +33,6 @@ SECTIONS
   .loops : { *(.loops) }
   . = ALIGN(32);
   loops_end = .;
-  /DISCARD/ : { *(.comment) *(.riscv.attributes) *(.note .note.*) *(.eh_frame) *(.eh_frame_hdr) *(.gcc_except_table .gcc_except_table.*) }
+  /DISCARD/ : { *(.comment) *(.riscv.attributes) *(.note .note.*) *(.eh_frame) *(.eh_frame_hdr)
+                *(.gcc_except_table .gcc_except_table.*) }
 }

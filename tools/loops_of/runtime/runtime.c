@@ -1,4 +1,5 @@
-/* What a program needs below picolibc: characters in and out, an end, and what runs before main. A system call has its number in a7. */
+/* What a program needs below picolibc: characters in and out, an end, and what runs before main. A system call has its
+   number in a7. */
 #include <errno.h>
 #include <stdio.h>
 #include <stdlib.h>
@@ -49,7 +50,14 @@ long write(int file, const void *from, unsigned count)
 int gettimeofday(void *to, void *zone) { (void)zone; for (int i = 0; to && i < 4; i++) ((int *)to)[i] = 0; return 0; }
 
 /* Atomic accesses, of a program that has one thread. */
-#define FETCH(BYTES, T, NAME, OPERATION) T __atomic_fetch_##NAME##_##BYTES(T *at, T by, int order) { T was = *at; (void)order; *at = was OPERATION by; return was; }
+#define FETCH(BYTES, T, NAME, OPERATION) \
+    T __atomic_fetch_##NAME##_##BYTES(T *at, T by, int order) \
+    { \
+        T was = *at; \
+        (void)order; \
+        *at = was OPERATION by; \
+        return was; \
+    }
 #define ATOMIC(BYTES, T) \
     T __atomic_load_##BYTES(T *at, int order) { (void)order; return *at; } \
     void __atomic_store_##BYTES(T *at, T to, int order) { (void)order; *at = to; } \
@@ -61,7 +69,8 @@ int gettimeofday(void *to, void *zone) { (void)zone; for (int i = 0; to && i < 4
         *(same ? at : expected) = same ? to : was; \
         return same; \
     } \
-    FETCH(BYTES, T, add, +) FETCH(BYTES, T, sub, -) FETCH(BYTES, T, and, &) FETCH(BYTES, T, or, |) FETCH(BYTES, T, xor, ^)
+    FETCH(BYTES, T, add, +) FETCH(BYTES, T, sub, -) FETCH(BYTES, T, and, &) \
+    FETCH(BYTES, T, or, |) FETCH(BYTES, T, xor, ^)
 ATOMIC(1, unsigned char)
 ATOMIC(2, unsigned short)
 ATOMIC(4, unsigned)

@@ -1,13 +1,16 @@
-/* Hooks of the emulator that count, in C since they are called at each block: the steps of a run, and the iterations of a loop with the longest of them. */
+/* Hooks of the emulator that count, in C since they are called at each block: the steps of a run, and the iterations of
+   a loop with the longest of them. */
 #include <stdint.h>
 
 struct steps {
-    uint64_t total, end, marked;        /* of the blocks that have begun; where the last one ends; how many of the steps were marks */
+    /* of the blocks that have begun; where the last one ends; how many of the steps were marks */
+    uint64_t total, end, marked;
 };
 
 struct iterations {
     struct steps *steps;
-    uint64_t count, open, began, number, longest, longest_number;  /* open: the entry has begun an iteration; number: of the next one in its entry */
+    /* open: the entry has begun an iteration; number: of the next one in its entry */
+    uint64_t count, open, began, number, longest, longest_number;
 };
 
 void loops_block(void *machine, uint64_t address, uint32_t size, struct steps *steps)
