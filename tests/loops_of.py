@@ -170,6 +170,8 @@ def requests(folder: Path) -> Iterator[Check]:
              "same: entry 1 of 1, 6 of 6 iterations"),
             (["--loop", "words.c:9", "--args=-n 1", words], 0, "with 1 iterations", "same"),
             (["--loop", "words.c:13", "--input", forms, words], 0, "with 999 iterations", "same"),
+            (["--loop", "all", "--chunk", 0, "--out", folder, small], 2, "", "--chunk takes 1 to 65535"),
+            (["--chunk", 4, small], 2, "", "--chunk N goes with --loop"),
             (["--loop", "small.c:14", small], 2, "",
              "there is no loop at small.c:14; there are: small.c:11, small.c:13"),
             (["--loop", "forms.c:37", "--entry", 101, forms], 1, "", "is entered 100 times, so there is no entry 101"),
@@ -182,6 +184,27 @@ def requests(folder: Path) -> Iterator[Check]:
         out, errors, got = called(*given)
         yield (f"asked: {' '.join(map(str, given[:-1]))}", None if got == status and head in out
                and bool(out) == bool(head) and re.search(told, errors) else f"{out[:300]}{errors}{got}")
+
+
+def chunks() -> Iterator[Check]:
+    """Several iterations an epoch, of which the last may have fewer: a whole loop, with a stack, one that is left
+    within an epoch, a window, and one whose iterations are more than epochs can be. A loop that is left without that
+    being known before has 4 epochs more."""
+    from loops import read_image
+    forms, small, sieve = (PROGRAMS / name for name in ("forms.c", "small.c", "sieve.c"))
+    for place, source, words, told, epochs in (
+            ("small.c:13", small, [4], "64 of 64 iterations, 4 an epoch", 16),
+            ("small.c:19", small, [5], "64 of 64 iterations, 5 an epoch", 13),
+            ("small.c:19", small, [100], "64 of 64 iterations, 100 an epoch", 1),
+            ("small.c:31", small, [4], "19 of 19 iterations, 4 an epoch", 5 + 4),
+            ("small.c:31", small, [19], "19 of 19 iterations, 19 an epoch", 1 + 4),
+            ("small.c:24", small, [2, "--first", 10, "--epochs", 5], "5 of 20 iterations, 2 an epoch", 3),
+            ("forms.c:34", forms, [7, "--first", 3], "97 of 100 iterations, 7 an epoch", 14),
+            ("sieve.c:13", sieve, [1000], "200000 of 200000 iterations, 1000 an epoch", 200)):
+        out, errors, status = called("--loop", place, "--chunk", *words, source)
+        got = (read_image(out).epochs, status)
+        yield (f"{words[0]} iterations an epoch of {place}", differs(got, (epochs, 0))
+               or (None if told in errors else errors))
 
 
 def names() -> Iterator[Check]:
@@ -325,6 +348,7 @@ def checks(folder: Path) -> Iterator[Check]:
     yield from random_programs(folder)
     yield from refusals(folder)
     yield from requests(folder)
+    yield from chunks()
     yield from names()
     yield from gains()
     yield from wrong_plugins(folder)

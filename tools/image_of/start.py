@@ -83,14 +83,7 @@ class Start:
 
     def words(self, address: int, top: int) -> list[int]:
         """The words from address 0 on, with the entry at an address."""
-        given, places = self.instructions(), {self.entry: address}
-        kept: list[Instruction] = []
-        for one in given:
-            if one.name == "label":
-                places[str(one.third)] = 4 * len(kept)
-            else:
-                kept.append(one)
-        return [encoded(one, 4 * place, top, places) for place, one in enumerate(kept)]
+        return assembled(self.instructions(), {self.entry: address}, top)
 
 
 def label(name: str) -> Instruction:
@@ -146,6 +139,17 @@ def line_of(one: Instruction, top: str) -> str:
 
 
 # --- As words ----------------------------------------------------------------
+
+def assembled(given: list[Instruction], named: dict[str, int], top: int = 0) -> list[int]:
+    """The words of instructions from address 0 on; `named` are the addresses of names that are no labels among them."""
+    places, kept = dict(named), []
+    for one in given:
+        if one.name == "label":
+            places[str(one.third)] = 4 * len(kept)
+        else:
+            kept.append(one)
+    return [encoded(one, 4 * place, top, places) for place, one in enumerate(kept)]
+
 
 IMMEDIATES = {"addi": 0, "slli": 1, "srli": 5, "andi": 7}
 OPERATIONS = {"add": 0, "sub": 0x20}

@@ -264,6 +264,7 @@ class Layout:
     """How much memory a program has."""
     heap: int
     stack: int
+    start: int = 32                         # bytes at address 0 for what leads to an iteration
     data: int = 0                           # where its variables begin, in all builds that are compared
 
 
@@ -333,7 +334,7 @@ class Builder:
         """A linked program, whose variables are where those of the others are."""
         script, made = self.folder / f"{name}.ld", self.folder / f"{name}.elf"
         text = (HERE / "runtime/link.ld").read_text()
-        for word in ("heap", "stack", "data"):
+        for word in ("start", "heap", "stack", "data"):
             text = text.replace(f"@{word.upper()}@", str(getattr(self.layout, word)))
         script.write_text(text)
         words = [llvm("ld.lld"), "--error-limit=0", "--discard-locals", "-m", "elf32lriscv", "-T", script, "-o",

@@ -8,7 +8,7 @@ from loops import Programs
 from .build import PAGE, Linked, Loop
 from .emulator import Entries, Run, Window
 from .images import LIMIT, Wanted
-from .reasons import Otherwise, Refused, misaligned, too_long
+from .reasons import Otherwise, Refused, iteration, misaligned, too_long
 
 # The machine's causes of faults: a load or a store at no multiple of its size, which Unicorn does; an epoch that takes
 # more instructions than the limit
@@ -37,7 +37,8 @@ def name_at(program: Linked, at: int) -> str:
 
 def moved(was: int, now: int, program: Linked) -> bool:
     """Whether two words are addresses that may differ: of code and constants, or of frames."""
-    ranges = (range(32, program.at("loops_data")), range(program.at("loops_guard"), program.at("loops_end")))
+    ranges = (range(program.text.start, program.at("loops_data")),
+              range(program.at("loops_guard"), program.at("loops_end")))
     return any(was in one and now in one for one in ranges)
 
 
@@ -57,15 +58,22 @@ def check_program(plain: Run, outlined: Entries) -> None:
                         + ", ".join(dict.fromkeys(name_at(program, at) for at in different[:MOST_NAMED])))
 
 
+def part_of(wanted: Wanted, epoch: int) -> str:
+    """What an epoch is of the loop, for people."""
+    if wanted.chunk == 1:
+        return iteration(wanted.first + epoch)
+    return f"its epoch {epoch}, of {wanted.chunk} iterations,"
+
+
 def check_image(text: str, loop: Loop, wanted: Wanted, window: Window) -> int:
     """The loop in order makes of memory what the emulator made of it. Answers how many words hold addresses of an
     iteration's own frame, which lies elsewhere."""
     report = Programs().seq(text).report
     if report.ending == "fault" and report.cause == TOO_LONG:
-        raise Refused(too_long(loop.line, wanted.first + report.epoch, LIMIT))
+        raise Refused(too_long(loop.line, part_of(wanted, report.epoch), LIMIT))
     if report.ending == "fault" and report.cause == MISALIGNED:
-        raise Refused(misaligned(window.program.line(report.pc), wanted.first + report.epoch))
-    expected = ("exit", wanted.count - 1) if wanted.whole else ("done", wanted.count)
+        raise Refused(misaligned(window.program.line(report.pc), part_of(wanted, report.epoch)))
+    expected = ("exit", wanted.epochs - 1) if wanted.whole else ("done", wanted.epochs)
     if (report.ending, report.epoch) != expected:
         cause = f" with cause {report.cause} at {window.program.line(report.pc)}" if report.ending == "fault" else ""
         raise Otherwise(f"DIFFERENT the loop ends by {report.ending} {report.epoch}{cause}, and not by {expected[0]} "

@@ -2,22 +2,21 @@
 
 from dataclasses import dataclass
 
+from image_of.start import SLOTS
 from image_of.texts import LARGEST_SIZE, LINE, LONGEST_TEXT, at_lines
-from image_of.words import immediate, jump, uses_register
+from image_of.words import uses_register
 
 from .build import Linked, Loop
 from .emulator import Window
 from .reasons import Refused, too_large, too_much_text
+from .starts import STACK, Start
 
 LIMIT = 1_000_000                           # the most instructions of an epoch
 MOST_EPOCHS = 65_535
-# as many as there are cores at most: two epochs that run at once are never 16 apart
-SLOTS = 16
 # epochs past the last one, where the number of iterations isn't known before
 BEYOND = 4
 SMALLEST_SLOT = 64
 FARTHEST = 8                                # instructions between the parts of an address
-STACK, SLOT_END, FIRST, EPOCH = 2, 5, 6, 10  # registers
 
 
 @dataclass
@@ -28,6 +27,11 @@ class Wanted:
     first: int
     count: int
     total: int                              # of the entry
+    chunk: int = 1                          # iterations of an epoch; the last one has what is left
+
+    @property
+    def epochs(self) -> int:
+        return -(-self.count // self.chunk)
 
     @property
     def whole(self) -> bool:
@@ -38,18 +42,6 @@ class Wanted:
 def slot_of(depth: int) -> int:
     """The bytes of an epoch's stack, for calls that went so deep."""
     return max(SMALLEST_SLOT, 1 << (depth + 15).bit_length())
-
-
-def start_code(body: int, slot: int, first: int) -> list[int]:
-    """What leads to the body from address 0: x2 = SLOT_END + (epoch & 15) * slot, and the number of the iteration in
-    x10."""
-    words = []
-    if slot:
-        words += [immediate(SLOTS - 1, EPOCH, STACK, 7), immediate(slot.bit_length() - 1, STACK, STACK, 1),
-                  SLOT_END << 20 | STACK << 15 | STACK << 7 | 0x33]
-    if first:
-        words += [FIRST << 20 | EPOCH << 15 | EPOCH << 7 | 0x33]
-    return [*words, jump(body - 4 * len(words))]
 
 
 def reachable(program: Linked, memory: bytes) -> set[int]:
@@ -100,6 +92,8 @@ def remarks(program: Linked, loop: Loop, wanted: Wanted, window: Window) -> list
             f"{wanted.total} iterations."]
     if wanted.count < wanted.total:
         told.append(f"The epochs are its iterations from {wanted.first} on, {wanted.count} of them.")
+    if wanted.chunk > 1:
+        told.append(f"An epoch is {wanted.chunk} iterations; the last one is what is left.")
     told += [loop.told.text()] if loop.told.text() else []
     lines = [f"# {one}" for one in told] + ["# Variables, each with its address and its bytes:"]
     lines += [f"# {name} {address:08x} {length}"
@@ -134,18 +128,18 @@ def image_text(program: Linked, loop: Loop, wanted: Wanted, window: Window, vers
     memory, body, top = window.memory, program.range_of("loops_body"), program.at("loops_end")
     uses_stack = any(uses_register(int.from_bytes(memory[pc:pc + 4], "little"), STACK) for pc in body)
     slot = slot_of(window.depth) if uses_stack else 0
-    registers = {number: window.registers[number] for number in (3, 4)}
-    registers |= {SLOT_END: top + slot} if slot else {}
-    registers |= {FIRST: wanted.first} if wanted.first else {}
-    words = start_code(body.start, slot, wanted.first)
+    is_known = loop.told.countable or not wanted.whole
+    start = Start(body.start, slot, top, wanted.first, wanted.chunk, wanted.first + wanted.count if is_known else None)
+    registers = {number: window.registers[number] for number in (3, 4)} | start.registers()
+    words = start.words()
     code = b"".join(word.to_bytes(4, "little") for word in words) + memory[4 * len(words):program.text.stop]
     size, most = top + SLOTS * slot, LARGEST_SIZE[version]
     size += -size % LINE[version]
     if size > most:
         raise Refused(too_large(size, most, "--heap, --stack or --version 2"))
-    beyond = 0 if loop.told.countable or not wanted.whole else min(BEYOND, MOST_EPOCHS - wanted.count)
+    beyond = 0 if is_known else min(BEYOND, MOST_EPOCHS - wanted.epochs)
     lines = remarks(program, loop, wanted, window) + (["version 2"] if version == 2 else [])
-    lines += ["exit", f"size {size}", f"epochs {wanted.count + beyond}", f"limit {LIMIT}", f"code {code.hex()}"]
+    lines += ["exit", f"size {size}", f"epochs {wanted.epochs + beyond}", f"limit {LIMIT}", f"code {code.hex()}"]
     lines += [f"reg {number} {value:08x}" for number, value in sorted(registers.items()) if value]
     text = "\n".join([*lines, *memory_lines(program, window, program.text.stop)]) + "\n"
     if len(text) > LONGEST_TEXT:

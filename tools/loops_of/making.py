@@ -17,6 +17,7 @@ class Choice:
     first: int = 0
     epochs: int | None = None               # at most; None is all
     version: int = 2                        # of the image
+    chunk: int = 1                          # iterations of an epoch
 
 
 class Maker:
@@ -43,8 +44,9 @@ class Maker:
         total = iterations[entry - 1]
         if choice.first >= total:
             raise Refused(f"its entry {entry} has {total} iterations, so none from {choice.first} on")
-        return Wanted(entry, len(iterations), choice.first, min(total - choice.first, choice.epochs or MOST_EPOCHS,
-                                                                MOST_EPOCHS), total)
+        most = MOST_EPOCHS * choice.chunk
+        count = min(total - choice.first, choice.epochs or most, most)
+        return Wanted(entry, len(iterations), choice.first, count, total, choice.chunk)
 
     def made(self, loop: Loop) -> tuple[str, str]:
         """The text of a loop's image, which has been checked, and what is told of it."""
@@ -69,6 +71,7 @@ class Maker:
         text = image_text(program, loop, wanted, window, self.choice.version)
         own = check_image(text, loop, wanted, window)
         told = [f"same: entry {wanted.entry} of {wanted.entries}, {wanted.count} of {wanted.total} iterations"]
+        told += [f"{wanted.chunk} an epoch"] if wanted.chunk > 1 else []
         told += [f"stack {window.depth}"] if window.depth else []
         told += [f"{own} words with addresses of frames of the iterations' own differ"] if own else []
         return text, " | ".join([", ".join(told), *([loop.told.text()] if loop.told.text() else [])])

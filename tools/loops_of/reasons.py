@@ -27,13 +27,17 @@ def system_call(place: str) -> str:
     return f"{place}: calls the system, which the machine hasn't (output, input, the end)"
 
 
-def too_long(place: str, iteration: int, limit: int) -> str:
-    return f"{place}: its iteration {iteration} takes more than {limit} instructions"
+def iteration(number: int) -> str:
+    return f"its iteration {number}"
 
 
-def misaligned(place: str, iteration: int) -> str:
-    return (f"{place}: its iteration {iteration} loads or stores at an address that isn't a multiple of the size, "
-            "which the machine doesn't")
+def too_long(place: str, what: str, limit: int) -> str:
+    """`what` is an iteration, or an epoch of several."""
+    return f"{place}: {what} takes more than {limit} instructions"
+
+
+def misaligned(place: str, what: str) -> str:
+    return f"{place}: {what} loads or stores at an address that isn't a multiple of the size, which the machine doesn't"
 
 
 def stack_ran_out(bytes_: int) -> str:

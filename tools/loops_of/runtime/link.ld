@@ -3,7 +3,7 @@
 ENTRY(loops_start)
 SECTIONS
 {
-  . = 32;
+  . = @START@;
   .text : { *(.text.loops_body) *(.text .text.*) }
   .rodata ALIGN(32) : {
     *(.rodata .rodata.*) *(.srodata .srodata.*)
