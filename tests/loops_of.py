@@ -14,6 +14,7 @@ without Debian's csmith. Exits with 1 where a check failed.
 
 import os
 import re
+import shlex
 import shutil
 import subprocess
 import sys
@@ -25,7 +26,7 @@ ROOT = Path(__file__).resolve().parent.parent
 sys.path.insert(0, str(ROOT / "tools"))
 PROGRAMS = Path(__file__).with_suffix("")
 EXAMPLES = ROOT / "examples" / "programs"
-SOURCES = [*sorted(PROGRAMS.glob("*.c")), *sorted(EXAMPLES.glob("*.c"))]
+SOURCES = [*sorted(PROGRAMS.glob("*.c")), *sorted(PROGRAMS.glob("*.cpp")), *sorted(EXAMPLES.glob("*.c"))]
 TOOL = ROOT / "tools" / "loops-of"
 SEEDS = (1, 2, 3, 5, 6, 9, 11, 12, 13, 14)                  # of random programs
 Check = tuple[str, str | None]                              # what it shows, and what is wrong or None
@@ -44,11 +45,16 @@ def called(*words: object, seconds: int = 120) -> tuple[str, str, int]:
 # --- The listing -----------------------------------------------------------------
 
 def expected_of(source: Path) -> dict[str, str]:
-    """What has to be said of each loop, by its line, and by LINE.2 of the second one of a line."""
-    found = {}
-    for number, line in enumerate(source.read_text().splitlines(), 1):
-        for place, told in enumerate(line.split("//: ")[1:], 1):
-            found[f"{number}.{place}" if place > 1 else str(number)] = told.strip()
+    """What has to be said of each loop, by its line, and by LINE.2 of the second one of a line. It stands behind the
+    loop's line, or below it."""
+    found, line, count = {}, 0, 0
+    for number, text in enumerate(source.read_text().splitlines(), 1):
+        code, *all_told = text.split("//: ")
+        if code.strip():
+            line, count = number, 0
+        for told in all_told:
+            count += 1
+            found[f"{line}.{count}" if count > 1 else str(line)] = told.strip()
     return found
 
 
@@ -78,7 +84,8 @@ def native(source: Path, folder: Path, words: list[str], given: bytes,
            flags: list[str] | None = None) -> tuple[bytes, int]:
     """Output and status by the compiler of this machine."""
     made = folder / "native"
-    subprocess.run(["cc", "-O1", "-w", *(flags or []), "-o", made, source, "-lm"], check=True)
+    compiler = "c++" if source.suffix == ".cpp" else "cc"
+    subprocess.run([compiler, "-O1", "-w", *(flags or []), "-o", made, source, "-lm"], check=True)
     done = subprocess.run([made, *words], input=given, capture_output=True, check=False)
     return done.stdout, done.returncode & 0xFF if done.returncode >= 0 else 128 - done.returncode
 
@@ -145,11 +152,13 @@ def random_programs(folder: Path) -> Iterator[Check]:
 def refusals(folder: Path) -> Iterator[Check]:
     """A loop that is refused, at its line and with its reason, in each of the programs whose first line says which; and
     programs that can't be taken."""
-    for source in sorted((PROGRAMS / "refused").glob("*.c")):
+    for source in sorted((PROGRAMS / "refused").glob("*.c*")):
         mark, _, reason = source.read_text().partition("\n")[0].partition(" ")
         if mark in ("//:", "//!"):
             beside = [source.with_name("main_again_other.c")] if source.stem == "main_again" else []
-            out, errors, status = called("--loop", "all", "--out", folder / "refused", source, *beside)
+            options = re.search(r"(?m)^// options: (.*)$", source.read_text())
+            words = shlex.split(options[1]) if options else []
+            out, errors, status = called("--loop", "all", "--out", folder / "refused", *words, source, *beside)
             told = (re.search(rf"(?m) (refused|not entered)(?: {reason})?$", out) if mark == "//:"
                     else re.search(rf"(?m)^loops-of: {reason}", errors))
             right = told and status == (1 if mark == "//:" else 2) and "WRONG" not in out
@@ -160,7 +169,7 @@ def requests(folder: Path) -> Iterator[Check]:
     """Entries, windows and places; what is no request."""
     forms, small, words = (PROGRAMS / name for name in ("forms.c", "small.c", "words.c"))
     for given, status, head, told in (
-            (["--loop", "forms.c:37", "--entry", 7, forms], 0, "entry 7 of 100, with 15 iterations",
+            (["--loop", "forms.c:38", "--entry", 7, forms], 0, "entry 7 of 100, with 15 iterations",
              "same: entry 7 of 100, 15 of 15 iterations"),
             (["--loop", "small.c:13", "--first", 10, "--epochs", 5, small], 0, "its iterations from 10 on, 5 of them",
              "same: entry 1 of 1, 5 of 64 iterations"),
@@ -168,13 +177,13 @@ def requests(folder: Path) -> Iterator[Check]:
              "same: entry 1 of 1, 5 of 20 iterations"),
             (["--loop", "lines.c:8.2", PROGRAMS / "lines.c"], 0, "The loop at lines.c:8.2",
              "same: entry 1 of 1, 6 of 6 iterations"),
-            (["--loop", "words.c:9", "--args=-n 1", words], 0, "with 1 iterations", "same"),
-            (["--loop", "words.c:13", "--input", forms, words], 0, "with 999 iterations", "same"),
             (["--loop", "all", "--chunk", 0, "--out", folder, small], 2, "", "--chunk takes 1 to 65535"),
             (["--chunk", 4, small], 2, "", "--chunk N goes with --loop"),
+            (["--loop", "words.c:9", "--args=-n 1", words], 0, "with 1 iterations", "same"),
+            (["--loop", "words.c:13", "--input", forms, words], 0, "with 999 iterations", "same"),
             (["--loop", "small.c:14", small], 2, "",
              "there is no loop at small.c:14; there are: small.c:11, small.c:13"),
-            (["--loop", "forms.c:37", "--entry", 101, forms], 1, "", "is entered 100 times, so there is no entry 101"),
+            (["--loop", "forms.c:38", "--entry", 101, forms], 1, "", "is entered 100 times, so there is no entry 101"),
             (["--loop", "small.c:13", "--first", 64, small], 1, "",
              "its entry 1 has 64 iterations, so none from 64 on"),
             (["--loop", "small.c:13", "--version", 1, small], 1, "",
@@ -199,7 +208,7 @@ def chunks() -> Iterator[Check]:
             ("small.c:31", small, [4], "19 of 19 iterations, 4 an epoch", 5 + 4),
             ("small.c:31", small, [19], "19 of 19 iterations, 19 an epoch", 1 + 4),
             ("small.c:24", small, [2, "--first", 10, "--epochs", 5], "5 of 20 iterations, 2 an epoch", 3),
-            ("forms.c:34", forms, [7, "--first", 3], "97 of 100 iterations, 7 an epoch", 14),
+            ("forms.c:35", forms, [7, "--first", 3], "97 of 100 iterations, 7 an epoch", 14),
             ("sieve.c:13", sieve, [1000], "200000 of 200000 iterations, 1000 an epoch", 200)):
         out, errors, status = called("--loop", place, "--chunk", *words, source)
         got = (read_image(out).epochs, status)
@@ -218,6 +227,29 @@ def names() -> Iterator[Check]:
                    {"table": 24, "seen": 4, "malloc:lines.c:15": 40, "frame": 32, "carried.sum": 4}))
     lines = {int(place.rpartition(":")[2]) for place in image.sources.values()}
     yield "the lines of the code", None if {5, 19, 20} <= lines <= {5, 6, 18, 19, 20} else f"got {lines}"
+
+
+def words_at(image: object, name: str) -> list[int]:
+    """The words of a variable that an image's remarks name."""
+    memory = bytearray(image.size)
+    for part in image.data:
+        memory[part.address:part.address + len(part.data)] = part.data
+    found = next((one for one in image.variables if one.name == name), None)
+    return [] if found is None else list(memoryview(memory[found.address:found.address + found.length]).cast("I"))
+
+
+def frames() -> Iterator[Check]:
+    """Arrays of the frames of all that called the loop's function are named, where they are: their words are those that
+    the program put there. A function that came again has them more than once, and its frame grows by an array of
+    variable length."""
+    from loops import read_image
+    squares = [i * i for i in range(24)]
+    for place, entry, wanted in (("frames.c:24", 1, {"thrice:copy": [3 * one for one in squares],
+                                                     "main:table": squares}),
+                                 ("frames.c:39", 3, {"tree:kept": [0, 3, 0, 0], "tree:kept.2": [1, 3, 0, 0],
+                                                     "tree:kept.3": [2, 3, 0, 0], "main:table": squares})):
+        image = read_image(called("--loop", place, "--entry", entry, PROGRAMS / "frames.c")[0])
+        yield f"arrays of the frames above {place}", differs({name: words_at(image, name) for name in wanted}, wanted)
 
 
 # --- Planted mistakes ------------------------------------------------------------
@@ -243,32 +275,51 @@ def gains() -> Iterator[Check]:
                    else f"got {far}, {errors}")
 
 
-def answer_of(source: Path, line: str, folder: Path, kit: object = None, plant: object = None) -> str:
-    """What is told of a loop, by another plug-in or with a mistake that a function plants in what makes the images."""
+def answer_of(source: Path, line: str, folder: Path, kit: object = None) -> str:
+    """What is told of a loop, by this plug-in or by another."""
     from loops_of.build import Builder, Layout, kit_of
     from loops_of.emulator import Given
     from loops_of.making import Choice, Maker
-    from loops_of.reasons import Otherwise, Refused
-    builder = Builder([source], [], Layout(65_536, 65_536), folder, kit or kit_of())
-    maker = Maker(builder, Given(seconds=8), Choice(first=3))
+    from loops_of.reasons import Otherwise, Refused, Unusable
     try:
+        builder = Builder([source], [], Layout(65_536, 65_536), folder, kit or kit_of())
+        maker = Maker(builder, Given(seconds=4), Choice(first=2))
         return maker.made(next(loop for loop in builder.loops if loop.place == line))[1]
-    except (Otherwise, Refused) as why:
+    except (Otherwise, Refused, Unusable) as why:
         return str(why)
 
 
 def wrong_plugins(folder: Path) -> Iterator[Check]:
-    """The plug-in with mistakes: the epoch's number outside the loop, a store where a later branch keeps the old value,
-    no copy of a function that comes again, and a store where the value is the one that came in."""
+    """The plug-in with mistakes, of which the environment of one that is built for that chooses one. Those that LLVM's
+    verifier or the pass itself sees make no image; an array that doesn't go along changes no memory, but is told, and
+    isn't called an iteration's own any more."""
     from loops_of.build import Kit, build_part, join_parts, kit_of
-    for number, part, line, told in ((2, "carried", "forms.c:78", "didn't end"), (3, "carried", "forms.c:24", "WRONG"),
-                                     (4, "outline", "forms.c:46", "entered again"),
-                                     (5, "carried", "plain.c:43", "WRONG")):
-        kit = Kit(Path(shutil.copytree(kit_of().folder, folder / f"wrong{number}")))
-        build_part(kit, part, (f"-DWRONG={number}",))
-        join_parts(kit)
+    kit = Kit(Path(shutil.copytree(kit_of().folder, folder / "wrong")))
+    for part in ("carried", "outline"):
+        build_part(kit, part, ("-DPLANTS",))
+    join_parts(kit)
+    rights: dict[str, str] = {}
+    for number, what, line, told in (
+            (2, "the epoch's number is made outside the loop", "forms.c:93", "didn't end"),
+            (3, "a store where a later branch keeps the old value", "forms.c:25", "WRONG"),
+            (4, "no copy of a function that comes again", "forms.c:47", "entered again"),
+            (5, "a store where the value is the one that came in", "plain.c:43", "WRONG"),
+            (6, "an array goes along without an address that stands before the loop", "frames.c:13",
+             "the pass made a broken module"),
+            (7, "an address that stands before the loop keeps an array from going along", "frames.c:13",
+             "| shared hint"),
+            (8, "the frame stands behind the question whether a function came again", "frames.c:47",
+             "the pass made a frame whose size isn't fixed"),
+            (9, "an array of variable length goes before what its length is made of", "frames.c:47",
+             "the pass made a broken module")):
+        os.environ["LOOPS_OF_PLANT"] = str(number)
         said = answer_of(PROGRAMS / line.partition(":")[0], line, folder, kit)
-        yield f"the plug-in's mistake {number}", None if told in said else said
+        del os.environ["LOOPS_OF_PLANT"]
+        if line not in rights:
+            rights[line] = answer_of(PROGRAMS / line.partition(":")[0], line, folder, kit)
+        right = rights[line]
+        yield (f"a plug-in's mistake: {what}", None if told in said and right.startswith("same")
+               and "shared" not in right else f"{said}, and without it {right}")
 
 
 def patched(where: object, name: str, other: object, source: str, line: str, folder: Path) -> str:
@@ -292,7 +343,7 @@ def wrong_images(folder: Path) -> Iterator[Check]:
            else said)
     for what, pattern, source, line in (("no thread pointer", r"(?m)^reg 4 .*\n", "lines.c", "lines.c:25"),
                                         ("no first iteration", r"(?m)^reg 6 .*\n", "small.c", "small.c:13"),
-                                        ("no stack", r"(?m)^reg 5 .*\n", "forms.c", "forms.c:34"),
+                                        ("no stack", r"(?m)^reg 5 .*\n", "forms.c", "forms.c:35"),
                                         ("no memory", r"(?m)^at .*\n", "small.c", "small.c:13")):
         said = patched(making, "image_text", without(pattern), source, line, folder)
         yield f"an image with {what}", None if said.startswith("DIFFERENT") else said
@@ -300,7 +351,7 @@ def wrong_images(folder: Path) -> Iterator[Check]:
     yield "an emulator that doesn't hear the end", None if said.startswith("the program ends within it") else said
     said = patched(making, "check_program",
                    lambda plain, other: (plain.saved.clear(), check.check_program(plain, other)), "forms.c",
-                   "forms.c:109", folder)
+                   "forms.c:130", folder)
     yield ("what setjmp saved, compared", None if said.startswith("WRONG other values at the program's end in back+")
            else said)
 
@@ -310,7 +361,7 @@ def wrong_passes(folder: Path) -> Iterator[Check]:
     none is an iteration's own."""
     from loops_of import build
     for name, other, line, right in (("BEFORE", build.BEFORE.replace("sroa,", "sroa,early-cse<memssa>,"), 32,
-                                      "computed i"), ("FRONT", build.FRONT[3:], 34, "own tmp")):
+                                      "computed i"), ("FRONT", build.FRONT[3:], 35, "own tmp")):
         was = getattr(build, name)
         told = []
         for value in (was, other):
@@ -350,6 +401,7 @@ def checks(folder: Path) -> Iterator[Check]:
     yield from requests(folder)
     yield from chunks()
     yield from names()
+    yield from frames()
     yield from gains()
     yield from wrong_plugins(folder)
     yield from wrong_passes(folder)

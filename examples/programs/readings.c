@@ -1,5 +1,4 @@
-// Readings of a sensor: they are smoothed, and summed up, and the first alarm is looked for. Three loops of three kinds; what stands behind the signs of a remark with a
-// colon is what tools/loops-of says of each: entries, iterations, and what goes from one iteration to the next. A test holds the tool to it.
+// Readings of a sensor: smoothed, summed up, searched. Behind a colon stands what tools/loops-of says of a loop.
 #include <stdio.h>
 #include <stdlib.h>
 
@@ -22,7 +21,8 @@ static unsigned next(void)
 static int mean(const int *reading, int place)
 {
     int sum = 0, count = 0;
-    for (int i = place - WINDOW; i <= place + WINDOW; i++) { //: 256 2304 | carried count 28 (a reduction), sum 27 (a reduction) | computed i
+    for (int i = place - WINDOW; i <= place + WINDOW; i++) {
+        //: 256 2304 | carried count 28 (a reduction), sum 27 (a reduction) | computed i
         if (i >= 0 && i < READINGS) {
             sum += reading[i];
             count++;

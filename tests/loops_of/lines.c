@@ -1,13 +1,13 @@
-// Two loops in a line, blocks of the heap, an array of the frame, a variable of the thread's own, and a condition that reads what the body reads.
+// Two loops in a line, blocks of the heap, an array of the frame, a variable of the thread's, a load in a condition.
 #include <stdlib.h>
 short table[12];
 _Thread_local int seen;
 __attribute__((noinline)) static int weight(int n) { seen += n; return n * 3 + seen; }
 int main(void)
 {
-    for (int i = 0; i < 12; i++) table[i] = i; for (int i = 0; i < 6; i++) table[i] += table[11 - i]; //: 1 12 | computed i //: 1 6 | computed i
-    int frame[8], sum = 0;
-    int *volatile hidden = frame;
+    for (int i = 0; i < 12; i++) table[i] = i; for (int i = 0; i < 6; i++) table[i] += table[11 - i];
+    //: 1 12 | computed i //: 1 6 | computed i
+    int frame[8], sum = 0, *volatile hidden = frame;
     for (int i = 0; i < 8; i++) hidden[i] = i * i; //: 1 8 | computed i
     int *blocks[4];
     for (int i = 0; i < 4; i++) //: 1 4 | computed i

@@ -1,5 +1,5 @@
-// Six plain loops. What stands behind the sign of a remark with a colon is what the listing has to say of the loop of that line, worked out by hand: entries,
-// iterations, and what it carries (with the line that makes it), computes and owns.
+// Six plain loops. What stands behind the sign of a remark with a colon is what the listing has to say of the loop of
+// that line, worked out by hand: entries, iterations, and what it carries, computes and owns.
 #include <stdio.h>
 #include <stdlib.h>
 int a[64];

@@ -1,4 +1,4 @@
-// Counts words of standard input, as the command line says: its loops call the system, but for the one that looks at what was read.
+// Counts words of standard input, as the command line says: its loops call the system, but for that over the words.
 #include <stdio.h>
 #include <stdlib.h>
 #include <string.h>

@@ -32,7 +32,7 @@ CPP = (".cc", ".cpp", ".cxx", ".c++", ".C")
 # No pass that joins loads before loops are rotated: a load in the loop's condition and in its body would become a value
 # that is carried around the loop.
 BEFORE = ("loops-keep,function(sroa,simplifycfg,loop-simplify,lcssa,loop(loop-rotate),instcombine,simplifycfg,adce,"
-          "loop-simplify,lcssa,loop(indvars),loop-simplify,lcssa)")
+          "loop-simplify,lcssa,loop(indvars),loop-simplify,lcssa),loops-frames")
 PARTS = ("places", "refusals", "carried", "outline", "plugin")
 MEMORY = 1 << 20
 PAGE = 4096
@@ -145,21 +145,12 @@ def kit_of(folder: Path = TREE / "out" / "loops-of") -> Kit:
 # --- What is told of loops -----------------------------------------------------
 
 @dataclass
-class Frame:
-    """An array of the function's frame, by its address among what comes into the loop."""
-    name: str
-    field: int                              # where in loop.in the address stands
-    distance: int                           # of that address from the array's
-    length: int
-
-
-@dataclass
 class Told:
     """What the pass told of a loop that it outlined."""
     carried: list[str] = field(default_factory=list)        # names, with what is known of them behind
     computed: list[str] = field(default_factory=list)
     own: list[str] = field(default_factory=list)
-    frames: list[Frame] = field(default_factory=list)
+    shared: list[str] = field(default_factory=list)         # arrays of an iteration's own that couldn't go along
     countable: bool = False
     exits: int = 0
 
@@ -172,8 +163,8 @@ class Told:
             self.computed.append(" ".join([words[1], *(f"({note})" for note in words[2:])]))
         elif words[0] == "own":
             self.own.append(words[1])
-        elif words[0] == "frame":
-            self.frames.append(Frame(words[1], *map(int, words[2:5])))
+        elif words[0] == "shared":
+            self.shared.append(words[1])
         elif words[0] == "exits":
             self.exits = int(words[1])
         elif words[0] == "countable":
@@ -181,7 +172,7 @@ class Told:
 
     def text(self) -> str:
         """For people: `carried max, head | computed i | own tmp`."""
-        parts = [("carried", self.carried), ("computed", self.computed), ("own", self.own)]
+        parts = [("carried", self.carried), ("computed", self.computed), ("own", self.own), ("shared", self.shared)]
         told = [f"{name} {', '.join(sorted(found))}" for name, found in parts if found]
         return " | ".join(told + ([f"exits {self.exits}"] if self.exits > 1 else []))
 
@@ -342,7 +333,7 @@ class Builder:
                  "--start-group", *self.kit.archives, "--end-group"]
         done = subprocess.run([str(word) for word in words], capture_output=True, check=False)
         errors = done.stderr.decode("utf-8", "replace")
-        undefined = sorted(set(re.findall(r"undefined symbol: (\S+)", errors)))
+        undefined = sorted(set(re.findall(r"undefined symbol: (.+)", errors)))
         if done.returncode:
             raise Unusable(unlinked(undefined) if undefined else "ld.lld: " + "\n".join(errors.splitlines()[:8]))
         return Linked(made)

@@ -8,6 +8,7 @@ from image_of.words import uses_register
 
 from .build import Linked, Loop
 from .emulator import Window
+from .frames import Frames
 from .reasons import Refused, too_large, too_much_text
 from .starts import STACK, Start
 
@@ -98,22 +99,14 @@ def remarks(program: Linked, loop: Loop, wanted: Wanted, window: Window) -> list
     lines = [f"# {one}" for one in told] + ["# Variables, each with its address and its bytes:"]
     lines += [f"# {name} {address:08x} {length}"
               for address, name, length in program.variables(program.at("loops_thread")) if length]
-    lines += [f"# {name} {address:08x} {length}" for address, name, length in frames(program, loop, window)]
+    arrays = Frames(program).arrays(loop.function, window.memory, window.registers)
+    lines += [f"# {one.name} {one.address:08x} {one.length}" for one in arrays]
     lines += [f"# malloc:{block.line} {address:08x} {block.length}" for address, block in sorted(window.blocks.items())
               if block.length]
     # lines of loads and stores: what conflicts are told of; those of all instructions would be most of the text
     inside = reachable(program, window.memory)
     accesses = [pc for pc in sorted(inside) if window.memory[pc] & 0x5F == 3 and program.lines.at(pc)]
     return lines + [f"# code {pc:08x} {program.line(pc)}" for pc in accesses]
-
-
-def frames(program: Linked, loop: Loop, window: Window) -> list[tuple[int, str, int]]:
-    """The arrays of the function's frame that come into the loop."""
-    found = []
-    for one in loop.told.frames:
-        at = program.at("loop.in") + one.field
-        found.append((int.from_bytes(window.memory[at:at + 4], "little") - one.distance, one.name, one.length))
-    return sorted(set(found))
 
 
 def memory_lines(program: Linked, window: Window, end: int) -> list[str]:

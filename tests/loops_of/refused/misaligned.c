@@ -1,4 +1,4 @@
-//: misaligned.c:6: its iteration 1 loads or stores at an address that isn't a multiple of the size, which the machine doesn't
+//: misaligned.c:6: its iteration 1 loads or stores at an address that isn't a multiple of the size, .*
 char bytes[64] __attribute__((aligned(4)));
 int main(void)
 {

@@ -1,4 +1,4 @@
-//: taken_from_stack.c:7: takes memory of the stack whose size or number isn't fixed \(alloca, an array of variable length\)
+//: taken_from_stack.c:7: takes memory of the stack whose size or number isn't fixed \(alloca, .*\)
 #include <alloca.h>
 void use(char *p, int n) { p[0] = n; }
 int main(void)

@@ -1,4 +1,4 @@
-//: variable_arguments.c:6: calls others, and its function has a variable number of arguments, so that there can be no copy of it
+//: variable_arguments.c:6: calls others, and its function has a variable number of arguments, .* no copy of it
 int again(int);
 static int sum(int n, ...)
 {

@@ -5,6 +5,7 @@
 #include "loops_of.h"
 #include "llvm/ADT/SetVector.h"
 #include "llvm/IR/DIBuilder.h"
+#include "llvm/IR/DebugInfo.h"
 #include "llvm/IR/IRBuilder.h"
 #include "llvm/IR/InstIterator.h"
 #include "llvm/IR/IntrinsicInst.h"
@@ -26,7 +27,7 @@ bool isIn(const User *U, const Function *Of) { return cast<Instruction>(U)->getF
 Instruction *raiseFrame(BasicBlock &Entry) {
   auto IsFrame = [](Instruction &I) {
     auto *Alloca = dyn_cast<AllocaInst>(&I);
-    return Alloca && isa<ConstantInt>(Alloca->getArraySize()) && !planted(8);
+    return Alloca && (isa<ConstantInt>(Alloca->getArraySize()) || planted(9)) && !planted(8);
   };
   SmallVector<Instruction *, 8> Frame;
   for (Instruction &I : Entry)
@@ -91,6 +92,8 @@ struct FrameArray {
   }
 
   bool isOwn() const { return UsedInside && !UsedOutside && BeginsInside; }
+  // one that lives within an iteration, and whose address others have too
+  bool isShared() const { return UsedInside && UsedOutside && BeginsInside; }
 
 private:
   void take(Instruction &I, bool Inside) {
@@ -99,7 +102,8 @@ private:
     if (Mark && Mark->isLifetimeStartOrEnd()) {
       Marks.push_back(Mark);
       BeginsInside |= Inside && Mark->getIntrinsicID() == Intrinsic::lifetime_start;
-    } else if (isa<BitCastInst>(I) || (Part && Part->hasAllConstantIndices() && !planted(7))) Addresses.push_back(&I);
+    } else if ((isa<BitCastInst>(I) || (Part && Part->hasAllConstantIndices())) && (Inside || !planted(7)))
+      Addresses.push_back(&I);
     else (Inside ? UsedInside : UsedOutside) = true;
   }
 };
@@ -128,7 +132,6 @@ private:
   void settleArrays();
   SetVector<Value *> liveIns(const Instruction &Epoch) const;
   void takeIn(const Instruction &Epoch);
-  void tellFrame(Value &In, uint64_t Field);
   Function *driver();
   void replaceLoop(GlobalVariable *Inside);
   void takeOut();
@@ -198,9 +201,12 @@ void Outliner::settleArrays() {
     FrameArray Array(*Alloca, *Body);
     if (Array.UsedInside)
       for (Instruction *Mark : Array.Marks) Mark->eraseFromParent();
+    if (Array.isShared()) One.Told.push_back("shared\t" + variableOf(Alloca->getName()));
     if (!Array.isOwn()) continue;
+    for (DbgDeclareInst *Each : FindDbgDeclareUses(Alloca)) Each->eraseFromParent();
     for (Instruction *Address : Array.Addresses)
-      if (Address->getFunction() != Body) Address->moveBefore(*Entry, Entry->end());
+      if (Address->getFunction() != Body && (Address == Alloca || !planted(6)))
+        Address->moveBefore(*Entry, Entry->end());
     One.Told.push_back("own\t" + variableOf(Alloca->getName()));
   }
 }
@@ -215,19 +221,6 @@ SetVector<Value *> Outliner::liveIns(const Instruction &Epoch) const {
   return Ins;
 }
 
-// Tells where the address of an array of the frame stands among what comes in.
-void Outliner::tellFrame(Value &In, uint64_t Field) {
-  if (!In.getType()->isPointerTy()) return;
-  const DataLayout &DL = One.M.getDataLayout();
-  APInt Distance(DL.getIndexTypeSizeInBits(In.getType()), 0);
-  auto *Alloca = dyn_cast<AllocaInst>(In.stripAndAccumulateConstantOffsets(DL, Distance, true));
-  auto Bits = Alloca ? Alloca->getAllocationSizeInBits(DL) : None;
-  if (!Bits) return;
-  One.Told.push_back(("frame\t" + variableOf(Alloca->getName()) + "\t" + Twine(Field) + "\t" +
-                      Twine(Distance.getSExtValue()) + "\t" + Twine(Bits->getFixedSize() / 8))
-                         .str());
-}
-
 // What the loop reads and doesn't change is stored before it, and each epoch loads it.
 void Outliner::takeIn(const Instruction &Epoch) {
   SetVector<Value *> Ins = liveIns(Epoch);
@@ -240,7 +233,6 @@ void Outliner::takeIn(const Instruction &Epoch) {
     Outside.CreateStore(Ins[N], Outside.CreateStructGEP(All, Shared, N));
     Value *Load = Inside.CreateLoad(Types[N], Inside.CreateStructGEP(All, Shared, N), Ins[N]->getName());
     Ins[N]->replaceUsesWithIf(Load, [&](Use &U) { return isIn(U.getUser(), Body); });
-    tellFrame(*Ins[N], One.M.getDataLayout().getStructLayout(All)->getElementOffset(N));
   }
   Inside.CreateBr(One.L.getHeader());
 }

@@ -29,9 +29,14 @@ std::string variableOf(StringRef Name) {
 }
 
 std::string functionOf(const Function &F) {
-  std::string Name = demangle(F.getName().str()), Made;
-  for (char C : StringRef(Name).take_until([](char C) { return C == '('; }))
-    if (C != ' ') Made += C;
+  std::string Name = F.getName().str(), Made;
+  ItaniumPartialDemangler Parts;
+  if (!Parts.partialDemangle(Name.c_str()) && Parts.isFunction()) {
+    char *Found = Parts.getFunctionName(nullptr, nullptr);
+    Name = Found;
+    std::free(Found);
+  }
+  copy_if(Name, std::back_inserter(Made), [](char C) { return C != ' '; });
   return Made;
 }
 

@@ -1,7 +1,9 @@
 // An LLVM plug-in with the passes of tools/loops-of. `loops-keep` keeps variables as they are in the source,
-// `loops-list` tells of each loop, `loops-count` marks them, and `loops-outline` makes the iteration of one of them a
-// function. What is told are lines on standard output, words that tabs part.
+// `loops-frames` tells where arrays of frames are, `loops-list` tells of each loop, `loops-count` marks them, and
+// `loops-outline` makes the iteration of one of them a function. What is told are lines on standard output, words that
+// tabs part.
 #include "loops_of.h"
+#include "llvm/IR/DIBuilder.h"
 #include "llvm/IR/DebugInfo.h"
 #include "llvm/IR/IRBuilder.h"
 #include "llvm/IR/InlineAsm.h"
@@ -72,9 +74,14 @@ void outlineNumber(Module &M, unsigned Number) {
   std::optional<std::string> Why = refusalOf(One.L);
   if (!Why && mayComeAgain(One.F, One.L)) Why = copyRefusalOf(One.F, One.L);
   if (Why) return tell("refused\t" + *Why);
+  SmallVector<AllocaInst *, 16> Frame;
+  for (Instruction &I : One.F.getEntryBlock())
+    if (auto *Alloca = dyn_cast<AllocaInst>(&I); Alloca && Alloca->isStaticAlloca()) Frame.push_back(Alloca);
   outline(One);
   for (const std::string &Line : One.Told) tell(Line);
   if (verifyModule(M, &errs())) report_fatal_error("the pass made a broken module", false);
+  if (!all_of(Frame, [](AllocaInst *Each) { return Each->isStaticAlloca(); }))
+    report_fatal_error("the pass made a frame whose size isn't fixed", false);
 }
 
 // --- The passes ------------------------------------------------------------------
@@ -120,6 +127,51 @@ struct Keep : PassInfoMixin<Keep> {
   }
 };
 
+// Tells in the debug information where the arrays of frames are, which had lines alone till now, so that nothing before
+// this looked at more than lines.
+struct Frames : PassInfoMixin<Frames> {
+  PreservedAnalyses run(Module &M, ModuleAnalysisManager &) {
+    NamedMDNode *Units = M.getNamedMetadata("llvm.dbg.cu");
+    if (!Units) return PreservedAnalyses::all();
+    DebugInfoFinder Found;
+    Found.processModule(M);
+    Units->clearOperands();
+    for (DICompileUnit *Unit : Found.compile_units()) {
+      DICompileUnit *Whole = wholeOf(*Unit);
+      Units->addOperand(Whole);
+      for (DISubprogram *Each : Found.subprograms())
+        if (Each->getUnit() == Unit) Each->replaceUnit(Whole);
+    }
+    for (Function &F : M)
+      if (!F.isDeclaration() && F.getSubprogram()) tellArrays(F);
+    return PreservedAnalyses::none();
+  }
+
+  // A unit that tells of variables too.
+  static DICompileUnit *wholeOf(DICompileUnit &Unit) {
+    return DICompileUnit::getDistinct(Unit.getContext(), Unit.getSourceLanguage(), Unit.getFile(), Unit.getProducer(),
+                                      Unit.isOptimized(), Unit.getFlags(), Unit.getRuntimeVersion(), "",
+                                      DICompileUnit::FullDebug, nullptr, nullptr, nullptr, nullptr, nullptr, 0, true,
+                                      false, Unit.getNameTableKind(), false, "", "");
+  }
+
+  static void tellArrays(Function &F) {
+    DISubprogram *Of = F.getSubprogram();
+    DIBuilder DIB(*F.getParent(), false, Of->getUnit());
+    SmallVector<AllocaInst *, 16> All;
+    for (Instruction &I : F.getEntryBlock())
+      if (auto *Alloca = dyn_cast<AllocaInst>(&I); Alloca && Alloca->isStaticAlloca()) All.push_back(Alloca);
+    for (AllocaInst *Each : All) {
+      uint64_t Bits = Each->getAllocationSizeInBits(F.getParent()->getDataLayout())->getFixedSize();
+      DIType *Bytes = DIB.createBasicType("bytes", Bits, dwarf::DW_ATE_unsigned);
+      DILocalVariable *Variable =
+          DIB.createAutoVariable(Of, variableOf(Each->getName()), Of->getFile(), Of->getLine(), Bytes);
+      DIB.insertDeclare(Each, Variable, DIB.createExpression(), DILocation::get(F.getContext(), 0, 0, Of),
+                        Each->getNextNode());
+    }
+  }
+};
+
 // Marks where loops are entered, where their iterations begin and where they are left: by instructions that do nothing,
 // and that compilers don't write.
 struct Count : PassInfoMixin<Count> {
@@ -152,6 +204,7 @@ struct Count : PassInfoMixin<Count> {
 
 bool addPass(StringRef Name, ModulePassManager &Passes, ArrayRef<PassBuilder::PipelineElement>) {
   if (Name == "loops-keep") Passes.addPass(Keep());
+  else if (Name == "loops-frames") Passes.addPass(Frames());
   else if (Name == "loops-list") Passes.addPass(List());
   else if (Name == "loops-count") Passes.addPass(Count());
   else if (Name == "loops-outline") Passes.addPass(Outline());

@@ -27,7 +27,6 @@ bool looksAtFrame(Intrinsic::ID ID) {
 
 Reason refusalOfCall(const CallBase &Call) {
   if (Call.hasFnAttr(Attribute::ReturnsTwice)) return "calls a function that returns twice (setjmp)";
-  if (Call.isMustTailCall() || isa<InvokeInst>(Call)) return "a call that only its own function can make";
   auto *Asm = dyn_cast<InlineAsm>(Call.getCalledOperand());
   if (Asm && !Asm->getAsmString().empty()) return "has assembly, which may be another machine's";
   if (looksAtFrame(Call.getIntrinsicID()))
@@ -51,6 +50,7 @@ Reason refusalOfInstruction(const Instruction &I) {
 
 Reason refusalOfBlock(const BasicBlock &Block) {
   if (Block.isEHPad()) return "an exception leads into it";
+  if (isa<InvokeInst>(Block.getTerminator())) return "calls what may leave it by an exception";
   if (Block.hasAddressTaken()) return "a computed goto leads into it";
   if (!isa<BranchInst, SwitchInst, UnreachableInst>(Block.getTerminator()))
     return "it is left in another way than by branches and switches (a computed goto)";
