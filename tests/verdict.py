@@ -192,6 +192,27 @@ def chunks(folder: Path | str) -> Results:
         yield f"a chunk is measured by {compiler}", None if 2 * chunked < alone and got[1:] == ("", 0) else f"got {got}"
 
 
+def chunk_of_a_program(folder: Path | str) -> Results:
+    """The same of a loop of a program: tools/loops-of is proposed, and measured with its words."""
+    source, image = Path(folder, "program.c"), Path(folder, "program.image")
+    source.write_text(NEIGHBOURS + "int main(void)\n{\n    for (unsigned e = 0; e < 64; e++)\n        body(e);\n"
+                                   "    return 0;\n}\n")
+    words = ["--loop", f"program.c:{line_of(source.read_text(), 'for (unsigned e = 0')}", str(source)]
+    done = subprocess.run([ROOT / "tools" / "loops-of", *words], capture_output=True, text=True,
+                          env={"PATH": "/usr/bin:/bin", "LOOPS_PROGRAMS": str(folder)}, check=False)
+    if done.returncode:
+        print("left out: the verdict on neighbours in a program, since tools/loops-of lacks something")
+        return
+    image.write_text(done.stdout)
+    got = verdict(folder, image, "--", *words)
+    proposed = ("4 bytes apart, that share lines of 32 bytes: it usually helps to give an epoch 8 iterations, as "
+                "loops-of --chunk 8 does")
+    found = re.search(rf"{proposed}\. Measured so, it takes ([\d,]+) steps and not ([\d,]+), a gain of", got[0])
+    chunked, alone = [int(one.replace(",", "")) for one in found.groups()] if found else (1, 1)
+    yield ("a chunk of a program's loop is measured", None if 2 * chunked < alone and got[1:] == ("", 0)
+           else f"got {got}")
+
+
 def beside(command: list[str]) -> dict[str, Path]:
     """The programs that were built beside a command of `trace_cli`."""
     given = Path(command[0]).resolve()
@@ -206,7 +227,7 @@ def examples(folder: Path | str, command: list[str]) -> Results:
     if len(programs) < 3:
         print("left out: the examples, since why, replay or gain wasn't built beside the program that is tested")
         return
-    for name, path in programs.items():
+    for name, path in {**programs, "trace_cli": Path(command[0]).resolve()}.items():
         Path(folder, name).unlink(missing_ok=True)
         Path(folder, name).symlink_to(path)
     for name, wanted in EXAMPLES.items():
@@ -223,6 +244,7 @@ def examples(folder: Path | str, command: list[str]) -> Results:
     yield "the verdict on fault", None if got == (wanted, "", 6) else f"got {got}"
     yield from hidden(folder)
     yield from chunks(folder)
+    yield from chunk_of_a_program(folder)
     source, image = ROOT / "examples" / "c" / "own_counters.c", Path(folder, "own_counters.image")
     made = subprocess.run([ROOT / "tools" / "image-of", "-g", source], capture_output=True, text=True, check=False)
     if made.returncode:

@@ -4,6 +4,7 @@ whole lines."""
 from collections import Counter
 from dataclasses import dataclass
 
+from loops import Image
 from loops.gains import Gain
 
 from .losses import Losses
@@ -44,6 +45,11 @@ def apart(losses: Losses) -> Counter[tuple[str, int, int]]:
         if mine is not None and mine == other and not rest and 0 < stride < losses.image.line_length:
             found[mine.name, stride, violation.first - stride * violation.epoch] += violation.lost
     return found
+
+
+def maker_of(image: Image) -> str:
+    """The tool that made an image: the first remark of loops-of says which loop it is."""
+    return "loops-of" if image.remarks and image.remarks[0].startswith(" The loop at ") else "image-of"
 
 
 def proposal(losses: Losses) -> Chunk | None:

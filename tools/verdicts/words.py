@@ -6,7 +6,7 @@ from loops import Report, Violation
 from loops.gains import Gain
 from pictures.words import advice, listed as places_listed, plural
 
-from .chunks import Chunk, Measured
+from .chunks import Chunk, Measured, maker_of
 from .losses import Losses
 
 MOST_PAIRS = 3
@@ -176,12 +176,13 @@ def chunk_words(found: Findings) -> str:
     chunk, measured = found.chunk, found.measured
     if chunk is None:
         return ""
+    maker = maker_of(found.over_caches.image)
     told = (f" Of these, {chunk.lost:,} of {plural(chunk.of, 'instruction')} were lost where epochs use neighbours in "
             f"{chunk.array}, {plural(chunk.apart, 'byte')} apart, that "
             f"share lines of {found.over_caches.image.line_length} bytes: it usually helps to give an epoch "
-            f"{chunk.size} iterations, as image-of --chunk {chunk.size} does")
+            f"{chunk.size} iterations, as {maker} --chunk {chunk.size} does")
     if measured is None:
-        return told + "; behind -- the words of image-of have it measured."
+        return told + f"; behind -- the words of {maker} have it measured."
     if measured.caches.full or measured.caches.gain is None:
         return told + "; measured so, its history is full."
     told += (f". Measured so, it takes {measured.caches.steps:,} steps and not {found.caches.steps:,}, a gain of "
