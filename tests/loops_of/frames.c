@@ -54,6 +54,8 @@ int main(void)
     int table[24];
     for (int i = 0; i < 24; i++) //: 1 24 | computed i
         table[i] = i * i;
+    for (int i = 0; i < level[39]; i++) //: not entered
+        table[i] = 0;
     hints();
     return (thrice(table, 24) + tree(2, 3) + level[7] + table[3]) & 127;
 }
