@@ -277,15 +277,17 @@ def gains() -> Iterator[Check]:
                    else f"got {far}, {errors}")
 
 
-def answer_of(source: Path, line: str, folder: Path, kit: object = None) -> str:
-    """What is told of a loop, by this plug-in or by another."""
+def answer_of(source: Path, line: str, folder: Path, kit: object = None, **choice: int) -> str:
+    """What is told of a loop, by this plug-in or by another; of its iterations from 2 on, or as chosen."""
     from loops_of.build import Builder, Layout, kit_of
     from loops_of.emulator import Given
     from loops_of.making import Choice, Maker
     from loops_of.reasons import Otherwise, Refused, Unusable
+    from loops_of.starts import ROOM, ROOM_OF_CHUNKS
     try:
-        builder = Builder([source], [], Layout(65_536, 65_536), folder, kit or kit_of())
-        maker = Maker(builder, Given(seconds=4), Choice(first=2))
+        layout = Layout(65_536, 65_536, ROOM_OF_CHUNKS if "chunk" in choice else ROOM)
+        builder = Builder([source], [], layout, folder, kit or kit_of())
+        maker = Maker(builder, Given(seconds=4), Choice(**(choice or {"first": 2})))
         return maker.made(next(loop for loop in builder.loops if loop.place == line))[1]
     except (Otherwise, Refused, Unusable) as why:
         return str(why)
@@ -324,12 +326,12 @@ def wrong_plugins(folder: Path) -> Iterator[Check]:
                and "shared" not in right else f"{said}, and without it {right}")
 
 
-def patched(where: object, name: str, other: object, source: str, line: str, folder: Path) -> str:
+def patched(where: object, name: str, other: object, source: str, line: str, folder: Path, **choice: int) -> str:
     """The same with another value of a name of a module or a class."""
     was = getattr(where, name)
     setattr(where, name, other)
     try:
-        return answer_of(PROGRAMS / source, line, folder)
+        return answer_of(PROGRAMS / source, line, folder, **choice)
     finally:
         setattr(where, name, was)
 
@@ -349,6 +351,10 @@ def wrong_images(folder: Path) -> Iterator[Check]:
                                         ("no memory", r"(?m)^at .*\n", "small.c", "small.c:13")):
         said = patched(making, "image_text", without(pattern), source, line, folder)
         yield f"an image with {what}", None if said.startswith("DIFFERENT") else said
+    said = patched(making, "image_text",
+                   lambda *given: images.image_text(*given).replace("\nreg 28 00000007\n", "\nreg 28 00000008\n"),
+                   "small.c", "small.c:11", folder, first=2, epochs=5, chunk=2)
+    yield "an image whose last epoch has too many iterations", None if said.startswith("DIFFERENT") else said
     said = patched(emulator.Window, "left", lambda _: None, "small.c", "small.c:13", folder)
     yield "an emulator that doesn't hear the end", None if said.startswith("the program ends within it") else said
     said = patched(making, "check_program",
