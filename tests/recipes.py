@@ -3,8 +3,9 @@
 
 Without words each file that a recipe names has to be there. With the first words of a recipe's title, as `instruction`, and a revision it tells
 which of the files that differ there from BASE (where the revision left `main`) the recipe doesn't name, and which of those that it names are
-untouched. A file is named by its path, below the crate that was named last, or below the top. Exits with 1 where a file is not there, or a
-touched one is not named.
+untouched. A file is named by its path, below the crate that was named last, or below the top; above the first recipe stand those that belong to
+each. A new file has no name yet: it has to stand beside one that is named. So does a wrong body beside others, always. Exits with 1 where a file
+is not there, or a touched one is not named.
 """
 import re
 import subprocess
@@ -14,18 +15,16 @@ from pathlib import Path
 TOP = Path(__file__).resolve().parent.parent
 TITLE = re.compile(r"(?m)^\*\*(?:An? )?(.*?)\.\*\* ")
 NAMED = re.compile(r"`([^`]+)`|\[[^\]]*\]\(([^)]+)\)")
-# What a recipe's change makes anew and nobody writes
-MADE = ("docs/reading.md", "CHANGELOG.md", "docs/DECISIONS.md")
 
 
-def recipes(page: str) -> dict[str, str]:
-    """The text of each recipe by its title."""
+def recipes(page: str) -> tuple[str, dict[str, str]]:
+    """What stands above the first recipe, and the text of each recipe by its title."""
     parts = TITLE.split(page.partition("## Five recipes")[2])
-    return dict(zip(parts[1::2], parts[2::2]))
+    return parts[0], dict(zip(parts[1::2], parts[2::2]))
 
 
 def files_of(text: str, top: Path) -> list[str]:
-    """The files that a recipe names, each with whether it is there: those of a crate, and those below the top."""
+    """The files that a recipe names: those of a crate, and those below the top."""
     crate, found = "", []
     for quoted, linked in NAMED.findall(text):
         name = quoted or linked
@@ -37,33 +36,37 @@ def files_of(text: str, top: Path) -> list[str]:
     return found
 
 
-def touched(revision: str, base: str) -> set[str]:
-    """The files that a revision has otherwise than its base."""
-    words = ["git", "-C", str(TOP), "diff", "--name-only", f"{base}...{revision}" if base == "main" else f"{base}..{revision}"]
-    return set(subprocess.run(words, capture_output=True, text=True, check=True).stdout.split("\n")) - {""}
+def touched(revision: str, base: str) -> dict[str, bool]:
+    """The files that a revision has otherwise than its base, each with whether it is new there; wrong bodies aside."""
+    words = ["git", "-C", str(TOP), "diff", "--name-status", "--no-renames", f"{base}...{revision}" if base == "main" else f"{base}..{revision}"]
+    lines = subprocess.run(words, capture_output=True, text=True, check=True).stdout.splitlines()
+    files = [line.split("\t") for line in lines]
+    return {name: how == "A" for how, name in files if not name.startswith("tests/wrong-bodies/")}
 
 
-def compare(title: str, text: str, revision: str, base: str) -> int:
+def compare(title: str, named: set[str], of_all: set[str], revision: str, base: str) -> int:
     """Tells how a change and a recipe differ; how many files the recipe lacks."""
-    named, changed = set(files_of(text, TOP)), touched(revision, base)
-    lacks = sorted(it for it in changed - named if it not in MADE and not it.startswith("tests/wrong-bodies/"))
+    changed = touched(revision, base)
+    beside = {str(Path(it).parent) for it in named}
+    lacks = sorted(it for it, is_new in changed.items() if it not in named | of_all and not (is_new and str(Path(it).parent) in beside))
     for it in lacks:
         print(f"FAILED {title}: the change touches {it}, which the recipe doesn't name")
-    for it in sorted(named - changed):
+    for it in sorted(named - changed.keys()):
         print(f"{title}: {it} is untouched")
-    print(f"{len(named & changed)} checks passed, {len(lacks)} failed")
+    print(f"{len(changed) - len(lacks)} checks passed, {len(lacks)} failed")
     return len(lacks)
 
 
 def main(words: list[str]) -> int:
-    found = recipes((TOP / "CONTRIBUTING.md").read_text(encoding="utf-8"))
+    above, found = recipes((TOP / "CONTRIBUTING.md").read_text(encoding="utf-8"))
     if len(words) in (2, 3):
         titles = [it for it in found if it.startswith(words[0])]
         if len(titles) != 1:
             print(f"tests/recipes.py: the recipes are {', '.join(found)}", file=sys.stderr)
             return 2
-        return 1 if compare(titles[0], found[titles[0]], words[1], words[2] if words[2:] else "main") else 0
-    checks = [(title, it) for title, text in found.items() for it in files_of(text, TOP)]
+        named, of_all = set(files_of(found[titles[0]], TOP)), set(files_of(above, TOP))
+        return 1 if compare(titles[0], named, of_all, words[1], words[2] if words[2:] else "main") else 0
+    checks = [(title, it) for title, text in {"all recipes": above, **found}.items() for it in files_of(text, TOP)]
     missing = [it for it in checks if not (TOP / it[1]).is_file()]
     for title, it in missing:
         print(f"FAILED {title}: there is no {it}")
