@@ -1,0 +1,16 @@
+-- An epoch on its path, and over two memories.
+pub mod Paths
+pub mod Alike
+-- One legal entry: the epochs that run, and that each is on its path.
+pub mod Windows
+pub mod Starting
+pub mod Accessing
+pub mod Committing
+pub mod Keeping
+-- Where nothing conflicts, paths are the run in order.
+pub mod InOrder
+-- Whole histories: what caused a violation, and what it met.
+pub mod Histories
+pub mod Causes
+pub mod Meetings
+pub mod Violations

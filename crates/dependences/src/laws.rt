@@ -1,0 +1,31 @@
+//! What no schedule can roll back, over the definitions alone: each function does nothing, and its contract is the law.
+
+ghost use Rattle.std.specs.Prelude.{◌≡◌, ℕ, ◌<◌, List, Some};
+ghost use Rattle.rv32_image.specs.Image.{LoadedImage, IsImage};
+ghost use Rattle.spec_history.specs.declared.entry.Entry.{Entry};
+ghost use Rattle.spec_history.specs.FlatState.{FlatState};
+ghost use Rattle.spec_history.specs.Replay.{replay};
+ghost use Rattle.spec_history.specs.Conflict.{AreKnown};
+ghost use Rattle.dependences.specs.Conflict.{Conflict, IsInOrder, LineConflict, Overflow, memory_before, path_memory};
+ghost use Rattle.dependences.specs.Laws.{IsAlike, MeetInBytes, NoneIsHurt, NoneStartsAfterCancel};
+
+/// Where no two epochs conflict over bytes, the path of an epoch that runs in order is that run: it comes to the same harts, after
+/// as many instructions.
+pub fn without_conflict_paths_are_in_order()
+    ensures { (image : LoadedImage) (cores epoch : ℕ) → IsImage image → (Conflict image cores → ⊥) → epoch < image.epochs → IsInOrder image epoch
+        → IsAlike image epoch (path_memory image cores epoch) (memory_before image epoch) }
+{}
+
+/// Where no epoch stores a byte that a later one, which so many cores can run beside it, reads from outside: no legal history of
+/// so many cores has a violation, if violations meet in bytes that are committed.
+pub fn without_conflict_none_is_hurt()
+    ensures { (image : LoadedImage) (cores : ℕ) (history : List Entry) (s : FlatState) → IsImage image → replay image cores history ≡ Some s
+        → NoneStartsAfterCancel history → MeetInBytes image cores history → (Conflict image cores → ⊥) → NoneIsHurt history }
+{}
+
+/// Where, besides, no such two epochs store and read in one line of the caches, and no epoch stores in more lines than its
+/// buffer takes of which an earlier one touches one: no legal history of so many cores has a violation that is of a kind.
+pub fn without_line_conflict_and_overflow_none_is_hurt()
+    ensures { (image : LoadedImage) (cores : ℕ) (history : List Entry) (s : FlatState) → IsImage image → replay image cores history ≡ Some s
+        → NoneStartsAfterCancel history → AreKnown image cores history → (LineConflict image cores → ⊥) → (Overflow image cores → ⊥) → NoneIsHurt history }
+{}
