@@ -7,7 +7,8 @@ use Rattle.rv32_exec.specs.declared.sequential.End.TheVariants.{Done, Exit, Faul
 use Rattle.rv32_exec.specs.Hart.{HartState, start_of}
 use Rattle.rv32_exec.specs.Sequential.{Progress, SequentialResult, Runs, Ends, Faults, after_steps, epoch_outcome, first_epochs, result_of, then_epoch}
 use Rattle.rv32_exec.proofs.Epochs.{done_counts, first_epochs-none}
-use Rattle.dependences.specs.Conflict.{Conflict, IsInOrder, PathReads, PathStores, first_beside, memory_before, path_memory}
+use Rattle.dependences.specs.Paths.{Stores}
+use Rattle.dependences.specs.Conflict.{Conflict, IsInOrder, PathReads, first_beside, memory_before, path_memory}
 use Rattle.dependences.specs.Laws.{IsAlike}
 use Rattle.dependences.proofs.Alike.{Alike, alike, run_alike, stop_alike}
 use Rattle.dependences.proofs.Starting.{IsWritten}
@@ -55,7 +56,7 @@ last_done : (image : LoadedImage) (h m : ℕ) → (first_epochs image (suc h)).e
 last_done image h m is = last_by image h m (first_epochs image h).end refl is
 
 -- so many are done as there were
-done_number : (image : LoadedImage) (h n : ℕ) → (first_epochs image h).end ≡ Done n → h ≡ n
+pub done_number : (image : LoadedImage) (h n : ℕ) → (first_epochs image h).end ≡ Done n → h ≡ n
 done_number image zero n is =
     let none : Done 0 ≡ Done n = sym (ap (λ (r : SequentialResult). r.end) (first_epochs-none image)) ∙ is in cc
 done_number image (suc h) n is =
@@ -64,7 +65,7 @@ done_number image (suc h) n is =
     let number : n ≡ h + 1 = done_counts image h (epoch_outcome image h (memory_before image h)) n (sym (ap (λ (r : SequentialResult). r.end) whole) ∙ is) in
     omega (arith, number)
 
-before_in_order : (image : LoadedImage) (h : ℕ) → IsInOrder image (suc h) → IsInOrder image h
+pub before_in_order : (image : LoadedImage) (h : ℕ) → IsInOrder image (suc h) → IsInOrder image h
 before_in_order image h is = let last = last_done image h (suc h) is in last.done ∙ ap Done (sym (done_number image h last.n last.done))
 
 -- each epoch up to one that runs in order does
@@ -82,7 +83,7 @@ record IsWrittenUp (image : LoadedImage) (cores h : ℕ) : Type 0 where
   pub long : length (memory_before image h) ≡ image.size
   pub written : (d : ℕ) → d ≤ h → (a : ℕ) → IsWritten image cores d h a
 
-low_most : (cores h : ℕ) → first_beside cores h ≤ h
+pub low_most : (cores h : ℕ) → first_beside cores h ≤ h
 low_most cores h = omega arith
 
 reads_by : (image : LoadedImage) (cores h a : ℕ) → (Conflict image cores → ⊥) → h < image.epochs → IsInOrder image h → PathReads image cores h a
@@ -105,24 +106,30 @@ alike_at image cores h free within is up long =
     alike image h (path_memory image cores h) (memory_before image h) long up.long
     (λ a reads. reads_by image cores h a free within is reads (up.written (first_beside cores h) (low_most cores h) a))
 
-end_by : (image : LoadedImage) (cores h : ℕ) (hart : HartState) (after : List ℕ) (n : ℕ) → after_steps image n (start_of image h) (memory_before image h) ≡ Ends hart after
-    → Alike image h (path_memory image cores h) (memory_before image h) n
-    → (length after ≡ image.size) × ((a : ℕ) → (slice_index after a ≡ slice_index (memory_before image h) a) ⊎ PathStores image cores h a)
-end_by image cores h hart after n ends (run_alike g own both) = let runs : Runs g both.after' ≡ Ends hart after = sym both.runs' ∙ ends in absurd cc
-end_by image cores h hart after n ends (stop_alike both) = both.changed hart after ends
+end_by : (image : LoadedImage) (h : ℕ) (first : List ℕ) (hart : HartState) (after : List ℕ) (n : ℕ) → after_steps image n (start_of image h) (memory_before image h) ≡ Ends hart after
+    → Alike image h first (memory_before image h) n
+    → (length after ≡ image.size) × ((a : ℕ) → (slice_index after a ≡ slice_index (memory_before image h) a) ⊎ Stores image h first a)
+end_by image h first hart after n ends (run_alike g own both) = let runs : Runs g both.after' ≡ Ends hart after = sym both.runs' ∙ ends in absurd cc
+end_by image h first hart after n ends (stop_alike both) = both.changed hart after ends
 
 outcome_is : (image : LoadedImage) (epoch : ℕ) (memory : List ℕ) → epoch_outcome image epoch memory ≡ after_steps image (image.limit + 1) (start_of image epoch) memory
 unfolding epoch_outcome
 outcome_is image epoch memory = refl
 
-up_next : (image : LoadedImage) (cores h : ℕ) → (Conflict image cores → ⊥) → h < image.epochs → IsInOrder image (suc h) → IsInOrder image h → IsWrittenUp image cores h
-    → length (path_memory image cores h) ≡ image.size → IsWrittenUp image cores (h + 1)
-up_next image cores h free within is before up long =
+-- what an epoch that is done changes, it stores over any memory over which it is alike
+pub ends_with : (image : LoadedImage) (h : ℕ) (first : List ℕ) → IsInOrder image (suc h) → Alike image h first (memory_before image h) (image.limit + 1)
+    → (length (memory_before image (h + 1)) ≡ image.size)
+    × ((a : ℕ) → (slice_index (memory_before image (h + 1)) a ≡ slice_index (memory_before image h) a) ⊎ Stores image h first a)
+ends_with image h first is both =
     let last = last_done image h (suc h) is in
     let ends : epoch_outcome image h (memory_before image h) ≡ Ends last.hart (memory_before image (h + 1)) =
     last.ends ∙ ap (λ n. Ends last.hart (memory_before image n)) (sym (add-one h)) in
-    let now = end_by image cores h last.hart (memory_before image (h + 1)) (image.limit + 1) (sym (outcome_is image h (memory_before image h)) ∙ ends)
-    (alike_at image cores h free within before up long (image.limit + 1)) in record {
+    end_by image h first last.hart (memory_before image (h + 1)) (image.limit + 1) (sym (outcome_is image h (memory_before image h)) ∙ ends) both
+
+up_next : (image : LoadedImage) (cores h : ℕ) → (Conflict image cores → ⊥) → h < image.epochs → IsInOrder image (suc h) → IsInOrder image h → IsWrittenUp image cores h
+    → length (path_memory image cores h) ≡ image.size → IsWrittenUp image cores (h + 1)
+up_next image cores h free within is before up long =
+    let now = ends_with image h (path_memory image cores h) is (alike_at image cores h free within before up long (image.limit + 1)) in record {
       long = now.0;
       written = λ d most a. up_to_next (λ n. IsWritten image cores n (h + 1) a) h (λ n low. later_by image cores n h a low (now.1 a) (up.written n low a)) (inl refl) d most;
     }
@@ -131,9 +138,12 @@ up_next image cores h free within is before up long =
 record AreWrittenUp (image : LoadedImage) (cores h : ℕ) : Type 0 where
   pub each : (d : ℕ) → d ≤ h → IsWrittenUp image cores d
 
+pub memory_none : (image : LoadedImage) → IsImage image → length (memory_before image 0) ≡ image.size
+memory_none image is = ap (λ (r : SequentialResult). length r.bytes) (first_epochs-none image) ∙ is.byte_count
+
 up_none : (image : LoadedImage) (cores : ℕ) → IsImage image → IsWrittenUp image cores 0
 up_none image cores is = record {
-  long = ap (λ (r : SequentialResult). length r.bytes) (first_epochs-none image) ∙ is.byte_count;
+  long = memory_none image is;
   written = λ d most a. let none : 0 ≡ d = omega (arith, most) in subst (λ n. IsWritten image cores n 0 a) none (inl refl);
 }
 
@@ -166,13 +176,17 @@ back_by image epoch first second n h after runs (run_alike g own both) =
     let hart : g ≡ h = cc in (both.after, both.runs ∙ ap (λ x. Runs x both.after) hart)
 back_by image epoch first second n h after runs (stop_alike both) = absurd (rw runs at both.stopped')
 
+-- runs that are alike after any number of instructions
+pub alike_all : (image : LoadedImage) (epoch : ℕ) (first second : List ℕ) → ((n : ℕ) → Alike image epoch first second n) → IsAlike image epoch first second
+alike_all image epoch first second both = record {
+  there = λ n h after runs. there_by image epoch first second n h after runs (both n);
+  back = λ n h after runs. back_by image epoch first second n h after runs (both n);
+}
+
 pub path_in_order : (image : LoadedImage) (cores epoch : ℕ) → IsImage image → (Conflict image cores → ⊥) → epoch < image.epochs → IsInOrder image epoch
     → IsAlike image epoch (path_memory image cores epoch) (memory_before image epoch)
 path_in_order image cores epoch is free within order =
     let up = all_up image cores epoch is free (omega (arith, within)) order in
     let here = up.each epoch (omega arith) in
     let long = (up.each (first_beside cores epoch) (low_most cores epoch)).long in
-    let both = alike_at image cores epoch free within order here long in record {
-      there = λ n h after runs. there_by image epoch (path_memory image cores epoch) (memory_before image epoch) n h after runs (both n);
-      back = λ n h after runs. back_by image epoch (path_memory image cores epoch) (memory_before image epoch) n h after runs (both n);
-    }
+    alike_all image epoch (path_memory image cores epoch) (memory_before image epoch) (alike_at image cores epoch free within order here long)

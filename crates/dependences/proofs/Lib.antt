@@ -7,8 +7,9 @@ pub mod Starting
 pub mod Accessing
 pub mod Committing
 pub mod Keeping
--- Where nothing conflicts, paths are the run in order.
+-- Where nothing conflicts, paths are the run in order; and what that run shows.
 pub mod InOrder
+pub mod Showing
 -- Whole histories: what caused a violation, and what it met.
 pub mod Histories
 pub mod Causes

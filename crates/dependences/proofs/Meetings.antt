@@ -231,7 +231,7 @@ module _ (image : LoadedImage) (cores : ℕ) (s : FlatState) (going : Going imag
 
   -- ---- full buffers
 
-  holds_path : (line : ℕ) (what : What) → holds_line image (meeting s by what k) line ≡ true → StoresIn image cores v.epoch line
+  holds_path : (line : ℕ) (what : What) → holds_line image (meeting s by what k) line ≡ true → StoresIn image v.epoch (path_memory image cores v.epoch) line
   holds_path line what is =
       let found = line_byte image line (λ a. is_some (own_bytes (s.cores k) a)) is in
       record { at = found.0; in_line = found.1; stores = victim_stores found.0 found.2 }
@@ -239,7 +239,7 @@ module _ (image : LoadedImage) (cores : ℕ) (s : FlatState) (going : Going imag
   abbrev other_line : What → ℕ → ℕ → Bool
   other_line what line other = not (other == line) && holds_line image (meeting s by what k) other
 
-  other_path : (what : What) (line other : ℕ) → other_line what line other ≡ true → (other ≢ line) × StoresIn image cores v.epoch other
+  other_path : (what : What) (line other : ℕ) → other_line what line other ≡ true → (other ≢ line) × StoresIn image v.epoch (path_memory image cores v.epoch) other
   other_path what line other is =
       let parts = and_parts (not (other == line)) (holds_line image (meeting s by what k) other) is in
       (λ same. true≢false (sym parts.0 ∙ ap not (eq-eqb other line same)), holds_path other what parts.1)
@@ -294,7 +294,7 @@ module _ (image : LoadedImage) (cores : ℕ) (s : FlatState) (going : Going imag
       let test : ℕ → Bool = other_line image cores s going window orderly by k c v causer victim before what line in
       let parts = and_parts (holds_line image (meeting s by what k) line) (nat_le limits.buffer_lines (count_below (image.size / limits.line_length) test)) is in
       let most = leb-true _ _ parts.1 in
-      let lines = passing (λ other. (other ≢ line) × StoresIn image cores v.epoch other) test
+      let lines = passing (λ other. (other ≢ line) × StoresIn image v.epoch (path_memory image cores v.epoch) other) test
       (other_path image cores s going window orderly by k c v causer victim before what line) (image.size / limits.line_length) in
       let long = lines.long in record {
         earlier = c.epoch;

@@ -14,7 +14,8 @@ use Rattle.spec_history.proofs.OneEntry.Legal.{IsLegalEntry, legal_entry, some_b
 use Rattle.spec_history.proofs.OneEntry.Going.{Going}
 use Rattle.spec_history.proofs.Replay.Replays.{not_running, on_core, replayed}
 use Rattle.rv32_exec.specs.NextEvent.{next_event}
-use Rattle.dependences.specs.Conflict.{Conflict, LineConflict, Overflow}
+use Rattle.dependences.specs.Conflict.{Conflict, LineConflict, Overflow, path_memory}
+use Rattle.dependences.proofs.Showing.{line_of}
 use Rattle.dependences.specs.Laws.{MeetInBytes, MeetsInBytes, NoneIsHurt, NoneStartsAfterCancel}
 use Rattle.dependences.proofs.Windows.{IsInWindow}
 use Rattle.dependences.proofs.Starting.{IsOrderly}
@@ -105,21 +106,6 @@ module _ (image : LoadedImage) (cores : ℕ) (history : List Entry) (last : Flat
       acts_by image cores s stands.later by c what stands.far causer legal d.0 d.1
       (was.2 ∙ ap (λ (x : CoreState). x.hart) same) (was.3 ∙ ap (λ (x : CoreState). x.epoch) same)
 
--- ---- conflicts
-
--- a conflict over bytes is one over lines
-line_of : {image : LoadedImage} {cores : ℕ} → Conflict image cores → LineConflict image cores
-line_of conflict = record {
-  earlier = conflict.earlier;
-  later = conflict.later;
-  written = conflict.byte;
-  read = conflict.byte;
-  beside = conflict.beside;
-  same = refl;
-  stores = conflict.stores;
-  reads = conflict.reads;
-}
-
 -- ---- an entry that violates
 
 hurt_what : (what : What) → is_hurt what ≡ true → (epoch : ℕ) × (what ≡ Hurt epoch)
@@ -197,7 +183,7 @@ module _ (image : LoadedImage) (cores : ℕ) (history : List Entry) (last : Flat
 
   pub over_lines : AreKnown image cores history → (LineConflict image cores → ⊥) → (Overflow image cores → ⊥) → NoneIsHurt history
   over_lines known free room =
-      none_is_hurt image cores history is starts (λ conflict. free (line_of conflict))
+      none_is_hurt image cores history is starts (λ conflict. free (line_of image cores (path_memory image cores) conflict))
       (hurts_none image cores history is (λ n by s before going window orderly k c v causer victim low at.
       known_by free room n by s before going window orderly k c v causer victim low at (what_at history (cause_of history n by)) refl
       (known n by k s v at before victim)))

@@ -6,7 +6,7 @@ ghost use Rattle.spec_history.specs.declared.entry.Entry.{Entry};
 ghost use Rattle.spec_history.specs.FlatState.{FlatState};
 ghost use Rattle.spec_history.specs.Replay.{replay};
 ghost use Rattle.spec_history.specs.Conflict.{AreKnown};
-ghost use Rattle.dependences.specs.Conflict.{Conflict, IsInOrder, LineConflict, Overflow, memory_before, path_memory};
+ghost use Rattle.dependences.specs.Conflict.{Conflict, ConflictInOrder, IsInOrder, LineConflict, LineConflictInOrder, Overflow, OverflowInOrder, memory_before, path_memory};
 ghost use Rattle.dependences.specs.Laws.{IsAlike, MeetInBytes, NoneIsHurt, NoneStartsAfterCancel};
 
 /// Where no two epochs conflict over bytes, the path of an epoch that runs in order is that run: it comes to the same harts, after
@@ -14,6 +14,14 @@ ghost use Rattle.dependences.specs.Laws.{IsAlike, MeetInBytes, NoneIsHurt, NoneS
 pub fn without_conflict_paths_are_in_order()
     ensures { (image : LoadedImage) (cores epoch : ℕ) → IsImage image → (Conflict image cores → ⊥) → epoch < image.epochs → IsInOrder image epoch
         → IsAlike image epoch (path_memory image cores epoch) (memory_before image epoch) }
+{}
+
+/// One run in order, with the epochs past its end alone, shows whether there are conflicts: where it shows none, there is none
+/// on the paths. So over bytes, over lines, and, where it shows no conflict over bytes, of buffers.
+pub fn one_run_shows_conflicts()
+    ensures bytes { (image : LoadedImage) (cores : ℕ) → IsImage image → (ConflictInOrder image cores → ⊥) → Conflict image cores → ⊥ }
+    ensures lines { (image : LoadedImage) (cores : ℕ) → IsImage image → (LineConflictInOrder image cores → ⊥) → LineConflict image cores → ⊥ }
+    ensures buffers { (image : LoadedImage) (cores : ℕ) → IsImage image → (ConflictInOrder image cores → ⊥) → (OverflowInOrder image cores → ⊥) → Overflow image cores → ⊥ }
 {}
 
 /// Where no epoch stores a byte that a later one, which so many cores can run beside it, reads from outside: no legal history of
