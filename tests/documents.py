@@ -17,7 +17,7 @@ from pathlib import Path
 
 ROOT = Path(__file__).resolve().parent.parent
 DOCS = ROOT / "docs"
-MOST_WORDS = 33_000
+MOST_WORDS = 34_000
 LONGEST_LINE = 120
 MOST_WORDS_OF_README = 1600
 # Crates whose functions nobody outside uses: tests.
