@@ -9,7 +9,7 @@ use Rattle.homefree.specs.declared.answer.Answer.{Answer}
 use Rattle.homefree.specs.declared.fault.TurnFault.{TurnFault}
 use Rattle.homefree.specs.declared.fault.TurnFault.TheVariants.{NoMemory}
 use Rattle.homefree.specs.BookView.{BookView, ReplaysTo}
-use Rattle.homefree.specs.Moves.{TakesTurn, standing_of}
+use Rattle.homefree.specs.Moves.{StoreMoves, standing_of}
 use Rattle.homefree.specs.Turned.{Turned, MayAct, turn_at}
 
 -- two books of one loop have the same history, and their stores hold the same
@@ -26,7 +26,7 @@ pub record AreTwins {S : Type 0} (alike : S → S → Type 0) (b c : BookView S)
 pub record TurnsStore {S : Type 0} (makes : S → Call → S → Type 0) (view : S → StoreView) (waits : S → Waits) (old : BookView S) (s : FlatState) (shares : Counts) (core : ℕ) (next : Option Arrival)
     (answer : Result Answer TurnFault) (new : BookView S) (shares' : Counts) : Type 0 where
   pub turned : Turned view waits old s shares core next answer new shares'
-  pub moves : (a : Answer) → MayAct old s → answer ≡ Ok a → TakesTurn makes view waits (standing_of (turn_at waits old s core next)) old.store new.store
+  pub moves : (a : Answer) → MayAct old s → answer ≡ Ok a → StoreMoves makes view waits (standing_of (turn_at waits old s core next)) old.store new.store
 
 -- what comes of a turn
 pub record IsOneTurn {S : Type 0} (alike : S → S → Type 0) (answer answer' : Result Answer TurnFault) (new new' : BookView S) (shares shares' : Counts) : Type 0 where

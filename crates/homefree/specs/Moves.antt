@@ -117,7 +117,7 @@ standing_of t =
     }
 
 -- the store first makes room, and then the calls of the turn
-pub record TakesTurn {S : Type 0} (makes : S → Call → S → Type 0) (view : S → StoreView) (waits : S → Waits) (t : Standing) (s u : S) : Type 0 where
+pub record StoreMoves {S : Type 0} (makes : S → Call → S → Type 0) (view : S → StoreView) (waits : S → Waits) (t : Standing) (s u : S) : Type 0 where
   pub reserved : S
   pub reserves : makes s Reserve reserved
   pub waits_are : waits reserved ≡ waits s

@@ -8,7 +8,7 @@ ghost use Rattle.homefree.specs.BookView.{IsFull, ReplaysTo};
 ghost use Rattle.homefree.specs.BookInside.{IsAsBefore, IsBook, book_of};
 ghost use Rattle.homefree.specs.InStep.{InStep};
 ghost use Rattle.homefree.specs.Turned.{Turned, MayAct, turn_at};
-ghost use Rattle.homefree.specs.Moves.{TakesTurn, standing_of};
+ghost use Rattle.homefree.specs.Moves.{StoreMoves, standing_of};
 ghost use Rattle.violations.specs.Calls as call;
 ghost use Rattle.homefree.specs.Grown.{GrowsBy};
 ghost use Rattle.homefree.specs.Again.{IfAgain, IsWhy, RunsHomefree};
@@ -154,7 +154,7 @@ impl<S: EpochStore> Book<S> {
         ensures turned { (s : FlatState) → ReplaysTo self.old s
             → Turned S.view S.waits self.old s shares.old core (option_copied next.entry) result self.new shares.new }
         ensures moves { (s : FlatState) (answer : Answer) → ReplaysTo self.old s → MayAct self.old s → result ≡ Ok answer
-            → TakesTurn S.makes S.view S.waits (standing_of (turn_at S.waits self.old s core (option_copied next.entry))) self.old.store self.new.store }
+            → StoreMoves S.makes S.view S.waits (standing_of (turn_at S.waits self.old s core (option_copied next.entry))) self.old.store self.new.store }
         ensures grows { GrowsBy core self.old self.new shares.old shares.new }
         ensures shares { IsNoMore shares.new self.new.totals }
         ensures again { (s : FlatState) → ReplaysTo self.old s → IfAgain result (IsWhy (turn_at S.waits self.old s core (option_copied next.entry))) }
@@ -180,7 +180,7 @@ impl<S: EpochStore> Book<S> {
         ensures turned { (s : FlatState) → ReplaysTo self.old s
             → Turned S.view S.waits self.old s shares.old core (option_copied next.entry) result self.new shares.new }
         ensures moves { (s : FlatState) (answer : Answer) → ReplaysTo self.old s → MayAct self.old s → result ≡ Ok answer
-            → TakesTurn S.makes S.view S.waits (standing_of (turn_at S.waits self.old s core (option_copied next.entry))) self.old.store self.new.store }
+            → StoreMoves S.makes S.view S.waits (standing_of (turn_at S.waits self.old s core (option_copied next.entry))) self.old.store self.new.store }
         ensures most { length self.new.history < length self.old.history + (limits_of self.old.image.version).free_entries }
     {
         let inside = &mut *self.inside;
@@ -228,7 +228,7 @@ fn turn_within<S: EpochStore>(
         (book_of parts.new.register parts.new.store room stopped) shares.new }
     ensures moves { (s : FlatState) (answer : Answer) → ReplaysTo (book_of parts.old.register parts.old.store room stopped) s
         → MayAct (book_of parts.old.register parts.old.store room stopped) s → result ≡ Ok answer
-        → TakesTurn S.makes S.view S.waits (standing_of (turn_at S.waits (book_of parts.old.register parts.old.store room stopped) s core (option_copied next.entry))) parts.old.store parts.new.store }
+        → StoreMoves S.makes S.view S.waits (standing_of (turn_at S.waits (book_of parts.old.register parts.old.store room stopped) s core (option_copied next.entry))) parts.old.store parts.new.store }
     ensures most { length parts.new.register.history.items < length parts.old.register.history.items + (limits_of parts.old.register.image.version).free_entries }
 {
     if let Some(end) = parts.register.end {

@@ -11,7 +11,7 @@ use Rattle.homefree.specs.declared.register.Register.{Register}
 use Rattle.homefree.specs.declared.register.Running.{Running}
 use Rattle.homefree.specs.BookInside.{IsAsBefore, book_of}
 use Rattle.homefree.specs.Kept.{Fits, Shows, running_at}
-use Rattle.homefree.specs.Moves.{Moves, TurnMoves, TakesTurn, Standing, standing_of, IsHanded, cancel_calls}
+use Rattle.homefree.specs.Moves.{Moves, TurnMoves, StoreMoves, Standing, standing_of, IsHanded, cancel_calls}
 use Rattle.homefree.specs.Standing.{standing}
 use Rattle.homefree.specs.Turned.{IsStale, turn_at}
 
@@ -68,7 +68,7 @@ own_cancelled makes v by k s t same before =
 module _ {S : Type 0} (makes : S → Call → S → Type 0) (view : S → StoreView) (waits : S → Waits) (r q : Register) (store reserved after : S) (room core : ℕ) (cause : Option StopCause) (next : Option Arrival)
     (fits : Fits r (view store)) (same : IsAsBefore r q) (same_waits : waits reserved ≡ waits store) (reserves : makes store Reserve reserved) where
   pub turn_takes : TurnMoves makes view (standing q (waits reserved) core next) reserved after → (s : FlatState) → replay r.image (length r.running.items) r.history.items ≡ Some s
-      → TakesTurn makes view waits (standing_of (turn_at waits (book_of r store room cause) s core next)) store after
+      → StoreMoves makes view waits (standing_of (turn_at waits (book_of r store room cause) s core next)) store after
   turn_takes moves s replays = record {
     reserved = reserved;
     reserves = reserves;

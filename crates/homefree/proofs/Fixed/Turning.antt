@@ -23,7 +23,7 @@ use Rattle.homefree.specs.BookView.{BookView}
 use Rattle.homefree.specs.Counted.{counted_in}
 use Rattle.homefree.specs.Fixed.{AreTwins, TurnsStore, IsOneTurn, TurnIsFixed}
 use Rattle.homefree.specs.Kept.{kept_of}
-use Rattle.homefree.specs.Moves.{Moves, TurnMoves, TakesTurn, Standing, standing_of, IsHanded, calls_of, exits_of, running_calls, stop_calls, is_exit}
+use Rattle.homefree.specs.Moves.{Moves, TurnMoves, StoreMoves, Standing, standing_of, IsHanded, calls_of, exits_of, running_calls, stop_calls, is_exit}
 use Rattle.homefree.specs.Turned as turn
 use Rattle.homefree.specs.Turned.{Turn, Turned, Outcome, Acting, does, entry_of, turn_at, wait_at, IsStale, IsHandedIn}
 use Rattle.homefree.proofs.Fixed.Hurt.{one_view, one_readers}
@@ -255,7 +255,7 @@ module _ {S : Type 0} (makes : S → Call → S → Type 0) (alike : S → S →
     waits_are : waits reserved ≡ waits b.store
     moves : TurnMoves makes view (stand makes alike view waits laws b.image b.cores s.homefree s.next_epoch core next (s.cores core) (waits reserved)) reserved u
 
-  taken : (b : BookView S) (u : S) → TakesTurn makes view waits (standing_of (turn_at waits b s core next)) b.store u → Taken b u
+  taken : (b : BookView S) (u : S) → StoreMoves makes view waits (standing_of (turn_at waits b s core next)) b.store u → Taken b u
   taken b u t = record {
     reserved = t.reserved;
     reserves = t.reserves;
@@ -269,8 +269,8 @@ module _ {S : Type 0} (makes : S → Call → S → Type 0) (alike : S → S →
 
   -- both turns are taken
   acts_same : (new new' : BookView S) (after after' : Counts) (answer answer' : Result Answer TurnFault) → Acting view waits old new s shares after core next answer
-      → Acting view waits (with_store old store) new' s shares after' core next answer' → TakesTurn makes view waits (standing_of (turn_at waits old s core next)) old.store new.store
-      → TakesTurn makes view waits (standing_of (turn_at waits (with_store old store) s core next)) store new'.store → IsOneTurn alike answer answer' new new' after after'
+      → Acting view waits (with_store old store) new' s shares after' core next answer' → StoreMoves makes view waits (standing_of (turn_at waits old s core next)) old.store new.store
+      → StoreMoves makes view waits (standing_of (turn_at waits (with_store old store) s core next)) store new'.store → IsOneTurn alike answer answer' new new' after after'
   acts_same new new' after after' answer answer' a b m n = record {
     answer_is = b.answer_is ∙ (ap (λ (x : Outcome). Ok x.answer) (sym outs) ∙ sym a.answer_is);
     shares_are = grown.0;
