@@ -181,6 +181,8 @@ def requests(folder: Path) -> Iterator[Check]:
              "same: entry 1 of 1, 6 of 6 iterations"),
             (["--loop", "all", "--chunk", 0, "--out", folder, small], 2, "", "--chunk takes 1 to 65535"),
             (["--chunk", 4, small], 2, "", "--chunk N goes with --loop"),
+            (["--loop", "frames.c:57", PROGRAMS / "frames.c"], 0, "The loop at frames.c:57",
+             ", 1 words with addresses of frames of the iterations' own differ"),
             (["--loop", "words.c:9", "--args=-n 1", words], 0, "with 1 iterations", "same"),
             (["--loop", "words.c:13", "--input", forms, words], 0, "with 999 iterations", "same"),
             (["--loop", "small.c:14", small], 2, "",

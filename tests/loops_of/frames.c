@@ -4,7 +4,7 @@ static int level[40];
 
 static __attribute__((noinline)) void fill(int *to, int with)
 {
-    for (int i = 0; i < 4; i++) //: 30 120 | computed i
+    for (int i = 0; i < 4; i++) //: 35 140 | computed i
         to[i] = (with * 7 + i * 3) & 15;
 }
 
@@ -49,6 +49,18 @@ static __attribute__((noinline)) int tree(int depth, int width)
     return kept[0] + kept[1] + kept[2] + kept[3];
 }
 
+// (the address of an array that isn't there any more stays behind)
+static int *left;
+
+static __attribute__((noinline)) void leave(void)
+{
+    for (int i = 0; i < 5; i++) { //: 1 5 | computed i | own last
+        int last[4];
+        fill(last, i);
+        left = last;
+    }
+}
+
 int main(void)
 {
     int table[24];
@@ -57,5 +69,6 @@ int main(void)
     for (int i = 0; i < level[39]; i++) //: not entered
         table[i] = 0;
     hints();
+    leave();
     return (thrice(table, 24) + tree(2, 3) + level[7] + table[3]) & 127;
 }
