@@ -18,7 +18,7 @@ use Rattle.spec_history.specs.Laws.{IsKept}
 use Rattle.spec_history.proofs.OneEntry.Keeping.{with_core_same, with_core_other}
 use Rattle.spec_history.proofs.OneEntry.Going.{others_speculate}
 use Rattle.dependences.specs.Conflict.{Conflict, PathReads, memory_before, path_memory}
-use Rattle.dependences.proofs.Paths.{IsAt, either, past_load, past_store, reads_there}
+use Rattle.dependences.proofs.Paths.{IsAt, either, past_load, past_store, path_stores, reads_there}
 use Rattle.dependences.proofs.Windows.{IsInWindow}
 use Rattle.dependences.proofs.Starting.{IsOrderly, OnPath, beside, core_reached, cores_with, unwritten, whatever_shown}
 
@@ -65,7 +65,7 @@ shown_conflicts image cores s by c a byte kept window orderly at speculative rea
       byte = a;
       beside = beside image cores s by c from.1.epoch kept window orderly at (omega (arith, low, homefree)) (omega (arith, homefree, was.from, apart));
       in_order = orderly.done from.1.epoch (omega (arith, homefree));
-      stores = ((orderly.core from.0 from.1 from.2).published from.3).stores a byte is;
+      stores = path_stores ((orderly.core from.0 from.1 from.2).published from.3) a byte is;
       reads = reads;
     }
 

@@ -11,6 +11,7 @@ use Rattle.spec_history.proofs.OneEntry.Keeping.{at_core, with_core_same}
 use Rattle.spec_history.proofs.OneEntry.Entries.{still_runs}
 use Rattle.spec_history.proofs.OneEntry.Going.{Going}
 use Rattle.dependences.specs.Conflict.{IsInOrder, PathStores, memory_before}
+use Rattle.dependences.proofs.Paths.{path_stores}
 use Rattle.dependences.proofs.Starting.{IsOrderly, IsWritten, OnPath, cores_with, fresh, whatever_shown}
 use Rattle.dependences.proofs.Accessing.{others_not, straight_is_other}
 
@@ -53,7 +54,7 @@ pub own_stored : (image : LoadedImage) (cores : ℕ) (s : FlatState) (by : ℕ) 
     → c.own a ≡ Some byte → PathStores image cores c.epoch a
 own_stored image cores s by c a byte kept orderly at is = elim (cases_Bool c.straight) [
   | inl straight ↦ (let none = (kept.core by c at).straight_owns straight a in absurd cc)
-  | inr speculative ↦ ((orderly.core by c at).speculates speculative).stores a byte is
+  | inr speculative ↦ path_stores ((orderly.core by c at).speculates speculative) a byte is
 ]
 
 -- what a commit changes, its epoch's path stores
@@ -65,7 +66,7 @@ now_by image cores s by c a kept orderly at homefree same (Some byte) shown is_o
 now_by image cores s by c a kept orderly at homefree same None (Some byte) is_own is_shown =
     let from = orderly.by_straight a byte is_shown in
     let homefree' : from.1.epoch ≡ s.homefree = (kept.core from.0 from.1 from.2).straight_homefree from.3 in
-    inr (subst (λ e. PathStores image cores e a) homefree' (((orderly.core from.0 from.1 from.2).published from.3).stores a byte is_shown))
+    inr (subst (λ e. PathStores image cores e a) homefree' (path_stores ((orderly.core from.0 from.1 from.2).published from.3) a byte is_shown))
 now_by image cores s by c a kept orderly at homefree same None None is_own is_shown =
     inl (sym same ∙ (ap (λ o. unwrap_or o (s.committed a)) is_own
     ∙ (orderly.committed a ∙ ap (λ o. unwrap_or o (slice_index (memory_before image s.homefree) a)) is_shown)))

@@ -15,3 +15,6 @@ pub mod Histories
 pub mod Causes
 pub mod Meetings
 pub mod Violations
+-- What is kept of the run in order, and how near epochs depend on each other there.
+pub mod Writers
+pub mod Following

@@ -14,7 +14,7 @@ use Rattle.rv32_exec.specs.Arrival.{after_number}
 use Rattle.rv32_exec.specs.Sequential.{Runs, after_steps, execute, go_on}
 use Rattle.rv32_exec.proofs.Steps.{executes_counts}
 use Rattle.rv32_exec.proofs.Runs.{event_within_executes, event_within_stops, next_event-executes, next_event-stops}
-use Rattle.rv32_exec.proofs.LawsOfRuns.{Accesses, after_steps-+, one_step}
+use Rattle.rv32_exec.proofs.LawsOfRuns.{Accesses, after_steps-+, next_event_reached, one_step}
 use Rattle.spec_history.specs.Laws.{Holds}
 use Rattle.spec_history.proofs.OneEntry.Progress.{comes_to_event, comes_past_access}
 use Rattle.spec_history.proofs.OneEntry.Keeping.{start_runs}
@@ -67,7 +67,7 @@ quiet_by image j h g memory memory' (Executes x) is before runs later =
     later x (omega (arith, before, counted, event)) (sym step ∙ runs)
 
 -- between a hart and its next event it stops nowhere
-quiet : (image : LoadedImage) (j : ℕ) (h g : HartState) (memory memory' : List ℕ) (at : Stop) → h.done + j < (next_event image h).now.done
+pub quiet : (image : LoadedImage) (j : ℕ) (h g : HartState) (memory memory' : List ℕ) (at : Stop) → h.done + j < (next_event image h).now.done
     → after_steps image j h memory ≡ Runs g memory' → hart_effect image g ≡ Stops at → ⊥
 quiet image zero h g memory memory' at before runs stops =
     let there = here_done image h at (ap (hart_effect image) (no_steps image h g memory memory' runs) ∙ stops) in omega (arith, before, there)
@@ -81,17 +81,26 @@ pub record IsAt (image : LoadedImage) (epoch : ℕ) (memory : List ℕ) (h : Har
   pub after : List ℕ
   pub runs : after_steps image h.done (start_of image epoch) memory ≡ Runs h after
   pub holds : Holds image (over own (λ a. slice_index memory a)) after
-  pub stores : (a byte : ℕ) → own a ≡ Some byte → Stores image epoch memory a
+  pub early : (a byte : ℕ) → own a ≡ Some byte → (step : ℕ) × (step < h.done) × StoresAt image epoch memory step a
   pub no_others : (a step : ℕ) → own a ≡ None → step < h.done → StoresAt image epoch memory step a → ⊥
+
+-- so the path stores these bytes
+pub path_stores : {image : LoadedImage} {epoch : ℕ} {memory : List ℕ} {h : HartState} {own : ℕ → Option ℕ} → IsAt image epoch memory h own
+    → (a byte : ℕ) → own a ≡ Some byte → Stores image epoch memory a
+path_stores at a byte is = let there = at.early a byte is in record { step = there.0; there = there.2 }
 
 pub at_start : (image : LoadedImage) (epoch : ℕ) (memory : List ℕ) → length memory ≡ image.size → IsAt image epoch memory (start_of image epoch) nothing
 at_start image epoch memory long = record {
   after = memory;
   runs = start_runs image epoch memory;
   holds = record { long = long; bytes = λ a. refl };
-  stores = λ a byte is. absurd cc;
+  early = λ a byte is. absurd cc;
   no_others = λ a step none before there. absurd (omega (arith, before));
 }
+
+pub start_after : (image : LoadedImage) (epoch : ℕ) (memory : List ℕ) (long : length memory ≡ image.size) → (at_start image epoch memory long).after ≡ memory
+unfolding at_start
+start_after image epoch memory long = refl
 
 module _ (image : LoadedImage) (epoch : ℕ) (memory : List ℕ) (h : HartState) (own : ℕ → Option ℕ) (at : IsAt image epoch memory h own) where
   to_event : after_steps image (next_event image h).now.done (start_of image epoch) memory ≡ Runs (next_event image h).now at.after
@@ -164,6 +173,21 @@ module _ (image : LoadedImage) (epoch : ℕ) (memory : List ℕ) (h : HartState)
     exposed = λ step before stores. before_event a step none before stores;
   }
 
+-- what is before a hart is before its next event
+further : (image : LoadedImage) (epoch : ℕ) (memory : List ℕ) (h : HartState) (own : ℕ → Option ℕ) → IsAt image epoch memory h own
+    → (step : ℕ) → step < h.done → (done : ℕ) → done ≡ (next_event image h).now.done + 1 → step < done
+further image epoch memory h own at step before done is =
+    let there = next_event_reached image h memory in
+    let counted = there.counted in omega (arith, before, is, counted)
+
+-- and at that step
+pub now_step : (image : LoadedImage) (epoch : ℕ) (memory : List ℕ) (h : HartState) (own : ℕ → Option ℕ) (at : IsAt image epoch memory h own)
+    → (address width : ℕ) (signed : Bool) (rd a : ℕ) → (is : (next_event image h).at ≡ stop.Load address width signed rd)
+    → (from : address ≤ a) → (below : a < address + width) → (none : own a ≡ None)
+    → (reads_there image epoch memory h own at address width signed rd a is from below none).step < (next_event image h).now.done + 1
+unfolding reads_there
+now_step image epoch memory h own at address width signed rd a is from below none = omega arith
+
 no_store_at_load : (e : Effect) (address width : ℕ) (signed : Bool) (rd address' width' value' : ℕ) → e ≡ Stops (stop.Load address width signed rd)
     → e ≡ Stops (stop.Store address' width' value') → ⊥
 no_store_at_load e address width signed rd address' width' value' is is' = cc
@@ -190,9 +214,16 @@ past_load image epoch memory h own address width signed rd value at is number =
       after = at.after;
       runs = comes_past_access image (start_of image epoch) h _ memory at.after at.after refl at.runs (load_goes_on image h address width signed rd value at.after is loads) count;
       holds = at.holds;
-      stores = at.stores;
+      early = λ a byte is. let there = at.early a byte is in (there.0, further image epoch memory h own at there.0 there.1 _ count, there.2);
       no_others = λ a step none before. past_load_none image epoch memory h own at address width signed rd is a step none (omega (arith, before, count));
     }
+
+pub load_after : (image : LoadedImage) (epoch : ℕ) (memory : List ℕ) (h : HartState) (own : ℕ → Option ℕ) (address width : ℕ) (signed : Bool) (rd value : ℕ)
+    → (at : IsAt image epoch memory h own) → (is : (next_event image h).at ≡ stop.Load address width signed rd)
+    → (number : number_at (over own (λ a. slice_index memory a)) address width ≡ value)
+    → (past_load image epoch memory h own address width signed rd value at is number).after ≡ at.after
+unfolding past_load
+load_after image epoch memory h own address width signed rd value at is number = refl
 
 -- ---- stores
 
@@ -234,11 +265,13 @@ past_store_none image epoch memory h own at address width value is a step unstor
 
 stores_by : (image : LoadedImage) (epoch : ℕ) (memory : List ℕ) (h : HartState) (own : ℕ → Option ℕ) → IsAt image epoch memory h own
     → (address width value : ℕ) → (next_event image h).at ≡ stop.Store address width value → (a byte : ℕ)
-    → ((b : ℕ) × (stored address width value a ≡ Some b)) ⊎ (own a ≡ Some byte) → Stores image epoch memory a
+    → ((b : ℕ) × (stored address width value a ≡ Some b)) ⊎ (own a ≡ Some byte)
+    → (step : ℕ) × (step < (next_event image h).now.done + 1) × StoresAt image epoch memory step a
 stores_by image epoch memory h own at address width value is a byte (inl now) =
     let within = covered address width value a now.0 now.1 in
-    record { step = (next_event image h).now.done; there = stores_there image epoch memory h own at address width value a is within.0 within.1 }
-stores_by image epoch memory h own at address width value is a byte (inr before) = at.stores a byte before
+    ((next_event image h).now.done, omega arith, stores_there image epoch memory h own at address width value a is within.0 within.1)
+stores_by image epoch memory h own at address width value is a byte (inr before) =
+    let there = at.early a byte before in (there.0, further image epoch memory h own at there.0 there.1 _ refl, there.2)
 
 -- the store that is the next event is the path's
 pub past_store : (image : LoadedImage) (epoch : ℕ) (memory : List ℕ) (h : HartState) (own : ℕ → Option ℕ) (address width value : ℕ)
@@ -252,8 +285,14 @@ past_store image epoch memory h own address width value at is =
         long = holds.long;
         bytes = λ a. over-joined (stored address width value) own (λ b. slice_index memory b) a ∙ holds.bytes a;
       };
-      stores = λ a byte some. stores_by image epoch memory h own at address width value is a byte (either (stored address width value a) (own a) byte some);
+      early = λ a byte some. stores_by image epoch memory h own at address width value is a byte (either (stored address width value a) (own a) byte some);
       no_others = λ a step none before.
           let parts = neither (stored address width value a) (own a) none in
           past_store_none image epoch memory h own at address width value is a step parts.0 parts.1 before;
     }
+
+pub store_after : (image : LoadedImage) (epoch : ℕ) (memory : List ℕ) (h : HartState) (own : ℕ → Option ℕ) (address width value : ℕ)
+    → (at : IsAt image epoch memory h own) → (is : (next_event image h).at ≡ stop.Store address width value)
+    → (past_store image epoch memory h own address width value at is).after ≡ with_number at.after address width value
+unfolding past_store
+store_after image epoch memory h own address width value at is = refl

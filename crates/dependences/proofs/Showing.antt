@@ -1,5 +1,5 @@
 -- What one run in order shows: where it shows no conflict over bytes, the paths of all epochs do what it shows.
-use Rattle.std.proofs.Common.{◌≡◌, ◌⊎◌, ℕ, zero, suc, ◌+◌, ◌<◌, ◌≤◌, List, length, slice_index, refl, sym, ap, subst, ◌∙◌, inl, inr, arith, add-one}
+use Rattle.std.proofs.Common.{◌≡◌, ◌⊎◌, ℕ, zero, suc, ◌+◌, ◌<◌, ◌≤◌, List, length, slice_index, refl, sym, ap, subst, ◌∙◌, inl, inr, arith, add-one, Option, Some, None}
 use Rattle.rv32_image.specs.Image.{LoadedImage, IsImage}
 use Rattle.rv32_exec.specs.declared.sequential.End.{End}
 use Rattle.rv32_exec.specs.declared.sequential.End.TheVariants.{Done, Exit, Fault}
@@ -7,6 +7,7 @@ use Rattle.rv32_exec.specs.Sequential.{first_epochs}
 use Rattle.dependences.specs.Paths.{LoadsAt, ReadsOutside, Stores, StoresAt, Touches}
 use Rattle.dependences.specs.Conflict.{AreBeside, Conflict, ConflictInOrder, ConflictOver, IsInOrder, LineConflict, LineConflictInOrder, LineConflictOver, Overflow, OverflowInOrder, StoresIn, first_beside, memory_before, memory_by, path_memory, run_memory}
 use Rattle.dependences.specs.Laws.{IsAlike}
+use Rattle.dependences.specs.Nearest.{Depends, IsFar, IsNearest}
 use Rattle.dependences.proofs.Alike.{alike}
 use Rattle.dependences.proofs.Committing.{up_to_next}
 use Rattle.dependences.proofs.InOrder.{all_in_order, alike_all, before_in_order, done_number, ends_with, low_most, memory_none}
@@ -208,3 +209,28 @@ buffers_shown image cores is bytes free x =
       full = x.full;
       each = λ k d below. let one = x.each k d below in (one.0, stores_in_so image x.later _ _ later _ one.1);
     })
+
+-- ---- far dependences
+
+too_near : (cores earlier later distance : ℕ) → cores ≤ distance → earlier + distance ≤ later → first_beside cores later ≤ earlier → earlier < later → ⊥
+too_near cores earlier later distance far most from before = omega (arith, far, most, from, before)
+
+far_by : (image : LoadedImage) (cores earlier later : ℕ) (nearest : Option ℕ) → IsNearest image nearest → IsFar cores nearest → Depends image earlier later
+    → first_beside cores later ≤ earlier → ⊥
+far_by image cores earlier later None is far depends from = is earlier later depends
+far_by image cores earlier later (Some distance) is far depends from = too_near cores earlier later distance far (is.1 earlier later depends) from depends.before
+
+pub far_apart : (image : LoadedImage) (cores : ℕ) (nearest : Option ℕ) → IsImage image → IsInOrder image image.epochs → IsNearest image nearest → IsFar cores nearest
+    → Conflict image cores → ⊥
+far_apart image cores nearest is order nearest_is far =
+    bytes_shown image cores is (λ x.
+    let within = x.beside.within in
+    let later = all_in_order image image.epochs x.later order (omega (arith, within)) in
+    far_by image cores x.earlier x.later nearest nearest_is far (record {
+      byte = x.byte;
+      before = x.beside.before;
+      within = x.beside.within;
+      in_order = later;
+      stores = subst (λ m. Stores image x.earlier m x.byte) (run_in_order image cores x.earlier x.in_order) x.stores;
+      reads = subst (λ m. ReadsOutside image x.later m x.byte) (run_in_order image cores x.later later) x.reads;
+    }) x.beside.from)

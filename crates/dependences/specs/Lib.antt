@@ -1,5 +1,8 @@
 -- Definitions to believe: Paths (an epoch alone, what it stores, and what it reads from outside), Conflict (what can roll back
--- at all) and Laws (what the laws take, and what they say).
+-- at all), Laws (what the laws take, and what they say) and Nearest (how near epochs depend on each other in order).
 pub mod Paths
 pub mod Conflict
 pub mod Laws
+pub mod Nearest
+-- What the code keeps.
+pub mod Kept

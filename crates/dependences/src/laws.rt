@@ -1,12 +1,13 @@
 //! What no schedule can roll back, over the definitions alone: each function does nothing, and its contract is the law.
 
-ghost use Rattle.std.specs.Prelude.{◌≡◌, ℕ, ◌<◌, List, Some};
+ghost use Rattle.std.specs.Prelude.{◌≡◌, ℕ, ◌<◌, List, Option, Some};
 ghost use Rattle.rv32_image.specs.Image.{LoadedImage, IsImage};
 ghost use Rattle.spec_history.specs.declared.entry.Entry.{Entry};
 ghost use Rattle.spec_history.specs.FlatState.{FlatState};
 ghost use Rattle.spec_history.specs.Replay.{replay};
 ghost use Rattle.spec_history.specs.Conflict.{AreKnown};
 ghost use Rattle.dependences.specs.Conflict.{Conflict, ConflictInOrder, IsInOrder, LineConflict, LineConflictInOrder, Overflow, OverflowInOrder, memory_before, path_memory};
+ghost use Rattle.dependences.specs.Nearest.{IsFar, IsNearest};
 ghost use Rattle.dependences.specs.Laws.{IsAlike, MeetInBytes, NoneIsHurt, NoneStartsAfterCancel};
 
 /// Where no two epochs conflict over bytes, the path of an epoch that runs in order is that run: it comes to the same harts, after
@@ -22,6 +23,13 @@ pub fn one_run_shows_conflicts()
     ensures bytes { (image : LoadedImage) (cores : ℕ) → IsImage image → (ConflictInOrder image cores → ⊥) → Conflict image cores → ⊥ }
     ensures lines { (image : LoadedImage) (cores : ℕ) → IsImage image → (LineConflictInOrder image cores → ⊥) → LineConflict image cores → ⊥ }
     ensures buffers { (image : LoadedImage) (cores : ℕ) → IsImage image → (ConflictInOrder image cores → ⊥) → (OverflowInOrder image cores → ⊥) → Overflow image cores → ⊥ }
+{}
+
+/// Where all epochs of a loop run in order, and those that depend on each other are as far apart as there are cores, no two
+/// conflict over bytes.
+pub fn far_dependences_do_not_conflict()
+    ensures { (image : LoadedImage) (cores : ℕ) (nearest : Option ℕ) → IsImage image → IsInOrder image image.epochs → IsNearest image nearest
+        → IsFar cores nearest → Conflict image cores → ⊥ }
 {}
 
 /// Where no epoch stores a byte that a later one, which so many cores can run beside it, reads from outside: no legal history of

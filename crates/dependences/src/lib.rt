@@ -2,3 +2,6 @@
 #![tactic(auto)]
 
 pub mod laws;
+mod nearest;
+
+pub use nearest::nearest_dependence;

@@ -1,0 +1,72 @@
+use Rattle.std.proofs.Common.{◌≡◌, sym, ap, ◌∙◌, arith}
+use Rattle.std.proofs.lemmas.Bool.{not-false, not-true}
+use Rattle.rv32_exec.specs.declared.stop.Stop.TheVariants as stop
+use Rattle.rv32_exec.specs.Hart.{stepped}
+use Rattle.rv32_exec.specs.Execute.{IsAccess, IsStore}
+use Rattle.rv32_exec.specs.NextEvent.{next_event}
+use Rattle.rv32_exec.specs.Arrival.{after_number}
+use Rattle.rv32_exec.specs.Sequential.{exits}
+use Rattle.rv32_exec.proofs.Accesses.{stop_of_event}
+use Rattle.spec_history.proofs.OneEntry.Accesses.{load_counts}
+use Rattle.dependences.proofs.Following.{ended_exits, ended_goes_on, faulted, following_load, following_start, following_store, runs_in_order}
+use Rattle.dependences.proofs.nearest.follow.Goals as goal
+
+pub accesses-init : goal.accesses-init
+accesses-init c = record {
+  following = rw c.start-hart.ensures
+      (following_start c.args.image.now c.args.epoch c.args.memory.now c.args.writers.now c.args.nearest c.requires.size c.requires.before c.requires.kept);
+  within = rw c.start-hart.ensures (omega arith);
+}
+
+pub accesses-preserved-in-Load : goal.accesses-preserved-in-Load
+accesses-preserved-in-Load c =
+    let image = c.args.image.now in
+    let h = c.accesses.hart in
+    let is : (next_event image h).at ≡ stop.Load c.in-Load.addr c.in-Load.width c.in-Load.signed c.in-Load.rd = sym c.advance-arrived.ensures.at ∙ (sym c.at.ensures.at ∙ c.in-Load.is) in
+    let order = runs_in_order image c.args.epoch c.args.memory.now c.requires.before in
+    let hart : c.loaded-hart.result ≡ after_number (next_event image h).now (next_event image h).at c.read_number.result =
+    rw (c.advance-arrived.ensures.now, c.advance-arrived.ensures.at) at c.loaded-hart.ensures in
+    let next = following_load image c.args.epoch c.accesses.memory c.accesses.writers h c.accesses.nearest c.accesses.invariant.following order c.requires.epoch
+    c.in-Load.addr c.in-Load.width c.in-Load.signed c.in-Load.rd c.read_number.result is (sym c.read_number.ensures.number) in
+    let access : IsAccess image (next_event image h).now c.in-Load.addr c.in-Load.width = rw is at (stop_of_event image h) in
+    let room = access.room in
+    let count = load_counts image h c.in-Load.addr c.in-Load.width c.in-Load.signed c.in-Load.rd c.read_number.result is in
+    record { following = rw (hart, c.nearer_of-nearest.ensures) next; within = rw hart (omega (arith, count, room)) }
+
+pub accesses-preserved : goal.accesses-preserved
+accesses-preserved c =
+    let image = c.args.image.now in
+    let h = c.accesses.hart in
+    let is : (next_event image h).at ≡ stop.Store c.in-Store.addr c.in-Store.width c.in-Store.value = sym c.advance-arrived.ensures.at ∙ (sym c.at.ensures.at ∙ c.in-Store.is) in
+    let hart : c.stored-hart.result ≡ stepped (next_event image h).now = rw c.advance-arrived.ensures.now at c.stored-hart.ensures in
+    let next = following_store image c.args.epoch c.accesses.memory c.accesses.writers h c.accesses.nearest c.accesses.invariant.following
+    c.mark.new.writers c.in-Store.addr c.in-Store.width c.in-Store.value is c.mark.ensures.long c.mark.ensures.marked in
+    let store : IsStore image (next_event image h).now c.in-Store.addr c.in-Store.width c.in-Store.value = rw is at (stop_of_event image h) in
+    let room = store.access.room in
+    record { following = rw (c.write_number.ensures, hart) next; within = rw hart (omega (arith, room)) }
+
+pub returns-in-Ended-clause-goes_on : goal.returns-in-Ended-clause-goes_on
+returns-in-Ended-clause-goes_on c goes =
+    let image = c.args.image.now in
+    let h = c.accesses.hart in
+    let is : (next_event image h).at ≡ stop.Ended = sym c.advance-arrived.ensures.at ∙ (sym c.at.ensures.at ∙ c.in-Ended.is) in
+    let exit : c.exits-goes_on.result ≡ exits image (next_event image h).now = c.exits-goes_on.ensures ∙ ap (exits image) (c.now.ensures ∙ c.advance-arrived.ensures.now) in
+    ended_goes_on image c.args.epoch c.args.memory.now c.accesses.memory c.accesses.writers h c.accesses.nearest c.accesses.invariant.following c.requires.before c.requires.epoch
+    is (sym exit ∙ not-true c.exits-goes_on.result goes)
+
+pub returns-in-Ended-clause-ends : goal.returns-in-Ended-clause-ends
+returns-in-Ended-clause-ends c ends =
+    let image = c.args.image.now in
+    let h = c.accesses.hart in
+    let is : (next_event image h).at ≡ stop.Ended = sym c.advance-arrived.ensures.at ∙ (sym c.at.ensures.at ∙ c.in-Ended.is) in
+    let exit : c.exits-goes_on.result ≡ exits image (next_event image h).now = c.exits-goes_on.ensures ∙ ap (exits image) (c.now.ensures ∙ c.advance-arrived.ensures.now) in
+    ended_exits image c.args.epoch c.args.memory.now c.accesses.memory c.accesses.writers h c.accesses.nearest c.accesses.invariant.following c.requires.before c.requires.epoch
+    is (sym exit ∙ not-false c.exits-goes_on.result ends)
+
+pub returns-in-Fault-clause-ends : goal.returns-in-Fault-clause-ends
+returns-in-Fault-clause-ends c ends =
+    let image = c.args.image.now in
+    let h = c.accesses.hart in
+    let is : (next_event image h).at ≡ stop.Fault c.in-Fault.cause c.in-Fault.pc = sym c.advance-arrived.ensures.at ∙ (sym c.at.ensures.at ∙ c.in-Fault.is) in
+    faulted image c.args.epoch c.args.memory.now c.accesses.memory c.accesses.writers h c.accesses.nearest c.accesses.invariant.following c.requires.before c.requires.epoch
+    c.in-Fault.cause c.in-Fault.pc is

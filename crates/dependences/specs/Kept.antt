@@ -1,0 +1,63 @@
+-- What the code keeps of the run in order: who wrote each byte last, 0 for nobody and else the epoch's number and 1.
+use Rattle.std.specs.Prelude.{◌≡◌, ℕ, zero, suc, ◌+◌, ◌-◌, ◌==◌, ◌||◌, ◌<◌, ◌≤◌, List, length, Option, Some, None, nat_lt, slice_index, if◌then◌else◌}
+use Rattle.rv32_exec.specs.declared.sequential.End.TheVariants.{Done}
+use Rattle.rv32_image.specs.Image.{LoadedImage}
+use Rattle.rv32_exec.specs.Sequential.{first_epochs}
+use Rattle.dependences.specs.Paths.{Stores}
+use Rattle.dependences.specs.Conflict.{memory_before}
+use Rattle.dependences.specs.Nearest.{Depends}
+
+-- ---- distances
+
+abbrev pub nearer : Option ℕ → Option ℕ → Option ℕ
+nearer (Some first) (Some second) = Some (if nat_lt first second then first else second)
+nearer (Some first) None = Some first
+nearer None second = second
+
+-- how far an epoch is behind the last writer of a byte
+abbrev pub behind : ℕ → ℕ → Option ℕ
+behind epoch writer = if (writer == 0) || (writer == epoch + 1) then None else Some (epoch + 1 - writer)
+
+-- the nearest of this, and of the last writers of the bytes of a load
+unfoldable pub load_behind : List ℕ → ℕ → ℕ → ℕ → Option ℕ → Option ℕ
+load_behind writers epoch address zero nearest = nearest
+load_behind writers epoch address (suc width) nearest =
+    nearer (load_behind writers epoch address width nearest) (behind epoch (slice_index writers (address + width)))
+
+-- the bytes of an access have this writer now, and the others theirs
+pub record IsMarked (old new : List ℕ) (address width writer : ℕ) : Type 0 where
+  pub here : (a : ℕ) → address ≤ a → a < address + width → slice_index new a ≡ writer
+  pub below : (a : ℕ) → a < address → slice_index new a ≡ slice_index old a
+  pub past : (a : ℕ) → address + width ≤ a → slice_index new a ≡ slice_index old a
+
+-- ---- what is kept
+
+-- of the epochs before this one, the last that stores the byte, and 1; 0 where none does
+abbrev pub IsLastWriter : LoadedImage → ℕ → ℕ → ℕ → Type 0
+IsLastWriter image epoch a zero = (d : ℕ) → d < epoch → Stores image d (memory_before image d) a → ⊥
+IsLastWriter image epoch a (suc writer) =
+    (writer < epoch) × Stores image writer (memory_before image writer) a
+    × ((d : ℕ) → d < epoch → Stores image d (memory_before image d) a → d ≤ writer)
+
+-- an epoch before this one depends on another this far before it
+pub record DependsBefore (image : LoadedImage) (epoch distance : ℕ) : Type 0 where
+  pub earlier : ℕ
+  pub later : ℕ
+  pub apart : later ≡ earlier + distance
+  pub before : later < epoch
+  pub depends : Depends image earlier later
+
+-- it is so of this number, and of none that is less
+abbrev pub IsLeast : (ℕ → Type 0) → Option ℕ → Type 0
+IsLeast P (Some n) = P n × ((k : ℕ) → P k → n ≤ k)
+IsLeast P None = (k : ℕ) → P k → ⊥
+
+pub record AreKept (image : LoadedImage) (epoch : ℕ) (writers : List ℕ) (nearest : Option ℕ) : Type 0 where
+  pub long : length writers ≡ image.size
+  pub writer : (a : ℕ) → IsLastWriter image epoch a (slice_index writers a)
+  pub least : IsLeast (DependsBefore image epoch) nearest
+
+-- the epochs before this one are done, and it is kept what they did
+pub record GoesOn (image : LoadedImage) (epoch : ℕ) (memory writers : List ℕ) (nearest : Option ℕ) : Type 0 where
+  pub done : first_epochs image epoch ≡ record { end = Done epoch; bytes = memory }
+  pub kept : AreKept image epoch writers nearest

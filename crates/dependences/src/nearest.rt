@@ -1,0 +1,150 @@
+ghost use Rattle.std.specs.Prelude.{◌≡◌, ℕ, ◌+◌, ◌<◌, ◌≤◌, ◌^◌, IfOk, true, false, length, slice_index};
+ghost use Rattle.rv32_image.specs.Image.{IsImage};
+ghost use Rattle.rv32_exec.specs.declared.sequential.End.TheVariants.{Done};
+ghost use Rattle.rv32_exec.specs.Sequential.{first_epochs};
+ghost use Rattle.dependences.specs.Nearest.{IsNearest};
+ghost use Rattle.dependences.specs.Kept as spec;
+
+use memory_bytes::{read_number, write_number};
+use rv32_exec::{NoMemory, Stop, advance, loaded, start, stored};
+use rv32_image::Image;
+use std::alloc::Global;
+
+/// The least distance at which an epoch depends on an earlier one, of all epochs that run in order: it reads a byte from outside
+/// that the earlier one stores. None where no epoch does.
+///
+/// `NoMemory`: there was none for a copy of the image's bytes, and a word beside each.
+pub fn nearest_dependence(alloc: Global, image: &Image) -> Result<Option<u32>, NoMemory>
+    ensures { IfOk result (λ nearest. IsNearest image.now nearest) }
+{
+    let mut memory = Vec::from_slice(alloc, image.bytes()).map_err(|_| NoMemory)?;
+    let size = image.size() as usize;
+    let mut writers = vec![in alloc; 0; size].map_err(|_| NoMemory)?;
+    Ok(nearest_in(image, memory.as_mut_slice(), writers.as_mut_slice()))
+}
+
+/// Runs the epochs over memory, in order. No byte has a writer before.
+fn nearest_in(image: &Image, memory: &mut [u8], writers: &mut [u32]) -> Option<u32>
+    requires memory { memory.old ≡ image.now.bytes }
+    requires long { length writers.old ≡ image.now.size }
+    requires none { (a : ℕ) → slice_index writers.old a ≡ 0 }
+    ensures { IsNearest image.now result }
+{
+    let mut nearest = None;
+    for epoch in 0..image.epochs() {
+        let followed = follow(image, epoch, memory, writers, nearest);
+        nearest = followed.nearest;
+        if !followed.goes_on {
+            return nearest;
+        }
+    }
+    nearest
+}
+
+/// What came of an epoch: whether the next one runs, and how near epochs depend on each other so far.
+#[derive(Clone, Copy, Debug)]
+struct Followed {
+    goes_on: bool,
+    nearest: Option<u32>,
+}
+
+/// Runs one epoch over memory, and keeps who wrote each byte last.
+fn follow(
+    image: &Image,
+    epoch: u32,
+    memory: &mut [u8],
+    writers: &mut [u32],
+    nearest: Option<u32>,
+) -> Followed
+    requires limits { IsImage image.now }
+    requires size { length memory.old ≡ image.now.size }
+    requires epoch { epoch < image.now.epochs }
+    requires before { first_epochs image.now epoch ≡ record { end = Done epoch; bytes = memory.old } }
+    requires kept { spec.AreKept image.now epoch writers.old nearest }
+    ensures goes_on { result.goes_on ≡ true → spec.GoesOn image.now (epoch + 1) memory.new writers.new result.nearest }
+    ensures ends { result.goes_on ≡ false → IsNearest image.now result.nearest }
+{
+    let mut hart = start(image, epoch);
+    let mut nearest = nearest;
+    'accesses: loop {
+        let arrived = advance(image, hart);
+        match arrived.at() {
+            Stop::Load { addr, width, .. } => {
+                nearest = nearer_of(writers, epoch, addr, width, nearest);
+                hart = loaded(&arrived, read_number(memory, addr as usize, width));
+            }
+            Stop::Store { addr, width, value } => {
+                write_number(memory, addr as usize, width, value);
+                mark(writers, addr, width, epoch + 1);
+                hart = stored(&arrived);
+            }
+            Stop::Ended => {
+                let goes_on = !arrived.now().exits(image);
+                return Followed { goes_on, nearest };
+            }
+            Stop::Fault { .. } => {
+                return Followed {
+                    goes_on: false,
+                    nearest,
+                };
+            }
+        }
+    }
+}
+
+/// The nearest of what was found, and of the epochs that last wrote the bytes of a load.
+fn nearer_of(
+    writers: &[u32],
+    epoch: u32,
+    addr: u32,
+    width: u32,
+    nearest: Option<u32>,
+) -> Option<u32>
+    requires small { length writers.now < 2 ^ 32 }
+    requires within { addr + width ≤ length writers.now }
+    requires epoch { epoch < 2 ^ 16 }
+    requires earlier { (a : ℕ) → slice_index writers.now a ≤ epoch + 1 }
+    ensures { result ≡ spec.load_behind writers.now epoch addr width nearest }
+{
+    let mut nearest = nearest;
+    for i in 0..width {
+        nearest = nearer(nearest, behind(epoch, writers[(addr + i) as usize]));
+    }
+    nearest
+}
+
+/// How far an epoch is behind the last writer of a byte: none where there is none, or it is the epoch itself.
+fn behind(epoch: u32, writer: u32) -> Option<u32>
+    requires epoch { epoch < 2 ^ 16 }
+    requires earlier { writer ≤ epoch + 1 }
+    ensures { result ≡ spec.behind epoch writer }
+{
+    if writer == 0 || writer == epoch + 1 {
+        None
+    } else {
+        Some(epoch + 1 - writer)
+    }
+}
+
+/// The nearer of the two, if any.
+fn nearer(first: Option<u32>, second: Option<u32>) -> Option<u32>
+    ensures { result ≡ spec.nearer first second }
+{
+    match (first, second) {
+        (Some(one), Some(other)) => Some(if one < other { one } else { other }),
+        (Some(one), None) => Some(one),
+        (None, other) => other,
+    }
+}
+
+/// Notes who wrote the bytes of a store.
+fn mark(writers: &mut [u32], addr: u32, width: u32, writer: u32)
+    requires small { length writers.old < 2 ^ 32 }
+    requires within { addr + width ≤ length writers.old }
+    ensures long { length writers.new ≡ length writers.old }
+    ensures marked { spec.IsMarked writers.old writers.new addr width writer }
+{
+    for i in 0..width {
+        writers[(addr + i) as usize] = writer;
+    }
+}
