@@ -43,6 +43,19 @@ module _ {S : Type 0} (view : S → StoreView) (waits : S → Waits) (image : Lo
         (λ ran ordered. ordered.end_is ∙ ap (λ (l : Loop). (sequential_result l.image).end) same) ends;
   }
 
+  -- the run came to this
+  pub ran_evenly : (result : Result (Option Ran) TurnFault) (ran : Ran) → result ≡ Ok (Some ran)
+      → UnlessRefused result (Driven view waits (λ _. None) (driver first shares) schedule (end_in result) (driver last shares'))
+      → UnlessRefused result (Evenly view waits at_first (driver first shares) schedule result (driver last shares')) → IfRan result (IsWhole first.cores) → IfRan result IsShort
+      → IfRan result (AccountsFor first) → IfRan result (λ ran. IsInOrder last.image ran.end (view last.store).committed)
+      → MakesEvenly view waits (loop_on image cores room) schedule (Ok (Some ran)) last.history
+  ran_evenly (Ok (Some some)) ran is driven evenly whole short accounts ends =
+      let same : some ≡ ran = cc in
+      subst (λ (x : Ran). MakesEvenly view waits (loop_on image cores room) schedule (Ok (Some x)) last.history) same
+      (makes_evenly (Ok (Some some)) driven evenly whole short accounts ends)
+  ran_evenly (Ok None) ran is driven evenly whole short accounts ends = absurd cc
+  ran_evenly (Err fault) ran is driven evenly whole short accounts ends = absurd cc
+
   pub faults_evenly : (fault : TurnFault)
       → UnlessRefused (Err fault) (Evenly view waits at_first (driver first shares) schedule (Err fault) (driver last shares'))
       → UnlessRefused (Err fault) (Driven view waits (λ _. None) (driver first shares) schedule (Err fault) (driver last shares'))

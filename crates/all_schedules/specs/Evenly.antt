@@ -1,6 +1,6 @@
 -- What the run at even speed makes.
 -- Source: this project.
-use Rattle.std.specs.Prelude.{◌≡◌, ℕ, List, Option, Result, Ok, Err}
+use Rattle.std.specs.Prelude.{◌≡◌, ℕ, List, Option, Some, Result, Ok, Err}
 use Rattle.rv32_exec.specs.Sequential.{sequential_result}
 use Rattle.run_ledger.specs.Counts.{no_counts}
 use Rattle.spec_history.specs.declared.entry.Entry.{Entry}
@@ -30,7 +30,7 @@ abbrev pub IsEvenFault : {S : Type 0} → (S → StoreView) → (S → Waits) �
 IsEvenFault view waits l HistoryFull = (schedule : List ℕ) × (history : List Entry) × MakesEvenly view waits l schedule (Err HistoryFull) history
 IsEvenFault view waits l NoMemory = Unit {0}
 
--- the book has the history that the run makes
-pub record IsEvenRun {S : Type 0} (view : S → StoreView) (waits : S → Waits) (l : Loop) (schedule : List ℕ) (ran : Option Ran) (b : BookView S) : Type 0 where
+-- the book has the history that the run makes, up to the end of its loop
+pub record IsEvenRun {S : Type 0} (view : S → StoreView) (waits : S → Waits) (l : Loop) (schedule : List ℕ) (ran : Ran) (b : BookView S) : Type 0 where
   pub loop : loop_of b ≡ l
-  pub makes : MakesEvenly view waits l schedule (Ok ran) b.history
+  pub makes : MakesEvenly view waits l schedule (Ok (Some ran)) b.history

@@ -1,6 +1,6 @@
 -- What a run comes to whose turns the program takes by its own pace, at even speed or as a seed draws them, and what was written of it.
 -- Source: this project.
-use Rattle.std.specs.Prelude.{◌≡◌, ℕ, ◌<◌, ◌++◌, List, Option, Ok, MatchResult}
+use Rattle.std.specs.Prelude.{◌≡◌, ℕ, ◌<◌, ◌++◌, List, Option, Some, Ok, MatchResult}
 use Rattle.std.specs.Io.KnownBytes.{Appends, Keeps}
 use Rattle.rv32_image.specs.Version.{limits_of}
 use Rattle.rv32_image.specs.ImageText.{image_text}
@@ -25,9 +25,9 @@ use Rattle.all_schedules.specs.declared.paced.Pace.{Pace}
 use Rattle.all_schedules.specs.declared.paced.Pace.TheVariants.{Even, Seeded}
 use Rattle.all_schedules.specs.Shown.{IsShown}
 
--- the schedule is that of the pace, and makes this history
+-- the schedule is that of the pace, and makes this history; at even speed up to the end of the loop
 abbrev pub MakesAt : {S : Type 0} → (S → StoreView) → (S → Waits) → Pace → Loop → List ℕ → List Entry → Type 0
-MakesAt view waits Even l schedule history = (ran : Option Ran) × MakesEvenly view waits l schedule (Ok ran) history
+MakesAt view waits Even l schedule history = (ran : Ran) × MakesEvenly view waits l schedule (Ok (Some ran)) history
 MakesAt view waits (Seeded seed) l schedule history = (end : Option End) × MakesDrawn view waits l seed schedule (Ok end) history
 
 -- the run may end in this fault

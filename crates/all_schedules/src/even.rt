@@ -11,19 +11,19 @@ use rv32_exec::Image;
 use std::alloc::Global;
 use violations::EpochStore;
 
-/// A run at even speed.
+/// A run at even speed, up to the end of its loop.
 #[derive(Drop)]
 pub struct EvenRun<S: EpochStore> {
     /// The book with its history.
     pub book: Book<S>,
     /// Whose turns were taken, in order.
     pub schedule: Vec<u32>,
-    /// What the run came to, where the loop is over.
-    pub ran: Option<Ran>,
+    /// What the run came to.
+    pub ran: Ran,
 }
 
-/// Runs a loop at even speed from an empty history on, over a fresh store. The cores are at least 1, and the room is 16 to 1,048,576
-/// entries.
+/// Runs a loop at even speed from an empty history on, over a fresh store, up to its end. The cores are at least 1, and the room is 16
+/// to 1,048,576 entries.
 ///
 /// `HistoryFull`: a turn found too few free entries. `NoMemory`: memory ran out.
 pub fn run_evenly<S: EpochStore>(
@@ -46,11 +46,12 @@ pub fn run_evenly<S: EpochStore>(
     let driven = drive_evenly(alloc, &mut book, image, cores, &mut schedule, &mut shares);
     book.look();
     match driven {
-        Ok(ran) => Ok(EvenRun {
+        Ok(Some(ran)) => Ok(EvenRun {
             book,
             schedule,
             ran,
         }),
+        Ok(None) => unreachable!(),
         Err(fault) => Err(fault),
     }
 }

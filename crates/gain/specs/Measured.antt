@@ -1,6 +1,6 @@
 -- What is measured of a run.
 -- Source: this project.
-use Rattle.std.specs.Prelude.{◌≡◌, ◌⊎◌, ℕ, ◌<◌, ◌^◌, List, Option, Some, None, Ok}
+use Rattle.std.specs.Prelude.{◌≡◌, ℕ, ◌<◌, ◌^◌, List, Option, Some, None, Ok}
 use Rattle.spec_history.specs.declared.entry.Entry.{Entry}
 use Rattle.violations.specs.View.{StoreView, Waits}
 use Rattle.homefree.specs.declared.book.Loop.{Loop}
@@ -20,10 +20,9 @@ pub record IsOf {S : Type 0} (view : S → StoreView) (waits : S → Waits) (l :
   pub restarts : m.restarts ≡ (counted_in history).restarts
   pub kinds : AreKinds l.image l.cores history m.kinds
 
--- the run ended before: its history was full, or the book was stopped
+-- the run ended before: its history was full
 abbrev pub IsUnfinished : {S : Type 0} → (S → StoreView) → (S → Waits) → Loop → Type 0
-IsUnfinished view waits l =
-    IsEvenFault view waits l HistoryFull ⊎ ((schedule : List ℕ) × (history : List Entry) × MakesEvenly view waits l schedule (Ok None) history)
+IsUnfinished view waits l = IsEvenFault view waits l HistoryFull
 
 abbrev pub IsMeasured : {S : Type 0} → (S → StoreView) → (S → Waits) → Loop → Option Measured → Type 0
 IsMeasured view waits l (Some m) = IsOf view waits l m

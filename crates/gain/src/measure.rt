@@ -44,13 +44,10 @@ pub fn measure<S: EpochStore>(
         Err(TurnFault::HistoryFull) => return Ok(None),
         Err(TurnFault::NoMemory) => return Err(AllocError),
     };
-    let Some(ran) = run.ran else {
-        return Ok(None);
-    };
     run.book.look();
     let kinds = kinds_of(alloc, image, cores, run.book.history())?;
     Ok(Some(Measured {
-        ran,
+        ran: run.ran,
         restarts: run.book.totals().restarts,
         kinds,
     }))

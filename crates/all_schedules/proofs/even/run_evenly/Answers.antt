@@ -1,21 +1,22 @@
-use Rattle.std.proofs.Common.{◌≡◌, ◌∙◌, Ok}
+use Rattle.std.proofs.Common.{◌≡◌, ◌∙◌, Some, Ok, rules}
 use Rattle.homefree.specs.LockView.{loop_of}
 use Rattle.all_schedules.specs.Made.{loop_on}
-use Rattle.all_schedules.proofs.Evens.{faults_evenly, makes_evenly}
+use Rattle.all_schedules.proofs.Evens.{faults_evenly, ran_evenly}
 use Rattle.all_schedules.proofs.even.run_evenly.Goals as goal
 
-pub returns-in-Ok-driven-clause-made : goal.returns-in-Ok-driven-clause-made
-returns-in-Ok-driven-clause-made g c =
+pub returns-in-Ok-Some-clause-made : goal.returns-in-Ok-Some-clause-made
+returns-in-Ok-Some-clause-made g c =
     let new = c.in-Ok.ensures in
-    let run = c.in-Ok-driven.ensures in
+    let run = c.drive_evenly-driven.ensures in
+    let is : c.drive_evenly-driven.result ≡ Ok (Some c.in-Ok-Some.ran) = search rules in
     let same = run.same in
     let loop : loop_of c.drive_evenly-driven.new.book ≡ loop_on c.args.image.now c.args.cores c.args.room =
     (λ k. record { image = (same.image ∙ new.image) k; cores = (same.cores ∙ new.cores) k; room = (same.room ∙ new.room) k }) in record {
       loop = loop;
-      makes = makes_evenly g.S.EpochStore.view g.S.EpochStore.waits c.args.image.now c.args.cores c.args.room c.drive_evenly-driven.new.schedule.items
+      makes = ran_evenly g.S.EpochStore.view g.S.EpochStore.waits c.args.image.now c.args.cores c.args.room c.drive_evenly-driven.new.schedule.items
           c.in-Ok.book c.drive_evenly-driven.new.book c.in-Ok.shares c.drive_evenly-driven.new.shares new.image new.cores new.room new.history new.totals new.store new.stopped
           new.shares loop c.look.ensures
-          (Ok c.in-Ok-driven.ran) run.driven run.evenly run.whole run.short run.accounts run.end;
+          c.drive_evenly-driven.result c.in-Ok-Some.ran is run.driven run.evenly run.whole run.short run.accounts run.end;
     }
 
 pub returns-in-Err-clause-fault : goal.returns-in-Err-clause-fault
