@@ -16,3 +16,4 @@ pub mod Digits
 pub mod Works
 pub mod Alls
 pub mod Paces
+pub mod Fixed

@@ -10,6 +10,7 @@ use Rattle.rv32_image.specs.Reading.{ForText}
 use Rattle.rv32_exec.specs.declared.sequential.End.{End}
 use Rattle.spec_history.specs.declared.entry.Entry.{Entry}
 use Rattle.violations.specs.View.{StoreView, Waits}
+use Rattle.violations.specs.Calls.{Call}
 use Rattle.violations.specs.Rule.{IsCoreCount}
 use Rattle.homefree.specs.declared.book.Loop.{Loop}
 use Rattle.trace_text.specs.declared.fault.TraceFault.{TraceFault}
@@ -40,11 +41,11 @@ by_text cores room text image schedule P said allowed turns is =
     by_image text image (λ l. IsCoreCount l cores × MatchResult (schedule_text cores text) (P (loop_on l cores room)) (λ fault. ⊥)) said
     (allowed, subst (λ (r : Result (List ℕ) TraceFault). MatchResult r (P (loop_on image cores room)) (λ fault. ⊥)) (sym turns) is)
 
-module _ {S : Type 0} (view : S → StoreView) (waits : S → Waits) (cores room : ℕ) (text : List ℕ) where
+module _ {S : Type 0} (starts : LoadedImage → ℕ → S → Type 0) (makes : S → Call → S → Type 0) (view : S → StoreView) (waits : S → Waits) (cores room : ℕ) (text : List ℕ) where
   -- the turns stop
   pub stops : (image : LoadedImage) (schedule : List ℕ) (why : CommandStop) → image_text (image_part text) ≡ Ok image → IsCoreCount image cores
-      → schedule_text cores text ≡ Ok schedule → IsStop view waits (loop_on image cores room) schedule why → IsNoReplay view waits cores room text (Stopped why)
-  stops image schedule cause.HistoryFull said allowed turns is = by_text cores room text image schedule (IsFull view waits) said allowed turns is
+      → schedule_text cores text ≡ Ok schedule → IsStop starts makes view waits (loop_on image cores room) schedule why → IsNoReplay starts makes view waits cores room text (Stopped why)
+  stops image schedule cause.HistoryFull said allowed turns is = by_text cores room text image schedule (IsFull starts makes view waits) said allowed turns is
   stops image schedule cause.NoMemory said allowed turns is = tt
   stops image schedule cause.Write said allowed turns is = absurd is
   stops image schedule cause.NoThread said allowed turns is = absurd is
@@ -54,7 +55,7 @@ module _ {S : Type 0} (view : S → StoreView) (waits : S → Waits) (cores room
   -- the lines of turns are refused
   pub refused_turns : (line : ℕ) (kind : TraceFaultKind) (image : LoadedImage) → image_text (image_part text) ≡ Ok image → IsCoreCount image cores
       → IsFaultOf kind (record { line = line; kind = kind }) (schedule_text cores text)
-      → IsNoReplay view waits cores room text (outcome_of_turns_fault kind (record { line = line; kind = kind }))
+      → IsNoReplay starts makes view waits cores room text (outcome_of_turns_fault kind (record { line = line; kind = kind }))
   refused_turns line Read image said allowed is = absurd is
   refused_turns line NoMemory image said allowed is = tt
   refused_turns line kind image said allowed is =
@@ -62,18 +63,18 @@ module _ {S : Type 0} (view : S → StoreView) (waits : S → Waits) (cores room
 
 -- ---- a trace, or lines of turns
 
-module _ {S : Type 0} (view : S → StoreView) (waits : S → Waits) (heads : Loop → List ℕ → List Entry → List ℕ → Type 0) (room : ℕ) (text : List ℕ) where
+module _ {S : Type 0} (starts : LoadedImage → ℕ → S → Type 0) (makes : S → Call → S → Type 0) (view : S → StoreView) (waits : S → Waits) (heads : Loop → List ℕ → List Entry → List ℕ → Type 0) (room : ℕ) (text : List ℕ) where
   -- what is shown is reported or open
   of_turns : (cores : ℕ) (outcome : Outcome) (printed : List ℕ) (r : Result LoadedImage ImageFault) (q : Result (List ℕ) TraceFault)
-      → MatchResult r (λ image. IsCoreCount image cores × MatchResult q (λ schedule. IsReplay view waits heads (loop_on image cores room) schedule outcome printed) (λ fault. ⊥)) (λ fault. ⊥)
+      → MatchResult r (λ image. IsCoreCount image cores × MatchResult q (λ schedule. IsReplay starts makes view waits heads (loop_on image cores room) schedule outcome printed) (λ fault. ⊥)) (λ fault. ⊥)
       → (end : Option End) × (homefree : ℕ) × (outcome ≡ outcome_at end homefree)
   of_turns cores outcome printed (Ok image) (Ok schedule) is = let show = is.1.shown in (show.state.end, show.state.homefree, show.outcome_is)
   of_turns cores outcome printed (Ok image) (Err fault) is = absurd is.1
   of_turns cores outcome printed (Err fault) q is = absurd is
 
-module _ {S : Type 0} (view : S → StoreView) (waits : S → Waits) (heads : Loop → List ℕ → List Entry → List ℕ → Type 0) (cores : Option ℕ) (room : ℕ) where
+module _ {S : Type 0} (starts : LoadedImage → ℕ → S → Type 0) (makes : S → Call → S → Type 0) (view : S → StoreView) (waits : S → Waits) (heads : Loop → List ℕ → List Entry → List ℕ → Type 0) (cores : Option ℕ) (room : ℕ) where
   refused : (fault : InputFault) (text : List ℕ) (output : Option (List ℕ)) → (fault ≡ input.TooLong → longest_trace_text < length text)
-      → IsReplayOutcome view waits heads cores room text output output (outcome_of_turns_fault (input_fault fault).kind (input_fault fault))
+      → IsReplayOutcome starts makes view waits heads cores room text output output (outcome_of_turns_fault (input_fault fault).kind (input_fault fault))
   refused input.TooLong text output long = (inl (refl, long refl), keeps_itself output)
   refused input.Read text output long = (inl refl, keeps_itself output)
   refused input.NoMemory text output long = keeps_itself output
@@ -85,6 +86,6 @@ module _ {S : Type 0} (view : S → StoreView) (waits : S → Waits) (heads : Lo
   -- an input that could not be read whole
   pub refused_input : (known : Option (List ℕ)) (fault : InputFault) (output : Option (List ℕ))
       → (fault ≡ input.TooLong → IfSome known (λ whole. longest_trace_text < length whole))
-      → ForText known (λ text. IsReplayOutcome view waits heads cores room text output output (outcome_of_turns_fault (input_fault fault).kind (input_fault fault)))
+      → ForText known (λ text. IsReplayOutcome starts makes view waits heads cores room text output output (outcome_of_turns_fault (input_fault fault).kind (input_fault fault)))
   refused_input None fault output long = let text = long_text longest_trace_text in (text.0, refused fault text.0 output (λ _. text.1))
   refused_input (Some text) fault output long = refused fault text output long

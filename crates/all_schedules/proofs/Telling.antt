@@ -1,9 +1,11 @@
 -- A schedule whose turns are told was driven.
 use Rattle.std.proofs.Common.{◌≡◌, ℕ, suc, List, [], ◌∷◌, Option, None, Ok, Err, refl, sym, ap}
+use Rattle.rv32_image.specs.Image.{LoadedImage}
 use Rattle.rv32_exec.specs.declared.sequential.End.{End}
 use Rattle.rv32_exec.specs.Hart.{HartState}
 use Rattle.spec_history.specs.declared.entry.Entry.{Entry}
 use Rattle.violations.specs.View.{StoreView, Waits}
+use Rattle.violations.specs.Calls.{Call}
 use Rattle.homefree.specs.declared.answer.Answer.TheVariants.{Go, Again, Left, Over, Stopped}
 use Rattle.homefree.specs.declared.book.Loop.{Loop}
 use Rattle.homefree.specs.declared.fault.TurnFault.{TurnFault}
@@ -12,9 +14,9 @@ use Rattle.homefree.specs.Driven.{Driver, Driven, held_after, with_held}
 use Rattle.turn_steps.specs.Stepped.{Stepped}
 use Rattle.all_schedules.specs.Made.{IsFault, Makes}
 
-module _ {S : Type 0} (view : S → StoreView) (waits : S → Waits) (changes : ℕ → S → S → List ℕ) where
+module _ {S : Type 0} (makes : S → Call → S → Type 0) (view : S → StoreView) (waits : S → Waits) (changes : ℕ → S → S → List ℕ) where
   was_driven : (n : ℕ) (held : ℕ → Option HartState) (old : Driver S) (schedule : List ℕ) (end : Option End) (new : Driver S) (text : List ℕ)
-      → Stepped view waits changes n held old schedule end new text → Driven view waits held old schedule (Ok end) new
+      → Stepped makes view waits changes n held old schedule end new text → Driven makes view waits held old schedule (Ok end) new
   was_driven n held old [] end new text (same, none, nothing) = (same, ap Ok none)
   was_driven n held old (core ∷ rest) end new text (mid, Go hart, first, below, turned, told, is, more) =
       (mid, Ok (Go hart), turned, was_driven (suc n) (with_held held core (held_after (Go hart) (held core))) mid rest end new below more)
@@ -26,11 +28,11 @@ module _ {S : Type 0} (view : S → StoreView) (waits : S → Waits) (changes : 
   was_driven n held old (core ∷ rest) end new text (mid, Stopped cause, first, below, turned, told, is, more) = (mid, Ok (Stopped cause), turned, (more.0, sym more.1))
 
   pub driven_by : (old : Driver S) (schedule : List ℕ) (end : Option End) (new : Driver S) (text : List ℕ)
-      → Stepped view waits changes 0 (λ _. None) old schedule end new text → Driven view waits (λ _. None) old schedule (Ok end) new
+      → Stepped makes view waits changes 0 (λ _. None) old schedule end new text → Driven makes view waits (λ _. None) old schedule (Ok end) new
   driven_by old schedule end new text = was_driven 0 (λ _. None) old schedule end new text
 
 -- where the turns fail, their history is full, or memory ran out
-pub told_fault : {S : Type 0} (view : S → StoreView) (waits : S → Waits) (l : Loop) (schedule : List ℕ) (history : List Entry) (fault : TurnFault)
-    → (fault ≡ HistoryFull → Makes view waits l schedule (Err HistoryFull) history) → IsFault view waits l schedule fault
-told_fault view waits l schedule history HistoryFull made = (history, made refl)
-told_fault view waits l schedule history NoMemory made = tt
+pub told_fault : {S : Type 0} (starts : LoadedImage → ℕ → S → Type 0) (makes : S → Call → S → Type 0) (view : S → StoreView) (waits : S → Waits) (l : Loop) (schedule : List ℕ) (history : List Entry) (fault : TurnFault)
+    → (fault ≡ HistoryFull → Makes starts makes view waits l schedule (Err HistoryFull) history) → IsFault starts makes view waits l schedule fault
+told_fault starts makes view waits l schedule history HistoryFull made = (history, made refl)
+told_fault starts makes view waits l schedule history NoMemory made = tt

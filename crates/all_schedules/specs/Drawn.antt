@@ -1,15 +1,18 @@
 -- The schedule that a seed draws, a turn at a time.
 -- Source: Steele, Lea and Flood, "Fast Splittable Pseudorandom Number Generators", OOPSLA 2014, as the generator; this project, as the cores.
-use Rattle.std.specs.Prelude.{◌≡◌, ℕ, zero, suc, ◌%◌, List, [], ◌∷◌, ◌++◌, length, Option, None, Result, Ok, Err}
+use Rattle.std.specs.Prelude.{◌≡◌, ℕ, zero, suc, ◌<◌, ◌%◌, List, [], ◌∷◌, ◌++◌, length, Option, None, Result, Ok, Err}
 use Rattle.rand_xoshiro.specs.SplitMix64.{mix_u64, next_state}
+use Rattle.rv32_image.specs.Image.{LoadedImage}
 use Rattle.rv32_exec.specs.declared.sequential.End.{End}
 use Rattle.spec_history.specs.declared.entry.Entry.{Entry}
+use Rattle.run_ledger.specs.Counts.{no_counts}
 use Rattle.violations.specs.View.{StoreView, Waits}
+use Rattle.violations.specs.Calls.{Call}
 use Rattle.homefree.specs.declared.book.Loop.{Loop}
 use Rattle.homefree.specs.declared.fault.TurnFault.{TurnFault}
 use Rattle.homefree.specs.declared.fault.TurnFault.TheVariants.{HistoryFull, NoMemory}
 use Rattle.homefree.specs.BookView.{BookView}
-use Rattle.homefree.specs.Driven.{Driven, Driver}
+use Rattle.homefree.specs.Driven.{Driven, Driver, driver}
 use Rattle.homefree.specs.LockView.{loop_of}
 use Rattle.all_schedules.specs.Made.{Makes}
 
@@ -31,25 +34,31 @@ drawn cores seed (suc n) = drawn cores seed n ++ core_at cores seed n ∷ []
 abbrev pub most_turns : ℕ
 most_turns = 8388608
 
--- the turns of the schedule, which the seed draws, come to this, and so do the most turns that it draws, of which those below an end aren't taken
-pub record DrivesDrawn {S : Type 0} (view : S → StoreView) (waits : S → Waits) (cores seed : ℕ) (old : Driver S) (schedule : List ℕ) (result : Result (Option End) TurnFault) (new : Driver S) : Type 0 where
-  pub is_drawn : schedule ≡ drawn cores seed (length schedule)
-  pub driven : Driven view waits (λ _. None) old schedule result new
-  pub all : Driven view waits (λ _. None) old (drawn cores seed most_turns) result new
+-- the first n turns that the seed draws don't end the drive
+abbrev pub IsOpen : {S : Type 0} → (S → Call → S → Type 0) → (S → StoreView) → (S → Waits) → ℕ → ℕ → Driver S → ℕ → Type 0
+IsOpen {S} makes view waits cores seed old n = (new : Driver S) × Driven makes view waits (λ _. None) old (drawn cores seed n) (Ok None) new
 
--- the schedule, which the seed draws, makes this history, and so do the most turns that it draws
-pub record MakesDrawn {S : Type 0} (view : S → StoreView) (waits : S → Waits) (l : Loop) (seed : ℕ) (schedule : List ℕ) (result : Result (Option End) TurnFault) (history : List Entry) : Type 0 where
-  pub is_drawn : schedule ≡ drawn l.cores seed (length schedule)
-  pub makes : Makes view waits l schedule result history
-  pub all : Makes view waits l (drawn l.cores seed most_turns) result history
+-- the turns of the schedule, which the seed draws, come to this, and so do the most turns that it draws, of which those below an end aren't taken;
+-- the schedule goes to the turn that ends the drive, and no further, or else to the most turns
+pub record DrivesDrawn {S : Type 0} (makes : S → Call → S → Type 0) (view : S → StoreView) (waits : S → Waits) (cores seed : ℕ) (old : Driver S) (schedule : List ℕ) (result : Result (Option End) TurnFault) (new : Driver S) : Type 0 where
+  pub is_drawn : schedule ≡ drawn cores seed (length schedule)
+  pub driven : Driven makes view waits (λ _. None) old schedule result new
+  pub all : Driven makes view waits (λ _. None) old (drawn cores seed most_turns) result new
+  pub goes_on : (n : ℕ) → n < length schedule → IsOpen makes view waits cores seed old n
+  pub most : result ≡ Ok None → old.book.stopped ≡ None → length schedule ≡ most_turns
+
+-- the schedule, which the seed draws up to the turn that ends the drive, makes this history
+pub record MakesDrawn {S : Type 0} (starts : LoadedImage → ℕ → S → Type 0) (calls : S → Call → S → Type 0) (view : S → StoreView) (waits : S → Waits) (l : Loop) (seed : ℕ) (schedule : List ℕ) (result : Result (Option End) TurnFault) (history : List Entry) : Type 0 where
+  pub makes : Makes starts calls view waits l schedule result history
+  pub drives : DrivesDrawn calls view waits l.cores seed (driver makes.first no_counts) schedule result makes.last
 
 -- the run may end in this fault
-abbrev pub IsDrawnFault : {S : Type 0} → (S → StoreView) → (S → Waits) → Loop → ℕ → TurnFault → Type 0
-IsDrawnFault view waits l seed HistoryFull = (schedule : List ℕ) × (history : List Entry) × MakesDrawn view waits l seed schedule (Err HistoryFull) history
-IsDrawnFault view waits l seed NoMemory = Unit {0}
+abbrev pub IsDrawnFault : {S : Type 0} → (LoadedImage → ℕ → S → Type 0) → (S → Call → S → Type 0) → (S → StoreView) → (S → Waits) → Loop → ℕ → TurnFault → Type 0
+IsDrawnFault starts makes view waits l seed HistoryFull = (schedule : List ℕ) × (history : List Entry) × MakesDrawn starts makes view waits l seed schedule (Err HistoryFull) history
+IsDrawnFault starts makes view waits l seed NoMemory = Unit {0}
 
 -- the book has the history that the run makes
-pub record IsDrawnRun {S : Type 0} (view : S → StoreView) (waits : S → Waits) (l : Loop) (seed : ℕ) (schedule : List ℕ) (b : BookView S) : Type 0 where
+pub record IsDrawnRun {S : Type 0} (starts : LoadedImage → ℕ → S → Type 0) (calls : S → Call → S → Type 0) (view : S → StoreView) (waits : S → Waits) (l : Loop) (seed : ℕ) (schedule : List ℕ) (b : BookView S) : Type 0 where
   pub loop : loop_of b ≡ l
   pub result : Option End
-  pub makes : MakesDrawn view waits l seed schedule (Ok result) b.history
+  pub makes : MakesDrawn starts calls view waits l seed schedule (Ok result) b.history

@@ -5,6 +5,8 @@ pub mod Evenly
 pub mod Drawn
 pub mod Survey
 pub mod SurveyText
+-- That what is made is fixed.
+pub mod Fixed
 -- And what the commands of `replay` come to: what lines of turns say, the replay of a schedule and of a trace, every schedule, and the run by a pace.
 pub mod Turns
 pub mod Shown

@@ -6,6 +6,7 @@ use Rattle.rv32_exec.specs.declared.sequential.End.{End}
 use Rattle.run_ledger.specs.Counts.{no_counts}
 use Rattle.spec_history.specs.declared.entry.Entry.{Entry}
 use Rattle.violations.specs.View.{StoreView, Waits}
+use Rattle.violations.specs.Calls.{Call}
 use Rattle.violations.specs.Rule.{IsFresh}
 use Rattle.homefree.specs.declared.book.Loop.{Loop}
 use Rattle.homefree.specs.declared.fault.TurnFault.{TurnFault}
@@ -20,11 +21,12 @@ abbrev pub loop_on : LoadedImage → ℕ → ℕ → Loop
 loop_on image cores room = record { image = image; cores = cores; room = room }
 
 -- an empty history of the loop, over a fresh store
-pub record IsNew {S : Type 0} (view : S → StoreView) (l : Loop) (b : BookView S) : Type 0 where
+pub record IsNew {S : Type 0} (starts : LoadedImage → ℕ → S → Type 0) (view : S → StoreView) (l : Loop) (b : BookView S) : Type 0 where
   pub loop : loop_of b ≡ l
   pub history : b.history ≡ []
   pub totals : b.totals ≡ no_counts
   pub store : IsFresh l.image l.cores (view b.store)
+  pub started : starts l.image l.cores b.store
   pub stopped : b.stopped ≡ None
 
 -- a history that turns over a store make: each violation has its cause and is of a kind, over caches no entry passes over a later
@@ -37,25 +39,25 @@ pub record IsOfTurns {S : Type 0} (view : S → StoreView) (l : Loop) (history :
 
 -- the schedule's turns, one for each of its cores, in order, make this history and come to this: an access waits where the store
 -- makes it wait, and for the cause that the store has
-pub record Makes {S : Type 0} (view : S → StoreView) (waits : S → Waits) (l : Loop) (schedule : List ℕ) (result : Result (Option End) TurnFault) (history : List Entry) : Type 0 where
+pub record Makes {S : Type 0} (starts : LoadedImage → ℕ → S → Type 0) (makes : S → Call → S → Type 0) (view : S → StoreView) (waits : S → Waits) (l : Loop) (schedule : List ℕ) (result : Result (Option End) TurnFault) (history : List Entry) : Type 0 where
   pub first : BookView S
   pub last : Driver S
-  pub is_new : IsNew view l first
-  pub driven : Driven view waits (λ _. None) (driver first no_counts) schedule result last
+  pub is_new : IsNew starts view l first
+  pub driven : Driven makes view waits (λ _. None) (driver first no_counts) schedule result last
   pub history_is : last.book.history ≡ history
   pub of_turns : IsOfTurns view l history
 
 -- a turn of the schedule finds too few free entries
-abbrev pub IsFull : {S : Type 0} → (S → StoreView) → (S → Waits) → Loop → List ℕ → Type 0
-IsFull view waits l schedule = (history : List Entry) × Makes view waits l schedule (Err HistoryFull) history
+abbrev pub IsFull : {S : Type 0} → (LoadedImage → ℕ → S → Type 0) → (S → Call → S → Type 0) → (S → StoreView) → (S → Waits) → Loop → List ℕ → Type 0
+IsFull starts makes view waits l schedule = (history : List Entry) × Makes starts makes view waits l schedule (Err HistoryFull) history
 
 -- the turns may end in this fault
-abbrev pub IsFault : {S : Type 0} → (S → StoreView) → (S → Waits) → Loop → List ℕ → TurnFault → Type 0
-IsFault view waits l schedule HistoryFull = IsFull view waits l schedule
-IsFault view waits l schedule NoMemory = Unit {0}
+abbrev pub IsFault : {S : Type 0} → (LoadedImage → ℕ → S → Type 0) → (S → Call → S → Type 0) → (S → StoreView) → (S → Waits) → Loop → List ℕ → TurnFault → Type 0
+IsFault starts makes view waits l schedule HistoryFull = IsFull starts makes view waits l schedule
+IsFault starts makes view waits l schedule NoMemory = Unit {0}
 
 -- the book has the history that the schedule makes
-pub record IsMade {S : Type 0} (view : S → StoreView) (waits : S → Waits) (l : Loop) (schedule : List ℕ) (b : BookView S) : Type 0 where
+pub record IsMade {S : Type 0} (starts : LoadedImage → ℕ → S → Type 0) (calls : S → Call → S → Type 0) (view : S → StoreView) (waits : S → Waits) (l : Loop) (schedule : List ℕ) (b : BookView S) : Type 0 where
   pub loop : loop_of b ≡ l
   pub result : Option End
-  pub makes : Makes view waits l schedule (Ok result) b.history
+  pub makes : Makes starts calls view waits l schedule (Ok result) b.history

@@ -4,8 +4,10 @@ use Rattle.std.specs.Prelude.{◌≡◌, ℕ, ◌<◌, ◌++◌, List, Option, S
 use Rattle.std.specs.Io.KnownBytes.{Appends, Keeps}
 use Rattle.rv32_image.specs.Version.{limits_of}
 use Rattle.rv32_image.specs.ImageText.{image_text}
+use Rattle.rv32_image.specs.Image.{LoadedImage}
 use Rattle.spec_history.specs.declared.entry.Entry.{Entry}
 use Rattle.violations.specs.View.{StoreView, Waits}
+use Rattle.violations.specs.Calls.{Call}
 use Rattle.violations.specs.Rule.{IsCoreCount}
 use Rattle.homefree.specs.declared.book.Loop.{Loop}
 use Rattle.homefree.specs.declared.fault.TurnFault.TheVariants as fault
@@ -26,47 +28,47 @@ use Rattle.all_schedules.specs.declared.paced.Pace.TheVariants.{Even, Seeded}
 use Rattle.all_schedules.specs.Shown.{IsShown}
 
 -- the schedule is that of the pace, and makes this history; at even speed up to the end of the loop
-abbrev pub MakesAt : {S : Type 0} → (S → StoreView) → (S → Waits) → Pace → Loop → List ℕ → List Entry → Type 0
-MakesAt view waits Even l schedule history = (ran : Ran) × MakesEvenly view waits l schedule (Ok (Some ran)) history
-MakesAt view waits (Seeded seed) l schedule history = (end : Option End) × MakesDrawn view waits l seed schedule (Ok end) history
+abbrev pub MakesAt : {S : Type 0} → (LoadedImage → ℕ → S → Type 0) → (S → Call → S → Type 0) → (S → StoreView) → (S → Waits) → Pace → Loop → List ℕ → List Entry → Type 0
+MakesAt starts makes view waits Even l schedule history = (ran : Ran) × MakesEvenly starts makes view waits l schedule (Ok (Some ran)) history
+MakesAt starts makes view waits (Seeded seed) l schedule history = (end : Option End) × MakesDrawn starts makes view waits l seed schedule (Ok end) history
 
 -- the run may end in this fault
-abbrev pub IsFaultAt : {S : Type 0} → (S → StoreView) → (S → Waits) → Pace → Loop → TurnFault → Type 0
-IsFaultAt view waits Even l fault = IsEvenFault view waits l fault
-IsFaultAt view waits (Seeded seed) l fault = IsDrawnFault view waits l seed fault
+abbrev pub IsFaultAt : {S : Type 0} → (LoadedImage → ℕ → S → Type 0) → (S → Call → S → Type 0) → (S → StoreView) → (S → Waits) → Pace → Loop → TurnFault → Type 0
+IsFaultAt starts makes view waits Even l fault = IsEvenFault starts makes view waits l fault
+IsFaultAt starts makes view waits (Seeded seed) l fault = IsDrawnFault starts makes view waits l seed fault
 
 -- the line of turns of the run, and below it what shows the history that it makes
-pub record IsPacedText {S : Type 0} (view : S → StoreView) (waits : S → Waits) (pace : Pace) (l : Loop) (outcome : Outcome) (text : List ℕ) : Type 0 where
+pub record IsPacedText {S : Type 0} (starts : LoadedImage → ℕ → S → Type 0) (calls : S → Call → S → Type 0) (view : S → StoreView) (waits : S → Waits) (pace : Pace) (l : Loop) (outcome : Outcome) (text : List ℕ) : Type 0 where
   pub schedule : List ℕ
   pub history : List Entry
-  pub makes : MakesAt view waits pace l schedule history
+  pub makes : MakesAt starts calls view waits pace l schedule history
   pub below : List ℕ
   pub shown : IsShown l.image l.cores history outcome below
   pub text_is : text ≡ turns_line schedule ++ below
 
 -- the run may stop so
-abbrev pub IsPacedStop : {S : Type 0} → (S → StoreView) → (S → Waits) → Pace → Loop → CommandStop → Type 0
-IsPacedStop view waits pace l HistoryFull = IsFaultAt view waits pace l fault.HistoryFull
-IsPacedStop view waits pace l NoMemory = Unit {0}
-IsPacedStop view waits pace l other = ⊥
+abbrev pub IsPacedStop : {S : Type 0} → (LoadedImage → ℕ → S → Type 0) → (S → Call → S → Type 0) → (S → StoreView) → (S → Waits) → Pace → Loop → CommandStop → Type 0
+IsPacedStop starts makes view waits pace l HistoryFull = IsFaultAt starts makes view waits pace l fault.HistoryFull
+IsPacedStop starts makes view waits pace l NoMemory = Unit {0}
+IsPacedStop starts makes view waits pace l other = ⊥
 
 -- it was written
-abbrev pub IsPacedWritten : {S : Type 0} → (S → StoreView) → (S → Waits) → Pace → Loop → Option (List ℕ) → Option (List ℕ) → Outcome → Type 0
-IsPacedWritten view waits pace l old new outcome = IsCoreCount l.image l.cores × (text : List ℕ) × IsPacedText view waits pace l outcome text × Appends old new text
+abbrev pub IsPacedWritten : {S : Type 0} → (LoadedImage → ℕ → S → Type 0) → (S → Call → S → Type 0) → (S → StoreView) → (S → Waits) → Pace → Loop → Option (List ℕ) → Option (List ℕ) → Outcome → Type 0
+IsPacedWritten starts makes view waits pace l old new outcome = IsCoreCount l.image l.cores × (text : List ℕ) × IsPacedText starts makes view waits pace l outcome text × Appends old new text
 
 -- what the run of an image came to is right, and this was written
-abbrev pub IsPacedOf : {S : Type 0} → (S → StoreView) → (S → Waits) → Pace → Loop → Option (List ℕ) → Option (List ℕ) → Outcome → Type 0
-IsPacedOf view waits pace l old new (Reported end) = IsPacedWritten view waits pace l old new (Reported end)
-IsPacedOf view waits pace l old new (Open homefree) = IsPacedWritten view waits pace l old new (Open homefree)
-IsPacedOf view waits pace l old new (Stopped Write) =
-    IsCoreCount l.image l.cores × (outcome : Outcome) × (text : List ℕ) × IsPacedText view waits pace l outcome text × AppendsPrefix old new text
-IsPacedOf view waits pace l old new (Stopped cause) = IsPacedStop view waits pace l cause × Keeps old new
-IsPacedOf view waits pace l old new Usage = ((limits_of l.image.version).most_cores < l.cores) × Keeps old new
-IsPacedOf view waits pace l old new outcome = ⊥
+abbrev pub IsPacedOf : {S : Type 0} → (LoadedImage → ℕ → S → Type 0) → (S → Call → S → Type 0) → (S → StoreView) → (S → Waits) → Pace → Loop → Option (List ℕ) → Option (List ℕ) → Outcome → Type 0
+IsPacedOf starts makes view waits pace l old new (Reported end) = IsPacedWritten starts makes view waits pace l old new (Reported end)
+IsPacedOf starts makes view waits pace l old new (Open homefree) = IsPacedWritten starts makes view waits pace l old new (Open homefree)
+IsPacedOf starts makes view waits pace l old new (Stopped Write) =
+    IsCoreCount l.image l.cores × (outcome : Outcome) × (text : List ℕ) × IsPacedText starts makes view waits pace l outcome text × AppendsPrefix old new text
+IsPacedOf starts makes view waits pace l old new (Stopped cause) = IsPacedStop starts makes view waits pace l cause × Keeps old new
+IsPacedOf starts makes view waits pace l old new Usage = ((limits_of l.image.version).most_cores < l.cores) × Keeps old new
+IsPacedOf starts makes view waits pace l old new outcome = ⊥
 
 -- and so of a text
-abbrev pub IsPacedOutcome : {S : Type 0} → (S → StoreView) → (S → Waits) → Pace → ℕ → ℕ → List ℕ → Option (List ℕ) → Option (List ℕ) → Outcome → Type 0
-IsPacedOutcome view waits pace cores room text old new (BadImage fault) = IsRefusal fault.kind fault (image_text text) × Keeps old new
-IsPacedOutcome view waits pace cores room text old new (Stopped NoMemory) = Keeps old new
-IsPacedOutcome view waits pace cores room text old new outcome =
-    MatchResult (image_text text) (λ image. IsPacedOf view waits pace (loop_on image cores room) old new outcome) (λ fault. ⊥)
+abbrev pub IsPacedOutcome : {S : Type 0} → (LoadedImage → ℕ → S → Type 0) → (S → Call → S → Type 0) → (S → StoreView) → (S → Waits) → Pace → ℕ → ℕ → List ℕ → Option (List ℕ) → Option (List ℕ) → Outcome → Type 0
+IsPacedOutcome starts makes view waits pace cores room text old new (BadImage fault) = IsRefusal fault.kind fault (image_text text) × Keeps old new
+IsPacedOutcome starts makes view waits pace cores room text old new (Stopped NoMemory) = Keeps old new
+IsPacedOutcome starts makes view waits pace cores room text old new outcome =
+    MatchResult (image_text text) (λ image. IsPacedOf starts makes view waits pace (loop_on image cores room) old new outcome) (λ fault. ⊥)

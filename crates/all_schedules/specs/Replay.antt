@@ -4,9 +4,11 @@ use Rattle.std.specs.Prelude.{◌≡◌, ◌⊎◌, ℕ, ◌<◌, ◌≤◌, Boo
 use Rattle.std.specs.Io.KnownBytes.{Appends, Keeps}
 use Rattle.rv32_image.specs.Version.{limits_of}
 use Rattle.rv32_image.specs.ImageText.{image_text}
+use Rattle.rv32_image.specs.Image.{LoadedImage}
 use Rattle.rv32_exec.specs.declared.sequential.End.{End}
 use Rattle.spec_history.specs.declared.entry.Entry.{Entry}
 use Rattle.violations.specs.View.{StoreView, Waits}
+use Rattle.violations.specs.Calls.{Call}
 use Rattle.violations.specs.Rule.{IsCoreCount}
 use Rattle.homefree.specs.declared.book.Loop.{Loop}
 use Rattle.homefree.specs.declared.fault.TurnFault.{TurnFault}
@@ -28,11 +30,11 @@ use Rattle.all_schedules.specs.Turns.{image_part, schedule_text}
 -- ---- of a schedule
 
 -- the text shows the history that the schedule makes, below such a head
-pub record IsReplay {S : Type 0} (view : S → StoreView) (waits : S → Waits) (heads : Loop → List ℕ → List Entry → List ℕ → Type 0) (l : Loop) (schedule : List ℕ) (outcome : Outcome)
+pub record IsReplay {S : Type 0} (starts : LoadedImage → ℕ → S → Type 0) (calls : S → Call → S → Type 0) (view : S → StoreView) (waits : S → Waits) (heads : Loop → List ℕ → List Entry → List ℕ → Type 0) (l : Loop) (schedule : List ℕ) (outcome : Outcome)
     (text : List ℕ) : Type 0 where
   pub result : Option End
   pub history : List Entry
-  pub makes : Makes view waits l schedule (Ok result) history
+  pub makes : Makes starts calls view waits l schedule (Ok result) history
   pub head : List ℕ
   pub is_head : heads l schedule history head
   pub below : List ℕ
@@ -45,10 +47,10 @@ cause_of fault.HistoryFull = HistoryFull
 cause_of fault.NoMemory = NoMemory
 
 -- turns may stop so
-abbrev pub IsStop : {S : Type 0} → (S → StoreView) → (S → Waits) → Loop → List ℕ → CommandStop → Type 0
-IsStop view waits l schedule HistoryFull = IsFull view waits l schedule
-IsStop view waits l schedule NoMemory = Unit {0}
-IsStop view waits l schedule other = ⊥
+abbrev pub IsStop : {S : Type 0} → (LoadedImage → ℕ → S → Type 0) → (S → Call → S → Type 0) → (S → StoreView) → (S → Waits) → Loop → List ℕ → CommandStop → Type 0
+IsStop starts makes view waits l schedule HistoryFull = IsFull starts makes view waits l schedule
+IsStop starts makes view waits l schedule NoMemory = Unit {0}
+IsStop starts makes view waits l schedule other = ⊥
 
 -- ---- lines of turns
 
@@ -60,30 +62,30 @@ OfText cores room text P =
     (λ fault. ⊥)
 
 -- nothing is printed, since the image, the number of cores or the lines of turns are refused, the history is full or memory ran out
-abbrev pub IsNoReplay : {S : Type 0} → (S → StoreView) → (S → Waits) → ℕ → ℕ → List ℕ → Outcome → Type 0
-IsNoReplay view waits cores room text Usage =
+abbrev pub IsNoReplay : {S : Type 0} → (LoadedImage → ℕ → S → Type 0) → (S → Call → S → Type 0) → (S → StoreView) → (S → Waits) → ℕ → ℕ → List ℕ → Outcome → Type 0
+IsNoReplay starts makes view waits cores room text Usage =
     MatchResult (image_text (image_part text)) (λ image. (limits_of image.version).most_cores < cores) (λ fault. ⊥)
-IsNoReplay view waits cores room text (BadImage fault) = (image_text (image_part text) ≡ Err fault) × (length text ≤ longest_trace_text)
-IsNoReplay view waits cores room text (BadTurns fault) =
+IsNoReplay starts makes view waits cores room text (BadImage fault) = (image_text (image_part text) ≡ Err fault) × (length text ≤ longest_trace_text)
+IsNoReplay starts makes view waits cores room text (BadTurns fault) =
     MatchResult (image_text (image_part text)) (λ image. IsCoreCount image cores × (schedule_text cores text ≡ Err fault)) (λ fault. ⊥)
-IsNoReplay view waits cores room text (Stopped HistoryFull) = OfText cores room text (IsFull view waits)
-IsNoReplay view waits cores room text (Stopped NoMemory) = Unit {0}
-IsNoReplay view waits cores room text outcome = ⊥
+IsNoReplay starts makes view waits cores room text (Stopped HistoryFull) = OfText cores room text (IsFull starts makes view waits)
+IsNoReplay starts makes view waits cores room text (Stopped NoMemory) = Unit {0}
+IsNoReplay starts makes view waits cores room text outcome = ⊥
 
 -- ---- the whole input: a trace, or lines of turns for so many cores
 
 -- this is printed
-abbrev pub IsPrinted : {S : Type 0} → (S → StoreView) → (S → Waits) → (Loop → List ℕ → List Entry → List ℕ → Type 0) → Bool → Option ℕ → ℕ → List ℕ → Outcome → List ℕ → Type 0
-IsPrinted view waits heads true cores room text outcome printed = OfTrace cores room text (λ l entries. IsRetraced view waits heads l entries outcome printed)
-IsPrinted view waits heads false (Some cores) room text outcome printed = OfText cores room text (λ l schedule. IsReplay view waits heads l schedule outcome printed)
-IsPrinted view waits heads false None room text outcome printed = ⊥
+abbrev pub IsPrinted : {S : Type 0} → (LoadedImage → ℕ → S → Type 0) → (S → Call → S → Type 0) → (S → StoreView) → (S → Waits) → (Loop → List ℕ → List Entry → List ℕ → Type 0) → Bool → Option ℕ → ℕ → List ℕ → Outcome → List ℕ → Type 0
+IsPrinted starts makes view waits heads true cores room text outcome printed = OfTrace cores room text (λ l entries. IsRetraced starts makes view waits heads l entries outcome printed)
+IsPrinted starts makes view waits heads false (Some cores) room text outcome printed = OfText cores room text (λ l schedule. IsReplay starts makes view waits heads l schedule outcome printed)
+IsPrinted starts makes view waits heads false None room text outcome printed = ⊥
 
 -- nothing is
-abbrev pub IsUnprinted : {S : Type 0} → (S → StoreView) → (S → Waits) → Bool → Option ℕ → ℕ → List ℕ → Outcome → Type 0
-IsUnprinted view waits true cores room text outcome = IsNoRetrace view waits cores room text outcome
-IsUnprinted view waits false (Some cores) room text outcome = IsNoReplay view waits cores room text outcome
-IsUnprinted view waits false None room text Usage = Unit {0}
-IsUnprinted view waits false None room text outcome = ⊥
+abbrev pub IsUnprinted : {S : Type 0} → (LoadedImage → ℕ → S → Type 0) → (S → Call → S → Type 0) → (S → StoreView) → (S → Waits) → Bool → Option ℕ → ℕ → List ℕ → Outcome → Type 0
+IsUnprinted starts makes view waits true cores room text outcome = IsNoRetrace starts makes view waits cores room text outcome
+IsUnprinted starts makes view waits false (Some cores) room text outcome = IsNoReplay starts makes view waits cores room text outcome
+IsUnprinted starts makes view waits false None room text Usage = Unit {0}
+IsUnprinted starts makes view waits false None room text outcome = ⊥
 
 -- the input is too long, or a read failed
 abbrev pub IsUnread : TraceFaultKind → TraceFault → List ℕ → Type 0
@@ -92,14 +94,14 @@ IsUnread kind.Read fault text = fault.line ≡ 0
 IsUnread kind fault text = ⊥
 
 -- what `replay` came to over this store is right for this input, and this was written, with such a head
-abbrev pub IsReplayOutcome : {S : Type 0} → (S → StoreView) → (S → Waits) → (Loop → List ℕ → List Entry → List ℕ → Type 0) → Option ℕ → ℕ → List ℕ → Option (List ℕ) → Option (List ℕ) → Outcome → Type 0
-IsReplayOutcome view waits heads cores room text old new (Reported end) =
-    (printed : List ℕ) × IsPrinted view waits heads (has_trace text) cores room text (Reported end) printed × Appends old new printed
-IsReplayOutcome view waits heads cores room text old new (Open homefree) =
-    (printed : List ℕ) × IsPrinted view waits heads (has_trace text) cores room text (Open homefree) printed × Appends old new printed
-IsReplayOutcome view waits heads cores room text old new (Stopped Write) =
-    (outcome : Outcome) × (printed : List ℕ) × IsPrinted view waits heads (has_trace text) cores room text outcome printed × AppendsPrefix old new printed
-IsReplayOutcome view waits heads cores room text old new (Stopped NoMemory) = Keeps old new
-IsReplayOutcome view waits heads cores room text old new (BadTurns fault) =
-    (IsUnread fault.kind fault text ⊎ IsUnprinted view waits (has_trace text) cores room text (BadTurns fault)) × Keeps old new
-IsReplayOutcome view waits heads cores room text old new outcome = IsUnprinted view waits (has_trace text) cores room text outcome × Keeps old new
+abbrev pub IsReplayOutcome : {S : Type 0} → (LoadedImage → ℕ → S → Type 0) → (S → Call → S → Type 0) → (S → StoreView) → (S → Waits) → (Loop → List ℕ → List Entry → List ℕ → Type 0) → Option ℕ → ℕ → List ℕ → Option (List ℕ) → Option (List ℕ) → Outcome → Type 0
+IsReplayOutcome starts makes view waits heads cores room text old new (Reported end) =
+    (printed : List ℕ) × IsPrinted starts makes view waits heads (has_trace text) cores room text (Reported end) printed × Appends old new printed
+IsReplayOutcome starts makes view waits heads cores room text old new (Open homefree) =
+    (printed : List ℕ) × IsPrinted starts makes view waits heads (has_trace text) cores room text (Open homefree) printed × Appends old new printed
+IsReplayOutcome starts makes view waits heads cores room text old new (Stopped Write) =
+    (outcome : Outcome) × (printed : List ℕ) × IsPrinted starts makes view waits heads (has_trace text) cores room text outcome printed × AppendsPrefix old new printed
+IsReplayOutcome starts makes view waits heads cores room text old new (Stopped NoMemory) = Keeps old new
+IsReplayOutcome starts makes view waits heads cores room text old new (BadTurns fault) =
+    (IsUnread fault.kind fault text ⊎ IsUnprinted starts makes view waits (has_trace text) cores room text (BadTurns fault)) × Keeps old new
+IsReplayOutcome starts makes view waits heads cores room text old new outcome = IsUnprinted starts makes view waits (has_trace text) cores room text outcome × Keeps old new

@@ -7,6 +7,7 @@ use Rattle.spec_history.specs.declared.entry.Entry.{Entry}
 use Rattle.spec_history.specs.FlatState.{FlatState}
 use Rattle.spec_history.specs.Replay.{replay}
 use Rattle.violations.specs.View.{StoreView, Waits}
+use Rattle.violations.specs.Calls.{Call}
 use Rattle.homefree.specs.declared.book.Loop.{Loop}
 use Rattle.homefree.specs.declared.fault.TurnFault.{TurnFault}
 use Rattle.homefree.specs.declared.fault.TurnFault.TheVariants.{HistoryFull, NoMemory}
@@ -42,9 +43,9 @@ IsEnd image s (Some end) = IsInOrder image end s.committed
 IsEnd image s None = Unit {0}
 
 -- the turns of the schedule make this history, from an empty one on; it replays on the one-thread machine to a state, with this end
-pub record IsRun {S : Type 0} (view : S → StoreView) (waits : S → Waits) (l : Loop) (run : Run) : Type 0 where
+pub record IsRun {S : Type 0} (starts : LoadedImage → ℕ → S → Type 0) (calls : S → Call → S → Type 0) (view : S → StoreView) (waits : S → Waits) (l : Loop) (run : Run) : Type 0 where
   pub result : Option End
-  pub makes : Makes view waits l run.schedule (Ok result) run.history
+  pub makes : Makes starts calls view waits l run.schedule (Ok result) run.history
   pub state : FlatState
   pub replays : replay l.image l.cores run.history ≡ Some state
   pub end_is : run.end ≡ state.end
@@ -83,13 +84,13 @@ pub record IsSurvey (cores : ℕ) (runs : List Run) (survey : Survey) : Type 0 w
   pub most : IsMost runs survey.most
 
 -- each schedule was driven, and together they come to this
-pub record Surveys {S : Type 0} (view : S → StoreView) (waits : S → Waits) (l : Loop) (schedules : List (List ℕ)) (survey : Survey) : Type 0 where
+pub record Surveys {S : Type 0} (starts : LoadedImage → ℕ → S → Type 0) (makes : S → Call → S → Type 0) (view : S → StoreView) (waits : S → Waits) (l : Loop) (schedules : List (List ℕ)) (survey : Survey) : Type 0 where
   pub runs : List Run
   pub schedules_are : map (λ run. run.schedule) runs ≡ schedules
-  pub driven : All (IsRun view waits l) runs
+  pub driven : All (IsRun starts makes view waits l) runs
   pub come_to : IsSurvey l.cores runs survey
 
 -- the turns of one of them may end in this fault
-abbrev pub IsFaultOfOne : {S : Type 0} → (S → StoreView) → (S → Waits) → Loop → List (List ℕ) → TurnFault → Type 0
-IsFaultOfOne view waits l schedules HistoryFull = (schedule : List ℕ) × Contains schedules schedule × IsFull view waits l schedule
-IsFaultOfOne view waits l schedules NoMemory = Unit {0}
+abbrev pub IsFaultOfOne : {S : Type 0} → (LoadedImage → ℕ → S → Type 0) → (S → Call → S → Type 0) → (S → StoreView) → (S → Waits) → Loop → List (List ℕ) → TurnFault → Type 0
+IsFaultOfOne starts makes view waits l schedules HistoryFull = (schedule : List ℕ) × Contains schedules schedule × IsFull starts makes view waits l schedule
+IsFaultOfOne starts makes view waits l schedules NoMemory = Unit {0}

@@ -8,6 +8,7 @@ use Rattle.spec_history.specs.declared.entry.Entry.{Entry}
 use Rattle.spec_history.specs.declared.entry.What.{What}
 use Rattle.spec_history.specs.declared.entry.What.TheVariants.{Hurt, Cancel, Publish}
 use Rattle.violations.specs.View.{StoreView, Waits}
+use Rattle.violations.specs.Calls.{Call}
 use Rattle.homefree.specs.declared.book.Loop.{Loop}
 use Rattle.trace_text.specs.TraceText.{image_part}
 use Rattle.trace_commands.specs.declared.outcome.Outcome.{Outcome}
@@ -51,10 +52,10 @@ IsNotSame made given (Stopped NoMemory) = Unit {0}
 IsNotSame made given outcome = ⊥
 
 -- the turns make the entries again, and the text shows them, below such a head
-pub record IsRetraced {S : Type 0} (view : S → StoreView) (waits : S → Waits) (heads : Loop → List ℕ → List Entry → List ℕ → Type 0) (l : Loop) (entries : List Entry) (outcome : Outcome)
+pub record IsRetraced {S : Type 0} (starts : LoadedImage → ℕ → S → Type 0) (calls : S → Call → S → Type 0) (view : S → StoreView) (waits : S → Waits) (heads : Loop → List ℕ → List Entry → List ℕ → Type 0) (l : Loop) (entries : List Entry) (outcome : Outcome)
     (text : List ℕ) : Type 0 where
   pub result : Option End
-  pub makes : Makes view waits l (turns_of l.cores entries) (Ok result) entries
+  pub makes : Makes starts calls view waits l (turns_of l.cores entries) (Ok result) entries
   pub head : List ℕ
   pub is_head : heads l (turns_of l.cores entries) entries head
   pub below : List ℕ
@@ -62,18 +63,18 @@ pub record IsRetraced {S : Type 0} (view : S → StoreView) (waits : S → Waits
   pub text_is : text ≡ head ++ below
 
 -- they make a history that parts from the entries at this place
-pub record Parts {S : Type 0} (view : S → StoreView) (waits : S → Waits) (l : Loop) (entries : List Entry) (place : ℕ) : Type 0 where
+pub record Parts {S : Type 0} (starts : LoadedImage → ℕ → S → Type 0) (calls : S → Call → S → Type 0) (view : S → StoreView) (waits : S → Waits) (l : Loop) (entries : List Entry) (place : ℕ) : Type 0 where
   pub result : Option End
   pub history : List Entry
-  pub makes : Makes view waits l (turns_of l.cores entries) (Ok result) history
+  pub makes : Makes starts calls view waits l (turns_of l.cores entries) (Ok result) history
   pub part : PartAt history entries place
 
 -- or nothing is shown since they stop
-abbrev pub IsNotRetraced : {S : Type 0} → (S → StoreView) → (S → Waits) → Loop → List Entry → Outcome → Type 0
-IsNotRetraced view waits l entries (Differs place) = Parts view waits l entries place
-IsNotRetraced view waits l entries (Stopped HistoryFull) = IsFull view waits l (turns_of l.cores entries)
-IsNotRetraced view waits l entries (Stopped NoMemory) = Unit {0}
-IsNotRetraced view waits l entries outcome = ⊥
+abbrev pub IsNotRetraced : {S : Type 0} → (LoadedImage → ℕ → S → Type 0) → (S → Call → S → Type 0) → (S → StoreView) → (S → Waits) → Loop → List Entry → Outcome → Type 0
+IsNotRetraced starts makes view waits l entries (Differs place) = Parts starts makes view waits l entries place
+IsNotRetraced starts makes view waits l entries (Stopped HistoryFull) = IsFull starts makes view waits l (turns_of l.cores entries)
+IsNotRetraced starts makes view waits l entries (Stopped NoMemory) = Unit {0}
+IsNotRetraced starts makes view waits l entries outcome = ⊥
 
 -- ---- of a text
 
@@ -104,8 +105,8 @@ pub record IsOfOther (cores : Option ℕ) (text : List ℕ) : Type 0 where
   pub other : is_other cores number ≡ true
 
 -- nothing is printed, since the image, the trace or the number of cores is refused, or the trace isn't made again
-abbrev pub IsNoRetrace : {S : Type 0} → (S → StoreView) → (S → Waits) → Option ℕ → ℕ → List ℕ → Outcome → Type 0
-IsNoRetrace view waits cores room text Usage = IsOfOther cores text
-IsNoRetrace view waits cores room text (Differs place) = OfTrace cores room text (λ l entries. Parts view waits l entries place)
-IsNoRetrace view waits cores room text (Stopped HistoryFull) = OfTrace cores room text (λ l entries. IsFull view waits l (turns_of l.cores entries))
-IsNoRetrace view waits cores room text outcome = IsNoVerdict text outcome
+abbrev pub IsNoRetrace : {S : Type 0} → (LoadedImage → ℕ → S → Type 0) → (S → Call → S → Type 0) → (S → StoreView) → (S → Waits) → Option ℕ → ℕ → List ℕ → Outcome → Type 0
+IsNoRetrace starts makes view waits cores room text Usage = IsOfOther cores text
+IsNoRetrace starts makes view waits cores room text (Differs place) = OfTrace cores room text (λ l entries. Parts starts makes view waits l entries place)
+IsNoRetrace starts makes view waits cores room text (Stopped HistoryFull) = OfTrace cores room text (λ l entries. IsFull starts makes view waits l (turns_of l.cores entries))
+IsNoRetrace starts makes view waits cores room text outcome = IsNoVerdict text outcome

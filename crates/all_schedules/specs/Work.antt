@@ -2,9 +2,12 @@
 use Rattle.std.specs.Prelude.{ℕ, ◌+◌, ◌^◌, ◌≤◌, List, Option, Some, None, IfSome}
 use Rattle.rv32_image.specs.ImageText.{longest_image_text}
 use Rattle.rv32_image.specs.Input.{TakesAtMost}
+use Rattle.rv32_image.specs.Image.{LoadedImage}
 use Rattle.violations.specs.View.{StoreView, Waits, never_waits}
+use Rattle.violations.specs.Calls.{Call}
 use Rattle.violations.specs.Plain as plain
 use Rattle.spec_bus.specs.Cached as caches
+use Rattle.spec_bus.specs.Laws as cache
 use Rattle.trace_text.specs.TraceText.{longest_trace_text}
 use Rattle.turn_steps.specs.Caches.{cached_changes}
 use Rattle.turn_steps.specs.KeptCores.{plain_changes}
@@ -29,19 +32,19 @@ AreTurns (Paced pace cores) = IsUpTo16 cores
 
 -- over a store: the trace or the schedule of the input was replayed, every schedule of so many turns was driven, or the run was by
 -- this pace; and of the input no more than it may be long, and one byte, was taken
-abbrev pub TurnsAnswer : {S : Type 0} → (S → StoreView) → (S → Waits) → (ℕ → S → S → List ℕ) → ℕ → Turns → List ℕ → Stream → Stream → Stream → ℕ → Type 0
-TurnsAnswer view waits changes room (Given detail cores) text input output errors status =
-    Conclusion (IsReplayOutcome view waits (IsHead view waits changes detail) cores room text output.old output.new) errors.old errors.new status
+abbrev pub TurnsAnswer : {S : Type 0} → (LoadedImage → ℕ → S → Type 0) → (S → Call → S → Type 0) → (S → StoreView) → (S → Waits) → (ℕ → S → S → List ℕ) → ℕ → Turns → List ℕ → Stream → Stream → Stream → ℕ → Type 0
+TurnsAnswer starts makes view waits changes room (Given detail cores) text input output errors status =
+    Conclusion (IsReplayOutcome starts makes view waits (IsHead starts makes view waits changes detail) cores room text output.old output.new) errors.old errors.new status
     × TakesAtMost input.old input.new (longest_trace_text + 1)
-TurnsAnswer view waits changes room (Every cores turns) text input output errors status =
-    AllAnswers view waits cores room turns text output errors status × TakesAtMost input.old input.new (longest_image_text + 1)
-TurnsAnswer view waits changes room (Paced pace cores) text input output errors status =
-    Conclusion (IsPacedOutcome view waits pace cores room text output.old output.new) errors.old errors.new status
+TurnsAnswer starts makes view waits changes room (Every cores turns) text input output errors status =
+    AllAnswers starts makes view waits cores room turns text output errors status × TakesAtMost input.old input.new (longest_image_text + 1)
+TurnsAnswer starts makes view waits changes room (Paced pace cores) text input output errors status =
+    Conclusion (IsPacedOutcome starts makes view waits pace cores room text output.old output.new) errors.old errors.new status
     × TakesAtMost input.old input.new (longest_image_text + 1)
 
 abbrev pub StoreAnswers : Store → ℕ → Turns → List ℕ → Stream → Stream → Stream → ℕ → Type 0
-StoreAnswers Caches room turns text input output errors status = TurnsAnswer caches.store_view caches.waits cached_changes room turns text input output errors status
-StoreAnswers Plain room turns text input output errors status = TurnsAnswer plain.store_view (λ _. never_waits) plain_changes room turns text input output errors status
+StoreAnswers Caches room turns text input output errors status = TurnsAnswer cache.Starts cache.Makes caches.store_view caches.waits cached_changes room turns text input output errors status
+StoreAnswers Plain room turns text input output errors status = TurnsAnswer plain.Starts plain.Makes plain.store_view (λ _. never_waits) plain_changes room turns text input output errors status
 
 -- a request was answered; or, where the words ask for nothing, `usage`
 abbrev pub RequestAnswers : Option Request → ℕ → List ℕ → Stream → Stream → Stream → ℕ → Type 0

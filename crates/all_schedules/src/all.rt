@@ -35,7 +35,7 @@ pub fn do_all<S: EpochStore, R: Read, W: Write, E: Write>(
     requires cores { 1 ≤ cores }
     requires least { 16 ≤ room }
     requires most { room ≤ 1048576 }
-    ensures outcome { ForText (R.remaining reader.old) (λ text. spec.AllAnswers S.view S.waits cores room turns text
+    ensures outcome { ForText (R.remaining reader.old) (λ text. spec.AllAnswers S.starts S.makes S.view S.waits cores room turns text
         (record { old = W.contents writer.old; new = W.contents writer.new }) (record { old = E.contents errors.old; new = E.contents errors.new }) result) }
     ensures taken { TakesAtMost (R.remaining reader.old) (R.remaining reader.new) (longest_image_text + 1) }
 {
@@ -58,8 +58,8 @@ fn all_of_input<S: EpochStore, R: Read, W: Write>(
     requires least { 16 ≤ room }
     requires most { room ≤ 1048576 }
     ensures outcome { ForText (R.remaining reader.old) (λ text. MatchResult result
-        (λ _. spec.IsWritten S.view S.waits cores room turns text (W.contents writer.old) (W.contents writer.new))
-        (spec.IsUnwritten S.view S.waits cores room turns text (W.contents writer.old) (W.contents writer.new))) }
+        (λ _. spec.IsWritten S.starts S.makes S.view S.waits cores room turns text (W.contents writer.old) (W.contents writer.new))
+        (spec.IsUnwritten S.starts S.makes S.view S.waits cores room turns text (W.contents writer.old) (W.contents writer.new))) }
     ensures taken { TakesAtMost (R.remaining reader.old) (R.remaining reader.new) (longest_image_text + 1) }
 {
     match read_image(alloc, reader) {
@@ -80,8 +80,8 @@ fn all_of_image<S: EpochStore, W: Write>(
     requires least { 16 ≤ room }
     requires most { room ≤ 1048576 }
     ensures { MatchResult result
-        (λ _. spec.IsWrittenOf S.view S.waits (loop_on image.now cores room) turns (W.contents writer.old) (W.contents writer.new))
-        (spec.IsUnwrittenOf S.view S.waits (loop_on image.now cores room) turns (W.contents writer.old) (W.contents writer.new)) }
+        (λ _. spec.IsWrittenOf S.starts S.makes S.view S.waits (loop_on image.now cores room) turns (W.contents writer.old) (W.contents writer.new))
+        (spec.IsUnwrittenOf S.starts S.makes S.view S.waits (loop_on image.now cores room) turns (W.contents writer.old) (W.contents writer.new)) }
 {
     if image.version().limits().most_cores < cores {
         return Err(Outcome::Usage);
@@ -108,8 +108,8 @@ fn print_all<S: EpochStore>(
     requires cores { IsCoreCount image.now cores }
     requires least { 16 ≤ room }
     requires most { room ≤ 1048576 }
-    ensures { MatchResult result (λ text. spec.IsAll S.view S.waits (loop_on image.now cores room) turns text.items)
-        (spec.IsAllStop S.view S.waits (loop_on image.now cores room) turns) }
+    ensures { MatchResult result (λ text. spec.IsAll S.starts S.makes S.view S.waits (loop_on image.now cores room) turns text.items)
+        (spec.IsAllStop S.starts S.makes S.view S.waits (loop_on image.now cores room) turns) }
 {
     let Ok(all) = every_schedule(alloc, cores, turns) else {
         return Err(CommandStop::NoMemory);

@@ -58,7 +58,7 @@ fn answer<S: ShownStore, R: Read, W: Write, E: Write>(
     requires turns { spec.AreTurns request.turns }
     requires least { 16 ≤ room }
     requires most { room ≤ 1048576 }
-    ensures { ForText (R.remaining reader.old) (λ text. spec.TurnsAnswer S.view S.waits S.changes room request.turns text
+    ensures { ForText (R.remaining reader.old) (λ text. spec.TurnsAnswer S.starts S.makes S.view S.waits S.changes room request.turns text
         (record { old = R.remaining reader.old; new = R.remaining reader.new })
         (record { old = W.contents writer.old; new = W.contents writer.new })
         (record { old = E.contents errors.old; new = E.contents errors.new }) result) }

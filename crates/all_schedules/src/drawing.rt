@@ -34,7 +34,7 @@ pub fn drive_drawn<S: EpochStore>(
     requires schedule { schedule.old.items ≡ [] }
     requires shares { IsNoMore shares.old book.old.totals }
     ensures drives { result ≢ Err TurnFault.NoMemory
-        → spec.DrivesDrawn S.view S.waits cores seed (driver book.old shares.old) schedule.new.items result (driver book.new shares.new) }
+        → spec.DrivesDrawn S.makes S.view S.waits cores seed (driver book.old shares.old) schedule.new.items result (driver book.new shares.new) }
     ensures same { IsOfSameLoop book.old book.new }
     ensures shares { IsNoMore shares.new book.new.totals }
 {

@@ -24,8 +24,8 @@ pub fn drive_schedule<S: EpochStore>(
     requires least { 16 ≤ room }
     requires most { room ≤ 1048576 }
     requires schedule { All (λ core. core < cores) schedule.now }
-    ensures made { IfOk result (λ book. spec.IsMade S.view S.waits (spec.loop_on image.now cores room) schedule.now book) }
-    ensures fault { IfErr result (spec.IsFault S.view S.waits (spec.loop_on image.now cores room) schedule.now) }
+    ensures made { IfOk result (λ book. spec.IsMade S.starts S.makes S.view S.waits (spec.loop_on image.now cores room) schedule.now book) }
+    ensures fault { IfErr result (spec.IsFault S.starts S.makes S.view S.waits (spec.loop_on image.now cores room) schedule.now) }
 {
     let made: Result<(Book<S>, Shares), _> = Book::new(alloc, image, cores, room);
     let Ok((mut book, mut shares)) = made else {

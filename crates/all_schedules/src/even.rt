@@ -35,8 +35,8 @@ pub fn run_evenly<S: EpochStore>(
     requires cores { IsCoreCount image.now cores }
     requires least { 16 ≤ room }
     requires most { room ≤ 1048576 }
-    ensures made { IfOk result (λ run. spec.IsEvenRun S.view S.waits (loop_on image.now cores room) run.schedule.items run.ran run.book) }
-    ensures fault { IfErr result (spec.IsEvenFault S.view S.waits (loop_on image.now cores room)) }
+    ensures made { IfOk result (λ run. spec.IsEvenRun S.starts S.makes S.view S.waits (loop_on image.now cores room) run.schedule.items run.ran run.book) }
+    ensures fault { IfErr result (spec.IsEvenFault S.starts S.makes S.view S.waits (loop_on image.now cores room)) }
 {
     let made: Result<(Book<S>, Shares), _> = Book::new(alloc, image, cores, room);
     let Ok((mut book, mut shares)) = made else {

@@ -49,7 +49,7 @@ pub fn do_paced<S: EpochStore, R: Read, W: Write, E: Write>(
     requires least { 16 ≤ room }
     requires most { room ≤ 1048576 }
     ensures outcome { ForText (R.remaining reader.old) (λ text.
-        Conclusion (spec.IsPacedOutcome S.view S.waits pace cores room text (W.contents writer.old) (W.contents writer.new)) (E.contents errors.old) (E.contents errors.new) result) }
+        Conclusion (spec.IsPacedOutcome S.starts S.makes S.view S.waits pace cores room text (W.contents writer.old) (W.contents writer.new)) (E.contents errors.old) (E.contents errors.new) result) }
     ensures taken { TakesAtMost (R.remaining reader.old) (R.remaining reader.new) (longest_image_text + 1) }
 {
     paced_input::<S, R, W>(alloc, pace, cores, room, reader, writer).conclude(errors)
@@ -68,7 +68,7 @@ fn paced_input<S: EpochStore, R: Read, W: Write>(
     requires least { 16 ≤ room }
     requires most { room ≤ 1048576 }
     ensures outcome { ForText (R.remaining reader.old) (λ text.
-        spec.IsPacedOutcome S.view S.waits pace cores room text (W.contents writer.old) (W.contents writer.new) result) }
+        spec.IsPacedOutcome S.starts S.makes S.view S.waits pace cores room text (W.contents writer.old) (W.contents writer.new) result) }
     ensures taken { TakesAtMost (R.remaining reader.old) (R.remaining reader.new) (longest_image_text + 1) }
 {
     match read_image(alloc, reader) {
@@ -88,7 +88,7 @@ fn paced_image<S: EpochStore, W: Write>(
     requires cores { 1 ≤ cores }
     requires least { 16 ≤ room }
     requires most { room ≤ 1048576 }
-    ensures { spec.IsPacedOf S.view S.waits pace (loop_on image.now cores room) (W.contents writer.old) (W.contents writer.new) result }
+    ensures { spec.IsPacedOf S.starts S.makes S.view S.waits pace (loop_on image.now cores room) (W.contents writer.old) (W.contents writer.new) result }
 {
     if image.version().limits().most_cores < cores {
         return Outcome::Usage;
@@ -115,8 +115,8 @@ fn show_paced<S: EpochStore>(
     requires cores { IsCoreCount image.now cores }
     requires least { 16 ≤ room }
     requires most { room ≤ 1048576 }
-    ensures { MatchResult result (λ shown. spec.IsPacedText S.view S.waits pace (loop_on image.now cores room) shown.0 shown.1.items)
-        (spec.IsPacedStop S.view S.waits pace (loop_on image.now cores room)) }
+    ensures { MatchResult result (λ shown. spec.IsPacedText S.starts S.makes S.view S.waits pace (loop_on image.now cores room) shown.0 shown.1.items)
+        (spec.IsPacedStop S.starts S.makes S.view S.waits pace (loop_on image.now cores room)) }
 {
     match pace {
         Pace::Even => show_even::<S>(alloc, image, cores, room),
@@ -134,8 +134,8 @@ fn show_even<S: EpochStore>(
     requires cores { IsCoreCount image.now cores }
     requires least { 16 ≤ room }
     requires most { room ≤ 1048576 }
-    ensures { MatchResult result (λ shown. spec.IsPacedText S.view S.waits Pace.Even (loop_on image.now cores room) shown.0 shown.1.items)
-        (spec.IsPacedStop S.view S.waits Pace.Even (loop_on image.now cores room)) }
+    ensures { MatchResult result (λ shown. spec.IsPacedText S.starts S.makes S.view S.waits Pace.Even (loop_on image.now cores room) shown.0 shown.1.items)
+        (spec.IsPacedStop S.starts S.makes S.view S.waits Pace.Even (loop_on image.now cores room)) }
 {
     match run_evenly::<S>(alloc, image, cores, room) {
         Ok(made) => match print_turns(alloc, image, cores, made.schedule.as_slice(), &made.book) {
@@ -158,8 +158,8 @@ fn show_seeded<S: EpochStore>(
     requires cores { IsCoreCount image.now cores }
     requires least { 16 ≤ room }
     requires most { room ≤ 1048576 }
-    ensures { MatchResult result (λ shown. spec.IsPacedText S.view S.waits (Pace.Seeded seed) (loop_on image.now cores room) shown.0 shown.1.items)
-        (spec.IsPacedStop S.view S.waits (Pace.Seeded seed) (loop_on image.now cores room)) }
+    ensures { MatchResult result (λ shown. spec.IsPacedText S.starts S.makes S.view S.waits (Pace.Seeded seed) (loop_on image.now cores room) shown.0 shown.1.items)
+        (spec.IsPacedStop S.starts S.makes S.view S.waits (Pace.Seeded seed) (loop_on image.now cores room)) }
 {
     match run_seeded::<S>(alloc, image, cores, room, seed) {
         Ok(made) => match print_turns(alloc, image, cores, made.schedule.as_slice(), &made.book) {

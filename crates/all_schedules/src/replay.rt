@@ -44,7 +44,7 @@ pub fn do_replay<S: ShownStore, R: Read, W: Write, E: Write>(
     requires least { 16 ≤ room }
     requires most { room ≤ 1048576 }
     ensures outcome { ForText (R.remaining reader.old) (λ text.
-        Conclusion (spec.IsReplayOutcome S.view S.waits (IsHead S.view S.waits S.changes detail) cores room text (W.contents writer.old) (W.contents writer.new)) (E.contents errors.old) (E.contents errors.new) result) }
+        Conclusion (spec.IsReplayOutcome S.starts S.makes S.view S.waits (IsHead S.starts S.makes S.view S.waits S.changes detail) cores room text (W.contents writer.old) (W.contents writer.new)) (E.contents errors.old) (E.contents errors.new) result) }
     ensures taken { TakesAtMost (R.remaining reader.old) (R.remaining reader.new) (longest_trace_text + 1) }
 {
     replay_input::<S, R, W>(alloc, detail, cores, room, reader, writer).conclude(errors)
@@ -63,7 +63,7 @@ fn replay_input<S: ShownStore, R: Read, W: Write>(
     requires least { 16 ≤ room }
     requires most { room ≤ 1048576 }
     ensures outcome { ForText (R.remaining reader.old) (λ text.
-        spec.IsReplayOutcome S.view S.waits (IsHead S.view S.waits S.changes detail) cores room text (W.contents writer.old) (W.contents writer.new) result) }
+        spec.IsReplayOutcome S.starts S.makes S.view S.waits (IsHead S.starts S.makes S.view S.waits S.changes detail) cores room text (W.contents writer.old) (W.contents writer.new) result) }
     ensures taken { TakesAtMost (R.remaining reader.old) (R.remaining reader.new) (longest_trace_text + 1) }
 {
     match read_input(alloc, reader, LONGEST_TRACE_TEXT) {
@@ -84,7 +84,7 @@ fn replay_text<S: ShownStore, W: Write>(
     requires least { 16 ≤ room }
     requires most { room ≤ 1048576 }
     requires short { length text.now ≤ longest_trace_text }
-    ensures { spec.IsReplayOutcome S.view S.waits (IsHead S.view S.waits S.changes detail) cores room text.now (W.contents writer.old) (W.contents writer.new) result }
+    ensures { spec.IsReplayOutcome S.starts S.makes S.view S.waits (IsHead S.starts S.makes S.view S.waits S.changes detail) cores room text.now (W.contents writer.old) (W.contents writer.new) result }
 {
     let (outcome, printed) = match print_replay::<S>(alloc, detail, cores, room, text) {
         Ok(shown) => shown,
@@ -109,8 +109,8 @@ fn print_replay<S: ShownStore>(
     requires least { 16 ≤ room }
     requires most { room ≤ 1048576 }
     requires short { length text.now ≤ longest_trace_text }
-    ensures { MatchResult result (λ shown. spec.IsPrinted S.view S.waits (IsHead S.view S.waits S.changes detail) (has_trace text.now) cores room text.now shown.0 shown.1.items)
-        (spec.IsUnprinted S.view S.waits (has_trace text.now) cores room text.now) }
+    ensures { MatchResult result (λ shown. spec.IsPrinted S.starts S.makes S.view S.waits (IsHead S.starts S.makes S.view S.waits S.changes detail) (has_trace text.now) cores room text.now shown.0 shown.1.items)
+        (spec.IsUnprinted S.starts S.makes S.view S.waits (has_trace text.now) cores room text.now) }
 {
     if begins_trace(text) {
         return retrace::<S>(alloc, detail, cores, room, text);
@@ -133,7 +133,7 @@ fn replay_of<S: ShownStore>(
     requires least { 16 ≤ room }
     requires most { room ≤ 1048576 }
     requires short { length text.now ≤ longest_trace_text }
-    ensures { MatchResult result (λ shown. spec.OfText cores room text.now (λ l schedule. spec.IsReplay S.view S.waits (IsHead S.view S.waits S.changes detail) l schedule shown.0 shown.1.items)) (spec.IsNoReplay S.view S.waits cores room text.now) }
+    ensures { MatchResult result (λ shown. spec.OfText cores room text.now (λ l schedule. spec.IsReplay S.starts S.makes S.view S.waits (IsHead S.starts S.makes S.view S.waits S.changes detail) l schedule shown.0 shown.1.items)) (spec.IsNoReplay S.starts S.makes S.view S.waits cores room text.now) }
 {
     let parts = parts_of(text, b"turns ");
     let image = match image_of(alloc, parts.image) {
@@ -166,8 +166,8 @@ fn replay_turns<S: ShownStore>(
     requires least { 16 ≤ room }
     requires most { room ≤ 1048576 }
     requires schedule { All (λ core. core < cores) schedule.now }
-    ensures shown { IfOk result (λ shown. spec.IsReplay S.view S.waits (IsHead S.view S.waits S.changes detail) (loop_on image.now cores room) schedule.now shown.0 shown.1.items) }
-    ensures stopped { IfErr result (spec.IsStop S.view S.waits (loop_on image.now cores room) schedule.now) }
+    ensures shown { IfOk result (λ shown. spec.IsReplay S.starts S.makes S.view S.waits (IsHead S.starts S.makes S.view S.waits S.changes detail) (loop_on image.now cores room) schedule.now shown.0 shown.1.items) }
+    ensures stopped { IfErr result (spec.IsStop S.starts S.makes S.view S.waits (loop_on image.now cores room) schedule.now) }
 {
     match drive_told::<S>(alloc, detail, image, cores, room, schedule) {
         Ok((book, head)) => match print_told(alloc, image, cores, &book, head) {

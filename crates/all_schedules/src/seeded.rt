@@ -34,8 +34,8 @@ pub fn run_seeded<S: EpochStore>(
     requires cores { IsCoreCount image.now cores }
     requires least { 16 ≤ room }
     requires most { room ≤ 1048576 }
-    ensures made { IfOk result (λ run. spec.IsDrawnRun S.view S.waits (loop_on image.now cores room) seed run.schedule.items run.book) }
-    ensures fault { IfErr result (spec.IsDrawnFault S.view S.waits (loop_on image.now cores room) seed) }
+    ensures made { IfOk result (λ run. spec.IsDrawnRun S.starts S.makes S.view S.waits (loop_on image.now cores room) seed run.schedule.items run.book) }
+    ensures fault { IfErr result (spec.IsDrawnFault S.starts S.makes S.view S.waits (loop_on image.now cores room) seed) }
 {
     let made: Result<(Book<S>, Shares), _> = Book::new(alloc, image, cores, room);
     let Ok((mut book, mut shares)) = made else {

@@ -51,8 +51,8 @@ pub fn survey_schedules<S: EpochStore>(
     requires least { 16 ≤ room }
     requires most { room ≤ 1048576 }
     requires schedules { All (All (λ core. core < cores)) (lists_of schedules.now) }
-    ensures made { IfOk result (spec.Surveys S.view S.waits (made_spec.loop_on image.now cores room) (lists_of schedules.now)) }
-    ensures fault { IfErr result (spec.IsFaultOfOne S.view S.waits (made_spec.loop_on image.now cores room) (lists_of schedules.now)) }
+    ensures made { IfOk result (spec.Surveys S.starts S.makes S.view S.waits (made_spec.loop_on image.now cores room) (lists_of schedules.now)) }
+    ensures fault { IfErr result (spec.IsFaultOfOne S.starts S.makes S.view S.waits (made_spec.loop_on image.now cores room) (lists_of schedules.now)) }
 {
     let mut survey = Survey {
         over: 0,

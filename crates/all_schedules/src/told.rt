@@ -30,9 +30,9 @@ pub fn drive_told<S: ShownStore>(
     requires least { 16 ≤ room }
     requires most { room ≤ 1048576 }
     requires schedule { All (λ core. core < cores) schedule.now }
-    ensures made { IfOk result (λ told. IsMade S.view S.waits (loop_on image.now cores room) schedule.now told.0) }
-    ensures head { IfOk result (λ told. spec.IsHead S.view S.waits S.changes detail (loop_on image.now cores room) schedule.now told.0.history told.1.items) }
-    ensures fault { IfErr result (IsFault S.view S.waits (loop_on image.now cores room) schedule.now) }
+    ensures made { IfOk result (λ told. IsMade S.starts S.makes S.view S.waits (loop_on image.now cores room) schedule.now told.0) }
+    ensures head { IfOk result (λ told. spec.IsHead S.starts S.makes S.view S.waits S.changes detail (loop_on image.now cores room) schedule.now told.0.history told.1.items) }
+    ensures fault { IfErr result (IsFault S.starts S.makes S.view S.waits (loop_on image.now cores room) schedule.now) }
 {
     match detail {
         Detail::Whole => match drive_schedule(alloc, image, cores, room, schedule) {
@@ -55,9 +55,9 @@ fn step_schedule<S: ShownStore>(
     requires least { 16 ≤ room }
     requires most { room ≤ 1048576 }
     requires schedule { All (λ core. core < cores) schedule.now }
-    ensures made { IfOk result (λ told. IsMade S.view S.waits (loop_on image.now cores room) schedule.now told.0) }
-    ensures head { IfOk result (λ told. spec.IsHead S.view S.waits S.changes Detail.Steps (loop_on image.now cores room) schedule.now told.0.history told.1.items) }
-    ensures fault { IfErr result (IsFault S.view S.waits (loop_on image.now cores room) schedule.now) }
+    ensures made { IfOk result (λ told. IsMade S.starts S.makes S.view S.waits (loop_on image.now cores room) schedule.now told.0) }
+    ensures head { IfOk result (λ told. spec.IsHead S.starts S.makes S.view S.waits S.changes Detail.Steps (loop_on image.now cores room) schedule.now told.0.history told.1.items) }
+    ensures fault { IfErr result (IsFault S.starts S.makes S.view S.waits (loop_on image.now cores room) schedule.now) }
 {
     let made: Result<(Book<S>, Shares), _> = Book::new(alloc, image, cores, room);
     let Ok((mut book, mut shares)) = made else {

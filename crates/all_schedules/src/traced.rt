@@ -38,8 +38,8 @@ pub fn retrace<S: ShownStore>(
     requires least { 16 ≤ room }
     requires most { room ≤ 1048576 }
     requires short { length text.now ≤ longest_trace_text }
-    ensures { MatchResult result (λ shown. spec.OfTrace cores room text.now (λ l entries. spec.IsRetraced S.view S.waits (IsHead S.view S.waits S.changes detail) l entries shown.0 shown.1.items))
-        (spec.IsNoRetrace S.view S.waits cores room text.now) }
+    ensures { MatchResult result (λ shown. spec.OfTrace cores room text.now (λ l entries. spec.IsRetraced S.starts S.makes S.view S.waits (IsHead S.starts S.makes S.view S.waits S.changes detail) l entries shown.0 shown.1.items))
+        (spec.IsNoRetrace S.starts S.makes S.view S.waits cores room text.now) }
 {
     let traced = match traced_in(alloc, text) {
         Ok(traced) => traced,
@@ -77,8 +77,8 @@ fn drive_trace<S: ShownStore>(
     requires cores { IsCoreCount image.now cores }
     requires least { 16 ≤ room }
     requires most { room ≤ 1048576 }
-    ensures { MatchResult result (λ shown. spec.IsRetraced S.view S.waits (IsHead S.view S.waits S.changes detail) (loop_on image.now cores room) entries.now shown.0 shown.1.items)
-        (spec.IsNotRetraced S.view S.waits (loop_on image.now cores room) entries.now) }
+    ensures { MatchResult result (λ shown. spec.IsRetraced S.starts S.makes S.view S.waits (IsHead S.starts S.makes S.view S.waits S.changes detail) (loop_on image.now cores room) entries.now shown.0 shown.1.items)
+        (spec.IsNotRetraced S.starts S.makes S.view S.waits (loop_on image.now cores room) entries.now) }
 {
     let Ok(schedule) = turns_of(alloc, cores, entries) else {
         return Err(Outcome::Stopped(CommandStop::NoMemory));

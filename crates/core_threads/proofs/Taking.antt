@@ -12,6 +12,7 @@ use Rattle.spec_history.specs.FlatState.{FlatState, end_at}
 use Rattle.spec_history.specs.Replay.{replay}
 use Rattle.ticket_lock.specs.Past.{StartsWith}
 use Rattle.violations.specs.View.{StoreView, Waits}
+use Rattle.violations.specs.Calls.{Call}
 use Rattle.homefree.specs.declared.answer.Answer.{Answer}
 use Rattle.homefree.specs.declared.answer.Answer.TheVariants.{Go, Again, Left, Over, Stopped}
 use Rattle.homefree.specs.declared.answer.StopCause.{StopCause}
@@ -21,7 +22,9 @@ use Rattle.homefree.specs.BookView.{BookView}
 use Rattle.homefree.specs.Driven.{arrival_of}
 use Rattle.homefree.specs.LockView.{loop_of, past_of}
 use Rattle.homefree.specs.Turned.{Turn, Outcome}
+use Rattle.homefree.specs.Fixed.{TurnsStore}
 use Rattle.homefree.specs.Turned as turn
+use Rattle.homefree.proofs.Books.Unstopped.{acts_isnt, err_isnt, over_isnt, same_answer}
 use Rattle.core_threads.specs.declared.turns.After.{After}
 use Rattle.core_threads.specs.declared.turns.After.TheVariants.{Goes, Waits as Comes, Leaves, Ends}
 use Rattle.core_threads.specs.declared.turns.LoopEnd.{LoopEnd}
@@ -45,48 +48,6 @@ stopped_answer (Again cause) is = absurd cc
 stopped_answer Left is = absurd cc
 stopped_answer (Over end) is = absurd cc
 stopped_answer (Stopped cause) is = (cause, refl)
-
--- ---- no turn that is taken answers that the book was stopped
-
-isnt_stopped : (out : Outcome) (entries : List Entry) (answer : Answer) (cause : StopCause) → out ≡ turn.does entries answer → answer ≢ Stopped cause → out.answer ≢ Stopped cause
-isnt_stopped out entries answer cause same isnt is = isnt (sym (ap (λ (o : Outcome). o.answer) same) ∙ is)
-
-go_isnt : (hart : HartState) (cause : StopCause) → Go hart ≢ Stopped cause
-go_isnt hart cause is = cc
-
-again_isnt : (why : _) (cause : StopCause) → Again why ≢ Stopped cause
-again_isnt why cause is = cc
-
-over_isnt : (end : End) (cause : StopCause) → Over end ≢ Stopped cause
-over_isnt end cause is = cc
-
-left_isnt : (o : Option End) (cause : StopCause) → turn.left_or_over o ≢ Stopped cause
-left_isnt None cause is = cc
-left_isnt (Some end) cause is = cc
-
-follows_isnt : (t : Turn) (v w : StoreView) (out : Outcome) (cause : StopCause) → turn.Follows t v w out → out.answer ≢ Stopped cause
-follows_isnt t v w out cause (turn.loads l) = isnt_stopped out _ _ cause l.out_is (go_isnt _ cause)
-follows_isnt t v w out cause (turn.stores l) = isnt_stopped out _ _ cause l.out_is (go_isnt _ cause)
-follows_isnt t v w out cause (turn.waits l) = isnt_stopped out _ _ cause l.out_is (again_isnt _ cause)
-follows_isnt t v w out cause (turn.loads_straight l) = isnt_stopped out _ _ cause l.out_is (go_isnt _ cause)
-follows_isnt t v w out cause (turn.stores_straight l) = isnt_stopped out _ _ cause l.out_is (go_isnt _ cause)
-follows_isnt t v w out cause (turn.is_early l) = isnt_stopped out _ _ cause l.out_is (again_isnt _ cause)
-follows_isnt t v w out cause (turn.commits l) = isnt_stopped out _ _ cause l.out_is (left_isnt (end_at t.image (t.state.homefree + 1)) cause)
-follows_isnt t v w out cause (turn.exits_loop l) = isnt_stopped out _ _ cause l.out_is (over_isnt _ cause)
-follows_isnt t v w out cause (turn.faults l) = isnt_stopped out _ _ cause l.out_is (over_isnt _ cause)
-
-acts_isnt : (t : Turn) (v w : StoreView) (out : Outcome) (cause : StopCause) → turn.Acts t v w out → out.answer ≢ Stopped cause
-acts_isnt t v w out cause (turn.starts l) = isnt_stopped out _ _ cause l.out_is (go_isnt _ cause)
-acts_isnt t v w out cause (turn.finds_none l) = isnt_stopped out _ _ cause l.out_is (again_isnt _ cause)
-acts_isnt t v w out cause (turn.restarts l) = isnt_stopped out _ _ cause l.out_is (go_isnt _ cause)
-acts_isnt t v w out cause (turn.is_told l) = isnt_stopped out _ _ cause l.out_is (go_isnt _ cause)
-acts_isnt t v w out cause (turn.follows l) = follows_isnt t v w out cause l
-
-same_answer : (result : Result Answer TurnFault) (a b : Answer) → result ≡ Ok a → result ≡ Ok b → a ≡ b
-same_answer result a b x y = cc
-
-err_isnt : (answer : Answer) (fault : TurnFault) → Ok answer ≡ Err fault → ⊥
-err_isnt answer fault is = cc
 
 -- ---- its turns
 
@@ -130,14 +91,14 @@ module _ {S : Type 0} where
       → replay new.image new.cores new.history ≡ Some s
   replays_so old new s image cores history replays = (λ i. replay (image i) (cores i) (history i)) ∙ replays
 
-  module _ (view : S → StoreView) (waits : S → Waits) (old turned : BookView S) (s : FlatState) (core : ℕ) (next : Option Arrival) (shares shares' : Counts) (result : Result Answer TurnFault)
-      (t : turn.Turned view waits old s shares core next result turned shares') where
+  module _ (makes : S → Call → S → Type 0) (view : S → StoreView) (waits : S → Waits) (old turned : BookView S) (s : FlatState) (core : ℕ) (next : Option Arrival) (shares shares' : Counts) (result : Result Answer TurnFault)
+      (t : TurnsStore makes view waits old s shares core next result turned shares') where
     pub takes_answer : (hart hart' : HartState) (after : After) (answer : Answer) → result ≡ Ok answer → after ≡ after_answer answer → hart' ≡ hart_after answer hart
-        → Takes view waits old turned s core next shares shares' hart hart' after
+        → Takes makes view waits old turned s core next shares shares' hart hart' after
     takes_answer hart hart' after answer is after_is hart_is = record {
       turned = turned;
       answer = Ok answer;
-      turns = subst (λ (r : Result Answer TurnFault). turn.Turned view waits old s shares core next r turned shares') is t;
+      turns = subst (λ (r : Result Answer TurnFault). TurnsStore makes view waits old s shares core next r turned shares') is t;
       follows = (refl, after_is, hart_is);
     }
 
@@ -179,64 +140,64 @@ module _ {S : Type 0} where
   pub going_stopped : (turned new : BookView S) (s : FlatState) (cause : StopCause) → Fails turned s → new ≡ record turned { stopped = Some cause } → IsGoing (loop_of new) (past_of new.history)
   going_stopped turned new s cause f is = subst (λ (b : BookView S). IsGoing (loop_of b) (past_of b.history)) (sym is) (going_past turned s f.replays f.going)
 
-  pub takes_fault : (view : S → StoreView) (waits : S → Waits) (old turned new : BookView S) (s : FlatState) (core : ℕ) (next : Option Arrival) (shares shares' : Counts) (hart hart' : HartState) (after : After)
-      (result : Result Answer TurnFault) (fault : TurnFault) → turn.Turned view waits old s shares core next result turned shares' → result ≡ Err fault → new ≡ record turned { stopped = Some (cause_for fault) }
-      → after ≡ Ends loop.Stopped → hart' ≡ hart → Takes view waits old new s core next shares shares' hart hart' after
-  takes_fault view waits old turned new s core next shares shares' hart hart' after result fault t is new_is after_is hart_is = record {
+  pub takes_fault : (makes : S → Call → S → Type 0) (view : S → StoreView) (waits : S → Waits) (old turned new : BookView S) (s : FlatState) (core : ℕ) (next : Option Arrival) (shares shares' : Counts) (hart hart' : HartState) (after : After)
+      (result : Result Answer TurnFault) (fault : TurnFault) → TurnsStore makes view waits old s shares core next result turned shares' → result ≡ Err fault → new ≡ record turned { stopped = Some (cause_for fault) }
+      → after ≡ Ends loop.Stopped → hart' ≡ hart → Takes makes view waits old new s core next shares shares' hart hart' after
+  takes_fault makes view waits old turned new s core next shares shares' hart hart' after result fault t is new_is after_is hart_is = record {
     turned = turned;
     answer = Err fault;
-    turns = subst (λ (r : Result Answer TurnFault). turn.Turned view waits old s shares core next r turned shares') is t;
+    turns = subst (λ (r : Result Answer TurnFault). TurnsStore makes view waits old s shares core next r turned shares') is t;
     follows = (new_is, after_is, hart_is);
   }
 
   -- ---- what a core did while it held the book
 
-  by_gate : {E : Type 0} (view : S → StoreView) (waits : S → Waits) (old new : BookView S) (s : FlatState) (core : ℕ) (next : Option Arrival) (shares shares' : Counts) (hart hart' : HartState)
-      (after : After) (passed : Result Unit E) → (IsOk passed → Takes view waits old new s core next shares shares' hart hart' after) → (IsErr passed → IsShut old new s after)
-      → Takes view waits old new s core next shares shares' hart hart' after ⊎ IsShut old new s after
-  by_gate view waits old new s core next shares shares' hart hart' after (Ok done) takes shut = inl (takes refl)
-  by_gate view waits old new s core next shares shares' hart hart' after (Err fault) takes shut = inr (shut refl)
+  by_gate : {E : Type 0} (makes : S → Call → S → Type 0) (view : S → StoreView) (waits : S → Waits) (old new : BookView S) (s : FlatState) (core : ℕ) (next : Option Arrival) (shares shares' : Counts) (hart hart' : HartState)
+      (after : After) (passed : Result Unit E) → (IsOk passed → Takes makes view waits old new s core next shares shares' hart hart' after) → (IsErr passed → IsShut old new s after)
+      → Takes makes view waits old new s core next shares shares' hart hart' after ⊎ IsShut old new s after
+  by_gate makes view waits old new s core next shares shares' hart hart' after (Ok done) takes shut = inl (takes refl)
+  by_gate makes view waits old new s core next shares shares' hart hart' after (Err fault) takes shut = inr (shut refl)
 
-  pub takes_turn : {E : Type 0} (view : S → StoreView) (waits : S → Waits) (l : Loop) (next : Option Arrival) (p hp r : Knows) (v b n : BookView S) (core : ℕ) (shares shares' : Counts)
+  pub takes_turn : {E : Type 0} (makes : S → Call → S → Type 0) (view : S → StoreView) (waits : S → Waits) (l : Loop) (next : Option Arrival) (p hp r : Knows) (v b n : BookView S) (core : ℕ) (shares shares' : Counts)
       (hart hart' : HartState) (after : After) (passed : Result Unit E) → loop_of v ≡ l → StartsWith (past_of v.history) p.seen → b ≡ v → core ≡ p.lo → r ≡ record hp { seen = past_of n.history }
-      → (IsOk passed → (s : FlatState) → replay b.image b.cores b.history ≡ Some s → Takes view waits b n s core next shares shares' hart hart' after)
+      → (IsOk passed → (s : FlatState) → replay b.image b.cores b.history ≡ Some s → Takes makes view waits b n s core next shares shares' hart hart' after)
       → (IsErr passed → (s : FlatState) → replay b.image b.cores b.history ≡ Some s → IsShut b n s after)
-      → TakesTurn view waits l p.lo next p r shares shares' hart hart' after
-  takes_turn view waits l next p hp r v b n core shares shares' hart hart' after passed loop begins shows who release takes shut = record {
+      → TakesTurn makes view waits l p.lo next p r shares shares' hart hart' after
+  takes_turn makes view waits l next p hp r v b n core shares shares' hart hart' after passed loop begins shows who release takes shut = record {
     old = b;
     new = n;
     loop = ap (λ (x : BookView S). loop_of x) shows ∙ loop;
     begins = subst (λ (x : BookView S). StartsWith (past_of x.history) p.seen) (sym shows) begins;
     seen = ap (λ (k : Knows). k.seen) release;
-    does = λ s replays. subst (λ k. Takes view waits b n s k next shares shares' hart hart' after ⊎ IsShut b n s after) who
-        (by_gate view waits b n s core next shares shares' hart hart' after passed (λ ok. takes ok s replays) (λ err. shut err s replays));
+    does = λ s replays. subst (λ k. Takes makes view waits b n s k next shares shares' hart hart' after ⊎ IsShut b n s after) who
+        (by_gate makes view waits b n s core next shares shares' hart hart' after passed (λ ok. takes ok s replays) (λ err. shut err s replays));
   }
 
   -- ---- its turns, one after another
 
-  module _ (view : S → StoreView) (waits : S → Waits) (l : Loop) (core : ℕ) (p mid q : Knows) (shares counted shares' : Counts) (next : Option Arrival) (hart hart' : HartState)
-      (after : After) (end : LoopEnd) (turn : TakesTurn view waits l core next p mid shares counted hart hart' after) where
+  module _ (makes : S → Call → S → Type 0) (view : S → StoreView) (waits : S → Waits) (l : Loop) (core : ℕ) (p mid q : Knows) (shares counted shares' : Counts) (next : Option Arrival) (hart hart' : HartState)
+      (after : After) (end : LoopEnd) (turn : TakesTurn makes view waits l core next p mid shares counted hart hart' after) where
     pub one_more : (n : ℕ) (then : Option Arrival) → ((e : LoopEnd) → after ≢ Ends e) → then ≡ hand_after l.image after hart' next
-        → TakesTurns view waits l core n mid counted then q shares' end → TakesTurns view waits l core (suc n) p shares next q shares' end
+        → TakesTurns makes view waits l core n mid counted then q shares' end → TakesTurns makes view waits l core (suc n) p shares next q shares' end
     one_more n then going is rest =
-        (mid, counted, hart, hart', after, turn, goes_by after _ _ going (subst (λ x. TakesTurns view waits l core n mid counted x q shares' end) is rest))
+        (mid, counted, hart, hart', after, turn, goes_by after _ _ going (subst (λ x. TakesTurns makes view waits l core n mid counted x q shares' end) is rest))
 
   -- the same of its own number and of what it has in hand
-  pub its_turn : (view : S → StoreView) (waits : S → Waits) (l : Loop) (lo core : ℕ) (p q : Knows) (shares shares' : Counts) (handed next : Option Arrival) (hart hart' : HartState) (after : After)
-      → lo ≡ core → handed ≡ next → TakesTurn view waits l lo handed p q shares shares' hart hart' after → TakesTurn view waits l core next p q shares shares' hart hart' after
-  its_turn view waits l lo core p q shares shares' handed next hart hart' after who same turn =
-      subst (λ (x : ℕ × Option Arrival). TakesTurn view waits l x.0 x.1 p q shares shares' hart hart' after) (λ i. (who i, same i)) turn
+  pub its_turn : (makes : S → Call → S → Type 0) (view : S → StoreView) (waits : S → Waits) (l : Loop) (lo core : ℕ) (p q : Knows) (shares shares' : Counts) (handed next : Option Arrival) (hart hart' : HartState) (after : After)
+      → lo ≡ core → handed ≡ next → TakesTurn makes view waits l lo handed p q shares shares' hart hart' after → TakesTurn makes view waits l core next p q shares shares' hart hart' after
+  its_turn makes view waits l lo core p q shares shares' handed next hart hart' after who same turn =
+      subst (λ (x : ℕ × Option Arrival). TakesTurn makes view waits l x.0 x.1 p q shares shares' hart hart' after) (λ i. (who i, same i)) turn
 
-  pub ends_by : (view : S → StoreView) (waits : S → Waits) (l : Loop) (core : ℕ) (p q : Knows) (shares shares' : Counts) (next : Option Arrival) (hart hart' : HartState) (after : After)
+  pub ends_by : (makes : S → Call → S → Type 0) (view : S → StoreView) (waits : S → Waits) (l : Loop) (core : ℕ) (p q : Knows) (shares shares' : Counts) (next : Option Arrival) (hart hart' : HartState) (after : After)
       (end : LoopEnd) → after ≡ Ends end → (after ≡ Ends loop.Spent → (q ≡ record p { out = true }) × (shares' ≡ shares))
-      → (after ≢ Ends loop.Spent → TakesTurn view waits l core next p q shares shares' hart hart' after)
-      → TakesTurns view waits l core (turn_count end) p shares next q shares' end
+      → (after ≢ Ends loop.Spent → TakesTurn makes view waits l core next p q shares shares' hart hart' after)
+      → TakesTurns makes view waits l core (turn_count end) p shares next q shares' end
   unfolding turn_count
-  ends_by view waits l core p q shares shares' next hart hart' after loop.Over is none turn =
-      (q, shares', hart, hart', Ends loop.Over, subst (λ a. TakesTurn view waits l core next p q shares shares' hart hart' a) is (turn (λ spent. absurd cc)), (refl, refl, refl))
-  ends_by view waits l core p q shares shares' next hart hart' after loop.Stopped is none turn =
-      (q, shares', hart, hart', Ends loop.Stopped, subst (λ a. TakesTurn view waits l core next p q shares shares' hart hart' a) is (turn (λ spent. absurd cc)), (refl, refl, refl))
-  ends_by view waits l core p q shares shares' next hart hart' after loop.Spent is none turn = let spent = none is in (spent.0, spent.1, refl)
+  ends_by makes view waits l core p q shares shares' next hart hart' after loop.Over is none turn =
+      (q, shares', hart, hart', Ends loop.Over, subst (λ a. TakesTurn makes view waits l core next p q shares shares' hart hart' a) is (turn (λ spent. absurd cc)), (refl, refl, refl))
+  ends_by makes view waits l core p q shares shares' next hart hart' after loop.Stopped is none turn =
+      (q, shares', hart, hart', Ends loop.Stopped, subst (λ a. TakesTurn makes view waits l core next p q shares shares' hart hart' a) is (turn (λ spent. absurd cc)), (refl, refl, refl))
+  ends_by makes view waits l core p q shares shares' next hart hart' after loop.Spent is none turn = let spent = none is in (spent.0, spent.1, refl)
 
 -- the arrival that `advance` came to from a hart
 pub arrival_is : (kept image : LoadedImage) (hart : HartState) (at : Arrival) → kept ≡ image → at.base ≡ hart → at.now ≡ (next_event image hart).now → at.at ≡ (next_event image hart).at

@@ -8,6 +8,7 @@ use Rattle.spec_history.specs.FlatState.{FlatState}
 use Rattle.spec_history.specs.Replay.{replay}
 use Rattle.ticket_lock.specs.Past.{StartsWith}
 use Rattle.violations.specs.View.{StoreView, Waits}
+use Rattle.violations.specs.Calls.{Call}
 use Rattle.homefree.specs.declared.answer.Answer.{Answer}
 use Rattle.homefree.specs.declared.answer.Answer.TheVariants.{Go, Again, Left, Over, Stopped}
 use Rattle.homefree.specs.declared.answer.StopCause.{StopCause}
@@ -18,7 +19,7 @@ use Rattle.homefree.specs.declared.book.Loop.{Loop}
 use Rattle.homefree.specs.BookView.{BookView}
 use Rattle.homefree.specs.Driven.{arrival_of}
 use Rattle.homefree.specs.LockView.{loop_of, past_of}
-use Rattle.homefree.specs.Turned.{Turned}
+use Rattle.homefree.specs.Fixed.{TurnsStore}
 use Rattle.core_threads.specs.declared.turns.After.{After}
 use Rattle.core_threads.specs.declared.turns.After.TheVariants as does
 use Rattle.core_threads.specs.declared.turns.LoopEnd.{LoopEnd}
@@ -51,11 +52,11 @@ Follows (Ok answer) turned new hart hart' after = (new ≡ turned) × (after ≡
 Follows (Err fault) turned new hart hart' after = (new ≡ record turned { stopped = Some (cause_for fault) }) × (after ≡ does.Ends loop.Stopped) × (hart' ≡ hart)
 
 -- the core has taken a turn from a book whose history leads to the state s, and done what follows
-pub record Takes {S : Type 0} (view : S → StoreView) (waits : S → Waits) (old new : BookView S) (s : FlatState) (core : ℕ) (next : Option Arrival)
+pub record Takes {S : Type 0} (makes : S → Call → S → Type 0) (view : S → StoreView) (waits : S → Waits) (old new : BookView S) (s : FlatState) (core : ℕ) (next : Option Arrival)
     (shares shares' : Counts) (hart hart' : HartState) (after : After) : Type 0 where
   pub turned : BookView S
   pub answer : Result Answer TurnFault
-  pub turns : Turned view waits old s shares core next answer turned shares'
+  pub turns : TurnsStore makes view waits old s shares core next answer turned shares'
   pub follows : Follows answer turned new hart hart' after
 
 -- the gate was shut: from a book whose history leads to the state s, it is stopped, unless its loop is over or it was stopped before
@@ -65,7 +66,7 @@ pub record IsShut {S : Type 0} (old new : BookView S) (s : FlatState) (after : A
   pub ends : after ≡ does.Ends end
 
 -- a core got the book of this loop and let it go: while it held it, it took a turn, or found the gate shut
-pub record TakesTurn {S : Type 0} (view : S → StoreView) (waits : S → Waits) (l : Loop) (core : ℕ) (next : Option Arrival) (p q : Knows)
+pub record TakesTurn {S : Type 0} (makes : S → Call → S → Type 0) (view : S → StoreView) (waits : S → Waits) (l : Loop) (core : ℕ) (next : Option Arrival) (p q : Knows)
     (shares shares' : Counts) (hart hart' : HartState) (after : After) : Type 0 where
   pub old : BookView S
   pub new : BookView S
@@ -73,7 +74,7 @@ pub record TakesTurn {S : Type 0} (view : S → StoreView) (waits : S → Waits)
   pub begins : StartsWith (past_of old.history) p.seen
   pub seen : q.seen ≡ past_of new.history
   pub does : (s : FlatState) → replay old.image old.cores old.history ≡ Some s
-      → Takes view waits old new s core next shares shares' hart hart' after ⊎ IsShut old new s after
+      → Takes makes view waits old new s core next shares shares' hart hart' after ⊎ IsShut old new s after
 
 -- what the core has in hand then: where `advance` comes to from the hart that it has
 abbrev pub hand_after : LoadedImage → After → HartState → Option Arrival → Option Arrival
@@ -90,8 +91,8 @@ EndsOrGoes does.Leaves ends goes = goes
 EndsOrGoes (does.Ends end) ends goes = ends end
 
 -- so many turns of a core, one after another, each with what it has in hand, up to one that ends them, or until no ticket is left
-abbrev pub TakesTurns : {S : Type 0} → (S → StoreView) → (S → Waits) → Loop → ℕ → ℕ → Knows → Counts → Option Arrival → Knows → Counts → LoopEnd → Type 0
-TakesTurns view waits l core zero p shares next q shares' end = (q ≡ record p { out = true }) × (shares' ≡ shares) × (end ≡ loop.Spent)
-TakesTurns view waits l core (suc n) p shares next q shares' end =
-    (mid : Knows) × (counted : Counts) × (hart : HartState) × (hart' : HartState) × (after : After) × TakesTurn view waits l core next p mid shares counted hart hart' after
-    × EndsOrGoes after (λ e. (q ≡ mid) × (shares' ≡ counted) × (end ≡ e)) (TakesTurns view waits l core n mid counted (hand_after l.image after hart' next) q shares' end)
+abbrev pub TakesTurns : {S : Type 0} → (S → Call → S → Type 0) → (S → StoreView) → (S → Waits) → Loop → ℕ → ℕ → Knows → Counts → Option Arrival → Knows → Counts → LoopEnd → Type 0
+TakesTurns makes view waits l core zero p shares next q shares' end = (q ≡ record p { out = true }) × (shares' ≡ shares) × (end ≡ loop.Spent)
+TakesTurns makes view waits l core (suc n) p shares next q shares' end =
+    (mid : Knows) × (counted : Counts) × (hart : HartState) × (hart' : HartState) × (after : After) × TakesTurn makes view waits l core next p mid shares counted hart hart' after
+    × EndsOrGoes after (λ e. (q ≡ mid) × (shares' ≡ counted) × (end ≡ e)) (TakesTurns makes view waits l core n mid counted (hand_after l.image after hart' next) q shares' end)

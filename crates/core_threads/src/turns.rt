@@ -64,7 +64,7 @@ pub fn core_loop<S: EpochStore, G: Gate, R: Wait>(
     ensures over { result.2 ≡ LoopEnd.Over → IsOver lock.now.fixed result.0.seen }
     ensures stopped { result.2 ≡ LoopEnd.Stopped → IsGoing lock.now.fixed result.0.seen }
     ensures spent { result.2 ≡ LoopEnd.Spent → result.0.out ≡ true }
-    ensures turns { (n : ℕ) × TakesTurns S.view S.waits lock.now.fixed pass.lo n pass shares None result.0 result.1 result.2 }
+    ensures turns { (n : ℕ) × TakesTurns S.makes S.view S.waits lock.now.fixed pass.lo n pass shares None result.0 result.1 result.2 }
 {
     let backoff = Backoff::new();
     let mut pass = pass;
@@ -124,7 +124,7 @@ fn one_turn<S: EpochStore, G: Gate, R: Wait>(
     ensures stopped { result.1 ≡ After.Ends LoopEnd.Stopped → IsGoing lock.now.fixed result.0.seen }
     ensures none { result.1 ≡ After.Ends LoopEnd.Spent → (result.0 ≡ record pass { out = true }) × (shares.new ≡ shares.old) }
     ensures turn { result.1 ≢ After.Ends LoopEnd.Spent
-        → TakesTurn S.view S.waits lock.now.fixed pass.lo (option_copied next.entry) pass result.0 shares.old shares.new hart.old hart.new result.1 }
+        → TakesTurn S.makes S.view S.waits lock.now.fixed pass.lo (option_copied next.entry) pass result.0 shares.old shares.new hart.old hart.new result.1 }
 {
     let core = pass.who() as u32;
     let passed = gate.pass(core, turn, next);
@@ -153,7 +153,7 @@ fn act<S: EpochStore>(
     ensures few { length book.new.history ≤ 1048576 }
     ensures shut { IsErr passed → (s : FlatState) → replay book.old.image book.old.cores book.old.history ≡ Some s → IsShut book.old book.new s result }
     ensures takes { IsOk passed → (s : FlatState) → replay book.old.image book.old.cores book.old.history ≡ Some s
-        → Takes S.view S.waits book.old book.new s core (option_copied next.entry) shares.old shares.new hart.old hart.new result }
+        → Takes S.makes S.view S.waits book.old book.new s core (option_copied next.entry) shares.old shares.new hart.old hart.new result }
     ensures over { result ≡ After.Ends LoopEnd.Over → IsOver (loop_of book.new) (past_of book.new.history) }
     ensures stopped { result ≡ After.Ends LoopEnd.Stopped → IsGoing (loop_of book.new) (past_of book.new.history) }
     ensures spent { result ≢ After.Ends LoopEnd.Spent }
@@ -178,7 +178,7 @@ fn take_turn<S: EpochStore>(
     ensures adds { Adds core book.old book.new shares.old shares.new }
     ensures few { length book.new.history ≤ 1048576 }
     ensures takes { (s : FlatState) → replay book.old.image book.old.cores book.old.history ≡ Some s
-        → Takes S.view S.waits book.old book.new s core (option_copied next.entry) shares.old shares.new hart.old hart.new result }
+        → Takes S.makes S.view S.waits book.old book.new s core (option_copied next.entry) shares.old shares.new hart.old hart.new result }
     ensures over { result ≡ After.Ends LoopEnd.Over → IsOver (loop_of book.new) (past_of book.new.history) }
     ensures stopped { result ≡ After.Ends LoopEnd.Stopped → IsGoing (loop_of book.new) (past_of book.new.history) }
     ensures spent { result ≢ After.Ends LoopEnd.Spent }

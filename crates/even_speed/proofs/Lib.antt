@@ -7,3 +7,4 @@ pub mod Moving
 pub mod Coming
 pub mod OnTime
 pub mod Lasting
+pub mod Fixed

@@ -7,6 +7,7 @@ use Rattle.rv32_exec.specs.declared.sequential.End.TheVariants.{Done}
 use Rattle.rv32_exec.specs.Hart.{HartState}
 use Rattle.rv32_exec.specs.NextEvent.{next_event}
 use Rattle.violations.specs.View.{StoreView, Waits}
+use Rattle.violations.specs.Calls.{Call}
 use Rattle.homefree.specs.declared.answer.Answer.{Answer}
 use Rattle.homefree.specs.declared.answer.Answer.TheVariants.{Go, Again, Left, Over, Stopped}
 use Rattle.homefree.specs.declared.fault.TurnFault.{TurnFault}
@@ -57,28 +58,29 @@ pace_after old new p t answer = record {
 abbrev pub ran_at : ℕ → ℕ → (ℕ → Clock) → End → Ran
 ran_at cores end clocks over = record { end = over; steps = end; account = account_of end clocks cores }
 
-abbrev pub EndsOrGoes : {S : Type 0} → Driver S → Driver S → Pace → Turn → Result Answer TurnFault → Result (Option Ran) TurnFault → Driver S → Type 0 → Type 0
-EndsOrGoes old mid p t (Ok (Over end)) result new more =
-    (new ≡ mid) × (result ≡ Ok (Some (ran_at old.book.cores (t.at + 1) (clocks_after old mid p.clocks t (Over end)) end)))
-EndsOrGoes old mid p t (Ok (Stopped cause)) result new more = (new ≡ mid) × (result ≡ Ok None)
-EndsOrGoes old mid p t (Err fault) result new more = (new ≡ mid) × (result ≡ Err fault)
-EndsOrGoes old mid p t (Ok (Go hart)) result new more = more
-EndsOrGoes old mid p t (Ok (Again cause)) result new more = more
-EndsOrGoes old mid p t (Ok Left) result new more = more
+-- the turn, below which these follow, ends the run, as the last of its schedule; or the run goes on
+abbrev pub EndsOrGoes : {S : Type 0} → Driver S → Driver S → Pace → Turn → Result Answer TurnFault → List ℕ → Result (Option Ran) TurnFault → Driver S → Type 0 → Type 0
+EndsOrGoes old mid p t (Ok (Over end)) rest result new more =
+    (rest ≡ []) × (new ≡ mid) × (result ≡ Ok (Some (ran_at old.book.cores (t.at + 1) (clocks_after old mid p.clocks t (Over end)) end)))
+EndsOrGoes old mid p t (Ok (Stopped cause)) rest result new more = (rest ≡ []) × (new ≡ mid) × (result ≡ Ok None)
+EndsOrGoes old mid p t (Err fault) rest result new more = (rest ≡ []) × (new ≡ mid) × (result ≡ Err fault)
+EndsOrGoes old mid p t (Ok (Go hart)) rest result new more = more
+EndsOrGoes old mid p t (Ok (Again cause)) rest result new more = more
+EndsOrGoes old mid p t (Ok Left) rest result new more = more
 
 abbrev pub go_answer : Result Answer TurnFault → Answer
 go_answer (Ok answer) = answer
 go_answer (Err fault) = Left
 
 -- the turns of a schedule, each of the core that is due first, up to the first that ends the run
-abbrev pub Evenly : {S : Type 0} → (S → StoreView) → (S → Waits) → Pace → Driver S → List ℕ → Result (Option Ran) TurnFault → Driver S → Type 0
-Evenly view waits p old [] result new = (new ≡ old) × (result ≡ Ok None)
-Evenly {S} view waits p old (core ∷ rest) result new =
+abbrev pub Evenly : {S : Type 0} → (S → Call → S → Type 0) → (S → StoreView) → (S → Waits) → Pace → Driver S → List ℕ → Result (Option Ran) TurnFault → Driver S → Type 0
+Evenly makes view waits p old [] result new = (new ≡ old) × (result ≡ Ok None)
+Evenly {S} makes view waits p old (core ∷ rest) result new =
     (at : ℕ) × (mid : Driver S) × (answer : Result Answer TurnFault)
     × IsFirst p.clocks old.book.cores (record { core = core; at = at })
-    × TurnedWith view waits old core (p.held core) answer mid
-    × EndsOrGoes old mid p (record { core = core; at = at }) answer result new
-    (Evenly view waits (pace_after old mid p (record { core = core; at = at }) (go_answer answer)) mid rest result new)
+    × TurnedWith makes view waits old core (p.held core) answer mid
+    × EndsOrGoes old mid p (record { core = core; at = at }) answer rest result new
+    (Evenly makes view waits (pace_after old mid p (record { core = core; at = at }) (go_answer answer)) mid rest result new)
 
 -- unless memory was refused
 abbrev pub UnlessRefused : Result (Option Ran) TurnFault → Type 0 → Type 0

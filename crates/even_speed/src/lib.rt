@@ -4,9 +4,11 @@
 mod account;
 mod clock;
 mod clocks;
+mod laws;
 mod run;
 
 pub use account::Account;
 pub use clock::{Clock, Next};
 pub use clocks::Turn;
+pub use laws::run_is_fixed;
 pub use run::{Ran, drive_evenly};

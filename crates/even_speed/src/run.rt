@@ -53,8 +53,8 @@ pub fn drive_evenly<S: EpochStore>(
     requires book { (book.old.image ≡ image.now) × (book.old.cores ≡ cores) }
     requires schedule { schedule.old.items ≡ [] }
     requires shares { IsNoMore shares.old book.old.totals }
-    ensures evenly { spec.UnlessRefused result (spec.Evenly S.view S.waits spec.at_first (driver book.old shares.old) schedule.new.items result (driver book.new shares.new)) }
-    ensures driven { spec.UnlessRefused result (Driven S.view S.waits (λ _. None) (driver book.old shares.old) schedule.new.items (spec.end_in result) (driver book.new shares.new)) }
+    ensures evenly { spec.UnlessRefused result (spec.Evenly S.makes S.view S.waits spec.at_first (driver book.old shares.old) schedule.new.items result (driver book.new shares.new)) }
+    ensures driven { spec.UnlessRefused result (Driven S.makes S.view S.waits (λ _. None) (driver book.old shares.old) schedule.new.items (spec.end_in result) (driver book.new shares.new)) }
     ensures same { IsOfSameLoop book.old book.new }
     ensures shares { IsNoMore shares.new book.new.totals }
     ensures end { spec.IfRan result (λ ran. IsInOrder book.new.image ran.end (S.view book.new.store).committed) }
@@ -111,7 +111,7 @@ fn step<S: EpochStore>(
     requires core { core < book.old.cores }
     requires held { HaveArrived book.old.image held.old }
     requires shares { IsNoMore shares.old book.old.totals }
-    ensures turned { TurnedWith S.view S.waits (driver book.old shares.old) core (harts_of held.old core) result (driver book.new shares.new) }
+    ensures turned { TurnedWith S.makes S.view S.waits (driver book.old shares.old) core (harts_of held.old core) result (driver book.new shares.new) }
     ensures same { IsOfSameLoop book.old book.new }
     ensures shares { IsNoMore shares.new book.new.totals }
     ensures over { (end : End) (s : FlatState) → result ≡ Ok (Answer.Over end) → ReplaysTo book.new s → s.end ≡ Some end }

@@ -9,6 +9,7 @@ use Rattle.violations.specs.View.{never_waits}
 use Rattle.violations.specs.Rule.{IsCoreCount}
 use Rattle.violations.specs.Plain as plain
 use Rattle.spec_bus.specs.Cached as caches
+use Rattle.spec_bus.specs.Laws as cache
 use Rattle.trace_commands.specs.declared.outcome.Outcome.{Outcome}
 use Rattle.trace_commands.specs.declared.outcome.Outcome.TheVariants.{Usage, BadImage, Stopped}
 use Rattle.trace_commands.specs.declared.outcome.CommandStop.TheVariants.{Write, NoMemory}
@@ -18,8 +19,8 @@ use Rattle.gain.specs.Lines.{AddLines}
 
 -- the lines over caches, and then those over the plain store
 abbrev pub AreGains : LoadedImage → ℕ → ℕ → List ℕ → Type 0
-AreGains image cores room text = (over_caches : List ℕ) × AddLines caches.store_view caches.waits image room (codes "caches") cores [] over_caches
-    × AddLines plain.store_view (λ _. never_waits) image room (codes "plain") cores over_caches text
+AreGains image cores room text = (over_caches : List ℕ) × AddLines cache.Starts cache.Makes caches.store_view caches.waits image room (codes "caches") cores [] over_caches
+    × AddLines plain.Starts plain.Makes plain.store_view (λ _. never_waits) image room (codes "plain") cores over_caches text
 
 -- ---- of an image
 

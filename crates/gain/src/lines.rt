@@ -25,7 +25,7 @@ pub fn push_lines<S: EpochStore>(
     requires cores { IsCoreCount image.now cores }
     requires least { 16 ≤ room }
     requires most { room ≤ 1048576 }
-    ensures { OnOk result (spec.AddLines S.view S.waits image.now room store.now cores text.old.items text.new.items) }
+    ensures { OnOk result (spec.AddLines S.starts S.makes S.view S.waits image.now room store.now cores text.old.items text.new.items) }
 {
     let first = measure::<S>(alloc, image, 1, room)?;
     push_line(text, store, 1, &first, &first)?;
@@ -47,7 +47,7 @@ fn push_each<S: EpochStore>(
     requires least { 16 ≤ room }
     requires most { room ≤ 1048576 }
     requires first { IfSome first.now HasFewSteps }
-    ensures { OnOk result (spec.AddEach S.view S.waits image.now room store.now first.now counts.now text.old.items text.new.items) }
+    ensures { OnOk result (spec.AddEach S.starts S.makes S.view S.waits image.now room store.now first.now counts.now text.old.items text.new.items) }
 {
     for cores in counts {
         let measured = measure::<S>(alloc, image, *cores, room)?;

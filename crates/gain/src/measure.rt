@@ -36,7 +36,7 @@ pub fn measure<S: EpochStore>(
     requires cores { IsCoreCount image.now cores }
     requires least { 16 ≤ room }
     requires most { room ≤ 1048576 }
-    ensures is { IfOk result (spec.IsMeasured S.view S.waits (loop_on image.now cores room)) }
+    ensures is { IfOk result (spec.IsMeasured S.starts S.makes S.view S.waits (loop_on image.now cores room)) }
     ensures few { IfOk result (λ told. IfSome told spec.HasFewSteps) }
 {
     let run: EvenRun<S> = match run_evenly(alloc, image, cores, room) {

@@ -5,3 +5,4 @@ pub mod Turns
 pub mod NeverAgain
 pub mod Following
 pub mod Drives
+pub mod Unstopped

@@ -3,3 +3,4 @@ pub mod Hurt
 pub mod Outcomes
 pub mod Chains
 pub mod Turning
+pub mod Driving

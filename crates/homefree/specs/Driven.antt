@@ -10,11 +10,12 @@ use Rattle.run_ledger.specs.declared.counts.Counts.{Counts}
 use Rattle.spec_history.specs.FlatState.{FlatState}
 use Rattle.spec_history.specs.Laws.{Holds}
 use Rattle.violations.specs.View.{StoreView, Waits}
+use Rattle.violations.specs.Calls.{Call}
 use Rattle.homefree.specs.declared.answer.Answer.{Answer}
 use Rattle.homefree.specs.declared.answer.Answer.TheVariants.{Go, Again, Left, Over, Stopped}
 use Rattle.homefree.specs.declared.fault.TurnFault.{TurnFault}
 use Rattle.homefree.specs.BookView.{BookView, ReplaysTo}
-use Rattle.homefree.specs.Turned.{Turned}
+use Rattle.homefree.specs.Fixed.{TurnsStore}
 
 -- where `advance` comes to from a hart
 abbrev pub arrival_of : LoadedImage → HartState → Arrival
@@ -40,10 +41,12 @@ pub record Driver (S : Type 0) : Type 0 where
 abbrev pub driver : {S : Type 0} → BookView S → Counts → Driver S
 driver book shares = record { book = book; shares = shares }
 
--- the turn of a core with this hart in hand
-abbrev pub TurnedWith : {S : Type 0} → (S → StoreView) → (S → Waits) → Driver S → ℕ → Option HartState → Result Answer TurnFault → Driver S → Type 0
-TurnedWith view waits old core held answer new = (s : FlatState) → ReplaysTo old.book s
-    → Turned view waits old.book s old.shares core (option_map (arrival_of old.book.image) held) answer new.book new.shares
+-- the turn of a core with this hart in hand, from the state that the history leads to
+pub record TurnedWith {S : Type 0} (makes : S → Call → S → Type 0) (view : S → StoreView) (waits : S → Waits) (old : Driver S) (core : ℕ) (held : Option HartState) (answer : Result Answer TurnFault)
+    (new : Driver S) : Type 0 where
+  pub state : FlatState
+  pub replays : ReplaysTo old.book state
+  pub turns : TurnsStore makes view waits old.book state old.shares core (option_map (arrival_of old.book.image) held) answer new.book new.shares
 
 -- the drive ends with what is said, or goes on with the answer
 abbrev pub EndsOrGoes : Result Answer TurnFault → (Result (Option End) TurnFault → Type 0) → (Answer → Type 0) → Type 0
@@ -55,10 +58,10 @@ EndsOrGoes (Ok (Again cause)) ends goes = goes (Again cause)
 EndsOrGoes (Ok Left) ends goes = goes Left
 
 -- one turn for each number, in order, up to the first that ends the drive
-abbrev pub Driven : {S : Type 0} → (S → StoreView) → (S → Waits) → (ℕ → Option HartState) → Driver S → List ℕ → Result (Option End) TurnFault → Driver S → Type 0
-Driven view waits held old [] result new = (new ≡ old) × (result ≡ Ok None)
-Driven {S} view waits held old (core ∷ rest) result new = (mid : Driver S) × (answer : Result Answer TurnFault) × TurnedWith view waits old core (held core) answer mid
-    × EndsOrGoes answer (λ r. (new ≡ mid) × (result ≡ r)) (λ a. Driven view waits (with_held held core (held_after a (held core))) mid rest result new)
+abbrev pub Driven : {S : Type 0} → (S → Call → S → Type 0) → (S → StoreView) → (S → Waits) → (ℕ → Option HartState) → Driver S → List ℕ → Result (Option End) TurnFault → Driver S → Type 0
+Driven makes view waits held old [] result new = (new ≡ old) × (result ≡ Ok None)
+Driven {S} makes view waits held old (core ∷ rest) result new = (mid : Driver S) × (answer : Result Answer TurnFault) × TurnedWith makes view waits old core (held core) answer mid
+    × EndsOrGoes answer (λ r. (new ≡ mid) × (result ≡ r)) (λ a. Driven makes view waits (with_held held core (held_after a (held core))) mid rest result new)
 
 -- the loop has ended as the sequential loop does, with its memory
 pub record IsInOrder (image : LoadedImage) (end : End) (committed : ℕ → ℕ) : Type 0 where

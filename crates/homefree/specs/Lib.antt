@@ -22,6 +22,7 @@ pub mod Came
 pub mod Moves
 pub mod Standing
 pub mod Fixed
+pub mod DriveFixed
 pub mod Noted
 pub mod Arms
 pub mod Again

@@ -8,6 +8,7 @@ ghost use Rattle.homefree.specs.BookView.{IsFull, ReplaysTo};
 ghost use Rattle.homefree.specs.BookInside.{IsAsBefore, IsBook, book_of};
 ghost use Rattle.homefree.specs.InStep.{InStep};
 ghost use Rattle.homefree.specs.Turned.{Turned, MayAct, turn_at};
+ghost use Rattle.homefree.specs.Fixed.{TurnsStore};
 ghost use Rattle.homefree.specs.Moves.{StoreMoves, standing_of};
 ghost use Rattle.violations.specs.Calls as call;
 ghost use Rattle.homefree.specs.Grown.{GrowsBy};
@@ -102,6 +103,7 @@ impl<S: EpochStore> Book<S> {
         ensures totals { IfOk result (λ made. made.0.totals ≡ no_counts) }
         ensures shares { IfOk result (λ made. made.1 ≡ no_counts) }
         ensures store { IfOk result (λ made. IsFresh image.now cores (S.view made.0.store)) }
+        ensures starts { IfOk result (λ made. S.starts image.now cores made.0.store) }
         ensures stopped { IfOk result (λ made. made.0.stopped ≡ None) }
     {
         let store: S = S::fresh(alloc, image, cores)?;
@@ -152,14 +154,13 @@ impl<S: EpochStore> Book<S> {
         requires next { IfArrived self.old.image (option_copied next) }
         requires shares { IsNoMore shares.old self.old.totals }
         ensures turned { (s : FlatState) → ReplaysTo self.old s
-            → Turned S.view S.waits self.old s shares.old core (option_copied next.entry) result self.new shares.new }
-        ensures moves { (s : FlatState) (answer : Answer) → ReplaysTo self.old s → MayAct self.old s → result ≡ Ok answer
-            → StoreMoves S.makes S.view S.waits (standing_of (turn_at S.waits self.old s core (option_copied next.entry))) self.old.store self.new.store }
+            → TurnsStore S.makes S.view S.waits self.old s shares.old core (option_copied next.entry) result self.new shares.new }
         ensures grows { GrowsBy core self.old self.new shares.old shares.new }
         ensures shares { IsNoMore shares.new self.new.totals }
         ensures again { (s : FlatState) → ReplaysTo self.old s → IfAgain result (IsWhy (turn_at S.waits self.old s core (option_copied next.entry))) }
         ensures homefree { (s : FlatState) (cause : Cause) → ReplaysTo self.old s → RunsHomefree s core → result ≢ Ok (Answer.Again cause) }
         ensures over { (end : End) (s : FlatState) → result ≡ Ok (Answer.Over end) → ReplaysTo self.new s → s.end ≡ Some end }
+        ensures stopped { (cause : StopCause) → result ≡ Ok (Answer.Stopped cause) → self.old.stopped ≡ Some cause }
         ensures full { result ≡ Err TurnFault.HistoryFull → IsFull self.new }
         ensures most { length self.new.history < length self.old.history + (limits_of self.old.image.version).free_entries }
     {
@@ -178,9 +179,7 @@ impl<S: EpochStore> Book<S> {
         requires next { IfArrived self.old.image (option_copied next) }
         requires shares { IsNoMore shares.old self.old.totals }
         ensures turned { (s : FlatState) → ReplaysTo self.old s
-            → Turned S.view S.waits self.old s shares.old core (option_copied next.entry) result self.new shares.new }
-        ensures moves { (s : FlatState) (answer : Answer) → ReplaysTo self.old s → MayAct self.old s → result ≡ Ok answer
-            → StoreMoves S.makes S.view S.waits (standing_of (turn_at S.waits self.old s core (option_copied next.entry))) self.old.store self.new.store }
+            → TurnsStore S.makes S.view S.waits self.old s shares.old core (option_copied next.entry) result self.new shares.new }
         ensures most { length self.new.history < length self.old.history + (limits_of self.old.image.version).free_entries }
     {
         let inside = &mut *self.inside;

@@ -20,5 +20,5 @@ mod straight;
 pub use answer::{Answer, Cause, StopCause};
 pub use book::{Book, Loop};
 pub use fault::TurnFault;
-pub use laws::turn_is_fixed;
+pub use laws::{drive_is_fixed, turn_is_fixed};
 pub use schedule::{drive, step};

@@ -9,7 +9,7 @@ ghost use Rattle.homefree.specs.Grown.{GrowsBy};
 ghost use Rattle.homefree.specs.Held.{HaveArrived, harts_of, held_at, held_by};
 ghost use Rattle.homefree.specs.Turned.{turn_at};
 
-use crate::answer::Answer;
+use crate::answer::{Answer, StopCause};
 use crate::book::Book;
 use crate::fault::TurnFault;
 use run_ledger::Shares;
@@ -28,7 +28,7 @@ pub fn drive<S: EpochStore>(
 ) -> Result<Option<End>, TurnFault>
     requires cores { All (λ core. core < book.old.cores) schedule.now }
     requires shares { IsNoMore shares.old book.old.totals }
-    ensures driven { Driven S.view S.waits (λ _. None) (driver book.old shares.old) schedule.now result (driver book.new shares.new) }
+    ensures driven { Driven S.makes S.view S.waits (λ _. None) (driver book.old shares.old) schedule.now result (driver book.new shares.new) }
     ensures same { IsOfSameLoop book.old book.new }
     ensures shares { IsNoMore shares.new book.new.totals }
     ensures end { IfEnded result (λ end. IsInOrder book.new.image end (S.view book.new.store).committed) }
@@ -60,13 +60,14 @@ pub fn step<S: EpochStore>(
     requires core { core < book.old.cores }
     requires held { HaveArrived book.old.image held.old }
     requires shares { IsNoMore shares.old book.old.totals }
-    ensures turned { TurnedWith S.view S.waits (driver book.old shares.old) core (harts_of held.old core) result (driver book.new shares.new) }
+    ensures turned { TurnedWith S.makes S.view S.waits (driver book.old shares.old) core (harts_of held.old core) result (driver book.new shares.new) }
     ensures again { (s : FlatState) → ReplaysTo book.old s
         → IfAgain result (IsWhy (turn_at S.waits book.old s core (option_map (arrival_of book.old.image) (harts_of held.old core)))) }
     ensures grows { GrowsBy core book.old book.new shares.old shares.new }
     ensures same { IsOfSameLoop book.old book.new }
     ensures shares { IsNoMore shares.new book.new.totals }
     ensures over { (end : End) (s : FlatState) → result ≡ Ok (Answer.Over end) → ReplaysTo book.new s → s.end ≡ Some end }
+    ensures stopped { (cause : StopCause) → result ≡ Ok (Answer.Stopped cause) → book.old.stopped ≡ Some cause }
     ensures held { HaveArrived book.new.image held.new }
     ensures harts { (k : ℕ) → harts_of held.new k ≡ with_held (harts_of held.old) core (held_by result (harts_of held.old core)) k }
 {

@@ -4,11 +4,13 @@ use Rattle.std.proofs.lemmas.Bool.Decides.{nat_tests}
 use Rattle.rv32_exec.specs.Hart.{HartState}
 use Rattle.run_ledger.specs.declared.counts.Counts.{Counts}
 use Rattle.violations.specs.View.{Shape, StoreView, Waits}
+use Rattle.violations.specs.Calls.{Call}
 use Rattle.violations.specs.Rule.{shape_of}
 use Rattle.homefree.specs.declared.answer.Answer.{Answer}
 use Rattle.homefree.specs.declared.fault.TurnFault.{TurnFault}
 use Rattle.homefree.specs.BookView.{BookView}
 use Rattle.homefree.specs.Driven.{TurnedWith, arrival_of, driver, with_held}
+use Rattle.homefree.proofs.Books.Drives.{turned_at}
 use Rattle.homefree.specs.Grown.{GrowsBy}
 use Rattle.homefree.specs.InStep.{InStep}
 use Rattle.turn_steps.specs.Telling.{Follows, IsCurrent}
@@ -21,15 +23,15 @@ module _ {S H : Type 0} (view : S → StoreView) (waits : S → Waits) (fits : H
   shape : (view new.store).shape ≡ (view old.store).shape
   shape = after.shape ∙ ((λ k. shape_of (grows.image k) (grows.cores k)) ∙ sym step.shape)
 
-  pub follows : TurnedWith view waits (driver old shares) core hart answer (driver new shares') → Follows view shows store memory core old new grows.entries
+  pub follows : {makes : S → Call → S → Type 0} → TurnedWith makes view waits (driver old shares) core hart answer (driver new shares') → Follows view shows store memory core old new grows.entries
   follows turned = record {
     history = grows.history;
     leads = record {
       store_is = current.store_is;
       memory_is = current.memory_is;
       shape = shape;
-      rows = turn_keeps_rows view waits old new shares shares' core (option_map (arrival_of old.image) hart) answer grows.entries step grows.history turned;
-      committed = turn_keeps_memory view waits old new shares shares' core (option_map (arrival_of old.image) hart) answer grows.entries step grows.history turned;
+      rows = turn_keeps_rows view waits old new shares shares' core (option_map (arrival_of old.image) hart) answer grows.entries step grows.history (turned_at turned);
+      committed = turn_keeps_memory view waits old new shares shares' core (option_map (arrival_of old.image) hart) answer grows.entries step grows.history (turned_at turned);
     };
   }
 

@@ -7,6 +7,7 @@ use Rattle.rv32_exec.specs.Hart.{HartState}
 use Rattle.spec_history.specs.declared.entry.Entry.{Entry}
 use Rattle.violations.specs.declared.attempt.Attempt.{Attempt}
 use Rattle.violations.specs.View.{StoreView, Waits}
+use Rattle.violations.specs.Calls.{Call}
 use Rattle.homefree.specs.declared.answer.Answer.{Answer}
 use Rattle.homefree.specs.BookView.{BookView}
 use Rattle.homefree.specs.Driven.{Driver, EndsOrGoes, TurnedWith, held_after, with_held}
@@ -51,12 +52,12 @@ pub record IsTold {S : Type 0} (view : S → StoreView) (changes : ℕ → S →
 
 -- one turn for each number, in order, up to the first that ends the drive, counted from this number on, and none fails; the text
 -- tells each of them
-abbrev pub Stepped : {S : Type 0} → (S → StoreView) → (S → Waits) → (ℕ → S → S → List ℕ) → ℕ → (ℕ → Option HartState)
+abbrev pub Stepped : {S : Type 0} → (S → Call → S → Type 0) → (S → StoreView) → (S → Waits) → (ℕ → S → S → List ℕ) → ℕ → (ℕ → Option HartState)
     → Driver S → List ℕ → Option End → Driver S → List ℕ → Type 0
-Stepped view waits changes number held old [] end new text = (new ≡ old) × (end ≡ None) × (text ≡ [])
-Stepped {S} view waits changes number held old (core ∷ rest) end new text = (mid : Driver S) × (answer : Answer) × (first : List ℕ) × (below : List ℕ)
-    × TurnedWith view waits old core (held core) (Ok answer) mid
+Stepped makes view waits changes number held old [] end new text = (new ≡ old) × (end ≡ None) × (text ≡ [])
+Stepped {S} makes view waits changes number held old (core ∷ rest) end new text = (mid : Driver S) × (answer : Answer) × (first : List ℕ) × (below : List ℕ)
+    × TurnedWith makes view waits old core (held core) (Ok answer) mid
     × IsTold view changes number core answer (held core) old.book mid.book first
     × (text ≡ first ++ below)
     × EndsOrGoes (Ok answer) (λ r. (new ≡ mid) × (r ≡ Ok end) × (below ≡ []))
-    (λ a. Stepped view waits changes (suc number) (with_held held core (held_after a (held core))) mid rest end new below)
+    (λ a. Stepped makes view waits changes (suc number) (with_held held core (held_after a (held core))) mid rest end new below)

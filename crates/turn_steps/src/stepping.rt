@@ -39,9 +39,9 @@ pub fn drive_steps<S: ShownStore>(
     requires schedule { All (λ core. core < cores) schedule.now }
     requires shares { IsNoMore shares.old book.old.totals }
     ensures stepped { IfOk result (λ text. (end : Option LoopEnd)
-        × spec.Stepped S.view S.waits S.changes 0 (λ _. None) (driver book.old shares.old) schedule.now end (driver book.new shares.new) text.items) }
+        × spec.Stepped S.makes S.view S.waits S.changes 0 (λ _. None) (driver book.old shares.old) schedule.now end (driver book.new shares.new) text.items) }
     ensures full { result ≡ Err TurnFault.HistoryFull
-        → Driven S.view S.waits (λ _. None) (driver book.old shares.old) schedule.now (Err TurnFault.HistoryFull) (driver book.new shares.new) }
+        → Driven S.makes S.view S.waits (λ _. None) (driver book.old shares.old) schedule.now (Err TurnFault.HistoryFull) (driver book.new shares.new) }
     ensures same { IsOfSameLoop book.old book.new }
     ensures shares { IsNoMore shares.new book.new.totals }
 {
@@ -88,7 +88,7 @@ fn step_shown<S: ShownStore>(
     requires held { HaveArrived book.old.image held.old }
     requires shares { IsNoMore shares.old book.old.totals }
     requires shown { telling.IsCurrent S.view S.fits S.shows shown.old.store shown.old.memory book.old }
-    ensures turned { result ≢ Err TurnFault.NoMemory → TurnedWith S.view S.waits (driver book.old shares.old) place.core (harts_of held.old place.core) result (driver book.new shares.new) }
+    ensures turned { result ≢ Err TurnFault.NoMemory → TurnedWith S.makes S.view S.waits (driver book.old shares.old) place.core (harts_of held.old place.core) result (driver book.new shares.new) }
     ensures same { IsOfSameLoop book.old book.new }
     ensures shares { IsNoMore shares.new book.new.totals }
     ensures held { HaveArrived book.new.image held.new }

@@ -1,19 +1,24 @@
 -- The calls of the store that a turn makes.
-use Rattle.std.proofs.Common.{◌≡◌, ◌≢◌, ℕ, suc, ◌+◌, ◌==◌, ◌&&◌, not, Bool, true, false, List, [], ◌∷◌, ◌++◌, length, Option, Some, is_some, if◌then◌else◌, refl, sym, ap, subst, ◌∙◌, arith, ne_eqb, eq-eqb, true≢false}
+use Rattle.std.proofs.Common.{◌≡◌, ◌≢◌, ℕ, suc, ◌+◌, ◌==◌, ◌&&◌, not, Bool, true, false, List, [], ◌∷◌, ◌++◌, length, Option, Some, Result, Ok, is_some, if◌then◌else◌, refl, sym, ap, subst, ◌∙◌, arith, ne_eqb, eq-eqb, true≢false}
 use Rattle.rv32_image.proofs.SmallFacts.{one_value}
 use Rattle.rv32_exec.specs.Arrival.{Arrival}
+use Rattle.run_ledger.specs.declared.counts.Counts.{Counts}
 use Rattle.spec_history.specs.FlatState.{FlatState}
 use Rattle.spec_history.specs.Replay.{replay}
 use Rattle.violations.specs.View.{StoreView, Waits}
 use Rattle.violations.specs.Calls.{Call, Reserve, Cancel, Leads}
+use Rattle.homefree.specs.declared.answer.Answer.{Answer}
 use Rattle.homefree.specs.declared.answer.StopCause.{StopCause}
+use Rattle.homefree.specs.declared.fault.TurnFault.{TurnFault}
 use Rattle.homefree.specs.declared.register.Register.{Register}
 use Rattle.homefree.specs.declared.register.Running.{Running}
 use Rattle.homefree.specs.BookInside.{IsAsBefore, book_of}
+use Rattle.homefree.specs.BookView.{BookView, ReplaysTo}
+use Rattle.homefree.specs.Fixed.{TurnsStore}
 use Rattle.homefree.specs.Kept.{Fits, Shows, running_at}
 use Rattle.homefree.specs.Moves.{Moves, TurnMoves, StoreMoves, Standing, standing_of, IsHanded, cancel_calls}
 use Rattle.homefree.specs.Standing.{standing}
-use Rattle.homefree.specs.Turned.{IsStale, turn_at}
+use Rattle.homefree.specs.Turned.{IsStale, MayAct, Turned, turn_at}
 
 -- ---- lists of calls
 
@@ -93,3 +98,10 @@ module _ {S : Type 0} (makes : S → Call → S → Type 0) (view : S → StoreV
         running = (ap (λ v. running_at v.items core) same.running ∙ shows.running core) i;
         next = next;
       })
+
+-- a turn, with its calls
+pub turns_store : {S : Type 0} {makes : S → Call → S → Type 0} {view : S → StoreView} {waits : S → Waits} {old new : BookView S} {shares shares' : Counts} {core : ℕ} {next : Option Arrival}
+    {answer : Result Answer TurnFault} → ((s : FlatState) → ReplaysTo old s → Turned view waits old s shares core next answer new shares')
+    → ((s : FlatState) (a : Answer) → ReplaysTo old s → MayAct old s → answer ≡ Ok a → StoreMoves makes view waits (standing_of (turn_at waits old s core next)) old.store new.store)
+    → (s : FlatState) → ReplaysTo old s → TurnsStore makes view waits old s shares core next answer new shares'
+turns_store turned moves s replays = record { turned = turned s replays; moves = λ a may is. moves s a replays may is }

@@ -12,7 +12,7 @@ returns-in-Ok-print_survey g c =
       schedules = lists_of c.in-Ok.all.items;
       every = c.in-Ok.ensures;
       survey = survey;
-      surveys = subst (λ (l : List (Vec ℕ Global)). Surveys g.S.EpochStore.view g.S.EpochStore.waits (loop_on c.args.image.now c.args.cores c.args.room) (lists_of l) survey)
+      surveys = subst (λ (l : List (Vec ℕ Global)). Surveys g.S.EpochStore.starts g.S.EpochStore.makes g.S.EpochStore.view g.S.EpochStore.waits (loop_on c.args.image.now c.args.cores c.args.room) (lists_of l) survey)
           c.as_slice.ensures.value c.in-Ok-survey_schedules.ensures.made;
       text_is = c.in-Ok-print_survey.ensures
           ∙ ap (λ (l : List (Vec ℕ Global)). survey_text c.args.image.now (lists_of l) survey) c.as_slice-in-Ok-survey_schedules.ensures.value;

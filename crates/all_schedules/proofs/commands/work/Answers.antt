@@ -2,6 +2,7 @@ use Rattle.std.proofs.Common.{map, sym, subst}
 use Rattle.violations.specs.View.{never_waits}
 use Rattle.violations.specs.Plain as plain
 use Rattle.spec_bus.specs.Cached as caches
+use Rattle.spec_bus.specs.Laws as cache
 use Rattle.turn_steps.specs.Caches.{cached_changes}
 use Rattle.turn_steps.specs.KeptCores.{plain_changes}
 use Rattle.run_command.proofs.Outcomes.{for_text}
@@ -19,7 +20,7 @@ returns-in-Caches g c =
     let output : Stream = record { old = g.W.Write.contents c.args.writer.now; new = g.W.Write.contents c.answer.new.writer } in
     let errors : Stream = record { old = g.E.Write.contents c.args.errors.now; new = g.E.Write.contents c.answer.new.errors } in
     for_text (g.R.Read.remaining c.args.reader.now)
-    (λ text. TurnsAnswer caches.store_view caches.waits cached_changes c.args.room request.turns text input output errors c.answer.result)
+    (λ text. TurnsAnswer cache.Starts cache.Makes caches.store_view caches.waits cached_changes c.args.room request.turns text input output errors c.answer.result)
     (λ text. WorkAnswers words c.args.room text input output errors c.answer.result)
     (λ text so. request_answers words request c.args.room text input output errors c.answer.result c.in-Some.ensures.asked
     (subst (λ (s : Store). StoreAnswers s c.args.room request.turns text input output errors c.answer.result) (sym c.in-Caches.is) so)) c.answer.ensures
@@ -32,7 +33,7 @@ returns-in-Plain g c =
     let output : Stream = record { old = g.W.Write.contents c.args.writer.now; new = g.W.Write.contents c.answer-in-Plain.new.writer } in
     let errors : Stream = record { old = g.E.Write.contents c.args.errors.now; new = g.E.Write.contents c.answer-in-Plain.new.errors } in
     for_text (g.R.Read.remaining c.args.reader.now)
-    (λ text. TurnsAnswer plain.store_view (λ _. never_waits) plain_changes c.args.room request.turns text input output errors c.answer-in-Plain.result)
+    (λ text. TurnsAnswer plain.Starts plain.Makes plain.store_view (λ _. never_waits) plain_changes c.args.room request.turns text input output errors c.answer-in-Plain.result)
     (λ text. WorkAnswers words c.args.room text input output errors c.answer-in-Plain.result)
     (λ text so. request_answers words request c.args.room text input output errors c.answer-in-Plain.result c.in-Some.ensures.asked
     (subst (λ (s : Store). StoreAnswers s c.args.room request.turns text input output errors c.answer-in-Plain.result) (sym c.in-Plain.is) so)) c.answer-in-Plain.ensures

@@ -1,7 +1,7 @@
 use Rattle.std.proofs.Common.{◌≡◌, ◌∙◌, Ok, Err}
 use Rattle.homefree.specs.LockView.{loop_of}
 use Rattle.all_schedules.specs.Made.{loop_on}
-use Rattle.all_schedules.proofs.Drives.{faults, makes}
+use Rattle.all_schedules.proofs.Drives.{faults, made_history}
 use Rattle.all_schedules.proofs.driving.drive_schedule.Goals as goal
 
 pub returns-in-Ok-driven-clause-made : goal.returns-in-Ok-driven-clause-made
@@ -12,8 +12,8 @@ returns-in-Ok-driven-clause-made g c =
     (λ k. record { image = (same.image ∙ new.image) k; cores = (same.cores ∙ new.cores) k; room = (same.room ∙ new.room) k }) in record {
       loop = loop;
       result = c.in-Ok-driven.field-0;
-      makes = makes g.S.EpochStore.view g.S.EpochStore.waits c.args.image.now c.args.cores c.args.room c.args.schedule.now c.in-Ok.book c.drive-driven.new.book c.in-Ok.shares
-          c.drive-driven.new.shares (Ok c.in-Ok-driven.field-0) new.image new.cores new.room new.history new.totals new.store new.stopped new.shares loop c.look.ensures
+      makes = made_history g.S.EpochStore.starts g.S.EpochStore.makes g.S.EpochStore.view g.S.EpochStore.waits c.args.image.now c.args.cores c.args.room c.args.schedule.now c.in-Ok.book c.drive-driven.new.book c.in-Ok.shares
+          c.drive-driven.new.shares (Ok c.in-Ok-driven.field-0) new.image new.cores new.room new.history new.totals new.store new.starts new.stopped new.shares loop c.look.ensures
           c.in-Ok-driven.ensures.driven;
     }
 
@@ -23,7 +23,7 @@ returns-in-Err-clause-fault g c =
     let same = c.in-Err.ensures.same in
     let loop : loop_of c.drive-driven.new.book ≡ loop_on c.args.image.now c.args.cores c.args.room =
     (λ k. record { image = (same.image ∙ new.image) k; cores = (same.cores ∙ new.cores) k; room = (same.room ∙ new.room) k }) in
-    faults g.S.EpochStore.view g.S.EpochStore.waits c.args.image.now c.args.cores c.args.room c.args.schedule.now c.drive-driven.new.book c.in-Err.fault
-    (makes g.S.EpochStore.view g.S.EpochStore.waits c.args.image.now c.args.cores c.args.room c.args.schedule.now c.in-Ok.book c.drive-driven.new.book c.in-Ok.shares
-    c.drive-driven.new.shares (Err c.in-Err.fault) new.image new.cores new.room new.history new.totals new.store new.stopped new.shares loop c.look.ensures
+    faults g.S.EpochStore.starts g.S.EpochStore.makes g.S.EpochStore.view g.S.EpochStore.waits c.args.image.now c.args.cores c.args.room c.args.schedule.now c.drive-driven.new.book c.in-Err.fault
+    (made_history g.S.EpochStore.starts g.S.EpochStore.makes g.S.EpochStore.view g.S.EpochStore.waits c.args.image.now c.args.cores c.args.room c.args.schedule.now c.in-Ok.book c.drive-driven.new.book c.in-Ok.shares
+    c.drive-driven.new.shares (Err c.in-Err.fault) new.image new.cores new.room new.history new.totals new.store new.starts new.stopped new.shares loop c.look.ensures
     c.in-Err.ensures.driven)

@@ -6,16 +6,20 @@ use Rattle.all_schedules.proofs.paced.show_paced.Goals as goal
 
 pub returns-in-Even : goal.returns-in-Even
 returns-in-Even g c =
+    let starts = g.S.EpochStore.starts in
+    let makes = g.S.EpochStore.makes in
     let view = g.S.EpochStore.view in
     let waits = g.S.EpochStore.waits in
     let l = loop_on c.args.image.now c.args.cores c.args.room in
-    subst (λ (pace : Pace). MatchResult c.show_even.result (λ shown. IsPacedText view waits pace l shown.0 shown.1.items) (IsPacedStop view waits pace l))
+    subst (λ (pace : Pace). MatchResult c.show_even.result (λ shown. IsPacedText starts makes view waits pace l shown.0 shown.1.items) (IsPacedStop starts makes view waits pace l))
     (sym c.in-Even.is) c.show_even.ensures
 
 pub returns-in-Seeded : goal.returns-in-Seeded
 returns-in-Seeded g c =
+    let starts = g.S.EpochStore.starts in
+    let makes = g.S.EpochStore.makes in
     let view = g.S.EpochStore.view in
     let waits = g.S.EpochStore.waits in
     let l = loop_on c.args.image.now c.args.cores c.args.room in
-    subst (λ (pace : Pace). MatchResult c.show_seeded.result (λ shown. IsPacedText view waits pace l shown.0 shown.1.items) (IsPacedStop view waits pace l))
+    subst (λ (pace : Pace). MatchResult c.show_seeded.result (λ shown. IsPacedText starts makes view waits pace l shown.0 shown.1.items) (IsPacedStop starts makes view waits pace l))
     (sym c.in-Seeded.is) c.show_seeded.ensures

@@ -13,8 +13,8 @@ returns-in-Ok-driven-clause-made g c =
     (λ k. record { image = (same.image ∙ new.image) k; cores = (same.cores ∙ new.cores) k; room = (same.room ∙ new.room) k }) in record {
       loop = loop;
       result = c.in-Ok-driven.field-0;
-      makes = makes_drawn g.S.EpochStore.view g.S.EpochStore.waits c.args.image.now c.args.cores c.args.room c.args.seed c.drive_drawn-driven.new.schedule.items
-          c.in-Ok.book c.drive_drawn-driven.new.book c.in-Ok.shares c.drive_drawn-driven.new.shares new.image new.cores new.room new.history new.totals new.store new.stopped
+      makes = makes_drawn g.S.EpochStore.starts g.S.EpochStore.makes g.S.EpochStore.view g.S.EpochStore.waits c.args.image.now c.args.cores c.args.room c.args.seed c.drive_drawn-driven.new.schedule.items
+          c.in-Ok.book c.drive_drawn-driven.new.book c.in-Ok.shares c.drive_drawn-driven.new.shares new.image new.cores new.room new.history new.totals new.store new.starts new.stopped
           new.shares loop c.look.ensures (Ok c.in-Ok-driven.field-0) (run.drives (λ is. absurd cc));
     }
 
@@ -25,6 +25,6 @@ returns-in-Err-clause-fault g c =
     let same = run.same in
     let loop : loop_of c.drive_drawn-driven.new.book ≡ loop_on c.args.image.now c.args.cores c.args.room =
     (λ k. record { image = (same.image ∙ new.image) k; cores = (same.cores ∙ new.cores) k; room = (same.room ∙ new.room) k }) in
-    faults_drawn g.S.EpochStore.view g.S.EpochStore.waits c.args.image.now c.args.cores c.args.room c.args.seed c.drive_drawn-driven.new.schedule.items
-    c.in-Ok.book c.drive_drawn-driven.new.book c.in-Ok.shares c.drive_drawn-driven.new.shares new.image new.cores new.room new.history new.totals new.store new.stopped
+    faults_drawn g.S.EpochStore.starts g.S.EpochStore.makes g.S.EpochStore.view g.S.EpochStore.waits c.args.image.now c.args.cores c.args.room c.args.seed c.drive_drawn-driven.new.schedule.items
+    c.in-Ok.book c.drive_drawn-driven.new.book c.in-Ok.shares c.drive_drawn-driven.new.shares new.image new.cores new.room new.history new.totals new.store new.starts new.stopped
     new.shares loop c.look.ensures c.in-Err.fault run.drives

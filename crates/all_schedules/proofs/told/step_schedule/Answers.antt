@@ -5,7 +5,7 @@ use Rattle.homefree.specs.Driven.{driver}
 use Rattle.homefree.specs.LockView.{loop_of}
 use Rattle.turn_steps.specs.Stepped.{Stepped}
 use Rattle.all_schedules.specs.Made.{loop_on}
-use Rattle.all_schedules.proofs.Drives.{makes}
+use Rattle.all_schedules.proofs.Drives.{made_history}
 use Rattle.all_schedules.proofs.Telling.{driven_by, told_fault}
 use Rattle.all_schedules.proofs.told.step_schedule.Goals as goal
 
@@ -18,9 +18,9 @@ returns-clause-made g c =
     (λ k. record { image = (same.image ∙ new.image) k; cores = (same.cores ∙ new.cores) k; room = (same.room ∙ new.room) k }) in record {
       loop = loop;
       result = run.stepped.0;
-      makes = makes g.S.EpochStore.view g.S.EpochStore.waits c.args.image.now c.args.cores c.args.room c.args.schedule.now c.in-Ok.book c.drive_steps-stepped.new.book c.in-Ok.shares
-          c.drive_steps-stepped.new.shares (Ok run.stepped.0) new.image new.cores new.room new.history new.totals new.store new.stopped new.shares loop c.look.ensures
-          (driven_by g.S.EpochStore.view g.S.EpochStore.waits g.S.ShownStore.changes (driver c.in-Ok.book c.in-Ok.shares) c.args.schedule.now run.stepped.0
+      makes = made_history g.S.EpochStore.starts g.S.EpochStore.makes g.S.EpochStore.view g.S.EpochStore.waits c.args.image.now c.args.cores c.args.room c.args.schedule.now c.in-Ok.book c.drive_steps-stepped.new.book c.in-Ok.shares
+          c.drive_steps-stepped.new.shares (Ok run.stepped.0) new.image new.cores new.room new.history new.totals new.store new.starts new.stopped new.shares loop c.look.ensures
+          (driven_by g.S.EpochStore.makes g.S.EpochStore.view g.S.EpochStore.waits g.S.ShownStore.changes (driver c.in-Ok.book c.in-Ok.shares) c.args.schedule.now run.stepped.0
           (driver c.drive_steps-stepped.new.book c.drive_steps-stepped.new.shares) c.in-Ok-stepped.text.items run.stepped.1);
     }
 
@@ -38,9 +38,10 @@ returns-clause-head g c =
           history = new.history;
           totals = new.totals;
           store = new.store;
+          started = new.starts;
           stopped = new.stopped;
         };
-        stepped = subst (λ (counts : Counts). Stepped g.S.EpochStore.view g.S.EpochStore.waits g.S.ShownStore.changes 0 (λ _. None) (driver c.in-Ok.book counts) c.args.schedule.now run.stepped.0
+        stepped = subst (λ (counts : Counts). Stepped g.S.EpochStore.makes g.S.EpochStore.view g.S.EpochStore.waits g.S.ShownStore.changes 0 (λ _. None) (driver c.in-Ok.book counts) c.args.schedule.now run.stepped.0
             (driver c.drive_steps-stepped.new.book c.drive_steps-stepped.new.shares) c.in-Ok-stepped.text.items) new.shares run.stepped.1;
         history_is = refl;
       },
@@ -54,7 +55,7 @@ returns-in-Err-clause-fault g c =
     let same = run.same in
     let loop : loop_of c.drive_steps-stepped.new.book ≡ loop_on c.args.image.now c.args.cores c.args.room =
     (λ k. record { image = (same.image ∙ new.image) k; cores = (same.cores ∙ new.cores) k; room = (same.room ∙ new.room) k }) in
-    told_fault g.S.EpochStore.view g.S.EpochStore.waits (loop_on c.args.image.now c.args.cores c.args.room) c.args.schedule.now c.drive_steps-stepped.new.book.history c.in-Err.fault
-    (λ full. makes g.S.EpochStore.view g.S.EpochStore.waits c.args.image.now c.args.cores c.args.room c.args.schedule.now c.in-Ok.book c.drive_steps-stepped.new.book c.in-Ok.shares
-    c.drive_steps-stepped.new.shares (Err HistoryFull) new.image new.cores new.room new.history new.totals new.store new.stopped new.shares loop c.look.ensures
+    told_fault g.S.EpochStore.starts g.S.EpochStore.makes g.S.EpochStore.view g.S.EpochStore.waits (loop_on c.args.image.now c.args.cores c.args.room) c.args.schedule.now c.drive_steps-stepped.new.book.history c.in-Err.fault
+    (λ full. made_history g.S.EpochStore.starts g.S.EpochStore.makes g.S.EpochStore.view g.S.EpochStore.waits c.args.image.now c.args.cores c.args.room c.args.schedule.now c.in-Ok.book c.drive_steps-stepped.new.book c.in-Ok.shares
+    c.drive_steps-stepped.new.shares (Err HistoryFull) new.image new.cores new.room new.history new.totals new.store new.starts new.stopped new.shares loop c.look.ensures
     (run.full (ap Err full)))

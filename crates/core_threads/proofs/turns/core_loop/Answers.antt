@@ -30,9 +30,9 @@ loop-preserved-in-Waits g c = (
   c.one_turn-later.ensures.counted,
   c.loop.invariant.2,
   λ n q shares end rest. c.loop.invariant.3 (suc n) q shares end
-      (one_more g.S.EpochStore.view g.S.EpochStore.waits c.args.lock.now.fixed c.args.pass.lo c.loop.pass c.one_turn-later.result.0 q c.loop.shares c.one_turn-later.new.shares shares c.loop.next
+      (one_more g.S.EpochStore.makes g.S.EpochStore.view g.S.EpochStore.waits c.args.lock.now.fixed c.args.pass.lo c.loop.pass c.one_turn-later.result.0 q c.loop.shares c.one_turn-later.new.shares shares c.loop.next
       c.loop.hart c.one_turn-later.new.hart c.one_turn-later.result.1 end
-      (its_turn g.S.EpochStore.view g.S.EpochStore.waits c.args.lock.now.fixed c.loop.pass.lo c.args.pass.lo c.loop.pass c.one_turn-later.result.0 c.loop.shares c.one_turn-later.new.shares
+      (its_turn g.S.EpochStore.makes g.S.EpochStore.view g.S.EpochStore.waits c.args.lock.now.fixed c.loop.pass.lo c.args.pass.lo c.loop.pass c.one_turn-later.result.0 c.loop.shares c.one_turn-later.new.shares
       (option_copied c.as_ref.result) c.loop.next c.loop.hart c.one_turn-later.new.hart c.one_turn-later.result.1 c.loop.invariant.0.lo c.as_ref.ensures.value
       (c.one_turn-later.ensures.turn (isnt_waits c.one_turn-later.result.1 loop.Spent c.in-Waits.is)))
       n _ (λ e. isnt_waits c.one_turn-later.result.1 e c.in-Waits.is) (ap (λ (a : After). hand_after c.args.lock.now.fixed.image a c.one_turn-later.new.hart c.loop.next) (sym c.in-Waits.is)) rest),
@@ -44,9 +44,9 @@ loop-preserved g c = (
   c.one_turn-later.ensures.counted,
   tt,
   λ n q shares end rest. c.loop.invariant.3 (suc n) q shares end
-      (one_more g.S.EpochStore.view g.S.EpochStore.waits c.args.lock.now.fixed c.args.pass.lo c.loop.pass c.one_turn-later.result.0 q c.loop.shares c.one_turn-later.new.shares shares c.loop.next
+      (one_more g.S.EpochStore.makes g.S.EpochStore.view g.S.EpochStore.waits c.args.lock.now.fixed c.args.pass.lo c.loop.pass c.one_turn-later.result.0 q c.loop.shares c.one_turn-later.new.shares shares c.loop.next
       c.loop.hart c.one_turn-later.new.hart c.one_turn-later.result.1 end
-      (its_turn g.S.EpochStore.view g.S.EpochStore.waits c.args.lock.now.fixed c.loop.pass.lo c.args.pass.lo c.loop.pass c.one_turn-later.result.0 c.loop.shares c.one_turn-later.new.shares
+      (its_turn g.S.EpochStore.makes g.S.EpochStore.view g.S.EpochStore.waits c.args.lock.now.fixed c.loop.pass.lo c.args.pass.lo c.loop.pass c.one_turn-later.result.0 c.loop.shares c.one_turn-later.new.shares
       (option_copied c.as_ref.result) c.loop.next c.loop.hart c.one_turn-later.new.hart c.one_turn-later.result.1 c.loop.invariant.0.lo c.as_ref.ensures.value
       (c.one_turn-later.ensures.turn (isnt_leaves c.one_turn-later.result.1 loop.Spent c.in-Leaves.is)))
       n _ (λ e. isnt_leaves c.one_turn-later.result.1 e c.in-Leaves.is) (ap (λ (a : After). hand_after c.args.lock.now.fixed.image a c.one_turn-later.new.hart c.loop.next) (sym c.in-Leaves.is)) rest),
@@ -58,9 +58,9 @@ loop-preserved-in-Some-next g c = (
   c.one_turn-later.ensures.counted,
   arrived_at c.args.lock.now.fixed.image c.args.image.now c.one_turn-later.new.hart c.advance_from.new.self c.requires.image c.advance_from.ensures.base c.advance_from.ensures.now c.advance_from.ensures.at,
   λ n q shares end rest. c.loop.invariant.3 (suc n) q shares end
-      (one_more g.S.EpochStore.view g.S.EpochStore.waits c.args.lock.now.fixed c.args.pass.lo c.loop.pass c.one_turn-later.result.0 q c.loop.shares c.one_turn-later.new.shares shares c.loop.next
+      (one_more g.S.EpochStore.makes g.S.EpochStore.view g.S.EpochStore.waits c.args.lock.now.fixed c.args.pass.lo c.loop.pass c.one_turn-later.result.0 q c.loop.shares c.one_turn-later.new.shares shares c.loop.next
       c.loop.hart c.one_turn-later.new.hart c.one_turn-later.result.1 end
-      (its_turn g.S.EpochStore.view g.S.EpochStore.waits c.args.lock.now.fixed c.loop.pass.lo c.args.pass.lo c.loop.pass c.one_turn-later.result.0 c.loop.shares c.one_turn-later.new.shares
+      (its_turn g.S.EpochStore.makes g.S.EpochStore.view g.S.EpochStore.waits c.args.lock.now.fixed c.loop.pass.lo c.args.pass.lo c.loop.pass c.one_turn-later.result.0 c.loop.shares c.one_turn-later.new.shares
       (option_copied c.as_ref.result) c.loop.next c.loop.hart c.one_turn-later.new.hart c.one_turn-later.result.1 c.loop.invariant.0.lo c.as_ref.ensures.value
       (c.one_turn-later.ensures.turn (isnt_goes c.one_turn-later.result.1 loop.Spent c.in-Goes.is)))
       n _ (λ e. isnt_goes c.one_turn-later.result.1 e c.in-Goes.is) (ap Some (arrival_is c.args.lock.now.fixed.image c.args.image.now c.one_turn-later.new.hart c.advance_from.new.self c.requires.image c.advance_from.ensures.base c.advance_from.ensures.now c.advance_from.ensures.at)
@@ -73,9 +73,9 @@ loop-preserved-in-None-next g c = (
   c.one_turn-later.ensures.counted,
   arrived_at c.args.lock.now.fixed.image c.args.image.now c.one_turn-later.new.hart c.advance.result c.requires.image c.advance.ensures.base c.advance.ensures.now c.advance.ensures.at,
   λ n q shares end rest. c.loop.invariant.3 (suc n) q shares end
-      (one_more g.S.EpochStore.view g.S.EpochStore.waits c.args.lock.now.fixed c.args.pass.lo c.loop.pass c.one_turn-later.result.0 q c.loop.shares c.one_turn-later.new.shares shares c.loop.next
+      (one_more g.S.EpochStore.makes g.S.EpochStore.view g.S.EpochStore.waits c.args.lock.now.fixed c.args.pass.lo c.loop.pass c.one_turn-later.result.0 q c.loop.shares c.one_turn-later.new.shares shares c.loop.next
       c.loop.hart c.one_turn-later.new.hart c.one_turn-later.result.1 end
-      (its_turn g.S.EpochStore.view g.S.EpochStore.waits c.args.lock.now.fixed c.loop.pass.lo c.args.pass.lo c.loop.pass c.one_turn-later.result.0 c.loop.shares c.one_turn-later.new.shares
+      (its_turn g.S.EpochStore.makes g.S.EpochStore.view g.S.EpochStore.waits c.args.lock.now.fixed c.loop.pass.lo c.args.pass.lo c.loop.pass c.one_turn-later.result.0 c.loop.shares c.one_turn-later.new.shares
       (option_copied c.as_ref.result) c.loop.next c.loop.hart c.one_turn-later.new.hart c.one_turn-later.result.1 c.loop.invariant.0.lo c.as_ref.ensures.value
       (c.one_turn-later.ensures.turn (isnt_goes c.one_turn-later.result.1 loop.Spent c.in-Goes.is)))
       n _ (λ e. isnt_goes c.one_turn-later.result.1 e c.in-Goes.is) (ap Some (arrival_is c.args.lock.now.fixed.image c.args.image.now c.one_turn-later.new.hart c.advance.result c.requires.image c.advance.ensures.base c.advance.ensures.now c.advance.ensures.at)
@@ -94,7 +94,7 @@ returns-in-Ends-clause-spent g c = λ is. ap (λ (k : Knows). k.out) (c.one_turn
 pub returns-in-Ends-clause-turns : goal.returns-in-Ends-clause-turns
 returns-in-Ends-clause-turns g c =
     c.loop.invariant.3 (turn_count c.in-Ends.end) c.one_turn-later.result.0 c.one_turn-later.new.shares c.in-Ends.end
-    (ends_by g.S.EpochStore.view g.S.EpochStore.waits c.args.lock.now.fixed c.args.pass.lo c.loop.pass c.one_turn-later.result.0 c.loop.shares c.one_turn-later.new.shares c.loop.next
+    (ends_by g.S.EpochStore.makes g.S.EpochStore.view g.S.EpochStore.waits c.args.lock.now.fixed c.args.pass.lo c.loop.pass c.one_turn-later.result.0 c.loop.shares c.one_turn-later.new.shares c.loop.next
     c.loop.hart c.one_turn-later.new.hart c.one_turn-later.result.1 c.in-Ends.end c.in-Ends.is c.one_turn-later.ensures.none
-    (λ on. its_turn g.S.EpochStore.view g.S.EpochStore.waits c.args.lock.now.fixed c.loop.pass.lo c.args.pass.lo c.loop.pass c.one_turn-later.result.0 c.loop.shares c.one_turn-later.new.shares
+    (λ on. its_turn g.S.EpochStore.makes g.S.EpochStore.view g.S.EpochStore.waits c.args.lock.now.fixed c.loop.pass.lo c.args.pass.lo c.loop.pass c.one_turn-later.result.0 c.loop.shares c.one_turn-later.new.shares
     (option_copied c.as_ref.result) c.loop.next c.loop.hart c.one_turn-later.new.hart c.one_turn-later.result.1 c.loop.invariant.0.lo c.as_ref.ensures.value (c.one_turn-later.ensures.turn on)))

@@ -11,5 +11,5 @@ use Rattle.core_threads.proofs.turns.core_loop.Given as goal
 abbrev pub invariant-loop : goal.invariant-loop
 invariant-loop g l = IsLater l.initial.pass l.pass × IsCounted l.pass l.shares × IfArrived l.lock.fixed.image l.next
     × ((n : ℕ) (q : Knows) (shares : Counts) (end : LoopEnd)
-    → TakesTurns g.S.EpochStore.view g.S.EpochStore.waits l.lock.fixed l.initial.pass.lo n l.pass l.shares l.next q shares end
-    → (m : ℕ) × TakesTurns g.S.EpochStore.view g.S.EpochStore.waits l.lock.fixed l.initial.pass.lo m l.initial.pass l.initial.shares None q shares end)
+    → TakesTurns g.S.EpochStore.makes g.S.EpochStore.view g.S.EpochStore.waits l.lock.fixed l.initial.pass.lo n l.pass l.shares l.next q shares end
+    → (m : ℕ) × TakesTurns g.S.EpochStore.makes g.S.EpochStore.view g.S.EpochStore.waits l.lock.fixed l.initial.pass.lo m l.initial.pass l.initial.shares None q shares end)

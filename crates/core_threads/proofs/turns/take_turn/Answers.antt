@@ -6,7 +6,7 @@ use Rattle.core_threads.proofs.turns.take_turn.Goals as goal
 
 pub returns-in-Ok-clause-takes : goal.returns-in-Ok-clause-takes
 returns-in-Ok-clause-takes g c = λ s replays.
-    takes_answer g.S.EpochStore.view g.S.EpochStore.waits c.args.book.now c.turn-turned.new.self s c.args.core _ c.args.shares.now c.turn-turned.new.shares c.turn-turned.result (c.turn-turned.ensures.turned s replays)
+    takes_answer g.S.EpochStore.makes g.S.EpochStore.view g.S.EpochStore.waits c.args.book.now c.turn-turned.new.self s c.args.core _ c.args.shares.now c.turn-turned.new.shares c.turn-turned.result (c.turn-turned.ensures.turned s replays)
     c.args.hart.now c.goes_on.new.hart c.goes_on.result c.in-Ok.answer c.in-Ok.is c.goes_on.ensures.after c.goes_on.ensures.hart
 
 pub returns-in-Ok-clause-over : goal.returns-in-Ok-clause-over
@@ -20,19 +20,19 @@ returns-in-Ok-clause-stopped g c = λ is.
     let i = c.look.ensures in
     let stopped = stopped_answer _ (sym c.goes_on.ensures.after ∙ is) in
     stopped_going g.S.EpochStore.view g.S.EpochStore.waits c.args.book.now c.turn-turned.new.self i.state c.args.core _ c.args.shares.now c.turn-turned.new.shares c.turn-turned.result stopped.0 i.replays
-    (c.turn-turned.ensures.turned i.state i.replays) (c.in-Ok.is ∙ ap Ok stopped.1)
+    (c.turn-turned.ensures.turned i.state i.replays).turned (c.in-Ok.is ∙ ap Ok stopped.1)
 
 pub returns-in-Err-clause-takes : goal.returns-in-Err-clause-takes
 returns-in-Err-clause-takes g c = λ s replays.
     let t = c.turn-turned.ensures.turned s replays in
-    let f = failed g.S.EpochStore.view g.S.EpochStore.waits c.args.book.now c.turn-turned.new.self s c.args.core _ c.args.shares.now c.turn-turned.new.shares c.turn-turned.result c.in-Err.fault replays t c.in-Err.is in
-    takes_fault g.S.EpochStore.view g.S.EpochStore.waits c.args.book.now c.turn-turned.new.self c.stop_for.new.book s c.args.core _ c.args.shares.now c.turn-turned.new.shares c.args.hart.now c.args.hart.now _ c.turn-turned.result c.in-Err.fault t c.in-Err.is
+    let f = failed g.S.EpochStore.view g.S.EpochStore.waits c.args.book.now c.turn-turned.new.self s c.args.core _ c.args.shares.now c.turn-turned.new.shares c.turn-turned.result c.in-Err.fault replays t.turned c.in-Err.is in
+    takes_fault g.S.EpochStore.makes g.S.EpochStore.view g.S.EpochStore.waits c.args.book.now c.turn-turned.new.self c.stop_for.new.book s c.args.core _ c.args.shares.now c.turn-turned.new.shares c.args.hart.now c.args.hart.now _ c.turn-turned.result c.in-Err.fault t c.in-Err.is
     (stopped_so c.turn-turned.new.self c.stop_for.new.book s (cause_for c.in-Err.fault) f (c.stop_for.ensures.book s f.replays)) refl refl
 
 pub returns-in-Err-clause-stopped : goal.returns-in-Err-clause-stopped
 returns-in-Err-clause-stopped g c = λ is.
     let i = c.look.ensures in
     let t = c.turn-turned.ensures.turned i.state i.replays in
-    let f = failed g.S.EpochStore.view g.S.EpochStore.waits c.args.book.now c.turn-turned.new.self i.state c.args.core _ c.args.shares.now c.turn-turned.new.shares c.turn-turned.result c.in-Err.fault i.replays t c.in-Err.is in
+    let f = failed g.S.EpochStore.view g.S.EpochStore.waits c.args.book.now c.turn-turned.new.self i.state c.args.core _ c.args.shares.now c.turn-turned.new.shares c.turn-turned.result c.in-Err.fault i.replays t.turned c.in-Err.is in
     going_stopped c.turn-turned.new.self c.stop_for.new.book i.state (cause_for c.in-Err.fault) f
     (stopped_so c.turn-turned.new.self c.stop_for.new.book i.state (cause_for c.in-Err.fault) f (c.stop_for.ensures.book i.state f.replays))

@@ -64,7 +64,7 @@ loop-taken-init g c = record {
   shares = c.requires.shares;
   sound = all_first c.args.book.now.cores c.in-Ok.clocks.items (c.in-Ok.ensures.count ∙ sym c.requires.book.1)
       (omega (arith, c.look.ensures.core_count.most, most_few c.args.book.now.image.version)) c.in-Ok.ensures.first;
-  drives = at_start g.S.EpochStore.view g.S.EpochStore.waits
+  drives = at_start g.S.EpochStore.makes g.S.EpochStore.view g.S.EpochStore.waits
       (record { held = harts_of (None ∷ None ∷ None ∷ None ∷ None ∷ None ∷ None ∷ None ∷ None ∷ None ∷ None ∷ None ∷ None ∷ None ∷ None ∷ None ∷ []); clocks = clock_at c.in-Ok.clocks.items })
       (driver c.args.book.now c.args.shares.now) c.args.schedule.now.items (λ k. ap (λ f. f k) (no_harts 16)) c.in-Ok.ensures.first c.requires.schedule;
   timed = λ none. (
@@ -83,19 +83,19 @@ loop-taken-init g c = record {
 
 pub returns-in_default-next_turn-clause-evenly : goal.returns-in_default-next_turn-clause-evenly
 returns-in_default-next_turn-clause-evenly g c =
-    (no_more g.S.EpochStore.view g.S.EpochStore.waits at_first (record { held = harts_of c.loop-taken.held; clocks = clock_at c.loop-taken.clocks.items })
+    (no_more g.S.EpochStore.makes g.S.EpochStore.view g.S.EpochStore.waits at_first (record { held = harts_of c.loop-taken.held; clocks = clock_at c.loop-taken.clocks.items })
     (driver c.args.book.now c.args.shares.now) (driver c.loop-taken.book c.loop-taken.shares) c.loop-taken.schedule.items c.loop-taken.invariant.drives)
 
 pub returns-in_default-next_turn-clause-driven : goal.returns-in_default-next_turn-clause-driven
 returns-in_default-next_turn-clause-driven g c =
-    is_driven g.S.EpochStore.view g.S.EpochStore.waits at_first (driver c.args.book.now c.args.shares.now) (driver c.loop-taken.book c.loop-taken.shares) c.loop-taken.schedule.items (Ok None)
-    (no_more g.S.EpochStore.view g.S.EpochStore.waits at_first (record { held = harts_of c.loop-taken.held; clocks = clock_at c.loop-taken.clocks.items })
+    is_driven g.S.EpochStore.makes g.S.EpochStore.view g.S.EpochStore.waits at_first (driver c.args.book.now c.args.shares.now) (driver c.loop-taken.book c.loop-taken.shares) c.loop-taken.schedule.items (Ok None)
+    (no_more g.S.EpochStore.makes g.S.EpochStore.view g.S.EpochStore.waits at_first (record { held = harts_of c.loop-taken.held; clocks = clock_at c.loop-taken.clocks.items })
     (driver c.args.book.now c.args.shares.now) (driver c.loop-taken.book c.loop-taken.shares) c.loop-taken.schedule.items c.loop-taken.invariant.drives)
 
 pub returns-in_err-answer-clause-evenly : goal.returns-in_err-answer-clause-evenly
 returns-in_err-answer-clause-evenly g c =
     let p = err_from_is_err_and c.from_residual.result c.from_residual.ensures.1 in
-    rw (p.1, p.2) (ends_fault g.S.EpochStore.view g.S.EpochStore.waits at_first (record { held = harts_of c.loop-taken.held; clocks = clock_at c.loop-taken.clocks.items }) (driver c.args.book.now c.args.shares.now)
+    rw (p.1, p.2) (ends_fault g.S.EpochStore.makes g.S.EpochStore.view g.S.EpochStore.waits at_first (record { held = harts_of c.loop-taken.held; clocks = clock_at c.loop-taken.clocks.items }) (driver c.args.book.now c.args.shares.now)
     (driver c.loop-taken.book c.loop-taken.shares) (driver c.step.new.book c.step.new.shares) c.loop-taken.schedule.items c.push.new.self.items c.in-Some.turn c.loop-taken.invariant.drives
     (first_of c.loop-taken.clocks.items c.loop-taken.book.cores c.in-Some.turn c.loop-taken.invariant.sound.count c.in-Some.ensures) c.in-Ok-push.ensures.items
     c.in_err-answer.field-0.0 c.in_err-answer.ensures.turned)
@@ -103,8 +103,8 @@ returns-in_err-answer-clause-evenly g c =
 pub returns-in_err-answer-clause-driven : goal.returns-in_err-answer-clause-driven
 returns-in_err-answer-clause-driven g c =
     let p = err_from_is_err_and c.from_residual.result c.from_residual.ensures.1 in
-    rw (p.1, p.2) (unless_driven g.S.EpochStore.view g.S.EpochStore.waits at_first (driver c.args.book.now c.args.shares.now) (driver c.step.new.book c.step.new.shares) c.push.new.self.items (Err c.in_err-answer.field-0.0)
-    (ends_fault g.S.EpochStore.view g.S.EpochStore.waits at_first (record { held = harts_of c.loop-taken.held; clocks = clock_at c.loop-taken.clocks.items }) (driver c.args.book.now c.args.shares.now)
+    rw (p.1, p.2) (unless_driven g.S.EpochStore.makes g.S.EpochStore.view g.S.EpochStore.waits at_first (driver c.args.book.now c.args.shares.now) (driver c.step.new.book c.step.new.shares) c.push.new.self.items (Err c.in_err-answer.field-0.0)
+    (ends_fault g.S.EpochStore.makes g.S.EpochStore.view g.S.EpochStore.waits at_first (record { held = harts_of c.loop-taken.held; clocks = clock_at c.loop-taken.clocks.items }) (driver c.args.book.now c.args.shares.now)
     (driver c.loop-taken.book c.loop-taken.shares) (driver c.step.new.book c.step.new.shares) c.loop-taken.schedule.items c.push.new.self.items c.in-Some.turn c.loop-taken.invariant.drives
     (first_of c.loop-taken.clocks.items c.loop-taken.book.cores c.in-Some.turn c.loop-taken.invariant.sound.count c.in-Some.ensures) c.in-Ok-push.ensures.items
     c.in_err-answer.field-0.0 c.in_err-answer.ensures.turned))
@@ -120,7 +120,7 @@ account_of-account-requires-clause-sound g c =
 
 pub returns-in-Over-clause-evenly : goal.returns-in-Over-clause-evenly
 returns-in-Over-clause-evenly g c =
-    (ends_over g.S.EpochStore.view g.S.EpochStore.waits at_first (record { held = harts_of c.loop-taken.held; clocks = clock_at c.loop-taken.clocks.items }) (driver c.args.book.now c.args.shares.now)
+    (ends_over g.S.EpochStore.makes g.S.EpochStore.view g.S.EpochStore.waits at_first (record { held = harts_of c.loop-taken.held; clocks = clock_at c.loop-taken.clocks.items }) (driver c.args.book.now c.args.shares.now)
     (driver c.loop-taken.book c.loop-taken.shares) (driver c.step.new.book c.step.new.shares) c.loop-taken.schedule.items c.push.new.self.items c.in-Some.turn c.loop-taken.invariant.drives
     (first_of c.loop-taken.clocks.items c.loop-taken.book.cores c.in-Some.turn c.loop-taken.invariant.sound.count c.in-Some.ensures) c.in-Ok-push.ensures.items
     c.in_ok-answer.answer c.in-Over.end (clock_at c.set_clock.new.clocks.items) c.account_of-account.result c.in-Over.is
@@ -135,9 +135,9 @@ returns-in-Over-clause-evenly g c =
 
 pub returns-in-Over-clause-driven : goal.returns-in-Over-clause-driven
 returns-in-Over-clause-driven g c =
-    is_driven g.S.EpochStore.view g.S.EpochStore.waits at_first (driver c.args.book.now c.args.shares.now) (driver c.step.new.book c.step.new.shares) c.push.new.self.items
+    is_driven g.S.EpochStore.makes g.S.EpochStore.view g.S.EpochStore.waits at_first (driver c.args.book.now c.args.shares.now) (driver c.step.new.book c.step.new.shares) c.push.new.self.items
     (Ok (Some (record { end = c.in-Over.end; steps = c.in-Some.turn.at + 1; account = c.account_of-account.result })))
-    (ends_over g.S.EpochStore.view g.S.EpochStore.waits at_first (record { held = harts_of c.loop-taken.held; clocks = clock_at c.loop-taken.clocks.items }) (driver c.args.book.now c.args.shares.now)
+    (ends_over g.S.EpochStore.makes g.S.EpochStore.view g.S.EpochStore.waits at_first (record { held = harts_of c.loop-taken.held; clocks = clock_at c.loop-taken.clocks.items }) (driver c.args.book.now c.args.shares.now)
     (driver c.loop-taken.book c.loop-taken.shares) (driver c.step.new.book c.step.new.shares) c.loop-taken.schedule.items c.push.new.self.items c.in-Some.turn c.loop-taken.invariant.drives
     (first_of c.loop-taken.clocks.items c.loop-taken.book.cores c.in-Some.turn c.loop-taken.invariant.sound.count c.in-Some.ensures) c.in-Ok-push.ensures.items
     c.in_ok-answer.answer c.in-Over.end (clock_at c.set_clock.new.clocks.items) c.account_of-account.result c.in-Over.is
@@ -186,15 +186,15 @@ returns-in-Over-clause-accounts g c =
 
 pub returns-in-Stopped-clause-evenly : goal.returns-in-Stopped-clause-evenly
 returns-in-Stopped-clause-evenly g c =
-    ends_stopped g.S.EpochStore.view g.S.EpochStore.waits at_first (record { held = harts_of c.loop-taken.held; clocks = clock_at c.loop-taken.clocks.items }) (driver c.args.book.now c.args.shares.now)
+    ends_stopped g.S.EpochStore.makes g.S.EpochStore.view g.S.EpochStore.waits at_first (record { held = harts_of c.loop-taken.held; clocks = clock_at c.loop-taken.clocks.items }) (driver c.args.book.now c.args.shares.now)
     (driver c.loop-taken.book c.loop-taken.shares) (driver c.step.new.book c.step.new.shares) c.loop-taken.schedule.items c.push.new.self.items c.in-Some.turn c.loop-taken.invariant.drives
     (first_of c.loop-taken.clocks.items c.loop-taken.book.cores c.in-Some.turn c.loop-taken.invariant.sound.count c.in-Some.ensures) c.in-Ok-push.ensures.items
     c.in_ok-answer.answer c.in-Stopped.field-0 c.in-Stopped.is c.in_ok-answer.ensures.turned
 
 pub returns-in-Stopped-clause-driven : goal.returns-in-Stopped-clause-driven
 returns-in-Stopped-clause-driven g c =
-    is_driven g.S.EpochStore.view g.S.EpochStore.waits at_first (driver c.args.book.now c.args.shares.now) (driver c.step.new.book c.step.new.shares) c.push.new.self.items (Ok None)
-    (ends_stopped g.S.EpochStore.view g.S.EpochStore.waits at_first (record { held = harts_of c.loop-taken.held; clocks = clock_at c.loop-taken.clocks.items }) (driver c.args.book.now c.args.shares.now)
+    is_driven g.S.EpochStore.makes g.S.EpochStore.view g.S.EpochStore.waits at_first (driver c.args.book.now c.args.shares.now) (driver c.step.new.book c.step.new.shares) c.push.new.self.items (Ok None)
+    (ends_stopped g.S.EpochStore.makes g.S.EpochStore.view g.S.EpochStore.waits at_first (record { held = harts_of c.loop-taken.held; clocks = clock_at c.loop-taken.clocks.items }) (driver c.args.book.now c.args.shares.now)
     (driver c.loop-taken.book c.loop-taken.shares) (driver c.step.new.book c.step.new.shares) c.loop-taken.schedule.items c.push.new.self.items c.in-Some.turn c.loop-taken.invariant.drives
     (first_of c.loop-taken.clocks.items c.loop-taken.book.cores c.in-Some.turn c.loop-taken.invariant.sound.count c.in-Some.ensures) c.in-Ok-push.ensures.items
     c.in_ok-answer.answer c.in-Stopped.field-0 c.in-Stopped.is c.in_ok-answer.ensures.turned)
@@ -260,7 +260,7 @@ loop-taken-preserved g c =
       held = c.step.ensures.held;
       shares = c.step.ensures.shares;
       sound = subst (λ n. AreSound (c.loop-taken._taken + 1) n c.match-answer.clocks.items) (sym same.cores) on.sound;
-      drives = goes_on g.S.EpochStore.view g.S.EpochStore.waits at_first (record { held = harts_of c.loop-taken.held; clocks = clock_at c.loop-taken.clocks.items }) (driver c.args.book.now c.args.shares.now)
+      drives = goes_on g.S.EpochStore.makes g.S.EpochStore.view g.S.EpochStore.waits at_first (record { held = harts_of c.loop-taken.held; clocks = clock_at c.loop-taken.clocks.items }) (driver c.args.book.now c.args.shares.now)
           (driver c.loop-taken.book c.loop-taken.shares) (driver c.step.new.book c.step.new.shares) c.loop-taken.schedule.items c.push.new.self.items c.in-Some.turn c.loop-taken.invariant.drives
           (first_of c.loop-taken.clocks.items c.loop-taken.book.cores c.in-Some.turn c.loop-taken.invariant.sound.count c.in-Some.ensures) c.in-Ok-push.ensures.items
           c.in_ok-answer.answer (record { held = harts_of c.step.new.held; clocks = clock_at c.match-answer.clocks.items }) on.going on.unstopped c.in_ok-answer.ensures.harts on.are
@@ -298,13 +298,13 @@ loop-taken-preserved g c =
 
 pub returns-clause-evenly : goal.returns-clause-evenly
 returns-clause-evenly g c =
-    (no_more g.S.EpochStore.view g.S.EpochStore.waits at_first (record { held = harts_of c.loop-taken.held; clocks = clock_at c.loop-taken.clocks.items })
+    (no_more g.S.EpochStore.makes g.S.EpochStore.view g.S.EpochStore.waits at_first (record { held = harts_of c.loop-taken.held; clocks = clock_at c.loop-taken.clocks.items })
     (driver c.args.book.now c.args.shares.now) (driver c.loop-taken.book c.loop-taken.shares) c.loop-taken.schedule.items c.loop-taken.invariant.drives)
 
 pub returns-clause-driven : goal.returns-clause-driven
 returns-clause-driven g c =
-    is_driven g.S.EpochStore.view g.S.EpochStore.waits at_first (driver c.args.book.now c.args.shares.now) (driver c.loop-taken.book c.loop-taken.shares) c.loop-taken.schedule.items (Ok None)
-    (no_more g.S.EpochStore.view g.S.EpochStore.waits at_first (record { held = harts_of c.loop-taken.held; clocks = clock_at c.loop-taken.clocks.items })
+    is_driven g.S.EpochStore.makes g.S.EpochStore.view g.S.EpochStore.waits at_first (driver c.args.book.now c.args.shares.now) (driver c.loop-taken.book c.loop-taken.shares) c.loop-taken.schedule.items (Ok None)
+    (no_more g.S.EpochStore.makes g.S.EpochStore.view g.S.EpochStore.waits at_first (record { held = harts_of c.loop-taken.held; clocks = clock_at c.loop-taken.clocks.items })
     (driver c.args.book.now c.args.shares.now) (driver c.loop-taken.book c.loop-taken.shares) c.loop-taken.schedule.items c.loop-taken.invariant.drives)
 
 pub returns-in_default-next_turn-clause-ends : goal.returns-in_default-next_turn-clause-ends

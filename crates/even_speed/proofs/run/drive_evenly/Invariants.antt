@@ -21,8 +21,8 @@ invariant-loop-taken g l = record {
   shares : IsNoMore l.shares l.book.totals;
   sound : AreSound l._taken l.book.cores l.clocks.items;
   drives : (rest : List ℕ) (result : Result (Option Ran) TurnFault) (new : Driver g.row.S.Denot)
-      → Evenly g.S.EpochStore.view g.S.EpochStore.waits (record { held = harts_of l.held; clocks = clock_at l.clocks.items }) (driver l.book l.shares) rest result new
-      → Evenly g.S.EpochStore.view g.S.EpochStore.waits at_first (driver l.initial.book l.initial.shares) (l.schedule.items ++ rest) result new;
+      → Evenly g.S.EpochStore.makes g.S.EpochStore.view g.S.EpochStore.waits (record { held = harts_of l.held; clocks = clock_at l.clocks.items }) (driver l.book l.shares) rest result new
+      → Evenly g.S.EpochStore.makes g.S.EpochStore.view g.S.EpochStore.waits at_first (driver l.initial.book l.initial.shares) (l.schedule.items ++ rest) result new;
   timed : l.initial.book.history ≡ [] → (s : FlatState) × (replay l.book.image l.book.cores l.book.history ≡ Some s)
       × AreOnTime l.book.image l.book.cores s (record { held = harts_of l.held; clocks = clock_at l.clocks.items });
   lasting : l.initial.book.history ≡ [] → IsLasting l.book (clock_at l.clocks.items) l._taken;

@@ -10,6 +10,6 @@ push_each-requires-clause-counts g c κs within =
 
 pub returns : goal.returns
 returns g c =
-    lines_of g.S.EpochStore.view g.S.EpochStore.waits c.args.image.now c.args.room c.args.cores c.args.store.now c.in_ok-first.first
+    lines_of g.S.EpochStore.starts g.S.EpochStore.makes g.S.EpochStore.view g.S.EpochStore.waits c.args.image.now c.args.room c.args.cores c.args.store.now c.in_ok-first.first
     c.as_slice.result.now c.args.text.now.items c.push_line.new.text.items c.push_each.new.text.items c.push_each.result
     (c.as_slice.ensures.value ∙ c.in_ok-more.ensures) c.in_ok-push_line.ensures c.in_ok-first.ensures.is c.push_each.ensures

@@ -13,6 +13,6 @@ invariant-loop-core g l = record {
   held : HaveArrived l.book.image l.held;
   shares : IsNoMore l.shares l.book.totals;
   drives : (result : Result (Option End) TurnFault) (new : Driver g.row.S.Denot)
-      → Driven g.S.EpochStore.view g.S.EpochStore.waits (harts_of l.held) (driver l.book l.shares) (drop l.core-index l.schedule) result new
-      → Driven g.S.EpochStore.view g.S.EpochStore.waits (λ _. None) (driver l.initial.book l.initial.shares) l.schedule result new;
+      → Driven g.S.EpochStore.makes g.S.EpochStore.view g.S.EpochStore.waits (harts_of l.held) (driver l.book l.shares) (drop l.core-index l.schedule) result new
+      → Driven g.S.EpochStore.makes g.S.EpochStore.view g.S.EpochStore.waits (λ _. None) (driver l.initial.book l.initial.shares) l.schedule result new;
 }

@@ -16,9 +16,9 @@ invariant-loop-number g l = record {
   shares : IsNoMore l.shares l.book.totals;
   shown : IsCurrent g.S.EpochStore.view g.S.ShownStore.fits g.S.ShownStore.shows l.shown.store l.shown.memory l.book;
   drives : (result : Result (Option End) TurnFault) (new : Driver g.row.S.Denot)
-      → Driven g.S.EpochStore.view g.S.EpochStore.waits (harts_of l.held) (driver l.book l.shares) (drop l.number l.schedule) result new
-      → Driven g.S.EpochStore.view g.S.EpochStore.waits (λ _. None) (driver l.initial.book l.initial.shares) l.schedule result new;
+      → Driven g.S.EpochStore.makes g.S.EpochStore.view g.S.EpochStore.waits (harts_of l.held) (driver l.book l.shares) (drop l.number l.schedule) result new
+      → Driven g.S.EpochStore.makes g.S.EpochStore.view g.S.EpochStore.waits (λ _. None) (driver l.initial.book l.initial.shares) l.schedule result new;
   steps : (end : Option End) (new : Driver g.row.S.Denot) (below : List ℕ)
-      → Stepped g.S.EpochStore.view g.S.EpochStore.waits g.S.ShownStore.changes l.number (harts_of l.held) (driver l.book l.shares) (drop l.number l.schedule) end new below
-      → Stepped g.S.EpochStore.view g.S.EpochStore.waits g.S.ShownStore.changes 0 (λ _. None) (driver l.initial.book l.initial.shares) l.schedule end new (l.text.items ++ below);
+      → Stepped g.S.EpochStore.makes g.S.EpochStore.view g.S.EpochStore.waits g.S.ShownStore.changes l.number (harts_of l.held) (driver l.book l.shares) (drop l.number l.schedule) end new below
+      → Stepped g.S.EpochStore.makes g.S.EpochStore.view g.S.EpochStore.waits g.S.ShownStore.changes 0 (λ _. None) (driver l.initial.book l.initial.shares) l.schedule end new (l.text.items ++ below);
 }

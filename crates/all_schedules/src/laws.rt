@@ -1,0 +1,33 @@
+//! The laws of histories: the functions do nothing of their own, and their contracts are the laws.
+ghost use Rattle.all_schedules.specs.Fixed.{DrawnHistoryIsFixed, EvenHistoryIsFixed, HistoryIsFixed};
+
+use even_speed::run_is_fixed;
+use homefree::drive_is_fixed;
+use violations::EpochStore;
+
+/// The turns of a schedule over a fresh store come to the same each time, make the same history, and leave stores that hold the same,
+/// unless memory runs out.
+pub fn history_is_fixed<S: EpochStore>()
+    ensures { HistoryIsFixed S.starts S.makes S.alike S.view S.waits }
+{
+    S::calls_are_fixed();
+    drive_is_fixed::<S>();
+}
+
+/// The run at even speed over a fresh store comes to the same each time, takes the same turns, and makes the same history, where it
+/// isn't stopped.
+pub fn even_history_is_fixed<S: EpochStore>()
+    ensures { EvenHistoryIsFixed S.starts S.makes S.view S.waits }
+{
+    S::calls_are_fixed();
+    run_is_fixed::<S>();
+}
+
+/// The run that a seed draws over a fresh store comes to the same each time, takes the same turns, and makes the same history, unless
+/// memory runs out.
+pub fn drawn_history_is_fixed<S: EpochStore>()
+    ensures { DrawnHistoryIsFixed S.starts S.makes S.view S.waits }
+{
+    S::calls_are_fixed();
+    drive_is_fixed::<S>();
+}

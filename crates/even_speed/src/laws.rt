@@ -1,0 +1,13 @@
+//! The law of runs at even speed: the function does nothing of its own, and its contract is the law.
+ghost use Rattle.even_speed.specs.Fixed.{RunIsFixed};
+
+use homefree::turn_is_fixed;
+use violations::EpochStore;
+
+/// From two books that have the same history, and whose stores hold the same, the run at even speed takes the same turns, makes the
+/// same entries and comes to the same, where it isn't stopped.
+pub fn run_is_fixed<S: EpochStore>()
+    ensures { RunIsFixed S.makes S.alike S.view S.waits }
+{
+    turn_is_fixed::<S>();
+}
