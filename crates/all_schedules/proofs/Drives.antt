@@ -18,7 +18,7 @@ use Rattle.all_schedules.specs.Made.{IsFault, IsOfTurns, Makes, loop_on}
 
 -- what holds of every book
 pub of_step : {S : Type 0} (view : S → StoreView) (b : BookView S) → InStep view b → IsOfTurns view (loop_of b) b.history
-of_step view b step = record { caused = step.caused; kinds = step.kinds; passes = step.passes; within = step.within }
+of_step view b step = record { caused = step.caused; kinds = step.kinds; starts = step.starts; passes = step.passes; within = step.within }
 
 unfoldable pub made_history : {S : Type 0} (starts : LoadedImage → ℕ → S → Type 0) (makes : S → Call → S → Type 0) (view : S → StoreView) (waits : S → Waits) (image : LoadedImage) (cores room : ℕ) (schedule : List ℕ) (first last : BookView S) (shares shares' : Counts)
     (result : Result (Option End) TurnFault) → first.image ≡ image → first.cores ≡ cores → first.room ≡ room → first.history ≡ [] → first.totals ≡ no_counts

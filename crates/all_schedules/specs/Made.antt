@@ -14,6 +14,7 @@ use Rattle.homefree.specs.declared.fault.TurnFault.TheVariants.{HistoryFull, NoM
 use Rattle.homefree.specs.BookView.{BookView}
 use Rattle.homefree.specs.Caused.{HasCauses, HasKinds}
 use Rattle.homefree.specs.Driven.{Driven, Driver, driver}
+use Rattle.homefree.specs.Ending.{NoneStartsAfterCancel}
 use Rattle.homefree.specs.LockView.{loop_of}
 use Rattle.homefree.specs.Missed.{PassesOverNone, IsOfCaches}
 
@@ -29,11 +30,12 @@ pub record IsNew {S : Type 0} (starts : LoadedImage → ℕ → S → Type 0) (v
   pub started : starts l.image l.cores b.store
   pub stopped : b.stopped ≡ None
 
--- a history that turns over a store make: each violation has its cause and is of a kind, over caches no entry passes over a later
--- epoch that has read in a line which it writes, further stores aside, and the entries are within the room
+-- a history that turns over a store make: each violation has its cause and is of a kind, no epoch starts once one has been cancelled, over
+-- caches no entry passes over a later epoch that has read in a line which it writes, further stores aside, and the entries are within the room
 pub record IsOfTurns {S : Type 0} (view : S → StoreView) (l : Loop) (history : List Entry) : Type 0 where
   pub caused : HasCauses history
   pub kinds : HasKinds l.image l.cores history
+  pub starts : NoneStartsAfterCancel history
   pub passes : IsOfCaches view → PassesOverNone l.image l.cores history
   pub within : length history ≤ l.room
 

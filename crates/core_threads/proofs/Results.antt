@@ -84,4 +84,4 @@ module _ {S : Type 0} (view : S → StoreView) (b : BookView S) (i : InStep view
   }
 
   pub explains : Explains view b
-  explains = record { caused = i.caused; known = are_known b.image b.cores b.history i.kinds; passes = i.passes; within = i.within }
+  explains = record { caused = i.caused; known = are_known b.image b.cores b.history i.kinds; starts = i.starts; passes = i.passes; within = i.within }

@@ -18,6 +18,7 @@ use Rattle.homefree.specs.BookView.{BookView, IsFull}
 use Rattle.homefree.specs.Caused.{HasCauses}
 use Rattle.homefree.specs.Counted.{counted_in}
 use Rattle.homefree.specs.Driven.{IsInOrder}
+use Rattle.homefree.specs.Ending.{NoneStartsAfterCancel}
 use Rattle.homefree.specs.LockView.{loop_of}
 use Rattle.homefree.specs.Missed.{PassesOverNone, IsOfCaches}
 use Rattle.core_threads.specs.declared.fault.RunFault.{RunFault}
@@ -64,10 +65,11 @@ HaltsWith view l None fault counted = (fault ≡ NoMemory) × (counted ≡ no_co
 
 -- ---- beside the sentence
 
--- each violation in the history has its cause and is of a kind, over caches no entry passes over a later epoch that has read in a
--- line which it writes, further stores aside, and the history is within the room
+-- each violation in the history has its cause and is of a kind, no epoch starts once one has been cancelled, over caches no entry
+-- passes over a later epoch that has read in a line which it writes, further stores aside, and the history is within the room
 pub record Explains {S : Type 0} (view : S → StoreView) (b : BookView S) : Type 0 where
   pub caused : HasCauses b.history
   pub known : AreKnown b.image b.cores b.history
+  pub starts : NoneStartsAfterCancel b.history
   pub passes : IsOfCaches view → PassesOverNone b.image b.cores b.history
   pub within : length b.history ≤ b.room

@@ -6,3 +6,4 @@ pub mod NeverAgain
 pub mod Following
 pub mod Drives
 pub mod Unstopped
+pub mod Over

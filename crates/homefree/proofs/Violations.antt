@@ -6,3 +6,4 @@ pub mod Knowing
 pub mod Notices
 pub mod Victims
 pub mod Explaining
+pub mod Ending

@@ -7,6 +7,7 @@ use Rattle.homefree.specs.declared.answer.StopCause.{StopCause}
 use Rattle.homefree.specs.declared.answer.StopCause.TheVariants.{HistoryFull}
 use Rattle.homefree.specs.declared.register.Register.{Register}
 use Rattle.homefree.specs.Caused.{HasCauses, HasKinds}
+use Rattle.homefree.specs.Ending.{IsOverAfterCancel, NoneStartsAfterCancel}
 use Rattle.homefree.specs.BookView.{BookView}
 use Rattle.homefree.specs.Kept.{Fits}
 use Rattle.homefree.specs.Missed.{PassesOverNone, IsOfCaches}
@@ -15,6 +16,8 @@ pub record IsBook {S : Type 0} (view : S → StoreView) (r : Register) (store : 
   pub fits : Fits r (view store)
   pub by_cores : All (λ e. e.by < length r.running.items) r.history.items
   pub caused : HasCauses r.history.items
+  pub over : IsOverAfterCancel r.history.items r.end
+  pub starts : NoneStartsAfterCancel r.history.items
   pub kinds : HasKinds r.image (length r.running.items) r.history.items
   pub passes : IsOfCaches view → PassesOverNone r.image (length r.running.items) r.history.items
   pub within : length r.history.items ≤ room

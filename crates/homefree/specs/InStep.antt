@@ -8,6 +8,7 @@ use Rattle.homefree.specs.declared.answer.StopCause.TheVariants.{HistoryFull}
 use Rattle.homefree.specs.Agrees.{Agrees}
 use Rattle.homefree.specs.Caused.{HasCauses, HasKinds}
 use Rattle.homefree.specs.Counted.{counted_in}
+use Rattle.homefree.specs.Ending.{NoneStartsAfterCancel}
 use Rattle.homefree.specs.BookView.{BookView, IsFull, ReplaysTo}
 use Rattle.homefree.specs.Missed.{PassesOverNone, IsOfCaches}
 
@@ -23,6 +24,8 @@ pub record InStep {S : Type 0} (view : S → StoreView) (b : BookView S) : Type 
   -- each violation has its cause, which stands after it, and is of a kind
   pub caused : HasCauses b.history
   pub kinds : HasKinds b.image b.cores b.history
+  -- none starts once one has been cancelled
+  pub starts : NoneStartsAfterCancel b.history
   -- over caches, no entry passes over a later epoch that has read in a line which it writes, further stores aside
   pub passes : IsOfCaches view → PassesOverNone b.image b.cores b.history
   pub counted : b.totals ≡ counted_in b.history

@@ -1,5 +1,5 @@
 -- What is printed of a run whose loop is over.
-use Rattle.std.proofs.Common.{◌≡◌, ℕ, List, [], ◌++◌, Bool, true, Some, Result, Ok, Err, IfOk, OnOk, refl, sym, ap, subst, ◌∙◌, append_assoc}
+use Rattle.std.proofs.Common.{◌≡◌, ℕ, List, ◌++◌, Bool, true, Some, Result, Ok, Err, IfOk, OnOk, refl, sym, ap, subst, ◌∙◌, append_assoc}
 use Rattle.rv32_image.specs.Image.{LoadedImage}
 use Rattle.rv32_exec.specs.declared.sequential.End.{End}
 use Rattle.rv32_exec.specs.Sequential.{sequential_result}
@@ -35,7 +35,7 @@ result_is image end v bytes in_order so size =
 -- what is beside the sentence holds of the book's history
 pub made : {S : Type 0} (view : S → StoreView) (b : BookView S) (l : Loop) → loop_of b ≡ l → Explains view b → IsOfCaches view → IsMade l b.history
 made view b l is so caches =
-    let of_book : IsMade (loop_of b) b.history = record { caused = so.caused; known = so.known; passes = so.passes caches; within = so.within } in
+    let of_book : IsMade (loop_of b) b.history = record { caused = so.caused; known = so.known; starts = so.starts; passes = so.passes caches; within = so.within } in
     subst (λ (it : Loop). IsMade it b.history) is of_book
 
 module _ {S : Type 0} (view : S → StoreView) (image : LoadedImage) (options : RunOptions) (b : BookView S) (end : End) (totals counted : Counts)

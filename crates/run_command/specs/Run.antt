@@ -16,6 +16,7 @@ use Rattle.violations.specs.Rule.{IsCoreCount}
 use Rattle.homefree.specs.declared.book.Loop.{Loop}
 use Rattle.homefree.specs.Caused.{HasCauses}
 use Rattle.homefree.specs.Counted.{counted_in}
+use Rattle.homefree.specs.Ending.{NoneStartsAfterCancel}
 use Rattle.homefree.specs.Missed.{PassesOverNone}
 use Rattle.core_threads.specs.declared.fault.RunFault.{RunFault}
 use Rattle.core_threads.specs.declared.fault.RunFault.TheVariants as fault
@@ -42,11 +43,12 @@ counted n = codes " " ++ decimal n
 abbrev pub counts_line : Counts → List ℕ
 counts_line c = codes "counts" ++ counted c.loads ++ counted c.stores ++ counted c.restarts ++ counted c.commits ++ codes "\n"
 
--- a history that turns over caches make: each violation has its cause and is of a kind, no entry passes over a later epoch that has
--- read in a line which it writes, further stores aside, and the entries are within the room
+-- a history that turns over caches make: each violation has its cause and is of a kind, no epoch starts once one has been cancelled,
+-- no entry passes over a later epoch that has read in a line which it writes, further stores aside, and the entries are within the room
 pub record IsMade (l : Loop) (history : List Entry) : Type 0 where
   pub caused : HasCauses history
   pub known : AreKnown l.image l.cores history
+  pub starts : NoneStartsAfterCancel history
   pub passes : PassesOverNone l.image l.cores history
   pub within : length history ≤ l.room
 

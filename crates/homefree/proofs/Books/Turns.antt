@@ -1,7 +1,9 @@
 -- A book's first state, and its turns: from what the parts did to a turn of the book.
-use Rattle.std.proofs.Common.{◌≡◌, ◌≤◌, ◌<◌, ◌*◌, ℕ, ◌+◌, ◌-◌, All, List, [], ◌++◌, length, Option, Some, None, Ok, Err, refl, sym, ap, subst, ◌∙◌, inl, inr, arith, length-append, append-nil, vec_len, vec_capacity}
+use Rattle.std.proofs.Common.{◌≡◌, ◌≤◌, ◌<◌, ◌*◌, ℕ, ◌+◌, ◌-◌, All, List, [], ◌++◌, length, Option, Some, None, Ok, Err, ◌⊎◌, refl, sym, ap, subst, ◌∙◌, inl, inr, arith, length-append, append-nil, vec_len, vec_capacity}
 use Rattle.std.proofs.lemmas.List.Elements.{All-nil, All-append}
 use Rattle.rv32_image.proofs.SmallFacts.{one_value, none_and_some}
+use Rattle.rv32_exec.specs.declared.sequential.End.{End}
+use Rattle.rv32_exec.specs.declared.sequential.End.TheVariants.{Exit}
 use Rattle.rv32_exec.specs.Arrival.{Arrival}
 use Rattle.rv32_image.specs.Image.{LoadedImage, IsImage}
 use Rattle.rv32_image.specs.Version.{limits_of}
@@ -11,6 +13,7 @@ use Rattle.run_ledger.specs.declared.counts.Counts.{Counts}
 use Rattle.run_ledger.specs.Counts.{no_counts, sum_of, IsAtMost}
 use Rattle.spec_history.specs.declared.entry.Entry.{Entry}
 use Rattle.spec_history.specs.FlatState.{FlatState, first_state, end_at}
+use Rattle.spec_history.specs.Laws.{IsKept}
 use Rattle.spec_history.specs.Replay.{replay, counts_of}
 use Rattle.spec_history.specs.Replay.{replay_from}
 use Rattle.spec_history.proofs.Replay.Joining.{splits}
@@ -34,11 +37,13 @@ use Rattle.homefree.specs.Missed.{PassesOverNone, IsOfCaches}
 use Rattle.homefree.specs.Turned as turn
 use Rattle.homefree.specs.Turned.{Turned, does}
 use Rattle.homefree.proofs.Violations.Caused.{acts, grown, none_yet}
+use Rattle.homefree.proofs.Violations.Ending.{AddsToEnd, HasNo, cancels_at_exit, exit_starts_none, is_cancel, none_cancelled, none_started, over_grown, starts_grown}
 use Rattle.homefree.proofs.Violations.Explaining.{acts_known}
 use Rattle.homefree.proofs.Violations.Knowing.{no_kinds, no_passes, grown_kinds, grown_passes}
 use Rattle.homefree.proofs.State.Others.{idle_on, same_at}
 use Rattle.homefree.proofs.Books.Tallies.{few_counts}
 use Rattle.homefree.proofs.Books.Entries.{acts_by, of_cores}
+use Rattle.homefree.proofs.Books.Over.{acts_ends}
 
 -- ---- a new book
 
@@ -64,6 +69,8 @@ first_book view r store cores room is count fresh len idle history totals homefr
   fits = fits_first r (view store) cores is count fresh len idle history totals homefree next_epoch end;
   by_cores = rw history (All-nil (λ (e : Entry). e.by < length r.running.items));
   caused = rw history none_yet;
+  over = rw history (none_cancelled r.end);
+  starts = rw history none_started;
   kinds = rw history (no_kinds r.image (length r.running.items));
   passes = λ caches. rw history (no_passes r.image (length r.running.items));
   within = rw history (omega arith);
@@ -82,6 +89,7 @@ in_step view r store room cause b = record {
   by_cores = b.by_cores;
   caused = b.caused;
   kinds = b.kinds;
+  starts = b.starts;
   passes = b.passes;
   counted = b.fits.counted;
   is_image = b.fits.is_image;
@@ -98,6 +106,8 @@ book_stopped view r store room old cause b full = record {
   fits = b.fits;
   by_cores = b.by_cores;
   caused = b.caused;
+  over = b.over;
+  starts = b.starts;
   kinds = b.kinds;
   passes = b.passes;
   within = b.within;
@@ -144,6 +154,8 @@ book_same view r q store reserved room cause b same seen = record {
   fits = fits_same r q (view store) (view reserved) b.fits same seen;
   by_cores = rw (same.running, same.history) b.by_cores;
   caused = rw same.history b.caused;
+  over = rw (same.history, same.end) b.over;
+  starts = rw same.history b.starts;
   kinds = rw (same.image, same.running, same.history) b.kinds;
   passes = λ caches. rw (same.image, same.running, same.history) (b.passes caches);
   within = rw same.history b.within;
@@ -243,6 +255,18 @@ goes_on_from image count first later s u replays all =
     let parts = splits image count first later u all in
     subst (λ t. replay_from image count t later ≡ Some u) (one_value (replay image count first) parts.between s parts.first_replays replays) parts.later_replays
 
+-- a turn cancels nothing, or it starts nothing and the loop is over
+adds_to_end : (t : turn.Turn) (v w : StoreView) (out : turn.Outcome) (end : Option End) (u : FlatState) → end ≡ u.end → t.state.end ≡ None → IsKept t.image t.cores t.state → Agrees t.state v
+    → replay_from t.image t.cores t.state out.entries ≡ Some u → turn.Acts t v w out → AddsToEnd out.entries end
+adds_to_end t v w out end u is going kept agrees goes acted = by_kind (cancels_at_exit t v w out acted)
+  where
+    by_kind : HasNo is_cancel out.entries ⊎ turn.IsExit t v w out → AddsToEnd out.entries end
+    by_kind (inl none) = inl none
+    by_kind (inr exit) =
+        let over = acts_ends t v w out going kept agrees (Exit exit.core.epoch) (ap (λ (o : turn.Outcome). o.answer) exit.out_is) acted in
+        let same : u.end ≡ Some (Exit exit.core.epoch) = ap (λ (x : FlatState). x.end) (one_value (replay_from t.image t.cores t.state out.entries) u over.0 goes over.1) ∙ over.2 in
+        inr (exit_starts_none t v w out exit, λ none. none_and_some end (Exit exit.core.epoch) none (is ∙ same))
+
 pub book_acts : {S : Type 0} {waits : Waits} (view : S → StoreView) (r q new : Register) (store reserved after : S) (room core : ℕ) (cause : Option StopCause) (shares shares' : Counts) (next : Option Arrival) (answer : Answer) → IsBook view r store room cause → r.end ≡ None → cause ≡ None → IsAsBefore r q
     → core < length r.running.items → length r.history.items + (limits_of r.image.version).free_entries ≤ room → IsSettled (view reserved) → Fits q (view reserved)
     → Acted q new waits (view reserved) (view after) shares shares' core next answer
@@ -261,11 +285,15 @@ book_acts {S} {waits} view r q new store reserved after room core cause shares s
     subst (λ xs. replay q.image (length q.running.items) xs ≡ Some a.fits.state) a.steps.history
     (subst (λ n. replay q.image n new.history.items ≡ Some a.fits.state) a.steps.cores (subst (λ i. replay i (length new.running.items) new.history.items ≡ Some a.fits.state) a.steps.image a.fits.replays)) in
     let goes = goes_on_from q.image count q.history.items a.entries f.state a.fits.state f.replays later in
+    let here = turn_of q waits f.state core next in
     let still : f.state.end ≡ None = sym f.shows.end ∙ (same.end ∙ going) in
     let kept = ((replayed q.image count q.history.items f.state f.is_image f.replays).going still).kept in
+    let adds = adds_to_end here (view reserved) (view after) (does a.entries answer) new.end a.fits.state a.fits.shows.end still kept f.agrees goes acted in
     let known = acts_known (IsOfCaches view) (turn_of q waits f.state core next) (view reserved) (view after) (does a.entries answer) still kept f.agrees f.is_image.size_allowed.lines f.shape settled (λ caches. caches reserved) acted in record {
       fits = a.fits;
       by_cores = rw (a.steps.cores, cores, a.steps.history, same.history) all_cores;
+      over = rw (a.steps.history, same.history) (over_grown r.history.items a.entries r.end new.end going b.over adds);
+      starts = rw (a.steps.history, same.history) (starts_grown r.history.items a.entries r.end new.end going b.over adds b.starts);
       caused = rw (a.steps.history, same.history) (grown r.history.items a.entries b.caused (acts _ (view reserved) (view after) _ acted));
       kinds = rw (a.steps.image, a.steps.cores, a.steps.history) (grown_kinds (IsOfCaches view) q.image count q.history.items a.entries f.state a.fits.state kinds f.replays goes known);
       passes = λ caches. rw (a.steps.image, a.steps.cores, a.steps.history)
