@@ -9,5 +9,5 @@ mod turns;
 
 pub use fault::RunFault;
 pub use gate::{Gate, Open, Shut};
-pub use run::{Finished, Halted, run_cores};
+pub use run::{Finished, Halted, history_is_explained, run_cores};
 pub use turns::{LoopEnd, core_loop};

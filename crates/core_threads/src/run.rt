@@ -1,5 +1,5 @@
 //! A run of a whole loop: the book at its end, and what the cores counted.
-ghost use Rattle.std.specs.Prelude.{◌≡◌, ◌≤◌, IfOk, IfErr, IfSome, MatchResult, None};
+ghost use Rattle.std.specs.Prelude.{◌≡◌, ◌≤◌, IfOk, IfErr, None};
 ghost use Rattle.run_ledger.specs.Counts.{no_counts};
 ghost use Rattle.homefree.specs.LockView.{loop_of};
 ghost use Rattle.violations.specs.Rule.{IsCoreCount};
@@ -58,8 +58,7 @@ const NOTHING: Counts = Counts {
 /// which the book was stopped, or since all tickets of the lock were drawn. The cores are 1 to the most that the image's version
 /// allows, and the room is 16 to 1,048,576 entries.
 ///
-/// Beside that, in each book that it gives back, of a loop that is over or was halted, each violation has its cause and is of a
-/// kind, over caches nobody is passed over who has read what is written, further stores aside, and the history is within the room.
+/// Beside that, the history of each book that it gives back is explained (`history_is_explained`).
 pub fn run_cores<S: EpochStore, G: Gate, R: Threads + Wait + Sync>(
     rt: &R,
     alloc: Global,
@@ -73,7 +72,6 @@ pub fn run_cores<S: EpochStore, G: Gate, R: Threads + Wait + Sync>(
     requires most { room ≤ 1048576 }
     ensures finished { IfOk result (λ f. Finishes S.view (record { image = image.now; cores = cores; room = room }) f.book f.end f.totals f.counted) }
     ensures halted { IfErr result (λ h. HaltsWith S.view (record { image = image.now; cores = cores; room = room }) h.book h.fault h.counted) }
-    ensures explained { MatchResult result (λ f. Explains S.view f.book) (λ h. IfSome h.book (Explains S.view)) }
 {
     let Ok((book, shares)) = Book::<S>::new(alloc, image, cores, room) else {
         return Err(without_book());
@@ -85,6 +83,15 @@ pub fn run_cores<S: EpochStore, G: Gate, R: Threads + Wait + Sync>(
     let (book, _) = lock.close(pass);
     book.look();
     outcome(book, shares.counts())
+}
+
+/// What holds of every book, and so of each that a run gives back, whether its loop is over or it was halted: each violation has its
+/// cause and is of a kind, no epoch starts once one has been cancelled, over caches nobody is passed over who has read what is
+/// written, further stores aside, and the history is within the room. This call does nothing, and its contract is the law.
+pub fn history_is_explained<S: EpochStore>(book: &Book<S>)
+    ensures { Explains S.view book.now }
+{
+    book.look();
 }
 
 /// A run for which there was no memory.
@@ -105,7 +112,6 @@ fn outcome<S: EpochStore>(book: Book<S>, counted: Counts) -> Result<Finished<S>,
     requires { counted ≡ book.totals }
     ensures finished { IfOk result (λ f. Finishes S.view (loop_of book) f.book f.end f.totals f.counted) }
     ensures halted { IfErr result (λ h. HaltsWith S.view (loop_of book) h.book h.fault h.counted) }
-    ensures explained { MatchResult result (λ f. Explains S.view f.book) (λ h. IfSome h.book (Explains S.view)) }
 {
     match book.ended() {
         Some(end) => Ok(Finished {

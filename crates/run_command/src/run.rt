@@ -8,7 +8,7 @@ ghost use Rattle.run_command.specs.Run as spec;
 
 use crate::options::RunOptions;
 use crate::text::printed;
-use core_threads::{Finished, Gate, Halted, RunFault, run_cores};
+use core_threads::{Finished, Gate, Halted, RunFault, history_is_explained, run_cores};
 use rv32_exec::{End, Image, read_image};
 use spec_bus::CachedBus;
 use std::alloc::{AllocError, Global};
@@ -117,11 +117,20 @@ fn run_and_print<G: Gate, T: Threads + Wait + Sync>(
         gate,
     );
     match run {
-        Ok(run) => match printed(alloc, image, options, &run) {
-            Ok(text) => Ok((run.end, text)),
-            Err(AllocError) => Err(CommandStop::NoMemory),
-        },
-        Err(run) => Err(cause_of(run.fault)),
+        Ok(run) => {
+            history_is_explained(&run.book);
+            match printed(alloc, image, options, &run) {
+                Ok(text) => Ok((run.end, text)),
+                Err(AllocError) => Err(CommandStop::NoMemory),
+            }
+        }
+        Err(run) => {
+            match &run.book {
+                Some(book) => history_is_explained(book),
+                None => (),
+            }
+            Err(cause_of(run.fault))
+        }
     }
 }
 

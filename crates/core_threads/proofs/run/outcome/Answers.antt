@@ -1,4 +1,4 @@
-use Rattle.core_threads.proofs.Results.{explains, finishes, halts}
+use Rattle.core_threads.proofs.Results.{finishes, halts}
 use Rattle.core_threads.proofs.run.outcome.Goals as goal
 
 pub returns-in-Some-clause-finished : goal.returns-in-Some-clause-finished
@@ -10,9 +10,3 @@ pub returns-in-None-clause-halted : goal.returns-in-None-clause-halted
 returns-in-None-clause-halted g c =
     let i = c.ended.ensures.step in
     halts g.S.EpochStore.view c.args.book i c.of.result c.ended.result c.stopped.result c.args.counted (c.ended.ensures.end i.state i.replays) c.in-None.is c.stopped.ensures c.of.ensures c.requires
-
-pub returns-in-Some-clause-explained : goal.returns-in-Some-clause-explained
-returns-in-Some-clause-explained g c = explains g.S.EpochStore.view c.args.book c.ended.ensures.step
-
-pub returns-in-None-clause-explained : goal.returns-in-None-clause-explained
-returns-in-None-clause-explained g c = explains g.S.EpochStore.view c.args.book c.ended.ensures.step
