@@ -1,5 +1,5 @@
 -- Some of memory's bytes, kept beside it.
-use Rattle.std.specs.Prelude.{◌≡◌, ℕ, ◌<◌, ◌^◌, List, length, Option, Some, None, slice_index, slice_index_or}
+use Rattle.std.specs.Prelude.{◌≡◌, ℕ, ◌<◌, ◌^◌, List, length, Option, Some, None, true, is_some, slice_index, slice_index_or}
 
 -- a byte or none at each address of memory, and for how many more there is room without taking memory
 pub record ShadowView : Type 0 where
@@ -16,8 +16,11 @@ pub record IsAmong (a : ℕ) (addresses : List ℕ) : Type 0 where
   pub within : place < length addresses
   pub is : slice_index addresses place ≡ a
 
--- the list has each address at which there is a byte, and no address outside memory
+-- the list has each address at which there is a byte, once, and no other
 pub record Covers (cells : List (Option ℕ)) (addresses : List ℕ) : Type 0 where
   pub small : length cells < 2 ^ 32
   pub within : (place : ℕ) → place < length addresses → slice_index addresses place < length cells
   pub each : (a byte : ℕ) → byte_in cells a ≡ Some byte → IsAmong a addresses
+  pub held : (place : ℕ) → place < length addresses → is_some (byte_in cells (slice_index addresses place)) ≡ true
+  pub once : (first second : ℕ) → first < length addresses → second < length addresses
+      → slice_index addresses first ≡ slice_index addresses second → first ≡ second

@@ -50,7 +50,7 @@ impl ShadowBytes {
         }
     }
 
-    /// Addresses that have each at which there is a byte.
+    /// The addresses at which there is a byte, each once.
     pub fn touched(&self) -> &[u32]
         ensures { spec.Covers self.now.cells result.now }
     {
@@ -70,16 +70,19 @@ impl ShadowBytes {
     }
 
     /// Sets the byte at an address.
+    #[tactic(auto, using(crate::proofs::Shadows::covers_again, crate::proofs::Shadows::covers_more))]
     pub fn set(&mut self, addr: u32, byte: u8)
         requires within { addr < length self.old.cells }
         requires room { 0 < self.old.room }
         ensures cells { self.new.cells ≡ slice_set self.old.cells addr (Some byte) }
         ensures room { self.old.room ≤ self.new.room + 1 }
     {
-        if self.cells[addr as usize].is_none() {
-            self.touched.push_reserved(addr);
+        if self.cells[addr as usize].is_some() {
+            self.cells[addr as usize] = Some(byte);
+            return;
         }
         self.cells[addr as usize] = Some(byte);
+        self.touched.push_reserved(addr);
     }
 
     /// The byte of memory with these bytes over it.
