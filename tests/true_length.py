@@ -36,6 +36,11 @@ LONG_CODE = "version 2\n" + image(ADD * 124_995 + STORE_SUM, epochs=2, limit=125
 # bne x10,x0,+20; lui x5,49; lw x6,64(x0); addi x5,x5,-1; bne x5,x0,-8; jalr x0,0(x1)
 CORES, COUNTED = 16, 49 * 4096
 COUNTS_DOWN = "version 2\n" + image("631a0500b7120300032300049382f2ffe39c02fe67800000", epochs=CORES, limit=1_000_000)
+# Each epoch loads a word of each of these rows of 16 bytes: lw x5,ROW(x0). What `steps` has to say of so many epochs is 28 MB, for which a program that keeps it takes
+# more memory than this.
+ROWS, TOLD = range(64, 288, 16), 9_000
+ALL_ROWS = image("".join((row << 20 | 0x2283).to_bytes(4, "little").hex() for row in ROWS) + RETURN, epochs=TOLD, size=512)
+MOST_BYTES = 48_000_000
 
 
 def program_of(command: list[str], name: str) -> str | None:
@@ -125,6 +130,33 @@ def even_turns(replay: str) -> Results:
         yield f"even {store}: 3,211,296 turns", differs(run([replay], ["even", store, str(CORES)], COUNTS_DOWN), (wanted, "", 0))
 
 
+def told_turns() -> Iterator[str]:
+    """The turns of one core over a plain store, 16 for each epoch: to start it, for each load, and to commit."""
+    zeros = "0" * 32
+    for epoch in range(TOLD):
+        turn = epoch * (len(ROWS) + 2)
+        yield f"turn {turn} 0 go\nentry 0 start {epoch}\nattempt 0 {epoch} speculative\nhart 0 00000000 0\n"
+        for place, row in enumerate(ROWS, 1):
+            yield f"turn {turn + place} 0 go\nentry 0 load {row:08x} 4 00000000\nhart 0 {4 * place:08x} {place}\nkept 0 {row:08x} 000f 0000 {zeros}\n"
+        answer = "left" if epoch + 1 < TOLD else f"over done {TOLD}"
+        yield f"turn {turn + len(ROWS) + 1} 0 {answer}\nentry 0 commit\nattempt 0 -\nhart 0 -\n"
+        yield "".join(f"kept 0 {row:08x} 0000 0000 {zeros}\n" for row in ROWS)
+
+
+def steps(replay: str) -> Results:
+    """`replay steps` keeps none of what it prints. Of turns that make another trace than the one that is given, or too long a history, nothing is printed."""
+    limited = ["prlimit", f"--as={MOST_BYTES}", replay]
+    loads = "".join(f"0 load {row:08x} 4 00000000\n" for row in ROWS)
+    trace = "".join(f"0 start {epoch}\n{loads}0 commit\n" for epoch in range(TOLD))
+    wanted = f"{''.join(told_turns())}end\nend done {TOLD}\ncounts {len(ROWS) * TOLD} 0 0 {TOLD}\ntrace 1\n{trace}"
+    text = f"{ALL_ROWS}turns{' 0' * (len(ROWS) + 2) * TOLD}\n"
+    yield f"steps plain: {len(wanted):,} bytes", differs(run(limited, ["steps", "plain", "1"], text), (wanted, "", 0))
+    other = f"{ALL_ROWS}trace 1\n" + trace.removesuffix("0 commit\n") + "0 restart\n"
+    yield "steps plain: another trace", differs(run(limited, ["steps", "plain"], other), ("", f"differs {(len(ROWS) + 2) * TOLD - 1}\n", 4))
+    full = f"{image(LOAD * (LOADS + 1) + RETURN, epochs=EPOCHS)}turns{' 0' * (LOADS + 3) * EPOCHS}\n"
+    yield "steps plain: a full history", differs(run([replay], ["steps", "plain", "1"], full), ("", "stopped HistoryFull\n", 3))
+
+
 def even_steps(gain: str) -> Results:
     """Epoch 0 takes a step to begin, three for each load, one for each of its branch, its lui and its return, and one to commit; the others four, of which the last is
     taken in the last step. From their third step on they wait for epoch 0."""
@@ -148,7 +180,7 @@ def main() -> int:
     for name, found in (("why", why), ("replay", replay), ("gain", gain)):
         if found is None:
             print(f"left out: inputs of true length to {name}, since it wasn't built beside the program that is tested")
-    results += [*(even_turns(replay) if replay else ()), *(even_steps(gain) if gain else ())]
+    results += [*(even_turns(replay) if replay else ()), *(steps(replay) if replay else ()), *(even_steps(gain) if gain else ())]
     for name, wrong in results:
         if wrong:
             print(f"FAILED {name}: {wrong}")

@@ -1,6 +1,7 @@
 pub mod Every
 pub mod Drives
 pub mod Telling
+pub mod Coming
 pub mod Evens
 pub mod Draws
 pub mod Seeds
@@ -12,6 +13,7 @@ pub mod Cores
 pub mod Shows
 pub mod Outcomes
 pub mod Retraces
+pub mod Replays
 pub mod Digits
 pub mod Works
 pub mod Alls

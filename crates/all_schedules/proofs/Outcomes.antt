@@ -1,5 +1,5 @@
 -- What the replay of a text comes to, from what its parts answer.
-use Rattle.std.proofs.Common.{◌≡◌, ℕ, ◌+◌, ◌<◌, List, length, replicate, Option, Some, None, Result, Ok, Err, IfSome, MatchResult, inl, refl, sym, subst, arith}
+use Rattle.std.proofs.Common.{◌≡◌, ℕ, ◌+◌, ◌<◌, List, length, replicate, Option, Some, None, Result, Ok, IfSome, MatchResult, inl, refl, sym, subst, arith}
 use Rattle.std.proofs.lemmas.List.{length-replicate}
 use Rattle.rv32_image.specs.declared.fault.ImageFault.{ImageFault}
 use Rattle.rv32_image.specs.declared.input.InputFault.{InputFault}
@@ -7,26 +7,18 @@ use Rattle.rv32_image.specs.declared.input.InputFault.TheVariants as input
 use Rattle.rv32_image.specs.Image.{LoadedImage}
 use Rattle.rv32_image.specs.ImageText.{image_text}
 use Rattle.rv32_image.specs.Reading.{ForText}
-use Rattle.rv32_exec.specs.declared.sequential.End.{End}
 use Rattle.spec_history.specs.declared.entry.Entry.{Entry}
 use Rattle.violations.specs.View.{StoreView, Waits}
 use Rattle.violations.specs.Calls.{Call}
 use Rattle.violations.specs.Rule.{IsCoreCount}
 use Rattle.homefree.specs.declared.book.Loop.{Loop}
 use Rattle.trace_text.specs.declared.fault.TraceFault.{TraceFault}
-use Rattle.trace_text.specs.declared.fault.TraceFaultKind.{TraceFaultKind}
-use Rattle.trace_text.specs.declared.fault.TraceFaultKind.TheVariants.{Read, NoMemory}
-use Rattle.trace_text.specs.Reading.{IsFaultOf, input_fault}
+use Rattle.trace_text.specs.Reading.{input_fault}
 use Rattle.trace_text.specs.TraceText.{longest_trace_text}
-use Rattle.trace_commands.specs.declared.outcome.Outcome.{Outcome}
-use Rattle.trace_commands.specs.declared.outcome.Outcome.TheVariants.{Stopped}
-use Rattle.trace_commands.specs.declared.outcome.CommandStop.{CommandStop}
-use Rattle.trace_commands.specs.declared.outcome.CommandStop.TheVariants as cause
 use Rattle.trace_commands.specs.Outcome.{outcome_of_turns_fault}
 use Rattle.trace_commands.proofs.Audits.{keeps_itself}
-use Rattle.all_schedules.specs.Made.{IsFull, loop_on}
-use Rattle.all_schedules.specs.Replay.{IsNoReplay, IsReplay, IsReplayOutcome, IsStop, OfText}
-use Rattle.all_schedules.specs.Shown.{outcome_at}
+use Rattle.all_schedules.specs.Made.{loop_on}
+use Rattle.all_schedules.specs.Replay.{IsReplayOutcome, OfText}
 use Rattle.all_schedules.specs.Turns.{image_part, schedule_text}
 
 -- what holds of the image that the text says
@@ -41,43 +33,14 @@ by_text cores room text image schedule P said allowed turns is =
     by_image text image (λ l. IsCoreCount l cores × MatchResult (schedule_text cores text) (P (loop_on l cores room)) (λ fault. ⊥)) said
     (allowed, subst (λ (r : Result (List ℕ) TraceFault). MatchResult r (P (loop_on image cores room)) (λ fault. ⊥)) (sym turns) is)
 
-module _ {S : Type 0} (starts : LoadedImage → ℕ → S → Type 0) (makes : S → Call → S → Type 0) (view : S → StoreView) (waits : S → Waits) (cores room : ℕ) (text : List ℕ) where
-  -- the turns stop
-  pub stops : (image : LoadedImage) (schedule : List ℕ) (why : CommandStop) → image_text (image_part text) ≡ Ok image → IsCoreCount image cores
-      → schedule_text cores text ≡ Ok schedule → IsStop starts makes view waits (loop_on image cores room) schedule why → IsNoReplay starts makes view waits cores room text (Stopped why)
-  stops image schedule cause.HistoryFull said allowed turns is = by_text cores room text image schedule (IsFull starts makes view waits) said allowed turns is
-  stops image schedule cause.NoMemory said allowed turns is = tt
-  stops image schedule cause.Write said allowed turns is = absurd is
-  stops image schedule cause.NoThread said allowed turns is = absurd is
-  stops image schedule cause.Spent said allowed turns is = absurd is
-  stops image schedule cause.Shut said allowed turns is = absurd is
-
-  -- the lines of turns are refused
-  pub refused_turns : (line : ℕ) (kind : TraceFaultKind) (image : LoadedImage) → image_text (image_part text) ≡ Ok image → IsCoreCount image cores
-      → IsFaultOf kind (record { line = line; kind = kind }) (schedule_text cores text)
-      → IsNoReplay starts makes view waits cores room text (outcome_of_turns_fault kind (record { line = line; kind = kind }))
-  refused_turns line Read image said allowed is = absurd is
-  refused_turns line NoMemory image said allowed is = tt
-  refused_turns line kind image said allowed is =
-      by_image text image (λ l. IsCoreCount l cores × (schedule_text cores text ≡ Err (record { line = line; kind = kind }))) said (allowed, is)
-
--- ---- a trace, or lines of turns
-
-module _ {S : Type 0} (starts : LoadedImage → ℕ → S → Type 0) (makes : S → Call → S → Type 0) (view : S → StoreView) (waits : S → Waits) (heads : Loop → List ℕ → List Entry → List ℕ → Type 0) (room : ℕ) (text : List ℕ) where
-  -- what is shown is reported or open
-  of_turns : (cores : ℕ) (outcome : Outcome) (printed : List ℕ) (r : Result LoadedImage ImageFault) (q : Result (List ℕ) TraceFault)
-      → MatchResult r (λ image. IsCoreCount image cores × MatchResult q (λ schedule. IsReplay starts makes view waits heads (loop_on image cores room) schedule outcome printed) (λ fault. ⊥)) (λ fault. ⊥)
-      → (end : Option End) × (homefree : ℕ) × (outcome ≡ outcome_at end homefree)
-  of_turns cores outcome printed (Ok image) (Ok schedule) is = let show = is.1.shown in (show.state.end, show.state.homefree, show.outcome_is)
-  of_turns cores outcome printed (Ok image) (Err fault) is = absurd is.1
-  of_turns cores outcome printed (Err fault) q is = absurd is
+-- ---- an input that could not be read whole
 
 module _ {S : Type 0} (starts : LoadedImage → ℕ → S → Type 0) (makes : S → Call → S → Type 0) (view : S → StoreView) (waits : S → Waits) (heads : Loop → List ℕ → List Entry → List ℕ → Type 0) (cores : Option ℕ) (room : ℕ) where
   refused : (fault : InputFault) (text : List ℕ) (output : Option (List ℕ)) → (fault ≡ input.TooLong → longest_trace_text < length text)
       → IsReplayOutcome starts makes view waits heads cores room text output output (outcome_of_turns_fault (input_fault fault).kind (input_fault fault))
   refused input.TooLong text output long = (inl (refl, long refl), keeps_itself output)
   refused input.Read text output long = (inl refl, keeps_itself output)
-  refused input.NoMemory text output long = keeps_itself output
+  refused input.NoMemory text output long = inl (keeps_itself output)
 
   -- a text that is longer than this
   long_text : (n : ℕ) → (text : List ℕ) × (n < length text)

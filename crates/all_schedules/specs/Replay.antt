@@ -1,7 +1,6 @@
 -- What the replay of a schedule or of a trace comes to, and what it wrote.
 -- Source: this project.
 use Rattle.std.specs.Prelude.{◌≡◌, ◌⊎◌, ℕ, ◌<◌, ◌≤◌, Bool, true, false, List, ◌++◌, length, Option, Some, None, Ok, Err, MatchResult}
-use Rattle.std.specs.Io.KnownBytes.{Appends, Keeps}
 use Rattle.rv32_image.specs.Version.{limits_of}
 use Rattle.rv32_image.specs.ImageText.{image_text}
 use Rattle.rv32_image.specs.Image.{LoadedImage}
@@ -18,13 +17,13 @@ use Rattle.trace_text.specs.declared.fault.TraceFaultKind.{TraceFaultKind}
 use Rattle.trace_text.specs.declared.fault.TraceFaultKind.TheVariants as kind
 use Rattle.trace_text.specs.TraceText.{longest_trace_text}
 use Rattle.trace_commands.specs.declared.outcome.Outcome.{Outcome}
-use Rattle.trace_commands.specs.declared.outcome.Outcome.TheVariants.{Reported, Open, Usage, BadImage, BadTurns, Stopped}
+use Rattle.trace_commands.specs.declared.outcome.Outcome.TheVariants.{Usage, BadImage, BadTurns, Stopped}
 use Rattle.trace_commands.specs.declared.outcome.CommandStop.{CommandStop}
-use Rattle.trace_commands.specs.declared.outcome.CommandStop.TheVariants.{Write, NoMemory, HistoryFull}
-use Rattle.trace_commands.specs.Outcome.{AppendsPrefix}
+use Rattle.trace_commands.specs.declared.outcome.CommandStop.TheVariants.{NoMemory, HistoryFull}
 use Rattle.all_schedules.specs.Made.{IsFull, Makes, loop_on}
 use Rattle.all_schedules.specs.Shown.{IsShown}
-use Rattle.all_schedules.specs.Traced.{IsNoRetrace, IsRetraced, OfTrace, has_trace}
+use Rattle.all_schedules.specs.Told.{Comes, HasBegun}
+use Rattle.all_schedules.specs.Traced.{IsNoRetrace, IsRetraced, OfTrace, has_trace, turns_of}
 use Rattle.all_schedules.specs.Turns.{image_part, schedule_text}
 
 -- ---- of a schedule
@@ -52,6 +51,16 @@ IsStop starts makes view waits l schedule HistoryFull = IsFull starts makes view
 IsStop starts makes view waits l schedule NoMemory = Unit {0}
 IsStop starts makes view waits l schedule other = ⊥
 
+-- nothing is printed of them
+abbrev pub IsFullOutcome : {S : Type 0} → (LoadedImage → ℕ → S → Type 0) → (S → Call → S → Type 0) → (S → StoreView) → (S → Waits) → Loop → List ℕ → Outcome → Type 0
+IsFullOutcome starts makes view waits l schedule (Stopped HistoryFull) = IsFull starts makes view waits l schedule
+IsFullOutcome starts makes view waits l schedule outcome = ⊥
+
+-- what the turns came to is right, and this was written
+abbrev pub IsTurnsOutcome : {S : Type 0} → (LoadedImage → ℕ → S → Type 0) → (S → Call → S → Type 0) → (S → StoreView) → (S → Waits) → (Loop → List ℕ → List Entry → List ℕ → Type 0) → Loop → List ℕ → Option (List ℕ) → Option (List ℕ) → Outcome → Type 0
+IsTurnsOutcome starts makes view waits heads l schedule old new outcome =
+    Comes (IsReplay starts makes view waits heads l schedule) (IsFullOutcome starts makes view waits l schedule) (HasBegun heads l schedule old new) old new outcome
+
 -- ---- lines of turns
 
 -- of the image and the schedule that a text says for so many cores, which the image's version allows
@@ -71,6 +80,12 @@ IsNoReplay starts makes view waits cores room text (BadTurns fault) =
 IsNoReplay starts makes view waits cores room text (Stopped HistoryFull) = OfText cores room text (IsFull starts makes view waits)
 IsNoReplay starts makes view waits cores room text (Stopped NoMemory) = Unit {0}
 IsNoReplay starts makes view waits cores room text outcome = ⊥
+
+-- what the replay of a text's lines of turns comes to is right, and this was written
+abbrev pub IsLinesOutcome : {S : Type 0} → (LoadedImage → ℕ → S → Type 0) → (S → Call → S → Type 0) → (S → StoreView) → (S → Waits) → (Loop → List ℕ → List Entry → List ℕ → Type 0) → ℕ → ℕ → List ℕ → Option (List ℕ) → Option (List ℕ) → Outcome → Type 0
+IsLinesOutcome starts makes view waits heads cores room text old new outcome =
+    Comes (λ o printed. OfText cores room text (λ l schedule. IsReplay starts makes view waits heads l schedule o printed)) (IsNoReplay starts makes view waits cores room text)
+    (OfText cores room text (λ l schedule. HasBegun heads l schedule old new)) old new outcome
 
 -- ---- the whole input: a trace, or lines of turns for so many cores
 
@@ -93,15 +108,19 @@ IsUnread kind.TooLong fault text = (fault.line ≡ 0) × (longest_trace_text < l
 IsUnread kind.Read fault text = fault.line ≡ 0
 IsUnread kind fault text = ⊥
 
+abbrev pub IsUnreadOutcome : List ℕ → Outcome → Type 0
+IsUnreadOutcome text (BadTurns fault) = IsUnread fault.kind fault text
+IsUnreadOutcome text outcome = ⊥
+
+-- the first turns have been told
+abbrev pub HasBegunOn : (Loop → List ℕ → List Entry → List ℕ → Type 0) → Bool → Option ℕ → ℕ → List ℕ → Option (List ℕ) → Option (List ℕ) → Type 0
+HasBegunOn heads true cores room text old new = OfTrace cores room text (λ l entries. HasBegun heads l (turns_of l.cores entries) old new)
+HasBegunOn heads false (Some cores) room text old new = OfText cores room text (λ l schedule. HasBegun heads l schedule old new)
+HasBegunOn heads false None room text old new = ⊥
+
 -- what `replay` came to over this store is right for this input, and this was written, with such a head
 abbrev pub IsReplayOutcome : {S : Type 0} → (LoadedImage → ℕ → S → Type 0) → (S → Call → S → Type 0) → (S → StoreView) → (S → Waits) → (Loop → List ℕ → List Entry → List ℕ → Type 0) → Option ℕ → ℕ → List ℕ → Option (List ℕ) → Option (List ℕ) → Outcome → Type 0
-IsReplayOutcome starts makes view waits heads cores room text old new (Reported end) =
-    (printed : List ℕ) × IsPrinted starts makes view waits heads (has_trace text) cores room text (Reported end) printed × Appends old new printed
-IsReplayOutcome starts makes view waits heads cores room text old new (Open homefree) =
-    (printed : List ℕ) × IsPrinted starts makes view waits heads (has_trace text) cores room text (Open homefree) printed × Appends old new printed
-IsReplayOutcome starts makes view waits heads cores room text old new (Stopped Write) =
-    (outcome : Outcome) × (printed : List ℕ) × IsPrinted starts makes view waits heads (has_trace text) cores room text outcome printed × AppendsPrefix old new printed
-IsReplayOutcome starts makes view waits heads cores room text old new (Stopped NoMemory) = Keeps old new
-IsReplayOutcome starts makes view waits heads cores room text old new (BadTurns fault) =
-    (IsUnread fault.kind fault text ⊎ IsUnprinted starts makes view waits (has_trace text) cores room text (BadTurns fault)) × Keeps old new
-IsReplayOutcome starts makes view waits heads cores room text old new outcome = IsUnprinted starts makes view waits (has_trace text) cores room text outcome × Keeps old new
+IsReplayOutcome starts makes view waits heads cores room text old new outcome =
+    Comes (λ o printed. IsPrinted starts makes view waits heads (has_trace text) cores room text o printed)
+    (λ o. IsUnreadOutcome text o ⊎ IsUnprinted starts makes view waits (has_trace text) cores room text o)
+    (HasBegunOn heads (has_trace text) cores room text old new) old new outcome

@@ -17,6 +17,8 @@ use Rattle.trace_commands.specs.declared.outcome.CommandStop.TheVariants.{NoMemo
 use Rattle.trace_commands.specs.Audit.{IsNoVerdict, IsTracedBy}
 use Rattle.all_schedules.specs.Made.{IsFull, Makes, loop_on}
 use Rattle.all_schedules.specs.Shown.{IsShown}
+use Rattle.turn_steps.specs.Writing.{AppendsFirst}
+use Rattle.all_schedules.specs.Told.{Comes, HasBegun, IsBelow}
 
 -- ---- the schedule of a trace
 
@@ -76,6 +78,16 @@ IsNotRetraced starts makes view waits l entries (Stopped HistoryFull) = IsFull s
 IsNotRetraced starts makes view waits l entries (Stopped NoMemory) = Unit {0}
 IsNotRetraced starts makes view waits l entries outcome = ⊥
 
+-- a history that is that of the entries is shown below this head
+abbrev pub IsSameBelow : LoadedImage → ℕ → List Entry → List Entry → List ℕ → Option (List ℕ) → Option (List ℕ) → Outcome → Type 0
+IsSameBelow image cores history entries head old new outcome =
+    Comes (λ o text. (history ≡ entries) × IsBelow image cores history head o text) (IsNotSame history entries) (AppendsFirst old new head) old new outcome
+
+-- what the turns of a trace came to is right, and this was written
+abbrev pub IsTraceOutcome : {S : Type 0} → (LoadedImage → ℕ → S → Type 0) → (S → Call → S → Type 0) → (S → StoreView) → (S → Waits) → (Loop → List ℕ → List Entry → List ℕ → Type 0) → Loop → List Entry → Option (List ℕ) → Option (List ℕ) → Outcome → Type 0
+IsTraceOutcome starts makes view waits heads l entries old new outcome =
+    Comes (IsRetraced starts makes view waits heads l entries) (IsNotRetraced starts makes view waits l entries) (HasBegun heads l (turns_of l.cores entries) old new) old new outcome
+
 -- ---- of a text
 
 -- a line begins a trace: it ends the image
@@ -110,3 +122,9 @@ IsNoRetrace starts makes view waits cores room text Usage = IsOfOther cores text
 IsNoRetrace starts makes view waits cores room text (Differs place) = OfTrace cores room text (λ l entries. Parts starts makes view waits l entries place)
 IsNoRetrace starts makes view waits cores room text (Stopped HistoryFull) = OfTrace cores room text (λ l entries. IsFull starts makes view waits l (turns_of l.cores entries))
 IsNoRetrace starts makes view waits cores room text outcome = IsNoVerdict text outcome
+
+-- what the replay of a text's trace comes to is right, and this was written
+abbrev pub IsRetraceOutcome : {S : Type 0} → (LoadedImage → ℕ → S → Type 0) → (S → Call → S → Type 0) → (S → StoreView) → (S → Waits) → (Loop → List ℕ → List Entry → List ℕ → Type 0) → Option ℕ → ℕ → List ℕ → Option (List ℕ) → Option (List ℕ) → Outcome → Type 0
+IsRetraceOutcome starts makes view waits heads cores room text old new outcome =
+    Comes (λ o printed. OfTrace cores room text (λ l entries. IsRetraced starts makes view waits heads l entries o printed)) (IsNoRetrace starts makes view waits cores room text)
+    (OfTrace cores room text (λ l entries. HasBegun heads l (turns_of l.cores entries) old new)) old new outcome

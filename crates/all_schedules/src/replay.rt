@@ -11,26 +11,26 @@ ghost use Rattle.all_schedules.specs.Replay as spec;
 ghost use Rattle.all_schedules.specs.Told.{IsHead};
 
 use crate::detail::Detail;
-use crate::told::{drive_told, print_told};
+use crate::driving::drive_schedule;
+use crate::told::{drive_told, show_told};
 use crate::traced::{begins_trace, retrace};
 use crate::turns::read_turns;
 use homefree::TurnFault;
 use rv32_image::{Image, image_of, parts_of, read_input};
-use std::alloc::{AllocError, Global};
+use std::alloc::Global;
 use std::io::{Read, Write};
-use trace_commands::{CommandStop, Outcome, write_whole};
+use trace_commands::{CommandStop, Outcome};
 use trace_text::{LONGEST_TRACE_TEXT, TraceFault};
 use turn_steps::ShownStore;
-use violations::EpochStore;
 
 /// Replays what the reader gives below its image: the schedule of a trace, or that of lines of turns for so many cores. Takes its turns over a
-/// fresh store, on one thread, and writes what they make, the counts and the trace; above it, where that is asked for, each turn and a line `end`. The cores are at least 1; where none are said, the
-/// trace says how many. The room is 16 to 1,048,576 entries.
+/// fresh store, on one thread, and writes what they make, the counts and the trace; above it, where that is asked for, each turn, as it is
+/// taken, and a line `end`. The cores are at least 1; where none are said, the trace says how many. The room is 16 to 1,048,576 entries.
 ///
 /// The status is 0 where the loop is done or exited, or the schedule was used up before; 1 where an epoch faulted; 2 where the image, the
 /// number of cores, the trace or the lines of turns are refused; 3 where the history is full, memory ran out or a write failed; 4 where the
-/// turns of a trace make another history. With 2 to 4 one line on the error stream says which. All that is written was made
-/// before the first byte: after a failed write a prefix of it was written.
+/// turns of a trace make another history. With 2 to 4 one line on the error stream says which, and nothing was written; but after a
+/// failed write a prefix, and where memory ran out while turns were told, the first of them.
 pub fn do_replay<S: ShownStore, R: Read, W: Write, E: Write>(
     alloc: Global,
     detail: Detail,
@@ -72,6 +72,7 @@ fn replay_input<S: ShownStore, R: Read, W: Write>(
     }
 }
 
+/// Replays the trace or the lines of turns of a text.
 fn replay_text<S: ShownStore, W: Write>(
     alloc: Global,
     detail: Detail,
@@ -86,95 +87,100 @@ fn replay_text<S: ShownStore, W: Write>(
     requires short { length text.now ≤ longest_trace_text }
     ensures { spec.IsReplayOutcome S.starts S.makes S.view S.waits (IsHead S.starts S.makes S.view S.waits S.changes detail) cores room text.now (W.contents writer.old) (W.contents writer.new) result }
 {
-    let (outcome, printed) = match print_replay::<S>(alloc, detail, cores, room, text) {
-        Ok(shown) => shown,
-        Err(outcome) => return outcome,
-    };
-    if write_whole(writer, printed.as_slice()) {
-        outcome
-    } else {
-        Outcome::Stopped(CommandStop::Write)
-    }
-}
-
-/// What the trace or the lines of turns of a text came to, with all that is printed of it; or what it came to where nothing is printed.
-fn print_replay<S: ShownStore>(
-    alloc: Global,
-    detail: Detail,
-    cores: Option<u32>,
-    room: u32,
-    text: &[u8],
-) -> Result<(Outcome, Vec<u8>), Outcome>
-    requires cores { IfSome cores (λ k. 1 ≤ k) }
-    requires least { 16 ≤ room }
-    requires most { room ≤ 1048576 }
-    requires short { length text.now ≤ longest_trace_text }
-    ensures { MatchResult result (λ shown. spec.IsPrinted S.starts S.makes S.view S.waits (IsHead S.starts S.makes S.view S.waits S.changes detail) (has_trace text.now) cores room text.now shown.0 shown.1.items)
-        (spec.IsUnprinted S.starts S.makes S.view S.waits (has_trace text.now) cores room text.now) }
-{
     if begins_trace(text) {
-        return retrace::<S>(alloc, detail, cores, room, text);
+        return retrace::<S, W>(alloc, detail, cores, room, text, writer);
     }
     match cores {
-        Some(cores) => replay_of::<S>(alloc, detail, cores, room, text),
-        None => Err(Outcome::Usage),
+        Some(cores) => replay_of::<S, W>(alloc, detail, cores, room, text, writer),
+        None => Outcome::Usage,
     }
 }
 
-/// What the lines of turns of a text came to, with all that is printed of it; or what it came to where nothing is printed.
-fn replay_of<S: ShownStore>(
+/// Replays the lines of turns of a text.
+fn replay_of<S: ShownStore, W: Write>(
     alloc: Global,
     detail: Detail,
     cores: u32,
     room: u32,
     text: &[u8],
-) -> Result<(Outcome, Vec<u8>), Outcome>
+    writer: &mut W,
+) -> Outcome
     requires cores { 1 ≤ cores }
     requires least { 16 ≤ room }
     requires most { room ≤ 1048576 }
     requires short { length text.now ≤ longest_trace_text }
-    ensures { MatchResult result (λ shown. spec.OfText cores room text.now (λ l schedule. spec.IsReplay S.starts S.makes S.view S.waits (IsHead S.starts S.makes S.view S.waits S.changes detail) l schedule shown.0 shown.1.items)) (spec.IsNoReplay S.starts S.makes S.view S.waits cores room text.now) }
+    ensures { spec.IsLinesOutcome S.starts S.makes S.view S.waits (IsHead S.starts S.makes S.view S.waits S.changes detail) cores room text.now (W.contents writer.old) (W.contents writer.new) result }
 {
     let parts = parts_of(text, b"turns ");
     let image = match image_of(alloc, parts.image) {
         Ok(image) => image,
-        Err(fault) => return Err(Outcome::of_fault(fault)),
+        Err(fault) => return Outcome::of_fault(fault),
     };
     if image.version().limits().most_cores < cores {
-        return Err(Outcome::Usage);
+        return Outcome::Usage;
     }
     let schedule = match read_turns(alloc, cores, parts.below) {
         Ok(schedule) => schedule,
-        Err(fault) => return Err(Outcome::of_turns_fault(fault)),
+        Err(fault) => return Outcome::of_turns_fault(fault),
     };
-    match replay_turns::<S>(alloc, detail, &image, cores, room, schedule.as_slice()) {
-        Ok(shown) => Ok(shown),
-        Err(cause) => Err(Outcome::Stopped(cause)),
-    }
+    replay_turns::<S, W>(
+        alloc,
+        detail,
+        &image,
+        cores,
+        room,
+        schedule.as_slice(),
+        writer,
+    )
 }
 
-/// Takes the turns of a schedule, and shows what they made.
-fn replay_turns<S: ShownStore>(
+/// Takes the turns of a schedule, and writes what they made. Where each of them is to be told, they are taken twice, so that nothing was
+/// written where they are refused.
+fn replay_turns<S: ShownStore, W: Write>(
     alloc: Global,
     detail: Detail,
     image: &Image,
     cores: u32,
     room: u32,
     schedule: &[u32],
-) -> Result<(Outcome, Vec<u8>), CommandStop>
+    writer: &mut W,
+) -> Outcome
     requires cores { IsCoreCount image.now cores }
     requires least { 16 ≤ room }
     requires most { room ≤ 1048576 }
     requires schedule { All (λ core. core < cores) schedule.now }
-    ensures shown { IfOk result (λ shown. spec.IsReplay S.starts S.makes S.view S.waits (IsHead S.starts S.makes S.view S.waits S.changes detail) (loop_on image.now cores room) schedule.now shown.0 shown.1.items) }
-    ensures stopped { IfErr result (spec.IsStop S.starts S.makes S.view S.waits (loop_on image.now cores room) schedule.now) }
+    ensures { spec.IsTurnsOutcome S.starts S.makes S.view S.waits (IsHead S.starts S.makes S.view S.waits S.changes detail) (loop_on image.now cores room) schedule.now (W.contents writer.old) (W.contents writer.new) result }
 {
-    match drive_told::<S>(alloc, detail, image, cores, room, schedule) {
-        Ok((book, head)) => match print_told(alloc, image, cores, &book, head) {
-            Ok(shown) => Ok(shown),
-            Err(AllocError) => Err(CommandStop::NoMemory),
+    if let Err(cause) = check_turns::<S>(alloc, detail, image, cores, room, schedule) {
+        return Outcome::Stopped(cause);
+    }
+    match drive_told::<S, W>(alloc, detail, image, cores, room, schedule, writer) {
+        Ok((book, rest, whole)) => show_told(alloc, image, cores, &book, rest, whole, writer),
+        Err(fault) => Outcome::Stopped(cause_of(fault)),
+    }
+}
+
+/// Takes the turns of a schedule without a text, where each is to be told: an Err is what they stop by.
+fn check_turns<S: ShownStore>(
+    alloc: Global,
+    detail: Detail,
+    image: &Image,
+    cores: u32,
+    room: u32,
+    schedule: &[u32],
+) -> Result<(), CommandStop>
+    requires cores { IsCoreCount image.now cores }
+    requires least { 16 ≤ room }
+    requires most { room ≤ 1048576 }
+    requires schedule { All (λ core. core < cores) schedule.now }
+    ensures { IfErr result (spec.IsStop S.starts S.makes S.view S.waits (loop_on image.now cores room) schedule.now) }
+{
+    match detail {
+        Detail::Whole => Ok(()),
+        Detail::Steps => match drive_schedule::<S>(alloc, image, cores, room, schedule) {
+            Ok(_) => Ok(()),
+            Err(fault) => Err(cause_of(fault)),
         },
-        Err(fault) => Err(cause_of(fault)),
     }
 }
 

@@ -1,6 +1,7 @@
 //! What one schedule makes, with what is printed above it.
-ghost use Rattle.std.specs.Prelude.{◌≡◌, ◌≤◌, ◌<◌, ◌++◌, ℕ, All, List, IfOk, IfErr};
+ghost use Rattle.std.specs.Prelude.{◌≡◌, ◌≤◌, ◌<◌, ◌++◌, ℕ, All, List, Option, IfOk, IfErr};
 ghost use Rattle.violations.specs.Rule.{IsCoreCount};
+ghost use Rattle.turn_steps.specs.Writing.{IsWrittenBut};
 ghost use Rattle.all_schedules.specs.Made.{IsFault, IsMade, loop_on};
 ghost use Rattle.all_schedules.specs.Shown.{IsShown};
 ghost use Rattle.all_schedules.specs.Told as spec;
@@ -11,86 +12,115 @@ use crate::print::print_book;
 use homefree::{Book, TurnFault};
 use run_ledger::Shares;
 use rv32_image::Image;
-use std::alloc::{AllocError, Global};
-use trace_commands::Outcome;
+use std::alloc::Global;
+use std::io::Write;
+use trace_commands::{CommandStop, Outcome, write_whole};
 use turn_steps::{ShownStore, drive_steps};
 use violations::EpochStore;
 
-/// Takes the turns of a schedule as `drive_schedule`, and answers the history that they make and what is printed above it: nothing, or each
-/// turn and a line `end`.
-pub fn drive_told<S: ShownStore>(
+/// Takes the turns of a schedule as `drive_schedule`, and writes what is printed above what they make: nothing, or each turn as it is
+/// taken and a line `end`. It answers the history that they make, the rest of that text, which isn't written yet, and whether all before
+/// it was.
+pub fn drive_told<S: ShownStore, W: Write>(
     alloc: Global,
     detail: Detail,
     image: &Image,
     cores: u32,
     room: u32,
     schedule: &[u32],
-) -> Result<(Book<S>, Vec<u8>), TurnFault>
+    writer: &mut W,
+) -> Result<(Book<S>, Vec<u8>, bool), TurnFault>
     requires cores { IsCoreCount image.now cores }
     requires least { 16 ≤ room }
     requires most { room ≤ 1048576 }
     requires schedule { All (λ core. core < cores) schedule.now }
     ensures made { IfOk result (λ told. IsMade S.starts S.makes S.view S.waits (loop_on image.now cores room) schedule.now told.0) }
-    ensures head { IfOk result (λ told. spec.IsHead S.starts S.makes S.view S.waits S.changes detail (loop_on image.now cores room) schedule.now told.0.history told.1.items) }
+    ensures head { IfOk result (λ told. spec.IsToldOf (spec.IsHead S.starts S.makes S.view S.waits S.changes detail) (loop_on image.now cores room) schedule.now told.0.history told.1.items told.2
+        (W.contents writer.old) (W.contents writer.new)) }
     ensures fault { IfErr result (IsFault S.starts S.makes S.view S.waits (loop_on image.now cores room) schedule.now) }
+    ensures begun { IfErr result (λ _. spec.Leaves (spec.IsHead S.starts S.makes S.view S.waits S.changes detail) (loop_on image.now cores room) schedule.now (W.contents writer.old) (W.contents writer.new)) }
 {
     match detail {
         Detail::Whole => match drive_schedule(alloc, image, cores, room, schedule) {
-            Ok(book) => Ok((book, Vec::new(alloc))),
+            Ok(book) => Ok((book, Vec::new(alloc), true)),
             Err(fault) => Err(fault),
         },
-        Detail::Steps => step_schedule(alloc, image, cores, room, schedule),
+        Detail::Steps => step_schedule(alloc, image, cores, room, schedule, writer),
     }
 }
 
-/// Takes the turns of a schedule, and answers the history that they make and the text of each, with a line `end` below them.
-fn step_schedule<S: ShownStore>(
+/// Takes the turns of a schedule, writes the text of each, with a line `end` below them, and answers the history that they make, the rest
+/// of the text, and whether all before it was written.
+fn step_schedule<S: ShownStore, W: Write>(
     alloc: Global,
     image: &Image,
     cores: u32,
     room: u32,
     schedule: &[u32],
-) -> Result<(Book<S>, Vec<u8>), TurnFault>
+    writer: &mut W,
+) -> Result<(Book<S>, Vec<u8>, bool), TurnFault>
     requires cores { IsCoreCount image.now cores }
     requires least { 16 ≤ room }
     requires most { room ≤ 1048576 }
     requires schedule { All (λ core. core < cores) schedule.now }
     ensures made { IfOk result (λ told. IsMade S.starts S.makes S.view S.waits (loop_on image.now cores room) schedule.now told.0) }
-    ensures head { IfOk result (λ told. spec.IsHead S.starts S.makes S.view S.waits S.changes Detail.Steps (loop_on image.now cores room) schedule.now told.0.history told.1.items) }
+    ensures head { IfOk result (λ told. spec.IsToldOf (spec.IsHead S.starts S.makes S.view S.waits S.changes Detail.Steps) (loop_on image.now cores room) schedule.now told.0.history told.1.items told.2
+        (W.contents writer.old) (W.contents writer.new)) }
     ensures fault { IfErr result (IsFault S.starts S.makes S.view S.waits (loop_on image.now cores room) schedule.now) }
+    ensures begun { IfErr result (λ _. spec.Leaves (spec.IsHead S.starts S.makes S.view S.waits S.changes Detail.Steps) (loop_on image.now cores room) schedule.now (W.contents writer.old) (W.contents writer.new)) }
 {
     let made: Result<(Book<S>, Shares), _> = Book::new(alloc, image, cores, room);
     let Ok((mut book, mut shares)) = made else {
         return Err(TurnFault::NoMemory);
     };
-    let stepped = drive_steps(alloc, &mut book, image, cores, schedule, &mut shares);
+    let stepped = drive_steps(
+        alloc,
+        &mut book,
+        image,
+        cores,
+        schedule,
+        &mut shares,
+        writer,
+    );
     book.look();
-    let mut text = match stepped {
-        Ok(text) => text,
+    let (mut text, whole) = match stepped {
+        Ok(told) => told,
         Err(fault) => return Err(fault),
     };
     let Ok(()) = text.extend_from_slice(b"end\n") else {
         return Err(TurnFault::NoMemory);
     };
-    Ok((book, text))
+    Ok((book, text, whole))
 }
 
-/// What a book came to, with all that is printed of it below this head.
-///
-/// `AllocError`: memory ran out.
-pub fn print_told<S: EpochStore>(
+/// Writes what is printed of a book below this rest of its head, before which all was written or not, and answers what the book came to.
+pub fn show_told<S: EpochStore, W: Write>(
     alloc: Global,
     image: &Image,
     cores: u32,
     book: &Book<S>,
-    head: Vec<u8>,
-) -> Result<(Outcome, Vec<u8>), AllocError>
+    rest: Vec<u8>,
+    whole: bool,
+    writer: &mut W,
+) -> Outcome
     requires image { book.now.image ≡ image.now }
     requires cores { book.now.cores ≡ cores }
-    ensures { IfOk result (λ shown. (below : List ℕ) × IsShown image.now cores book.now.history shown.0 below × (shown.1.items ≡ head.items ++ below)) }
+    ensures { (first : Option (List ℕ)) (head : List ℕ) → IsWrittenBut rest.items whole first (W.contents writer.old) head
+        → spec.IsShownBelow image.now cores book.now.history head first (W.contents writer.new) result }
 {
-    let shown = print_book(alloc, image, cores, book)?;
-    let mut text = head;
-    text.extend_from_slice(shown.1.as_slice())?;
-    Ok((shown.0, text))
+    let Ok((outcome, below)) = print_book(alloc, image, cores, book) else {
+        return Outcome::Stopped(CommandStop::NoMemory);
+    };
+    let mut text = rest;
+    let Ok(()) = text.extend_from_slice(below.as_slice()) else {
+        return Outcome::Stopped(CommandStop::NoMemory);
+    };
+    if !whole {
+        return Outcome::Stopped(CommandStop::Write);
+    }
+    if write_whole(writer, text.as_slice()) {
+        outcome
+    } else {
+        Outcome::Stopped(CommandStop::Write)
+    }
 }

@@ -1,19 +1,21 @@
 //! The replay of a trace: its schedule, driven again.
-ghost use Rattle.std.specs.Prelude.{◌≡◌, ◌≤◌, ◌++◌, ℕ, List, MatchOption, MatchResult, IfOk, OnOk, length};
+ghost use Rattle.std.specs.Prelude.{◌≡◌, ◌≤◌, ◌<◌, ◌++◌, ℕ, All, List, Option, MatchOption, IfOk, IfErr, OnOk, length};
 ghost use Rattle.trace_text.specs.TraceText.{longest_trace_text};
 ghost use Rattle.violations.specs.Rule.{IsCoreCount};
 ghost use Rattle.all_schedules.specs.Made.{loop_on};
-ghost use Rattle.all_schedules.specs.Shown.{IsShown};
+ghost use Rattle.turn_steps.specs.Writing.{IsWrittenBut};
 ghost use Rattle.all_schedules.specs.Told.{IsHead};
 ghost use Rattle.all_schedules.specs.Traced as spec;
 
 use crate::detail::Detail;
+use crate::driving::drive_schedule;
 use crate::replay::cause_of;
-use crate::told::{drive_told, print_told};
+use crate::told::{drive_told, show_told};
 use homefree::Book;
 use rv32_image::Image;
 use spec_history::{Entry, What};
 use std::alloc::{AllocError, Global};
+use std::io::Write;
 use trace_commands::{CommandStop, Outcome, traced_in};
 use trace_text::image_part;
 use turn_steps::ShownStore;
@@ -26,33 +28,38 @@ pub fn begins_trace(text: &[u8]) -> bool
     image_part(text).len() < text.len()
 }
 
-/// What the schedule of a text's trace came to, with all that is printed of it, where it makes that trace again; or what it came to where
-/// nothing is printed. The cores, where some are said, have to be those of the trace.
-pub fn retrace<S: ShownStore>(
+/// Takes the turns of a text's trace, and writes what they made where that is the trace. The cores, where some are said, have to be those
+/// of the trace.
+pub fn retrace<S: ShownStore, W: Write>(
     alloc: Global,
     detail: Detail,
     cores: Option<u32>,
     room: u32,
     text: &[u8],
-) -> Result<(Outcome, Vec<u8>), Outcome>
+    writer: &mut W,
+) -> Outcome
     requires least { 16 ≤ room }
     requires most { room ≤ 1048576 }
     requires short { length text.now ≤ longest_trace_text }
-    ensures { MatchResult result (λ shown. spec.OfTrace cores room text.now (λ l entries. spec.IsRetraced S.starts S.makes S.view S.waits (IsHead S.starts S.makes S.view S.waits S.changes detail) l entries shown.0 shown.1.items))
-        (spec.IsNoRetrace S.starts S.makes S.view S.waits cores room text.now) }
+    ensures { spec.IsRetraceOutcome S.starts S.makes S.view S.waits (IsHead S.starts S.makes S.view S.waits S.changes detail) cores room text.now (W.contents writer.old) (W.contents writer.new) result }
 {
     let traced = match traced_in(alloc, text) {
         Ok(traced) => traced,
-        Err(outcome) => return Err(outcome),
+        Err(outcome) => return outcome,
     };
     if is_other(cores, traced.cores) {
-        return Err(Outcome::Usage);
+        return Outcome::Usage;
     }
     let entries = traced.entries.as_slice();
-    match drive_trace::<S>(alloc, detail, &traced.image, traced.cores, room, entries) {
-        Ok(shown) => Ok(shown),
-        Err(outcome) => Err(outcome),
-    }
+    drive_trace::<S, W>(
+        alloc,
+        detail,
+        &traced.image,
+        traced.cores,
+        room,
+        entries,
+        writer,
+    )
 }
 
 /// Whether another number of cores is said than this one.
@@ -65,27 +72,71 @@ fn is_other(cores: Option<u32>, number: u32) -> bool
     }
 }
 
-/// Takes the turns of a trace, and shows what they made where that is the trace.
-fn drive_trace<S: ShownStore>(
+/// Takes the turns of a trace, and writes what they made where that is the trace. Where each of them is to be told, they are taken
+/// twice, so that nothing was written where they make another history.
+fn drive_trace<S: ShownStore, W: Write>(
     alloc: Global,
     detail: Detail,
     image: &Image,
     cores: u32,
     room: u32,
     entries: &[Entry],
-) -> Result<(Outcome, Vec<u8>), Outcome>
+    writer: &mut W,
+) -> Outcome
     requires cores { IsCoreCount image.now cores }
     requires least { 16 ≤ room }
     requires most { room ≤ 1048576 }
-    ensures { MatchResult result (λ shown. spec.IsRetraced S.starts S.makes S.view S.waits (IsHead S.starts S.makes S.view S.waits S.changes detail) (loop_on image.now cores room) entries.now shown.0 shown.1.items)
-        (spec.IsNotRetraced S.starts S.makes S.view S.waits (loop_on image.now cores room) entries.now) }
+    ensures { spec.IsTraceOutcome S.starts S.makes S.view S.waits (IsHead S.starts S.makes S.view S.waits S.changes detail) (loop_on image.now cores room) entries.now (W.contents writer.old) (W.contents writer.new) result }
 {
     let Ok(schedule) = turns_of(alloc, cores, entries) else {
-        return Err(Outcome::Stopped(CommandStop::NoMemory));
+        return Outcome::Stopped(CommandStop::NoMemory);
     };
-    match drive_told::<S>(alloc, detail, image, cores, room, schedule.as_slice()) {
-        Ok((book, head)) => show_same(alloc, image, cores, &book, entries, head),
-        Err(fault) => Err(Outcome::Stopped(cause_of(fault))),
+    let turns = schedule.as_slice();
+    if let Err(outcome) = check_trace::<S>(alloc, detail, image, cores, room, turns, entries) {
+        return outcome;
+    }
+    match drive_told::<S, W>(alloc, detail, image, cores, room, turns, writer) {
+        Ok((book, rest, whole)) => {
+            show_same(alloc, image, cores, &book, entries, rest, whole, writer)
+        }
+        Err(fault) => Outcome::Stopped(cause_of(fault)),
+    }
+}
+
+/// Takes the turns of a trace without a text, where each is to be told: an Err is what keeps them from being told.
+fn check_trace<S: ShownStore>(
+    alloc: Global,
+    detail: Detail,
+    image: &Image,
+    cores: u32,
+    room: u32,
+    turns: &[u32],
+    entries: &[Entry],
+) -> Result<(), Outcome>
+    requires cores { IsCoreCount image.now cores }
+    requires least { 16 ≤ room }
+    requires most { room ≤ 1048576 }
+    requires schedule { All (λ core. core < cores) turns.now }
+    requires turns { turns.now ≡ spec.turns_of cores entries.now }
+    ensures { IfErr result (spec.IsNotRetraced S.starts S.makes S.view S.waits (loop_on image.now cores room) entries.now) }
+{
+    match detail {
+        Detail::Whole => Ok(()),
+        Detail::Steps => match drive_schedule::<S>(alloc, image, cores, room, turns) {
+            Ok(book) => is_same(&book, entries),
+            Err(fault) => Err(Outcome::Stopped(cause_of(fault))),
+        },
+    }
+}
+
+/// Whether the history of a book is that of the entries: an Err says where it isn't.
+fn is_same<S: EpochStore>(book: &Book<S>, entries: &[Entry]) -> Result<(), Outcome>
+    ensures same { OnOk result (book.now.history ≡ entries.now) }
+    ensures other { IfErr result (spec.IsNotSame book.now.history entries.now) }
+{
+    match parting(book.history(), entries) {
+        None => Ok(()),
+        Some(place) => Err(Outcome::Differs(place)),
     }
 }
 
@@ -120,27 +171,25 @@ fn is_of_own(what: What) -> bool
     }
 }
 
-/// Shows the history of a book, below this head, where it is that of the entries.
-fn show_same<S: EpochStore>(
+/// Writes what is printed of a book, below this rest of its head, where its history is that of the entries.
+fn show_same<S: EpochStore, W: Write>(
     alloc: Global,
     image: &Image,
     cores: u32,
     book: &Book<S>,
     entries: &[Entry],
-    head: Vec<u8>,
-) -> Result<(Outcome, Vec<u8>), Outcome>
+    rest: Vec<u8>,
+    whole: bool,
+    writer: &mut W,
+) -> Outcome
     requires image { book.now.image ≡ image.now }
     requires cores { book.now.cores ≡ cores }
-    ensures { MatchResult result (λ shown. (book.now.history ≡ entries.now)
-        × ((below : List ℕ) × IsShown image.now cores book.now.history shown.0 below × (shown.1.items ≡ head.items ++ below)))
-        (spec.IsNotSame book.now.history entries.now) }
+    ensures { (first : Option (List ℕ)) (head : List ℕ) → IsWrittenBut rest.items whole first (W.contents writer.old) head
+        → spec.IsSameBelow image.now cores book.now.history entries.now head first (W.contents writer.new) result }
 {
-    if let Some(place) = parting(book.history(), entries) {
-        return Err(Outcome::Differs(place));
-    }
-    match print_told(alloc, image, cores, book, head) {
-        Ok(shown) => Ok(shown),
-        Err(AllocError) => Err(Outcome::Stopped(CommandStop::NoMemory)),
+    match is_same(book, entries) {
+        Ok(()) => show_told(alloc, image, cores, book, rest, whole, writer),
+        Err(outcome) => outcome,
     }
 }
 

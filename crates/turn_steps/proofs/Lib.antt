@@ -15,5 +15,6 @@ pub mod Attempts
 pub mod BusRows
 pub mod Buses
 pub mod Steps
+pub mod Written
 pub mod TurnText
 pub mod Followed

@@ -12,6 +12,7 @@ pub mod Kept
 pub mod KeptCores
 pub mod Laws
 pub mod Stepped
--- Words of contracts inside.
+-- Words of contracts: what was written of a text; and inside.
+pub mod Writing
 pub mod Passes
 pub mod Telling

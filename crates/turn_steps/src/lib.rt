@@ -18,6 +18,7 @@ mod stepping;
 mod store;
 mod turns;
 mod ways;
+mod writing;
 
 pub use bus::ShownBus;
 pub use caches::ShownCore;

@@ -1,6 +1,5 @@
 //! The turns of a schedule one by one, as text.
-ghost use Rattle.std.specs.Prelude.{◌≡◌, ◌≢◌, ◌++◌, ◌<◌, ◌≤◌, ◌==◌, ℕ, All, List, None, Ok, Err, Option, IfOk, OnOk, length, if◌then◌else◌};
-ghost use Rattle.rv32_exec.specs.declared.sequential.End.{End as LoopEnd};
+ghost use Rattle.std.specs.Prelude.{◌≡◌, ◌≢◌, ◌++◌, ◌<◌, ◌≤◌, ◌==◌, ℕ, All, List, None, Ok, Err, IfOk, IfErr, OnOk, length, if◌then◌else◌};
 ghost use Rattle.spec_history.specs.declared.entry.Entry.{Entry as HistoryEntry};
 ghost use Rattle.violations.specs.Rule.{IsFresh};
 ghost use Rattle.homefree.specs.BookView.{BookView, IsOfSameLoop};
@@ -9,37 +8,44 @@ ghost use Rattle.homefree.specs.Driven.{Driven, TurnedWith, driver, held_after, 
 ghost use Rattle.homefree.specs.Held.{HaveArrived, harts_of};
 ghost use Rattle.turn_steps.specs.Stepped as spec;
 ghost use Rattle.turn_steps.specs.Telling as telling;
+ghost use Rattle.turn_steps.specs.Writing as writing;
 
 use crate::cores::{push_attempt_changes, push_hart_change};
 use crate::loop_shown::ShownLoop;
 use crate::store::ShownStore;
 use crate::turns::{push_entries, push_turn};
+use crate::writing::write_long;
 use homefree::{Answer, Book, TurnFault, step};
 use run_ledger::Shares;
 use rv32_exec::{Arrived, Hart, Image};
 use std::alloc::{AllocError, Global};
+use std::io::Write;
 use violations::{Attempt, EpochStore, MAX_CORES};
 
-/// Takes turns as `drive` of `homefree` does, over a fresh store of this image on so many cores, and answers the text of each: the
-/// number of the turn, counted from 0, its core and what it was answered; its entries; and what isn't as it was before it, of what the cores
-/// run, of the core's hart, of what the store holds for the cores, and of committed memory.
+/// Takes turns as `drive` of `homefree` does, over a fresh store of this image on so many cores, and writes the text of each as it is
+/// taken: the number of the turn, counted from 0, its core and what it was answered; its entries; and what isn't as it was before it, of
+/// what the cores run, of the core's hart, of what the store holds for the cores, and of committed memory. It answers the rest of the text,
+/// which isn't written yet, and whether all before it was: after a failed write the further turns are taken, and nothing more is written.
 ///
-/// `HistoryFull`: a turn found too few free entries. `NoMemory`: memory ran out.
-pub fn drive_steps<S: ShownStore>(
+/// `HistoryFull`: a turn found too few free entries. `NoMemory`: memory ran out. The text of the turns before it, or some of the first of
+/// it, was written.
+pub fn drive_steps<S: ShownStore, W: Write>(
     alloc: Global,
     book: &mut Book<S>,
     image: &Image,
     cores: u32,
     schedule: &[u32],
     shares: &mut Shares,
-) -> Result<Vec<u8>, TurnFault>
+    writer: &mut W,
+) -> Result<(Vec<u8>, bool), TurnFault>
     requires image { book.old.image ≡ image.now }
     requires cores { book.old.cores ≡ cores }
     requires fresh { IsFresh image.now cores (S.view book.old.store) }
     requires schedule { All (λ core. core < cores) schedule.now }
     requires shares { IsNoMore shares.old book.old.totals }
-    ensures stepped { IfOk result (λ text. (end : Option LoopEnd)
-        × spec.Stepped S.makes S.view S.waits S.changes 0 (λ _. None) (driver book.old shares.old) schedule.now end (driver book.new shares.new) text.items) }
+    ensures stepped { IfOk result (λ told. writing.HasStepped S.makes S.view S.waits S.changes (driver book.old shares.old) schedule.now (driver book.new shares.new) told.0.items told.1
+        (W.contents writer.old) (W.contents writer.new)) }
+    ensures begun { IfErr result (λ _. writing.HasBegun S.makes S.view S.waits S.changes (driver book.old shares.old) schedule.now (W.contents writer.old) (W.contents writer.new)) }
     ensures full { result ≡ Err TurnFault.HistoryFull
         → Driven S.makes S.view S.waits (λ _. None) (driver book.old shares.old) schedule.now (Err TurnFault.HistoryFull) (driver book.new shares.new) }
     ensures same { IsOfSameLoop book.old book.new }
@@ -49,6 +55,7 @@ pub fn drive_steps<S: ShownStore>(
         return Err(TurnFault::NoMemory);
     };
     let mut text = Vec::new(alloc);
+    let mut whole = true;
     let mut held = [None; MAX_CORES];
     for number in 0..schedule.len() {
         let place = Place {
@@ -58,12 +65,13 @@ pub fn drive_steps<S: ShownStore>(
         };
         let answer = step_shown(alloc, book, &mut held, place, shares, &mut shown, &mut text)?;
         match answer {
-            Answer::Over(_) => return Ok(text),
-            Answer::Stopped(_) => return Ok(text),
+            Answer::Over(_) => return Ok((text, whole)),
+            Answer::Stopped(_) => return Ok((text, whole)),
             _ => (),
         }
+        write_long(writer, &mut whole, &mut text);
     }
-    Ok(text)
+    Ok((text, whole))
 }
 
 /// Where a turn stands in a schedule, its core, and how many there are.

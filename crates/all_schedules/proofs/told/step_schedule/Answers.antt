@@ -1,12 +1,13 @@
-use Rattle.std.proofs.Common.{◌≡◌, ◌∙◌, None, Ok, Err, ap, refl, subst}
+use Rattle.std.proofs.Common.{◌≡◌, ◌∙◌, ◌++◌, codes, None, Ok, Err, inr, ap, refl, subst}
 use Rattle.run_ledger.specs.declared.counts.Counts.{Counts}
 use Rattle.homefree.specs.declared.fault.TurnFault.TheVariants.{HistoryFull}
 use Rattle.homefree.specs.Driven.{driver}
 use Rattle.homefree.specs.LockView.{loop_of}
 use Rattle.turn_steps.specs.Stepped.{Stepped}
+use Rattle.turn_steps.proofs.Written.{first_but, grows_by}
 use Rattle.all_schedules.specs.Made.{loop_on}
 use Rattle.all_schedules.proofs.Drives.{made_history}
-use Rattle.all_schedules.proofs.Telling.{driven_by, told_fault}
+use Rattle.all_schedules.proofs.Telling.{driven_by, has_begun, has_told, told_fault}
 use Rattle.all_schedules.proofs.told.step_schedule.Goals as goal
 
 pub returns-clause-made : goal.returns-clause-made
@@ -21,32 +22,67 @@ returns-clause-made g c =
       makes = made_history g.S.EpochStore.starts g.S.EpochStore.makes g.S.EpochStore.view g.S.EpochStore.waits c.args.image.now c.args.cores c.args.room c.args.schedule.now c.in-Ok.book c.drive_steps-stepped.new.book c.in-Ok.shares
           c.drive_steps-stepped.new.shares (Ok run.stepped.0) new.image new.cores new.room new.history new.totals new.store new.starts new.stopped new.shares loop c.look.ensures
           (driven_by g.S.EpochStore.makes g.S.EpochStore.view g.S.EpochStore.waits g.S.ShownStore.changes (driver c.in-Ok.book c.in-Ok.shares) c.args.schedule.now run.stepped.0
-          (driver c.drive_steps-stepped.new.book c.drive_steps-stepped.new.shares) c.in-Ok-stepped.text.items run.stepped.1);
+          (driver c.drive_steps-stepped.new.book c.drive_steps-stepped.new.shares) run.stepped.1 run.stepped.2);
     }
 
 pub returns-clause-head : goal.returns-clause-head
 returns-clause-head g c =
     let new = c.in-Ok.ensures in
-    let run = c.in-Ok-stepped.ensures in (
-      c.in-Ok-stepped.text.items,
-      record {
-        first = c.in-Ok.book;
-        last = driver c.drive_steps-stepped.new.book c.drive_steps-stepped.new.shares;
-        end = run.stepped.0;
-        is_new = record {
-          loop = (λ k. record { image = new.image k; cores = new.cores k; room = new.room k });
-          history = new.history;
-          totals = new.totals;
-          store = new.store;
-          started = new.starts;
-          stopped = new.stopped;
-        };
-        stepped = subst (λ (counts : Counts). Stepped g.S.EpochStore.makes g.S.EpochStore.view g.S.EpochStore.waits g.S.ShownStore.changes 0 (λ _. None) (driver c.in-Ok.book counts) c.args.schedule.now run.stepped.0
-            (driver c.drive_steps-stepped.new.book c.drive_steps-stepped.new.shares) c.in-Ok-stepped.text.items) new.shares run.stepped.1;
-        history_is = refl;
-      },
-      c.in-Ok-extend_from_slice.ensures.items,
+    let run = c.in-Ok-stepped.ensures in
+    let text = run.stepped.1 in (
+      text ++ codes "end\n",
+      (
+        text,
+        record {
+          first = c.in-Ok.book;
+          last = driver c.drive_steps-stepped.new.book c.drive_steps-stepped.new.shares;
+          end = run.stepped.0;
+          is_new = record {
+            loop = (λ k. record { image = new.image k; cores = new.cores k; room = new.room k });
+            history = new.history;
+            totals = new.totals;
+            store = new.store;
+            started = new.starts;
+            stopped = new.stopped;
+          };
+          stepped = subst (λ (counts : Counts). Stepped g.S.EpochStore.makes g.S.EpochStore.view g.S.EpochStore.waits g.S.ShownStore.changes 0 (λ _. None) (driver c.in-Ok.book counts) c.args.schedule.now run.stepped.0
+              (driver c.drive_steps-stepped.new.book c.drive_steps-stepped.new.shares) text) new.shares run.stepped.2;
+          history_is = refl;
+        },
+        refl,
+      ),
+      grows_by c.in-Ok-stepped.told.0.items text c.in-Ok-stepped.told.1 (g.W.Write.contents c.args.writer.now) (g.W.Write.contents c.drive_steps-stepped.new.writer) run.stepped.3 (codes "end\n") c.extend_from_slice.new.self.items
+          c.in-Ok-extend_from_slice.ensures.items,
     )
+
+pub returns-in-Err-clause-begun : goal.returns-in-Err-clause-begun
+returns-in-Err-clause-begun g c =
+    let new = c.in-Ok.ensures in
+    inr (has_begun g.S.EpochStore.starts g.S.EpochStore.makes g.S.EpochStore.view g.S.EpochStore.waits g.S.ShownStore.changes (loop_on c.args.image.now c.args.cores c.args.room) c.args.schedule.now c.in-Ok.book c.in-Ok.shares
+    (g.W.Write.contents c.args.writer.now) (g.W.Write.contents c.drive_steps-stepped.new.writer) (record {
+      loop = (λ k. record { image = new.image k; cores = new.cores k; room = new.room k });
+      history = new.history;
+      totals = new.totals;
+      store = new.store;
+      started = new.starts;
+      stopped = new.stopped;
+    }) new.shares c.in-Err.ensures.begun)
+
+pub returns-in_default-extend_from_slice-clause-begun : goal.returns-in_default-extend_from_slice-clause-begun
+returns-in_default-extend_from_slice-clause-begun g c =
+    let new = c.in-Ok.ensures in
+    let run = c.in-Ok-stepped.ensures in
+    inr (has_told g.S.EpochStore.starts g.S.EpochStore.makes g.S.EpochStore.view g.S.EpochStore.waits g.S.ShownStore.changes (loop_on c.args.image.now c.args.cores c.args.room) c.args.schedule.now c.in-Ok.book c.in-Ok.shares
+    run.stepped.0 (driver c.drive_steps-stepped.new.book c.drive_steps-stepped.new.shares) run.stepped.1 (g.W.Write.contents c.args.writer.now) (g.W.Write.contents c.drive_steps-stepped.new.writer)
+    (record {
+      loop = (λ k. record { image = new.image k; cores = new.cores k; room = new.room k });
+      history = new.history;
+      totals = new.totals;
+      store = new.store;
+      started = new.starts;
+      stopped = new.stopped;
+    }) new.shares run.stepped.2
+    (first_but c.in-Ok-stepped.told.0.items run.stepped.1 c.in-Ok-stepped.told.1 (g.W.Write.contents c.args.writer.now) (g.W.Write.contents c.drive_steps-stepped.new.writer) run.stepped.3))
 
 pub returns-in-Err-clause-fault : goal.returns-in-Err-clause-fault
 returns-in-Err-clause-fault g c =

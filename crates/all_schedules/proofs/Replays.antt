@@ -1,0 +1,258 @@
+-- What the replay of turns, of a trace and of a text comes to, from what their parts came to.
+use Rattle.std.proofs.Common.{◌≡◌, ◌⊎◌, ℕ, Bool, true, false, List, length, Option, Some, None, Ok, Err, inl, inr, refl, sym, subst}
+use Rattle.std.proofs.Math.Seq.{take-length}
+use Rattle.rv32_image.specs.Image.{LoadedImage}
+use Rattle.rv32_image.specs.ImageText.{image_text}
+use Rattle.rv32_exec.specs.declared.sequential.End.{End}
+use Rattle.spec_history.specs.declared.entry.Entry.{Entry}
+use Rattle.violations.specs.View.{StoreView, Waits}
+use Rattle.violations.specs.Calls.{Call}
+use Rattle.violations.specs.Rule.{IsCoreCount}
+use Rattle.homefree.specs.declared.book.Loop.{Loop}
+use Rattle.homefree.specs.declared.fault.TurnFault.{TurnFault}
+use Rattle.homefree.specs.declared.fault.TurnFault.TheVariants as fault
+use Rattle.trace_commands.specs.declared.outcome.Outcome.{Outcome}
+use Rattle.trace_commands.specs.declared.outcome.Outcome.TheVariants.{Reported, Audited, Usage, BadImage, BadTrace, Open, BadTurns, Differs, Stopped}
+use Rattle.trace_commands.specs.declared.outcome.CommandStop.{CommandStop}
+use Rattle.trace_commands.specs.declared.outcome.CommandStop.TheVariants as cause
+use Rattle.trace_text.specs.declared.fault.TraceFaultKind.{TraceFaultKind}
+use Rattle.trace_text.specs.declared.fault.TraceFaultKind.TheVariants as trace
+use Rattle.trace_text.specs.Reading.{IsFaultOf}
+use Rattle.trace_commands.specs.Outcome.{outcome_of_turns_fault}
+use Rattle.trace_commands.specs.Audit.{IsNoVerdict, IsTracedBy}
+use Rattle.trace_commands.proofs.Audits.{keeps_itself}
+use Rattle.turn_steps.specs.Writing.{AppendsFirst}
+use Rattle.all_schedules.specs.Made.{IsFault, IsFull, Makes, loop_on}
+use Rattle.all_schedules.specs.Shown.{IsShown}
+use Rattle.all_schedules.specs.Replay.{IsFullOutcome, IsLinesOutcome, IsNoReplay, IsPrinted, IsReplay, IsStop, IsTurnsOutcome, IsUnprinted, IsUnreadOutcome, HasBegunOn, OfText, cause_of}
+use Rattle.all_schedules.specs.Told.{Comes, HasBegun, IsBelow, IsShownBelow, Leaves}
+use Rattle.all_schedules.specs.Traced.{IsNoRetrace, IsNotRetraced, IsNotSame, IsRetraceOutcome, IsRetraced, IsSameBelow, IsTraceOutcome, OfTrace, is_other, turns_of}
+use Rattle.all_schedules.specs.Turns.{image_part, schedule_text}
+use Rattle.all_schedules.proofs.Coming.{comes_by}
+use Rattle.all_schedules.proofs.Outcomes.{by_image, by_text}
+
+module _ {S : Type 0} (starts : LoadedImage → ℕ → S → Type 0) (makes : S → Call → S → Type 0) (view : S → StoreView) (waits : S → Waits) (heads : Loop → List ℕ → List Entry → List ℕ → Type 0) where
+  -- all turns of a schedule are its first
+  begun_by : (l : Loop) (schedule : List ℕ) (history : List Entry) (head : List ℕ) (old new : Option (List ℕ)) → heads l schedule history head → AppendsFirst old new head → HasBegun heads l schedule old new
+  begun_by l schedule history head old new is first = (length schedule, history, head, subst (λ s. heads l s history head) (sym (take-length schedule)) is, first)
+
+  -- ---- turns
+
+  module _ (l : Loop) (schedule : List ℕ) (old new : Option (List ℕ)) where
+    pub stop_comes : (why : CommandStop) → IsStop starts makes view waits l schedule why → Leaves heads l schedule old new → IsTurnsOutcome starts makes view waits heads l schedule old new (Stopped why)
+    stop_comes cause.HistoryFull is left = (is, left)
+    stop_comes cause.NoMemory is left = left
+    stop_comes cause.Write is left = absurd is
+    stop_comes cause.NoThread is left = absurd is
+    stop_comes cause.Spent is left = absurd is
+    stop_comes cause.Shut is left = absurd is
+
+    pub fault_comes : (f : TurnFault) (why : CommandStop) → why ≡ cause_of f → IsFault starts makes view waits l schedule f → Leaves heads l schedule old new
+        → IsTurnsOutcome starts makes view waits heads l schedule old new (Stopped why)
+    fault_comes fault.HistoryFull why named is left = subst (λ w. IsTurnsOutcome starts makes view waits heads l schedule old new (Stopped w)) (sym named) (is, left)
+    fault_comes fault.NoMemory why named is left = subst (λ w. IsTurnsOutcome starts makes view waits heads l schedule old new (Stopped w)) (sym named) left
+
+    pub shown_comes : (history : List Entry) (head : List ℕ) (result : Option End) (outcome : Outcome) → Makes starts makes view waits l schedule (Ok result) history → heads l schedule history head
+        → IsShownBelow l.image l.cores history head old new outcome → IsTurnsOutcome starts makes view waits heads l schedule old new outcome
+    shown_comes history head result outcome made is_head so =
+        comes_by (IsBelow l.image l.cores history head) (IsReplay starts makes view waits heads l schedule) (λ o. ⊥) (IsFullOutcome starts makes view waits l schedule) (AppendsFirst old new head)
+        (HasBegun heads l schedule old new) old new outcome
+        (λ o text below. record { result = result; history = history; makes = made; head = head; is_head = is_head; below = below.0; shown = below.1; text_is = below.2 })
+        (λ o no. absurd no) (λ first. begun_by l schedule history head old new is_head first) so
+
+  -- of a text
+  full_comes : (l : Loop) (schedule : List ℕ) (o : Outcome) → IsFullOutcome starts makes view waits l schedule o → (o ≡ Stopped cause.HistoryFull) × IsFull starts makes view waits l schedule
+  full_comes l schedule (Stopped cause.HistoryFull) is = (refl, is)
+  full_comes l schedule (Stopped cause.Write) is = absurd is
+  full_comes l schedule (Stopped cause.NoMemory) is = absurd is
+  full_comes l schedule (Stopped cause.NoThread) is = absurd is
+  full_comes l schedule (Stopped cause.Spent) is = absurd is
+  full_comes l schedule (Stopped cause.Shut) is = absurd is
+  full_comes l schedule (Reported end) is = absurd is
+  full_comes l schedule (Audited verdict) is = absurd is
+  full_comes l schedule Usage is = absurd is
+  full_comes l schedule (BadImage f) is = absurd is
+  full_comes l schedule (BadTrace f) is = absurd is
+  full_comes l schedule (Open homefree) is = absurd is
+  full_comes l schedule (BadTurns f) is = absurd is
+  full_comes l schedule (Differs place) is = absurd is
+
+  pub lines_come : (cores room : ℕ) (text : List ℕ) (image : LoadedImage) (schedule : List ℕ) (old new : Option (List ℕ)) (outcome : Outcome) → image_text (image_part text) ≡ Ok image
+      → IsCoreCount image cores → schedule_text cores text ≡ Ok schedule → IsTurnsOutcome starts makes view waits heads (loop_on image cores room) schedule old new outcome
+      → IsLinesOutcome starts makes view waits heads cores room text old new outcome
+  lines_come cores room text image schedule old new outcome said allowed turns so =
+      let l = loop_on image cores room in
+      comes_by (IsReplay starts makes view waits heads l schedule) (λ o printed. OfText cores room text (λ l schedule. IsReplay starts makes view waits heads l schedule o printed))
+      (IsFullOutcome starts makes view waits l schedule) (IsNoReplay starts makes view waits cores room text)
+      (HasBegun heads l schedule old new) (OfText cores room text (λ l schedule. HasBegun heads l schedule old new)) old new outcome
+      (λ o printed is. by_text cores room text image schedule (λ l schedule. IsReplay starts makes view waits heads l schedule o printed) said allowed turns is)
+      (λ o is. let full = full_comes l schedule o is in subst (IsNoReplay starts makes view waits cores room text) (sym full.0) (by_text cores room text image schedule (IsFull starts makes view waits) said allowed turns full.1))
+      (λ begun. by_text cores room text image schedule (λ l schedule. HasBegun heads l schedule old new) said allowed turns begun) so
+
+  -- the lines of turns are refused
+  pub turns_refused : (cores room : ℕ) (text : List ℕ) (old : Option (List ℕ)) (line : ℕ) (kind : TraceFaultKind) (image : LoadedImage) → image_text (image_part text) ≡ Ok image → IsCoreCount image cores
+      → IsFaultOf kind (record { line = line; kind = kind }) (schedule_text cores text)
+      → IsLinesOutcome starts makes view waits heads cores room text old old (outcome_of_turns_fault kind (record { line = line; kind = kind }))
+  turns_refused cores room text old line trace.Read image said allowed is = absurd is
+  turns_refused cores room text old line trace.NoMemory image said allowed is = inl (keeps_itself old)
+  turns_refused cores room text old line kind image said allowed is =
+      (by_image text image (λ l. IsCoreCount l cores × (schedule_text cores text ≡ Err (record { line = line; kind = kind }))) said (allowed, is), keeps_itself old)
+
+  -- ---- a trace
+
+  module _ (l : Loop) (entries : List Entry) (old new : Option (List ℕ)) where
+    pub trace_fault_comes : (f : TurnFault) (why : CommandStop) → why ≡ cause_of f → IsFault starts makes view waits l (turns_of l.cores entries) f → Leaves heads l (turns_of l.cores entries) old new
+        → IsTraceOutcome starts makes view waits heads l entries old new (Stopped why)
+    trace_fault_comes fault.HistoryFull why named is left = subst (λ w. IsTraceOutcome starts makes view waits heads l entries old new (Stopped w)) (sym named) (is, left)
+    trace_fault_comes fault.NoMemory why named is left = subst (λ w. IsTraceOutcome starts makes view waits heads l entries old new (Stopped w)) (sym named) left
+
+    not_same : (history : List Entry) (result : Option End) → Makes starts makes view waits l (turns_of l.cores entries) (Ok result) history → (o : Outcome) → IsNotSame history entries o → IsNotRetraced starts makes view waits l entries o
+    not_same history result made (Differs place) part = record { result = result; history = history; makes = made; part = part }
+    not_same history result made (Stopped cause.NoMemory) is = tt
+    not_same history result made (Stopped cause.HistoryFull) is = absurd is
+    not_same history result made (Stopped cause.Write) is = absurd is
+    not_same history result made (Stopped cause.NoThread) is = absurd is
+    not_same history result made (Stopped cause.Spent) is = absurd is
+    not_same history result made (Stopped cause.Shut) is = absurd is
+    not_same history result made (Reported end) is = absurd is
+    not_same history result made (Audited verdict) is = absurd is
+    not_same history result made Usage is = absurd is
+    not_same history result made (BadImage f) is = absurd is
+    not_same history result made (BadTrace f) is = absurd is
+    not_same history result made (Open homefree) is = absurd is
+    not_same history result made (BadTurns f) is = absurd is
+
+    retraced : (history : List Entry) (head : List ℕ) (result : Option End) → Makes starts makes view waits l (turns_of l.cores entries) (Ok result) history
+        → heads l (turns_of l.cores entries) history head → (o : Outcome) (text : List ℕ) → history ≡ entries → IsBelow l.image l.cores history head o text
+        → IsRetraced starts makes view waits heads l entries o text
+    retraced history head result made is_head o text same below = record {
+      result = result;
+      makes = subst (Makes starts makes view waits l (turns_of l.cores entries) (Ok result)) same made;
+      head = head;
+      is_head = subst (λ h. heads l (turns_of l.cores entries) h head) same is_head;
+      below = below.0;
+      shown = subst (λ h. IsShown l.image l.cores h o below.0) same below.1;
+      text_is = below.2;
+    }
+
+    pub same_comes : (history : List Entry) (head : List ℕ) (result : Option End) (outcome : Outcome) → Makes starts makes view waits l (turns_of l.cores entries) (Ok result) history
+        → heads l (turns_of l.cores entries) history head → IsSameBelow l.image l.cores history entries head old new outcome → IsTraceOutcome starts makes view waits heads l entries old new outcome
+    same_comes history head result outcome made is_head so =
+        comes_by (λ o text. (history ≡ entries) × IsBelow l.image l.cores history head o text) (IsRetraced starts makes view waits heads l entries) (IsNotSame history entries) (IsNotRetraced starts makes view waits l entries)
+        (AppendsFirst old new head) (HasBegun heads l (turns_of l.cores entries) old new) old new outcome
+        (λ o text below. retraced history head result made is_head o text below.0 below.1)
+        (not_same history result made) (λ first. begun_by l (turns_of l.cores entries) history head old new is_head first) so
+
+  pub refused_comes : (l : Loop) (entries : List Entry) (old : Option (List ℕ)) (o : Outcome) → IsNotRetraced starts makes view waits l entries o → IsTraceOutcome starts makes view waits heads l entries old old o
+  refused_comes l entries old (Differs place) is = (is, inl (keeps_itself old))
+  refused_comes l entries old (Stopped cause.HistoryFull) is = (is, inl (keeps_itself old))
+  refused_comes l entries old (Stopped cause.NoMemory) is = inl (keeps_itself old)
+  refused_comes l entries old (Stopped cause.Write) is = absurd is
+  refused_comes l entries old (Stopped cause.NoThread) is = absurd is
+  refused_comes l entries old (Stopped cause.Spent) is = absurd is
+  refused_comes l entries old (Stopped cause.Shut) is = absurd is
+  refused_comes l entries old (Reported end) is = absurd is
+  refused_comes l entries old (Audited verdict) is = absurd is
+  refused_comes l entries old Usage is = absurd is
+  refused_comes l entries old (BadImage f) is = absurd is
+  refused_comes l entries old (BadTrace f) is = absurd is
+  refused_comes l entries old (Open homefree) is = absurd is
+  refused_comes l entries old (BadTurns f) is = absurd is
+
+  -- the input has no image and no trace
+  pub verdict_comes : (cores : Option ℕ) (room : ℕ) (text : List ℕ) (old : Option (List ℕ)) (o : Outcome) → IsNoVerdict text o → IsRetraceOutcome starts makes view waits heads cores room text old old o
+  verdict_comes cores room text old (BadImage f) is = (is, keeps_itself old)
+  verdict_comes cores room text old (BadTrace f) is = (is, keeps_itself old)
+  verdict_comes cores room text old (Stopped cause.NoMemory) is = inl (keeps_itself old)
+  verdict_comes cores room text old (Stopped cause.HistoryFull) is = absurd is
+  verdict_comes cores room text old (Stopped cause.Write) is = absurd is
+  verdict_comes cores room text old (Stopped cause.NoThread) is = absurd is
+  verdict_comes cores room text old (Stopped cause.Spent) is = absurd is
+  verdict_comes cores room text old (Stopped cause.Shut) is = absurd is
+  verdict_comes cores room text old (Reported end) is = absurd is
+  verdict_comes cores room text old (Audited verdict) is = absurd is
+  verdict_comes cores room text old Usage is = absurd is
+  verdict_comes cores room text old (Open homefree) is = absurd is
+  verdict_comes cores room text old (BadTurns f) is = absurd is
+  verdict_comes cores room text old (Differs place) is = absurd is
+
+  no_retrace : (cores : Option ℕ) (room : ℕ) (text : List ℕ) (image : LoadedImage) (number : ℕ) (entries : List Entry) → IsTracedBy text image number entries → is_other cores number ≡ false
+      → (o : Outcome) → IsNotRetraced starts makes view waits (loop_on image number room) entries o → IsNoRetrace starts makes view waits cores room text o
+  no_retrace cores room text image number entries traced same (Differs place) is =
+      record { image = image; number = number; entries = entries; traced = traced; same = same; holds = is }
+  no_retrace cores room text image number entries traced same (Stopped cause.HistoryFull) is =
+      record { image = image; number = number; entries = entries; traced = traced; same = same; holds = is }
+  no_retrace cores room text image number entries traced same (Stopped cause.NoMemory) is = tt
+  no_retrace cores room text image number entries traced same (Stopped cause.Write) is = absurd is
+  no_retrace cores room text image number entries traced same (Stopped cause.NoThread) is = absurd is
+  no_retrace cores room text image number entries traced same (Stopped cause.Spent) is = absurd is
+  no_retrace cores room text image number entries traced same (Stopped cause.Shut) is = absurd is
+  no_retrace cores room text image number entries traced same (Reported end) is = absurd is
+  no_retrace cores room text image number entries traced same (Audited verdict) is = absurd is
+  no_retrace cores room text image number entries traced same Usage is = absurd is
+  no_retrace cores room text image number entries traced same (BadImage f) is = absurd is
+  no_retrace cores room text image number entries traced same (BadTrace f) is = absurd is
+  no_retrace cores room text image number entries traced same (Open homefree) is = absurd is
+  no_retrace cores room text image number entries traced same (BadTurns f) is = absurd is
+
+  pub trace_comes : (cores : Option ℕ) (room : ℕ) (text : List ℕ) (image : LoadedImage) (number : ℕ) (entries : List Entry) (old new : Option (List ℕ)) (outcome : Outcome)
+      → IsTracedBy text image number entries → is_other cores number ≡ false → IsTraceOutcome starts makes view waits heads (loop_on image number room) entries old new outcome
+      → IsRetraceOutcome starts makes view waits heads cores room text old new outcome
+  trace_comes cores room text image number entries old new outcome traced same so =
+      let l = loop_on image number room in
+      comes_by (IsRetraced starts makes view waits heads l entries) (λ o printed. OfTrace cores room text (λ l entries. IsRetraced starts makes view waits heads l entries o printed))
+      (IsNotRetraced starts makes view waits l entries) (IsNoRetrace starts makes view waits cores room text)
+      (HasBegun heads l (turns_of l.cores entries) old new) (OfTrace cores room text (λ l entries. HasBegun heads l (turns_of l.cores entries) old new)) old new outcome
+      (λ o printed is. record { image = image; number = number; entries = entries; traced = traced; same = same; holds = is })
+      (no_retrace cores room text image number entries traced same)
+      (λ begun. record { image = image; number = number; entries = entries; traced = traced; same = same; holds = begun }) so
+
+  -- ---- a text
+
+  pub from_trace : (cores : Option ℕ) (room : ℕ) (text : List ℕ) (old new : Option (List ℕ)) (outcome : Outcome) (b : Bool) → b ≡ true → IsRetraceOutcome starts makes view waits heads cores room text old new outcome
+      → Comes (λ o printed. IsPrinted starts makes view waits heads b cores room text o printed) (λ o. IsUnreadOutcome text o ⊎ IsUnprinted starts makes view waits b cores room text o)
+      (HasBegunOn heads b cores room text old new) old new outcome
+  from_trace cores room text old new outcome false is so = absurd cc
+  from_trace cores room text old new outcome true is so =
+      comes_by (λ o printed. IsPrinted starts makes view waits heads true cores room text o printed) (λ o printed. IsPrinted starts makes view waits heads true cores room text o printed)
+      (IsNoRetrace starts makes view waits cores room text) (λ o. IsUnreadOutcome text o ⊎ IsUnprinted starts makes view waits true cores room text o)
+      (HasBegunOn heads true cores room text old new) (HasBegunOn heads true cores room text old new) old new outcome (λ o printed p. p) (λ o u. inr u) (λ begun. begun) so
+
+  pub from_lines : (cores room : ℕ) (text : List ℕ) (old new : Option (List ℕ)) (outcome : Outcome) (b : Bool) → b ≡ false → IsLinesOutcome starts makes view waits heads cores room text old new outcome
+      → Comes (λ o printed. IsPrinted starts makes view waits heads b (Some cores) room text o printed) (λ o. IsUnreadOutcome text o ⊎ IsUnprinted starts makes view waits b (Some cores) room text o)
+      (HasBegunOn heads b (Some cores) room text old new) old new outcome
+  from_lines cores room text old new outcome true is so = absurd cc
+  from_lines cores room text old new outcome false is so =
+      comes_by (λ o printed. IsPrinted starts makes view waits heads false (Some cores) room text o printed) (λ o printed. IsPrinted starts makes view waits heads false (Some cores) room text o printed)
+      (IsNoReplay starts makes view waits cores room text) (λ o. IsUnreadOutcome text o ⊎ IsUnprinted starts makes view waits false (Some cores) room text o)
+      (HasBegunOn heads false (Some cores) room text old new) (HasBegunOn heads false (Some cores) room text old new) old new outcome (λ o printed p. p) (λ o u. inr u) (λ begun. begun) so
+
+  pub from_none : (room : ℕ) (text : List ℕ) (old : Option (List ℕ)) (b : Bool) → b ≡ false
+      → Comes (λ o printed. IsPrinted starts makes view waits heads b None room text o printed) (λ o. IsUnreadOutcome text o ⊎ IsUnprinted starts makes view waits b None room text o)
+      (HasBegunOn heads b None room text old old) old old Usage
+  from_none room text old true is = absurd cc
+  from_none room text old false is = (inr tt, keeps_itself old)
+
+-- ---- the history of a book, and the entries
+
+module _ (image : LoadedImage) (cores : ℕ) (history entries : List Entry) (head : List ℕ) (old new : Option (List ℕ)) where
+  pub parts_comes : (o : Outcome) → AppendsFirst old new head → IsNotSame history entries o → IsSameBelow image cores history entries head old new o
+  parts_comes (Differs place) first is = (is, inr first)
+  parts_comes (Stopped cause.NoMemory) first is = inr first
+  parts_comes (Stopped cause.HistoryFull) first is = absurd is
+  parts_comes (Stopped cause.Write) first is = absurd is
+  parts_comes (Stopped cause.NoThread) first is = absurd is
+  parts_comes (Stopped cause.Spent) first is = absurd is
+  parts_comes (Stopped cause.Shut) first is = absurd is
+  parts_comes (Reported end) first is = absurd is
+  parts_comes (Audited verdict) first is = absurd is
+  parts_comes Usage first is = absurd is
+  parts_comes (BadImage f) first is = absurd is
+  parts_comes (BadTrace f) first is = absurd is
+  parts_comes (Open homefree) first is = absurd is
+  parts_comes (BadTurns f) first is = absurd is
+
+  pub shown_same : (o : Outcome) → history ≡ entries → IsShownBelow image cores history head old new o → IsSameBelow image cores history entries head old new o
+  shown_same o same so =
+      comes_by (IsBelow image cores history head) (λ o text. (history ≡ entries) × IsBelow image cores history head o text) (λ o. ⊥) (IsNotSame history entries)
+      (AppendsFirst old new head) (AppendsFirst old new head) old new o (λ o text below. (same, below)) (λ o no. absurd no) (λ first. first) so
