@@ -24,9 +24,10 @@ use Rattle.trace_commands.proofs.Audits.{keeps_itself}
 use Rattle.turn_steps.specs.Writing.{AppendsFirst}
 use Rattle.all_schedules.specs.Made.{IsFault, IsFull, Makes, loop_on}
 use Rattle.all_schedules.specs.Shown.{IsShown}
-use Rattle.all_schedules.specs.Replay.{IsFullOutcome, IsLinesOutcome, IsNoReplay, IsPrinted, IsReplay, IsStop, IsTurnsOutcome, IsUnprinted, IsUnreadOutcome, HasBegunOn, OfText, cause_of}
-use Rattle.all_schedules.specs.Told.{Comes, HasBegun, IsBelow, IsShownBelow, Leaves}
-use Rattle.all_schedules.specs.Traced.{IsNoRetrace, IsNotRetraced, IsNotSame, IsRetraceOutcome, IsRetraced, IsSameBelow, IsTraceOutcome, OfTrace, is_other, turns_of}
+use Rattle.all_schedules.specs.Replay.{IsFullOutcome, IsLinesOutcome, IsNoReplay, IsPrinted, IsReplay, IsTurnsOutcome, IsUnprinted, IsUnreadOutcome, HasBegunOn, OfText, cause_of}
+use Rattle.all_schedules.specs.Fixed.{HistoryIsFixed}
+use Rattle.all_schedules.specs.Told.{Comes, HasBegun, IsBelow, IsShownBelow, IsShownMade, Leaves}
+use Rattle.all_schedules.specs.Traced.{IsNoRetrace, IsNotRetraced, IsNotSame, IsRetraceOutcome, IsRetraced, IsTraceOutcome, OfTrace, is_other, turns_of}
 use Rattle.all_schedules.specs.Turns.{image_part, schedule_text}
 use Rattle.all_schedules.proofs.Coming.{comes_by}
 use Rattle.all_schedules.proofs.Outcomes.{by_image, by_text}
@@ -39,19 +40,6 @@ module _ {S : Type 0} (starts : LoadedImage → ℕ → S → Type 0) (makes : S
   -- ---- turns
 
   module _ (l : Loop) (schedule : List ℕ) (old new : Option (List ℕ)) where
-    pub stop_comes : (why : CommandStop) → IsStop starts makes view waits l schedule why → Leaves heads l schedule old new → IsTurnsOutcome starts makes view waits heads l schedule old new (Stopped why)
-    stop_comes cause.HistoryFull is left = (is, left)
-    stop_comes cause.NoMemory is left = left
-    stop_comes cause.Write is left = absurd is
-    stop_comes cause.NoThread is left = absurd is
-    stop_comes cause.Spent is left = absurd is
-    stop_comes cause.Shut is left = absurd is
-
-    pub fault_comes : (f : TurnFault) (why : CommandStop) → why ≡ cause_of f → IsFault starts makes view waits l schedule f → Leaves heads l schedule old new
-        → IsTurnsOutcome starts makes view waits heads l schedule old new (Stopped why)
-    fault_comes fault.HistoryFull why named is left = subst (λ w. IsTurnsOutcome starts makes view waits heads l schedule old new (Stopped w)) (sym named) (is, left)
-    fault_comes fault.NoMemory why named is left = subst (λ w. IsTurnsOutcome starts makes view waits heads l schedule old new (Stopped w)) (sym named) left
-
     pub shown_comes : (history : List Entry) (head : List ℕ) (result : Option End) (outcome : Outcome) → Makes starts makes view waits l schedule (Ok result) history → heads l schedule history head
         → IsShownBelow l.image l.cores history head old new outcome → IsTurnsOutcome starts makes view waits heads l schedule old new outcome
     shown_comes history head result outcome made is_head so =
@@ -59,6 +47,15 @@ module _ {S : Type 0} (starts : LoadedImage → ℕ → S → Type 0) (makes : S
         (HasBegun heads l schedule old new) old new outcome
         (λ o text below. record { result = result; history = history; makes = made; head = head; is_head = is_head; below = below.0; shown = below.1; text_is = below.2 })
         (λ o no. absurd no) (λ first. begun_by l schedule history head old new is_head first) so
+
+    -- each of them is told
+    pub told_comes : (end : Option End) (history : List Entry) (outcome : Outcome) → Makes starts makes view waits l schedule (Ok end) history → IsShownMade heads l schedule history old new outcome
+        → IsTurnsOutcome starts makes view waits heads l schedule old new outcome
+    told_comes end history outcome made so =
+        comes_by (λ o text. (head : List ℕ) × heads l schedule history head × IsBelow l.image l.cores history head o text) (IsReplay starts makes view waits heads l schedule) (λ o. ⊥)
+        (IsFullOutcome starts makes view waits l schedule) (HasBegun heads l schedule old new) (HasBegun heads l schedule old new) old new outcome
+        (λ o text is. record { result = end; history = history; makes = made; head = is.0; is_head = is.1; below = is.2.0; shown = is.2.1; text_is = is.2.2 })
+        (λ o no. absurd no) (λ begun. begun) so
 
   -- of a text
   full_comes : (l : Loop) (schedule : List ℕ) (o : Outcome) → IsFullOutcome starts makes view waits l schedule o → (o ≡ Stopped cause.HistoryFull) × IsFull starts makes view waits l schedule
@@ -101,12 +98,7 @@ module _ {S : Type 0} (starts : LoadedImage → ℕ → S → Type 0) (makes : S
   -- ---- a trace
 
   module _ (l : Loop) (entries : List Entry) (old new : Option (List ℕ)) where
-    pub trace_fault_comes : (f : TurnFault) (why : CommandStop) → why ≡ cause_of f → IsFault starts makes view waits l (turns_of l.cores entries) f → Leaves heads l (turns_of l.cores entries) old new
-        → IsTraceOutcome starts makes view waits heads l entries old new (Stopped why)
-    trace_fault_comes fault.HistoryFull why named is left = subst (λ w. IsTraceOutcome starts makes view waits heads l entries old new (Stopped w)) (sym named) (is, left)
-    trace_fault_comes fault.NoMemory why named is left = subst (λ w. IsTraceOutcome starts makes view waits heads l entries old new (Stopped w)) (sym named) left
-
-    not_same : (history : List Entry) (result : Option End) → Makes starts makes view waits l (turns_of l.cores entries) (Ok result) history → (o : Outcome) → IsNotSame history entries o → IsNotRetraced starts makes view waits l entries o
+    pub not_same : (history : List Entry) (result : Option End) → Makes starts makes view waits l (turns_of l.cores entries) (Ok result) history → (o : Outcome) → IsNotSame history entries o → IsNotRetraced starts makes view waits l entries o
     not_same history result made (Differs place) part = record { result = result; history = history; makes = made; part = part }
     not_same history result made (Stopped cause.NoMemory) is = tt
     not_same history result made (Stopped cause.HistoryFull) is = absurd is
@@ -135,29 +127,21 @@ module _ {S : Type 0} (starts : LoadedImage → ℕ → S → Type 0) (makes : S
       text_is = below.2;
     }
 
-    pub same_comes : (history : List Entry) (head : List ℕ) (result : Option End) (outcome : Outcome) → Makes starts makes view waits l (turns_of l.cores entries) (Ok result) history
-        → heads l (turns_of l.cores entries) history head → IsSameBelow l.image l.cores history entries head old new outcome → IsTraceOutcome starts makes view waits heads l entries old new outcome
-    same_comes history head result outcome made is_head so =
-        comes_by (λ o text. (history ≡ entries) × IsBelow l.image l.cores history head o text) (IsRetraced starts makes view waits heads l entries) (IsNotSame history entries) (IsNotRetraced starts makes view waits l entries)
+    pub whole_comes : (history : List Entry) (head : List ℕ) (result : Option End) (outcome : Outcome) → Makes starts makes view waits l (turns_of l.cores entries) (Ok result) history
+        → heads l (turns_of l.cores entries) history head → history ≡ entries → IsShownBelow l.image l.cores history head old new outcome → IsTraceOutcome starts makes view waits heads l entries old new outcome
+    whole_comes history head result outcome made is_head same so =
+        comes_by (IsBelow l.image l.cores history head) (IsRetraced starts makes view waits heads l entries) (λ o. ⊥) (IsNotRetraced starts makes view waits l entries)
         (AppendsFirst old new head) (HasBegun heads l (turns_of l.cores entries) old new) old new outcome
-        (λ o text below. retraced history head result made is_head o text below.0 below.1)
-        (not_same history result made) (λ first. begun_by l (turns_of l.cores entries) history head old new is_head first) so
+        (λ o text below. retraced history head result made is_head o text same below)
+        (λ o no. absurd no) (λ first. begun_by l (turns_of l.cores entries) history head old new is_head first) so
 
-  pub refused_comes : (l : Loop) (entries : List Entry) (old : Option (List ℕ)) (o : Outcome) → IsNotRetraced starts makes view waits l entries o → IsTraceOutcome starts makes view waits heads l entries old old o
-  refused_comes l entries old (Differs place) is = (is, inl (keeps_itself old))
-  refused_comes l entries old (Stopped cause.HistoryFull) is = (is, inl (keeps_itself old))
-  refused_comes l entries old (Stopped cause.NoMemory) is = inl (keeps_itself old)
-  refused_comes l entries old (Stopped cause.Write) is = absurd is
-  refused_comes l entries old (Stopped cause.NoThread) is = absurd is
-  refused_comes l entries old (Stopped cause.Spent) is = absurd is
-  refused_comes l entries old (Stopped cause.Shut) is = absurd is
-  refused_comes l entries old (Reported end) is = absurd is
-  refused_comes l entries old (Audited verdict) is = absurd is
-  refused_comes l entries old Usage is = absurd is
-  refused_comes l entries old (BadImage f) is = absurd is
-  refused_comes l entries old (BadTrace f) is = absurd is
-  refused_comes l entries old (Open homefree) is = absurd is
-  refused_comes l entries old (BadTurns f) is = absurd is
+    pub told_trace_comes : (end : Option End) (outcome : Outcome) → Makes starts makes view waits l (turns_of l.cores entries) (Ok end) entries
+        → IsShownMade heads l (turns_of l.cores entries) entries old new outcome → IsTraceOutcome starts makes view waits heads l entries old new outcome
+    told_trace_comes end outcome made so =
+        comes_by (λ o text. (head : List ℕ) × heads l (turns_of l.cores entries) entries head × IsBelow l.image l.cores entries head o text) (IsRetraced starts makes view waits heads l entries) (λ o. ⊥)
+        (IsNotRetraced starts makes view waits l entries) (HasBegun heads l (turns_of l.cores entries) old new) (HasBegun heads l (turns_of l.cores entries) old new) old new outcome
+        (λ o text is. retraced entries is.0 end made is.1 o text refl is.2)
+        (λ o no. absurd no) (λ begun. begun) so
 
   -- the input has no image and no trace
   pub verdict_comes : (cores : Option ℕ) (room : ℕ) (text : List ℕ) (old : Option (List ℕ)) (o : Outcome) → IsNoVerdict text o → IsRetraceOutcome starts makes view waits heads cores room text old old o
@@ -233,26 +217,27 @@ module _ {S : Type 0} (starts : LoadedImage → ℕ → S → Type 0) (makes : S
   from_none room text old true is = absurd cc
   from_none room text old false is = (inr tt, keeps_itself old)
 
--- ---- the history of a book, and the entries
+-- ---- a history that is made once more, while its turns are told
 
-module _ (image : LoadedImage) (cores : ℕ) (history entries : List Entry) (head : List ℕ) (old new : Option (List ℕ)) where
-  pub parts_comes : (o : Outcome) → AppendsFirst old new head → IsNotSame history entries o → IsSameBelow image cores history entries head old new o
-  parts_comes (Differs place) first is = (is, inr first)
-  parts_comes (Stopped cause.NoMemory) first is = inr first
-  parts_comes (Stopped cause.HistoryFull) first is = absurd is
-  parts_comes (Stopped cause.Write) first is = absurd is
-  parts_comes (Stopped cause.NoThread) first is = absurd is
-  parts_comes (Stopped cause.Spent) first is = absurd is
-  parts_comes (Stopped cause.Shut) first is = absurd is
-  parts_comes (Reported end) first is = absurd is
-  parts_comes (Audited verdict) first is = absurd is
-  parts_comes Usage first is = absurd is
-  parts_comes (BadImage f) first is = absurd is
-  parts_comes (BadTrace f) first is = absurd is
-  parts_comes (Open homefree) first is = absurd is
-  parts_comes (BadTurns f) first is = absurd is
+module _ {S : Type 0} (starts : LoadedImage → ℕ → S → Type 0) (makes : S → Call → S → Type 0) (alike : S → S → Type 0) (view : S → StoreView) (waits : S → Waits)
+    (law : HistoryIsFixed starts makes alike view waits) (heads : Loop → List ℕ → List Entry → List ℕ → Type 0) (l : Loop) (schedule : List ℕ) (end : Option End) (history : List Entry)
+    (made : Makes starts makes view waits l schedule (Ok end) history) (old new : Option (List ℕ)) where
+  pub told_again : (end' : Option End) (again : List Entry) (head : List ℕ) (outcome : Outcome) → Makes starts makes view waits l schedule (Ok end') again → heads l schedule again head
+      → IsShownBelow l.image l.cores again head old new outcome → IsShownMade heads l schedule history old new outcome
+  told_again end' again head outcome made' is_head so =
+      let same : again ≡ history = (law l schedule (Ok end) (Ok end') history again (λ is. absurd cc) (λ is. absurd cc) made made').history_is in
+      comes_by (IsBelow l.image l.cores again head) (λ o text. (head : List ℕ) × heads l schedule history head × IsBelow l.image l.cores history head o text) (λ o. ⊥) (λ o. ⊥)
+      (AppendsFirst old new head) (HasBegun heads l schedule old new) old new outcome
+      (λ o text below. (head, subst (λ h. heads l schedule h head) same is_head, subst (λ h. IsBelow l.image l.cores h head o text) same below))
+      (λ o no. no) (λ first. (length schedule, again, head, subst (λ s. heads l s again head) (sym (take-length schedule)) is_head, first)) so
 
-  pub shown_same : (o : Outcome) → history ≡ entries → IsShownBelow image cores history head old new o → IsSameBelow image cores history entries head old new o
-  shown_same o same so =
-      comes_by (IsBelow image cores history head) (λ o text. (history ≡ entries) × IsBelow image cores history head o text) (λ o. ⊥) (IsNotSame history entries)
-      (AppendsFirst old new head) (AppendsFirst old new head) old new o (λ o text below. (same, below)) (λ o no. absurd no) (λ first. first) so
+  is_full : (full : List Entry) → Makes starts makes view waits l schedule (Err fault.HistoryFull) full → ⊥
+  is_full full made' =
+      let run = law l schedule (Ok end) (Err fault.HistoryFull) history full (λ is. absurd cc) (λ is. absurd cc) made made' in
+      let same = run.result_is in cc
+
+  -- it isn't full the second time
+  pub fault_again : (f : TurnFault) (why : CommandStop) → why ≡ cause_of f → IsFault starts makes view waits l schedule f → Leaves heads l schedule old new
+      → IsShownMade heads l schedule history old new (Stopped why)
+  fault_again fault.HistoryFull why named is left = absurd (is_full is.0 is.1)
+  fault_again fault.NoMemory why named is left = subst (λ w. IsShownMade heads l schedule history old new (Stopped w)) (sym named) left

@@ -63,3 +63,7 @@ pub record IsMade {S : Type 0} (starts : LoadedImage → ℕ → S → Type 0) (
   pub loop : loop_of b ≡ l
   pub result : Option End
   pub makes : Makes starts calls view waits l schedule (Ok result) b.history
+
+-- the schedule's turns make a history
+abbrev pub AreMade : {S : Type 0} → (LoadedImage → ℕ → S → Type 0) → (S → Call → S → Type 0) → (S → StoreView) → (S → Waits) → Loop → List ℕ → Type 0
+AreMade starts makes view waits l schedule = (end : Option End) × (history : List Entry) × Makes starts makes view waits l schedule (Ok end) history

@@ -12,8 +12,8 @@ use Rattle.homefree.specs.declared.book.Loop.{Loop}
 use Rattle.homefree.specs.BookView.{BookView}
 use Rattle.homefree.specs.Driven.{Driver, driver}
 use Rattle.trace_commands.specs.declared.outcome.Outcome.{Outcome}
-use Rattle.trace_commands.specs.declared.outcome.Outcome.TheVariants.{Reported, Open, Differs, Stopped}
-use Rattle.trace_commands.specs.declared.outcome.CommandStop.TheVariants.{Write, NoMemory, HistoryFull}
+use Rattle.trace_commands.specs.declared.outcome.Outcome.TheVariants.{Reported, Open, Stopped}
+use Rattle.trace_commands.specs.declared.outcome.CommandStop.TheVariants.{Write, NoMemory}
 use Rattle.trace_commands.specs.Outcome.{AppendsPrefix}
 use Rattle.turn_steps.specs.Stepped.{Stepped}
 use Rattle.turn_steps.specs.Writing.{AppendsFirst, IsWrittenBut}
@@ -44,15 +44,13 @@ IsHead starts makes view waits changes Steps l schedule history head =
 abbrev pub HasBegun : (Loop → List ℕ → List Entry → List ℕ → Type 0) → Loop → List ℕ → Option (List ℕ) → Option (List ℕ) → Type 0
 HasBegun heads l schedule old new = (n : ℕ) × (history : List Entry) × (head : List ℕ) × heads l (take n schedule) history head × AppendsFirst old new head
 
--- a command came to this, and this was written: what is printed, or some of the first of it; or, where nothing is to be printed, nothing, or what
--- was begun before the turns stopped
+-- a command came to this, and this was written: what is printed, or some of the first of it; or, where nothing is to be printed, nothing; or, where
+-- memory ran out, nothing or what was begun
 abbrev pub Comes : (Outcome → List ℕ → Type 0) → (Outcome → Type 0) → Type 0 → Option (List ℕ) → Option (List ℕ) → Outcome → Type 0
 Comes printed unprinted begun old new (Reported end) = (text : List ℕ) × printed (Reported end) text × Appends old new text
 Comes printed unprinted begun old new (Open homefree) = (text : List ℕ) × printed (Open homefree) text × Appends old new text
 Comes printed unprinted begun old new (Stopped Write) = (outcome : Outcome) × (text : List ℕ) × printed outcome text × AppendsPrefix old new text
 Comes printed unprinted begun old new (Stopped NoMemory) = Keeps old new ⊎ begun
-Comes printed unprinted begun old new (Stopped HistoryFull) = unprinted (Stopped HistoryFull) × (Keeps old new ⊎ begun)
-Comes printed unprinted begun old new (Differs place) = unprinted (Differs place) × (Keeps old new ⊎ begun)
 Comes printed unprinted begun old new outcome = unprinted outcome × Keeps old new
 
 -- where the turns stop: nothing was written, or what was begun
@@ -70,3 +68,8 @@ IsBelow image cores history head outcome text = (below : List ℕ) × IsShown im
 abbrev pub IsShownBelow : LoadedImage → ℕ → List Entry → List ℕ → Option (List ℕ) → Option (List ℕ) → Outcome → Type 0
 IsShownBelow image cores history head old new outcome =
     Comes (IsBelow image cores history head) (λ o. ⊥) (AppendsFirst old new head) old new outcome
+
+-- what the schedule's turns made, which is this history, is shown below such a head
+abbrev pub IsShownMade : (Loop → List ℕ → List Entry → List ℕ → Type 0) → Loop → List ℕ → List Entry → Option (List ℕ) → Option (List ℕ) → Outcome → Type 0
+IsShownMade heads l schedule history old new outcome =
+    Comes (λ o text. (head : List ℕ) × heads l schedule history head × IsBelow l.image l.cores history head o text) (λ o. ⊥) (HasBegun heads l schedule old new) old new outcome

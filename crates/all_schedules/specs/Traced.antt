@@ -17,8 +17,7 @@ use Rattle.trace_commands.specs.declared.outcome.CommandStop.TheVariants.{NoMemo
 use Rattle.trace_commands.specs.Audit.{IsNoVerdict, IsTracedBy}
 use Rattle.all_schedules.specs.Made.{IsFull, Makes, loop_on}
 use Rattle.all_schedules.specs.Shown.{IsShown}
-use Rattle.turn_steps.specs.Writing.{AppendsFirst}
-use Rattle.all_schedules.specs.Told.{Comes, HasBegun, IsBelow}
+use Rattle.all_schedules.specs.Told.{Comes, HasBegun}
 
 -- ---- the schedule of a trace
 
@@ -77,11 +76,6 @@ IsNotRetraced starts makes view waits l entries (Differs place) = Parts starts m
 IsNotRetraced starts makes view waits l entries (Stopped HistoryFull) = IsFull starts makes view waits l (turns_of l.cores entries)
 IsNotRetraced starts makes view waits l entries (Stopped NoMemory) = Unit {0}
 IsNotRetraced starts makes view waits l entries outcome = ⊥
-
--- a history that is that of the entries is shown below this head
-abbrev pub IsSameBelow : LoadedImage → ℕ → List Entry → List Entry → List ℕ → Option (List ℕ) → Option (List ℕ) → Outcome → Type 0
-IsSameBelow image cores history entries head old new outcome =
-    Comes (λ o text. (history ≡ entries) × IsBelow image cores history head o text) (IsNotSame history entries) (AppendsFirst old new head) old new outcome
 
 -- what the turns of a trace came to is right, and this was written
 abbrev pub IsTraceOutcome : {S : Type 0} → (LoadedImage → ℕ → S → Type 0) → (S → Call → S → Type 0) → (S → StoreView) → (S → Waits) → (Loop → List ℕ → List Entry → List ℕ → Type 0) → Loop → List Entry → Option (List ℕ) → Option (List ℕ) → Outcome → Type 0

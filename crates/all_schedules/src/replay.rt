@@ -5,14 +5,14 @@ ghost use Rattle.rv32_image.specs.Reading.{ForText};
 ghost use Rattle.trace_text.specs.TraceText.{longest_trace_text};
 ghost use Rattle.trace_commands.specs.Outcome.{Conclusion};
 ghost use Rattle.violations.specs.Rule.{IsCoreCount};
-ghost use Rattle.all_schedules.specs.Made.{loop_on};
+ghost use Rattle.all_schedules.specs.Made.{AreMade, IsFault, loop_on};
 ghost use Rattle.all_schedules.specs.Traced.{has_trace};
 ghost use Rattle.all_schedules.specs.Replay as spec;
 ghost use Rattle.all_schedules.specs.Told.{IsHead};
 
 use crate::detail::Detail;
 use crate::driving::drive_schedule;
-use crate::told::{drive_told, show_told};
+use crate::told::{show_told, tell_turns};
 use crate::traced::{begins_trace, retrace};
 use crate::turns::read_turns;
 use homefree::TurnFault;
@@ -134,7 +134,7 @@ fn replay_of<S: ShownStore, W: Write>(
     )
 }
 
-/// Takes the turns of a schedule, and writes what they made. Where each of them is to be told, they are taken twice, so that nothing was
+/// Takes the turns of a schedule, and writes what they made. Where each of them is to be told, they are taken twice, so that nothing is
 /// written where they are refused.
 fn replay_turns<S: ShownStore, W: Write>(
     alloc: Global,
@@ -151,36 +151,36 @@ fn replay_turns<S: ShownStore, W: Write>(
     requires schedule { All (λ core. core < cores) schedule.now }
     ensures { spec.IsTurnsOutcome S.starts S.makes S.view S.waits (IsHead S.starts S.makes S.view S.waits S.changes detail) (loop_on image.now cores room) schedule.now (W.contents writer.old) (W.contents writer.new) result }
 {
-    if let Err(cause) = check_turns::<S>(alloc, detail, image, cores, room, schedule) {
-        return Outcome::Stopped(cause);
-    }
-    match drive_told::<S, W>(alloc, detail, image, cores, room, schedule, writer) {
-        Ok((book, rest, whole)) => show_told(alloc, image, cores, &book, rest, whole, writer),
-        Err(fault) => Outcome::Stopped(cause_of(fault)),
+    match detail {
+        Detail::Whole => match drive_schedule::<S>(alloc, image, cores, room, schedule) {
+            Ok(book) => show_told(alloc, image, cores, &book, Vec::new(alloc), true, writer),
+            Err(fault) => Outcome::Stopped(cause_of(fault)),
+        },
+        Detail::Steps => match check_turns::<S>(alloc, image, cores, room, schedule) {
+            Ok(()) => tell_turns::<S, W>(alloc, image, cores, room, schedule, writer),
+            Err(fault) => Outcome::Stopped(cause_of(fault)),
+        },
     }
 }
 
-/// Takes the turns of a schedule without a text, where each is to be told: an Err is what they stop by.
+/// Takes the turns of a schedule, and answers whether they make a history.
 fn check_turns<S: ShownStore>(
     alloc: Global,
-    detail: Detail,
     image: &Image,
     cores: u32,
     room: u32,
     schedule: &[u32],
-) -> Result<(), CommandStop>
+) -> Result<(), TurnFault>
     requires cores { IsCoreCount image.now cores }
     requires least { 16 ≤ room }
     requires most { room ≤ 1048576 }
     requires schedule { All (λ core. core < cores) schedule.now }
-    ensures { IfErr result (spec.IsStop S.starts S.makes S.view S.waits (loop_on image.now cores room) schedule.now) }
+    ensures made { IfOk result (λ _. AreMade S.starts S.makes S.view S.waits (loop_on image.now cores room) schedule.now) }
+    ensures fault { IfErr result (IsFault S.starts S.makes S.view S.waits (loop_on image.now cores room) schedule.now) }
 {
-    match detail {
-        Detail::Whole => Ok(()),
-        Detail::Steps => match drive_schedule::<S>(alloc, image, cores, room, schedule) {
-            Ok(_) => Ok(()),
-            Err(fault) => Err(cause_of(fault)),
-        },
+    match drive_schedule::<S>(alloc, image, cores, room, schedule) {
+        Ok(_) => Ok(()),
+        Err(fault) => Err(fault),
     }
 }
 

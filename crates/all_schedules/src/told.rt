@@ -1,14 +1,17 @@
 //! What one schedule makes, with what is printed above it.
-ghost use Rattle.std.specs.Prelude.{◌≡◌, ◌≤◌, ◌<◌, ◌++◌, ℕ, All, List, Option, IfOk, IfErr};
+ghost use Rattle.std.specs.Prelude.{◌≡◌, ◌≤◌, ◌<◌, ◌++◌, ℕ, All, List, Option, Ok, IfOk, IfErr};
 ghost use Rattle.violations.specs.Rule.{IsCoreCount};
 ghost use Rattle.turn_steps.specs.Writing.{IsWrittenBut};
-ghost use Rattle.all_schedules.specs.Made.{IsFault, IsMade, loop_on};
+ghost use Rattle.rv32_exec.specs.declared.sequential.End.{End};
+ghost use Rattle.spec_history.specs.declared.entry.Entry.{Entry as HistoryEntry};
+ghost use Rattle.all_schedules.specs.declared.detail.Detail.TheVariants as Detail;
+ghost use Rattle.all_schedules.specs.Made.{IsFault, IsMade, Makes, loop_on};
 ghost use Rattle.all_schedules.specs.Shown.{IsShown};
 ghost use Rattle.all_schedules.specs.Told as spec;
 
-use crate::detail::Detail;
-use crate::driving::drive_schedule;
+use crate::laws::history_is_fixed;
 use crate::print::print_book;
+use crate::replay::cause_of;
 use homefree::{Book, TurnFault};
 use run_ledger::Shares;
 use rv32_image::Image;
@@ -18,34 +21,27 @@ use trace_commands::{CommandStop, Outcome, write_whole};
 use turn_steps::{ShownStore, drive_steps};
 use violations::EpochStore;
 
-/// Takes the turns of a schedule as `drive_schedule`, and writes what is printed above what they make: nothing, or each turn as it is
-/// taken and a line `end`. It answers the history that they make, the rest of that text, which isn't written yet, and whether all before
-/// it was.
-pub fn drive_told<S: ShownStore, W: Write>(
+/// Takes the turns of a schedule that makes a history, writes the text of each, and below a line `end` what they make. What makes a history
+/// once makes it again, so it is that one.
+pub(crate) fn tell_turns<S: ShownStore, W: Write>(
     alloc: Global,
-    detail: Detail,
     image: &Image,
     cores: u32,
     room: u32,
     schedule: &[u32],
     writer: &mut W,
-) -> Result<(Book<S>, Vec<u8>, bool), TurnFault>
+) -> Outcome
     requires cores { IsCoreCount image.now cores }
     requires least { 16 ≤ room }
     requires most { room ≤ 1048576 }
     requires schedule { All (λ core. core < cores) schedule.now }
-    ensures made { IfOk result (λ told. IsMade S.starts S.makes S.view S.waits (loop_on image.now cores room) schedule.now told.0) }
-    ensures head { IfOk result (λ told. spec.IsToldOf (spec.IsHead S.starts S.makes S.view S.waits S.changes detail) (loop_on image.now cores room) schedule.now told.0.history told.1.items told.2
-        (W.contents writer.old) (W.contents writer.new)) }
-    ensures fault { IfErr result (IsFault S.starts S.makes S.view S.waits (loop_on image.now cores room) schedule.now) }
-    ensures begun { IfErr result (λ _. spec.Leaves (spec.IsHead S.starts S.makes S.view S.waits S.changes detail) (loop_on image.now cores room) schedule.now (W.contents writer.old) (W.contents writer.new)) }
+    ensures { (end : Option End) (history : List HistoryEntry) → Makes S.starts S.makes S.view S.waits (loop_on image.now cores room) schedule.now (Ok end) history
+        → spec.IsShownMade (spec.IsHead S.starts S.makes S.view S.waits S.changes Detail.Steps) (loop_on image.now cores room) schedule.now history (W.contents writer.old) (W.contents writer.new) result }
 {
-    match detail {
-        Detail::Whole => match drive_schedule(alloc, image, cores, room, schedule) {
-            Ok(book) => Ok((book, Vec::new(alloc), true)),
-            Err(fault) => Err(fault),
-        },
-        Detail::Steps => step_schedule(alloc, image, cores, room, schedule, writer),
+    history_is_fixed::<S>();
+    match step_schedule::<S, W>(alloc, image, cores, room, schedule, writer) {
+        Ok((book, rest, whole)) => show_told(alloc, image, cores, &book, rest, whole, writer),
+        Err(fault) => Outcome::Stopped(cause_of(fault)),
     }
 }
 
@@ -94,7 +90,7 @@ fn step_schedule<S: ShownStore, W: Write>(
 }
 
 /// Writes what is printed of a book below this rest of its head, before which all was written or not, and answers what the book came to.
-pub fn show_told<S: EpochStore, W: Write>(
+pub(crate) fn show_told<S: EpochStore, W: Write>(
     alloc: Global,
     image: &Image,
     cores: u32,

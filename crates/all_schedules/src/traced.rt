@@ -1,8 +1,9 @@
 //! The replay of a trace: its schedule, driven again.
-ghost use Rattle.std.specs.Prelude.{◌≡◌, ◌≤◌, ◌<◌, ◌++◌, ℕ, All, List, Option, MatchOption, IfOk, IfErr, OnOk, length};
+ghost use Rattle.std.specs.Prelude.{◌≡◌, ◌≤◌, ◌<◌, ◌++◌, ℕ, All, List, Option, MatchOption, Ok, IfOk, IfErr, OnOk, length};
 ghost use Rattle.trace_text.specs.TraceText.{longest_trace_text};
 ghost use Rattle.violations.specs.Rule.{IsCoreCount};
-ghost use Rattle.all_schedules.specs.Made.{loop_on};
+ghost use Rattle.rv32_exec.specs.declared.sequential.End.{End};
+ghost use Rattle.all_schedules.specs.Made.{IsMade, Makes, loop_on};
 ghost use Rattle.turn_steps.specs.Writing.{IsWrittenBut};
 ghost use Rattle.all_schedules.specs.Told.{IsHead};
 ghost use Rattle.all_schedules.specs.Traced as spec;
@@ -10,7 +11,7 @@ ghost use Rattle.all_schedules.specs.Traced as spec;
 use crate::detail::Detail;
 use crate::driving::drive_schedule;
 use crate::replay::cause_of;
-use crate::told::{drive_told, show_told};
+use crate::told::{show_told, tell_turns};
 use homefree::Book;
 use rv32_image::Image;
 use spec_history::{Entry, What};
@@ -73,7 +74,7 @@ fn is_other(cores: Option<u32>, number: u32) -> bool
 }
 
 /// Takes the turns of a trace, and writes what they made where that is the trace. Where each of them is to be told, they are taken
-/// twice, so that nothing was written where they make another history.
+/// twice, so that nothing is written where they make another history.
 fn drive_trace<S: ShownStore, W: Write>(
     alloc: Global,
     detail: Detail,
@@ -92,21 +93,48 @@ fn drive_trace<S: ShownStore, W: Write>(
         return Outcome::Stopped(CommandStop::NoMemory);
     };
     let turns = schedule.as_slice();
-    if let Err(outcome) = check_trace::<S>(alloc, detail, image, cores, room, turns, entries) {
-        return outcome;
-    }
-    match drive_told::<S, W>(alloc, detail, image, cores, room, turns, writer) {
-        Ok((book, rest, whole)) => {
-            show_same(alloc, image, cores, &book, entries, rest, whole, writer)
-        }
-        Err(fault) => Outcome::Stopped(cause_of(fault)),
+    match detail {
+        Detail::Whole => match make_again::<S>(alloc, image, cores, room, turns, entries) {
+            Ok(book) => show_told(alloc, image, cores, &book, Vec::new(alloc), true, writer),
+            Err(outcome) => outcome,
+        },
+        Detail::Steps => match check_trace::<S>(alloc, image, cores, room, turns, entries) {
+            Ok(()) => tell_turns::<S, W>(alloc, image, cores, room, turns, writer),
+            Err(outcome) => outcome,
+        },
     }
 }
 
-/// Takes the turns of a trace without a text, where each is to be told: an Err is what keeps them from being told.
+/// Takes the turns of a trace: they make its history again, or an Err says what keeps them from it.
+fn make_again<S: ShownStore>(
+    alloc: Global,
+    image: &Image,
+    cores: u32,
+    room: u32,
+    turns: &[u32],
+    entries: &[Entry],
+) -> Result<Book<S>, Outcome>
+    requires cores { IsCoreCount image.now cores }
+    requires least { 16 ≤ room }
+    requires most { room ≤ 1048576 }
+    requires schedule { All (λ core. core < cores) turns.now }
+    requires turns { turns.now ≡ spec.turns_of cores entries.now }
+    ensures made { IfOk result (λ book. IsMade S.starts S.makes S.view S.waits (loop_on image.now cores room) turns.now book) }
+    ensures same { IfOk result (λ book. book.history ≡ entries.now) }
+    ensures other { IfErr result (spec.IsNotRetraced S.starts S.makes S.view S.waits (loop_on image.now cores room) entries.now) }
+{
+    match drive_schedule::<S>(alloc, image, cores, room, turns) {
+        Ok(book) => match is_same(&book, entries) {
+            Ok(()) => Ok(book),
+            Err(outcome) => Err(outcome),
+        },
+        Err(fault) => Err(Outcome::Stopped(cause_of(fault))),
+    }
+}
+
+/// Whether the turns of a trace make its history again: an Err says what keeps them from it.
 fn check_trace<S: ShownStore>(
     alloc: Global,
-    detail: Detail,
     image: &Image,
     cores: u32,
     room: u32,
@@ -118,14 +146,12 @@ fn check_trace<S: ShownStore>(
     requires most { room ≤ 1048576 }
     requires schedule { All (λ core. core < cores) turns.now }
     requires turns { turns.now ≡ spec.turns_of cores entries.now }
-    ensures { IfErr result (spec.IsNotRetraced S.starts S.makes S.view S.waits (loop_on image.now cores room) entries.now) }
+    ensures made { IfOk result (λ _. (end : Option End) × Makes S.starts S.makes S.view S.waits (loop_on image.now cores room) turns.now (Ok end) entries.now) }
+    ensures other { IfErr result (spec.IsNotRetraced S.starts S.makes S.view S.waits (loop_on image.now cores room) entries.now) }
 {
-    match detail {
-        Detail::Whole => Ok(()),
-        Detail::Steps => match drive_schedule::<S>(alloc, image, cores, room, turns) {
-            Ok(book) => is_same(&book, entries),
-            Err(fault) => Err(Outcome::Stopped(cause_of(fault))),
-        },
+    match make_again::<S>(alloc, image, cores, room, turns, entries) {
+        Ok(_) => Ok(()),
+        Err(outcome) => Err(outcome),
     }
 }
 
@@ -168,28 +194,6 @@ fn is_of_own(what: What) -> bool
     match what {
         What::Hurt(_) | What::Cancel(_) | What::Publish => false,
         _ => true,
-    }
-}
-
-/// Writes what is printed of a book, below this rest of its head, where its history is that of the entries.
-fn show_same<S: EpochStore, W: Write>(
-    alloc: Global,
-    image: &Image,
-    cores: u32,
-    book: &Book<S>,
-    entries: &[Entry],
-    rest: Vec<u8>,
-    whole: bool,
-    writer: &mut W,
-) -> Outcome
-    requires image { book.now.image ≡ image.now }
-    requires cores { book.now.cores ≡ cores }
-    ensures { (first : Option (List ℕ)) (head : List ℕ) → IsWrittenBut rest.items whole first (W.contents writer.old) head
-        → spec.IsSameBelow image.now cores book.now.history entries.now head first (W.contents writer.new) result }
-{
-    match is_same(book, entries) {
-        Ok(()) => show_told(alloc, image, cores, book, rest, whole, writer),
-        Err(outcome) => outcome,
     }
 }
 

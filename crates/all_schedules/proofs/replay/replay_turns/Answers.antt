@@ -1,14 +1,10 @@
-use Rattle.std.proofs.Common.{ap, inl}
+use Rattle.std.proofs.Common.{ap, refl, sym, subst, []}
+use Rattle.std.proofs.KnownBytes.{Appends-nil}
 use Rattle.homefree.specs.declared.book.Loop.{Loop}
-use Rattle.trace_commands.proofs.Audits.{keeps_itself}
 use Rattle.all_schedules.specs.Made.{loop_on}
-use Rattle.all_schedules.specs.Told.{IsHead}
-use Rattle.all_schedules.proofs.Replays.{fault_comes, shown_comes, stop_comes}
+use Rattle.all_schedules.specs.Told.{IsHead, IsShownMade}
+use Rattle.all_schedules.proofs.Replays.{shown_comes, told_comes}
 use Rattle.all_schedules.proofs.replay.replay_turns.Goals as goal
-
-pub returns-in-Err : goal.returns-in-Err
-returns-in-Err g c =
-    stop_comes g.S.EpochStore.starts g.S.EpochStore.makes g.S.EpochStore.view g.S.EpochStore.waits (IsHead g.S.EpochStore.starts g.S.EpochStore.makes g.S.EpochStore.view g.S.EpochStore.waits g.S.ShownStore.changes c.args.detail) (loop_on c.args.image.now c.args.cores c.args.room) c.args.schedule.now (g.W.Write.contents c.args.writer.now) (g.W.Write.contents c.args.writer.now) c.in-Err.cause c.in-Err.ensures (inl (keeps_itself (g.W.Write.contents c.args.writer.now)))
 
 pub show_told-requires-clause-image : goal.show_told-requires-clause-image
 show_told-requires-clause-image g c κs within = ap (λ (l : Loop). l.image) c.in-Ok.ensures.made.loop
@@ -19,11 +15,14 @@ show_told-requires-clause-cores g c κs within = ap (λ (l : Loop). l.cores) c.i
 pub returns-in-Ok : goal.returns-in-Ok
 returns-in-Ok g c =
     let made = c.in-Ok.ensures.made in
-    let head = c.in-Ok.ensures.head in
-    shown_comes g.S.EpochStore.starts g.S.EpochStore.makes g.S.EpochStore.view g.S.EpochStore.waits (IsHead g.S.EpochStore.starts g.S.EpochStore.makes g.S.EpochStore.view g.S.EpochStore.waits g.S.ShownStore.changes c.args.detail) (loop_on c.args.image.now c.args.cores c.args.room) c.args.schedule.now (g.W.Write.contents c.args.writer.now) (g.W.Write.contents c.show_told.new.writer) c.in-Ok.book.history head.0 made.result c.show_told.result made.makes head.1
-    (c.show_told.ensures (g.W.Write.contents c.args.writer.now) head.0 head.2)
+    let old = g.W.Write.contents c.args.writer.now in
+    shown_comes g.S.EpochStore.starts g.S.EpochStore.makes g.S.EpochStore.view g.S.EpochStore.waits (IsHead g.S.EpochStore.starts g.S.EpochStore.makes g.S.EpochStore.view g.S.EpochStore.waits g.S.ShownStore.changes c.args.detail) (loop_on c.args.image.now c.args.cores c.args.room) c.args.schedule.now old (g.W.Write.contents c.show_told.new.writer) c.in-Ok.book.history [] made.result c.show_told.result made.makes
+    (subst (λ d. IsHead g.S.EpochStore.starts g.S.EpochStore.makes g.S.EpochStore.view g.S.EpochStore.waits g.S.ShownStore.changes d (loop_on c.args.image.now c.args.cores c.args.room) c.args.schedule.now c.in-Ok.book.history []) (sym c.in-Whole.is) refl)
+    (c.show_told.ensures old [] ([], Appends-nil old, sym c.new.ensures.items))
 
-pub returns-in-Err-drive_told : goal.returns-in-Err-drive_told
-returns-in-Err-drive_told g c =
-    fault_comes g.S.EpochStore.starts g.S.EpochStore.makes g.S.EpochStore.view g.S.EpochStore.waits (IsHead g.S.EpochStore.starts g.S.EpochStore.makes g.S.EpochStore.view g.S.EpochStore.waits g.S.ShownStore.changes c.args.detail) (loop_on c.args.image.now c.args.cores c.args.room) c.args.schedule.now (g.W.Write.contents c.args.writer.now) (g.W.Write.contents c.drive_told.new.writer) c.in-Err-drive_told.fault c.cause_of.result c.cause_of.ensures c.in-Err-drive_told.ensures.fault
-    c.in-Err-drive_told.ensures.begun
+pub returns-in-Ok-check_turns : goal.returns-in-Ok-check_turns
+returns-in-Ok-check_turns g c =
+    let made = c.in-Ok-check_turns.ensures.made in
+    told_comes g.S.EpochStore.starts g.S.EpochStore.makes g.S.EpochStore.view g.S.EpochStore.waits (IsHead g.S.EpochStore.starts g.S.EpochStore.makes g.S.EpochStore.view g.S.EpochStore.waits g.S.ShownStore.changes c.args.detail) (loop_on c.args.image.now c.args.cores c.args.room) c.args.schedule.now (g.W.Write.contents c.args.writer.now) (g.W.Write.contents c.tell_turns.new.writer) made.0 made.1 c.tell_turns.result made.2
+    (subst (λ d. IsShownMade (IsHead g.S.EpochStore.starts g.S.EpochStore.makes g.S.EpochStore.view g.S.EpochStore.waits g.S.ShownStore.changes d) (loop_on c.args.image.now c.args.cores c.args.room) c.args.schedule.now made.1 (g.W.Write.contents c.args.writer.now)
+    (g.W.Write.contents c.tell_turns.new.writer) c.tell_turns.result) (sym c.in-Steps.is) (c.tell_turns.ensures made.0 made.1 made.2))

@@ -1,46 +1,41 @@
-use Rattle.std.proofs.Common.{◌<◌, All, Ok, ap, sym, subst, ◌∙◌}
-use Rattle.homefree.specs.declared.book.Loop.{Loop}
-use Rattle.all_schedules.specs.Made.{IsFault, Makes, loop_on}
-use Rattle.all_schedules.specs.Told.{IsHead, Leaves}
-use Rattle.all_schedules.proofs.Replays.{refused_comes, same_comes, trace_fault_comes}
+use Rattle.std.proofs.Common.{◌<◌, All, Ok, [], refl, sym, subst, ◌∙◌}
+use Rattle.std.proofs.KnownBytes.{Appends-nil}
+use Rattle.all_schedules.specs.declared.detail.Detail.TheVariants.{Steps}
+use Rattle.all_schedules.specs.Made.{Makes, loop_on}
+use Rattle.all_schedules.specs.Told.{IsHead, IsShownMade}
+use Rattle.all_schedules.specs.Traced.{turns_of}
+use Rattle.all_schedules.proofs.Replays.{told_trace_comes, whole_comes}
 use Rattle.all_schedules.proofs.Retraces.{are_turns}
 use Rattle.all_schedules.proofs.traced.drive_trace.Goals as goal
 
+pub make_again-requires-clause-schedule : goal.make_again-requires-clause-schedule
+make_again-requires-clause-schedule g c κs within = (subst (λ s. All (λ k. k < c.args.cores) s) (sym (c.as_slice-turns.ensures.value ∙ c.in-Ok.ensures)) (are_turns c.args.cores c.args.entries.now))
+
 pub check_trace-requires-clause-schedule : goal.check_trace-requires-clause-schedule
-check_trace-requires-clause-schedule g c κs within =
-    subst (λ s. All (λ k. k < c.args.cores) s) (sym (c.as_slice-turns.ensures.value ∙ c.in-Ok.ensures)) (are_turns c.args.cores c.args.entries.now)
+check_trace-requires-clause-schedule g c κs within = (subst (λ s. All (λ k. k < c.args.cores) s) (sym (c.as_slice-turns.ensures.value ∙ c.in-Ok.ensures)) (are_turns c.args.cores c.args.entries.now))
 
-pub drive_told-requires-clause-schedule : goal.drive_told-requires-clause-schedule
-drive_told-requires-clause-schedule g c κs within =
-    subst (λ s. All (λ k. k < c.args.cores) s) (sym (c.as_slice-turns.ensures.value ∙ c.in-Ok.ensures)) (are_turns c.args.cores c.args.entries.now)
+pub tell_turns-requires-clause-schedule : goal.tell_turns-requires-clause-schedule
+tell_turns-requires-clause-schedule g c κs within = (subst (λ s. All (λ k. k < c.args.cores) s) (sym (c.as_slice-turns.ensures.value ∙ c.in-Ok.ensures)) (are_turns c.args.cores c.args.entries.now))
 
-pub returns-in-Err : goal.returns-in-Err
-returns-in-Err g c =
-    refused_comes g.S.EpochStore.starts g.S.EpochStore.makes g.S.EpochStore.view g.S.EpochStore.waits (IsHead g.S.EpochStore.starts g.S.EpochStore.makes g.S.EpochStore.view g.S.EpochStore.waits g.S.ShownStore.changes c.args.detail) (loop_on c.args.image.now c.args.cores c.args.room) c.args.entries.now (g.W.Write.contents c.args.writer.now) c.in-Err.outcome c.in-Err.ensures
-
-pub show_same-requires-clause-image : goal.show_same-requires-clause-image
-show_same-requires-clause-image g c κs within = ap (λ (l : Loop). l.image) c.in-Ok-drive_told.ensures.made.loop
-
-pub show_same-requires-clause-cores : goal.show_same-requires-clause-cores
-show_same-requires-clause-cores g c κs within = ap (λ (l : Loop). l.cores) c.in-Ok-drive_told.ensures.made.loop
-
-pub returns-in-Ok-drive_told : goal.returns-in-Ok-drive_told
-returns-in-Ok-drive_told g c =
+pub returns-in-Ok-make_again : goal.returns-in-Ok-make_again
+returns-in-Ok-make_again g c =
     let l = loop_on c.args.image.now c.args.cores c.args.room in
     let turns = c.as_slice-turns.ensures.value ∙ c.in-Ok.ensures in
-    let made = c.in-Ok-drive_told.ensures.made in
-    let head = c.in-Ok-drive_told.ensures.head in
-    let history = c.in-Ok-drive_told.book.history in
-    same_comes g.S.EpochStore.starts g.S.EpochStore.makes g.S.EpochStore.view g.S.EpochStore.waits (IsHead g.S.EpochStore.starts g.S.EpochStore.makes g.S.EpochStore.view g.S.EpochStore.waits g.S.ShownStore.changes c.args.detail) l c.args.entries.now (g.W.Write.contents c.args.writer.now) (g.W.Write.contents c.show_same.new.writer) history head.0 made.result c.show_same.result
-    (subst (λ s. Makes g.S.EpochStore.starts g.S.EpochStore.makes g.S.EpochStore.view g.S.EpochStore.waits l s (Ok made.result) history) turns made.makes)
-    (subst (λ s. IsHead g.S.EpochStore.starts g.S.EpochStore.makes g.S.EpochStore.view g.S.EpochStore.waits g.S.ShownStore.changes c.args.detail l s history head.0) turns head.1)
-    (c.show_same.ensures (g.W.Write.contents c.args.writer.now) head.0 head.2)
+    let made = c.in-Ok-make_again.ensures.made in
+    let old = g.W.Write.contents c.args.writer.now in
+    whole_comes g.S.EpochStore.starts g.S.EpochStore.makes g.S.EpochStore.view g.S.EpochStore.waits (IsHead g.S.EpochStore.starts g.S.EpochStore.makes g.S.EpochStore.view g.S.EpochStore.waits g.S.ShownStore.changes c.args.detail) l c.args.entries.now old (g.W.Write.contents c.show_told.new.writer) c.in-Ok-make_again.book.history [] made.result c.show_told.result
+    (subst (λ s. Makes g.S.EpochStore.starts g.S.EpochStore.makes g.S.EpochStore.view g.S.EpochStore.waits l s (Ok made.result) c.in-Ok-make_again.book.history) turns made.makes)
+    (subst (λ d. IsHead g.S.EpochStore.starts g.S.EpochStore.makes g.S.EpochStore.view g.S.EpochStore.waits g.S.ShownStore.changes d l (turns_of c.args.cores c.args.entries.now) c.in-Ok-make_again.book.history []) (sym c.in-Whole.is) refl)
+    c.in-Ok-make_again.ensures.same (c.show_told.ensures old [] ([], Appends-nil old, sym c.new.ensures.items))
 
-pub returns : goal.returns
-returns g c =
+pub returns-in-Ok-check_trace : goal.returns-in-Ok-check_trace
+returns-in-Ok-check_trace g c =
     let l = loop_on c.args.image.now c.args.cores c.args.room in
     let turns = c.as_slice-turns.ensures.value ∙ c.in-Ok.ensures in
-    let fault = c.in-Err-drive_told.fault in
-    trace_fault_comes g.S.EpochStore.starts g.S.EpochStore.makes g.S.EpochStore.view g.S.EpochStore.waits (IsHead g.S.EpochStore.starts g.S.EpochStore.makes g.S.EpochStore.view g.S.EpochStore.waits g.S.ShownStore.changes c.args.detail) l c.args.entries.now (g.W.Write.contents c.args.writer.now) (g.W.Write.contents c.drive_told.new.writer) fault c.cause_of.result c.cause_of.ensures
-    (subst (λ s. IsFault g.S.EpochStore.starts g.S.EpochStore.makes g.S.EpochStore.view g.S.EpochStore.waits l s fault) turns c.in-Err-drive_told.ensures.fault)
-    (subst (λ s. Leaves (IsHead g.S.EpochStore.starts g.S.EpochStore.makes g.S.EpochStore.view g.S.EpochStore.waits g.S.ShownStore.changes c.args.detail) l s (g.W.Write.contents c.args.writer.now) (g.W.Write.contents c.drive_told.new.writer)) turns c.in-Err-drive_told.ensures.begun)
+    let made = c.in-Ok-check_trace.ensures.made in
+    let old = g.W.Write.contents c.args.writer.now in
+    let new = g.W.Write.contents c.tell_turns.new.writer in
+    told_trace_comes g.S.EpochStore.starts g.S.EpochStore.makes g.S.EpochStore.view g.S.EpochStore.waits (IsHead g.S.EpochStore.starts g.S.EpochStore.makes g.S.EpochStore.view g.S.EpochStore.waits g.S.ShownStore.changes c.args.detail) l c.args.entries.now old new made.0 c.tell_turns.result
+    (subst (λ s. Makes g.S.EpochStore.starts g.S.EpochStore.makes g.S.EpochStore.view g.S.EpochStore.waits l s (Ok made.0) c.args.entries.now) turns made.1)
+    (subst (λ d. IsShownMade (IsHead g.S.EpochStore.starts g.S.EpochStore.makes g.S.EpochStore.view g.S.EpochStore.waits g.S.ShownStore.changes d) l (turns_of c.args.cores c.args.entries.now) c.args.entries.now old new c.tell_turns.result) (sym c.in-Steps.is)
+    (subst (λ s. IsShownMade (IsHead g.S.EpochStore.starts g.S.EpochStore.makes g.S.EpochStore.view g.S.EpochStore.waits g.S.ShownStore.changes Steps) l s c.args.entries.now old new c.tell_turns.result) turns (c.tell_turns.ensures made.0 c.args.entries.now made.1)))
