@@ -1,8 +1,10 @@
-//! Tests of the decoder, of images and of the sequential machine, over their public calls.
+//! Tests of the decoder, of images, of the sequential machine and of dependences, over their public calls.
 #![tactic(auto)]
 
 #[cfg(test)]
 mod decoding;
+#[cfg(test)]
+mod distances;
 #[cfg(test)]
 mod errors;
 #[cfg(test)]
