@@ -39,8 +39,9 @@ pub fn without_conflict_none_is_hurt()
         → NoneStartsAfterCancel history → MeetInBytes image cores history → (Conflict image cores → ⊥) → NoneIsHurt history }
 {}
 
-/// Where, besides, no such two epochs store and read in one line of the caches, and no epoch stores in more lines than its
-/// buffer takes of which an earlier one touches one: no legal history of so many cores has a violation that is of a kind.
+/// Where no epoch stores in a line of the caches in which a later one, which so many cores can run beside it, reads a byte from
+/// outside, nor touches a line of which the later one's buffer is too small: no legal history of so many cores has a violation, if
+/// each violation is of a kind.
 pub fn without_line_conflict_and_overflow_none_is_hurt()
     ensures { (image : LoadedImage) (cores : ℕ) (history : List Entry) (s : FlatState) → IsImage image → replay image cores history ≡ Some s
         → NoneStartsAfterCancel history → AreKnown image cores history → (LineConflict image cores → ⊥) → (Overflow image cores → ⊥) → NoneIsHurt history }
