@@ -78,13 +78,13 @@ module _ (image : LoadedImage) (epoch : ℕ) (memory : List ℕ) (h : HartState)
       ∙ (sym (ap (λ n. after_steps image n (start_of image epoch) memory) sum) ∙ runs) in
       quiet image (step - h.done) h g at.after after s (omega (arith, from, before)) there stops
 
-  hart_there : (step : ℕ) (g : HartState) (after : List ℕ) → step ≡ (next_event image h).now.done
+  pub hart_there : (step : ℕ) (g : HartState) (after : List ℕ) → step ≡ (next_event image h).now.done
       → after_steps image step (start_of image epoch) memory ≡ Runs g after → (next_event image h).now ≡ g
   hart_there step g after is runs =
       let same : Runs (next_event image h).now at.after ≡ Runs g after = sym to_event ∙ (sym (ap (λ n. after_steps image n (start_of image epoch) memory) is) ∙ runs) in cc
 
   -- a load from the hart on is not before the next event
-  load_late : (a step : ℕ) → LoadsAt image epoch memory step a → h.done ≤ step → (next_event image h).now.done ≤ step
+  pub load_late : (a step : ℕ) → LoadsAt image epoch memory step a → h.done ≤ step → (next_event image h).now.done ≤ step
   load_late a step there from = elim (cases_lt step (next_event image h).now.done) [
     | inl before ↦ absurd (quiet_from step there.hart there.after (stop.Load there.address there.width there.signed there.rd) from before there.runs there.stops)
     | inr past ↦ past
@@ -157,13 +157,13 @@ widen image epoch done done' k more (before_it x) = before_it x
 widen image epoch done done' k more (by_it earlier apart depends low) = by_it earlier apart depends (omega (arith, low, more))
 
 -- the last writer of a byte that somebody wrote
-last_of : (image : LoadedImage) (epoch a writer : ℕ) → IsLastWriter image epoch a writer → writer ≢ 0
+pub last_of : (image : LoadedImage) (epoch a writer : ℕ) → IsLastWriter image epoch a writer → writer ≢ 0
     → (d : ℕ) × (writer ≡ d + 1) × (d < epoch) × Stores image d (memory_before image d) a
 last_of image epoch a zero last some = absurd (some refl)
 last_of image epoch a (suc d) last some = (d, omega arith, last.0, last.1)
 
 -- and it is no earlier than any other
-last_most : (image : LoadedImage) (epoch a writer d : ℕ) → IsLastWriter image epoch a writer → d < epoch → Stores image d (memory_before image d) a
+pub last_most : (image : LoadedImage) (epoch a writer d : ℕ) → IsLastWriter image epoch a writer → d < epoch → Stores image d (memory_before image d) a
     → (writer ≢ 0) × (writer ≢ epoch + 1) × (d + 1 ≤ writer)
 last_most image epoch a zero d last low stores = absurd (last d low stores)
 last_most image epoch a (suc e) d last low stores = let most = last.2 d low stores in let less = last.0 in (omega arith, omega (arith, less), omega (arith, most))
@@ -171,7 +171,7 @@ last_most image epoch a (suc e) d last low stores = let most = last.2 d low stor
 pub runs_in_order : (image : LoadedImage) (epoch : ℕ) (memory : List ℕ) → first_epochs image epoch ≡ record { end = end.Done epoch; bytes = memory } → IsInOrder image epoch
 runs_in_order image epoch memory done = ap (λ (r : SequentialResult). r.end) done
 
-same_load : (e : Effect) (address width : ℕ) (signed : Bool) (rd address' width' : ℕ) (signed' : Bool) (rd' a : ℕ) → e ≡ Stops (stop.Load address width signed rd)
+pub same_load : (e : Effect) (address width : ℕ) (signed : Bool) (rd address' width' : ℕ) (signed' : Bool) (rd' a : ℕ) → e ≡ Stops (stop.Load address width signed rd)
     → e ≡ Stops (stop.Load address' width' signed' rd') → address' ≤ a → a < address' + width' → (address ≤ a) × (a < address + width)
 same_load e address width signed rd address' width' signed' rd' a is is' from below =
     let same_address : address' ≡ address = cc in
@@ -262,7 +262,7 @@ module _ (image : LoadedImage) (epoch : ℕ) (memory writers : List ℕ) (h : Ha
 
 -- ---- a store
 
-unmarked : (writers writers' : List ℕ) (address width writer value a : ℕ) → IsMarked writers writers' address width writer → stored address width value a ≡ None
+pub unmarked : (writers writers' : List ℕ) (address width writer value a : ℕ) → IsMarked writers writers' address width writer → stored address width value a ≡ None
     → slice_index writers' a ≡ slice_index writers a
 unmarked writers writers' address width writer value a marked none = elim (cases_lt a address) [
   | inl below ↦ marked.below a below
@@ -272,7 +272,7 @@ unmarked writers writers' address width writer value a marked none = elim (cases
   ]
 ]
 
-no_both : (e : Effect) (address width value address' width' : ℕ) (signed : Bool) (rd : ℕ) → e ≡ Stops (stop.Store address width value)
+pub no_both : (e : Effect) (address width value address' width' : ℕ) (signed : Bool) (rd : ℕ) → e ≡ Stops (stop.Store address width value)
     → e ≡ Stops (stop.Load address' width' signed rd) → ⊥
 no_both e address width value address' width' signed rd is is' = cc
 
@@ -379,33 +379,26 @@ module _ (image : LoadedImage) (epoch : ℕ) (old memory writers : List ℕ) (h 
   writer_by stopped a None is =
       last_on image epoch a (slice_index writers a) (x.others a is) (all_stored image epoch (memory_before image epoch) h x.own x.at stopped a is)
 
-  no_later : (IsInOrder image (suc epoch) → ⊥) → (earlier later : ℕ) → Depends image earlier later → later < epoch + 1
-  no_later none earlier later depends = elim (cases_lt later (epoch + 1)) [
-    | inl low ↦ low
-    | inr high ↦ absurd (none (all_in_order image later (suc epoch) depends.in_order (omega (arith, high))))
-  ]
+  pub kept_after : HasStopped (after_stop (next_event image h).now x.at.after (next_event image h).at) → AreKept image (epoch + 1) writers nearest
+  kept_after stopped = record { long = x.long; writer = λ a. writer_by stopped a (x.own a) refl; least = least_after stopped }
 
-  pub ended_goes_on : (next_event image h).at ≡ stop.Ended → exits image (next_event image h).now ≡ false → GoesOn image (epoch + 1) memory writers nearest
+  pub ended_goes_on : (next_event image h).at ≡ stop.Ended → exits image (next_event image h).now ≡ false
+      → first_epochs image (epoch + 1) ≡ record { end = end.Done (epoch + 1); bytes = memory }
   ended_goes_on is goes_on =
-      let stopped : HasStopped (after_stop (next_event image h).now x.at.after (next_event image h).at) = rw is tt in
-      let outcome = outcome_there image epoch h (memory_before image epoch) x.at.after (Ends (next_event image h).now x.at.after) x.at.runs (rw is refl) tt in record {
-        done = first_epochs-ends image epoch (next_event image h).now (memory_before image epoch) x.at.after done_before (sym outcome) goes_on
-            ∙ ap (λ (m : List ℕ). let r : SequentialResult = record { end = end.Done (epoch + 1); bytes = m } in r) x.is;
-        kept = record { long = x.long; writer = λ a. writer_by stopped a (x.own a) refl; least = least_after stopped };
-      }
+      let outcome = outcome_there image epoch h (memory_before image epoch) x.at.after (Ends (next_event image h).now x.at.after) x.at.runs (rw is refl) tt in
+      first_epochs-ends image epoch (next_event image h).now (memory_before image epoch) x.at.after done_before (sym outcome) goes_on
+      ∙ ap (λ (m : List ℕ). let r : SequentialResult = record { end = end.Done (epoch + 1); bytes = m } in r) x.is
 
-  pub ended_exits : (next_event image h).at ≡ stop.Ended → exits image (next_event image h).now ≡ true → IsNearest image nearest
-  ended_exits is exit =
-      let stopped : HasStopped (after_stop (next_event image h).now x.at.after (next_event image h).at) = rw is tt in
+  pub ended_exits : (next_event image h).at ≡ stop.Ended → exits image (next_event image h).now ≡ true → IsInOrder image (epoch + 1) → ⊥
+  ended_exits is exit order =
       let outcome = outcome_there image epoch h (memory_before image epoch) x.at.after (Ends (next_event image h).now x.at.after) x.at.runs (rw is refl) tt in
       let whole = first_epochs-exits image epoch (next_event image h).now (memory_before image epoch) x.at.after done_before (sym outcome) exit in
-      nearest_of image (epoch + 1) nearest
-      (no_later (λ order. let other : end.Exit epoch ≡ end.Done (suc epoch) = sym (ap (λ (r : SequentialResult). r.end) whole) ∙ order in cc)) (least_after stopped)
+      let next : IsInOrder image (suc epoch) = subst (λ n. IsInOrder image n) (add-one epoch) order in
+      let other : end.Exit epoch ≡ end.Done (suc epoch) = sym (ap (λ (r : SequentialResult). r.end) whole) ∙ next in absurd cc
 
-  pub faulted : (cause pc : ℕ) → (next_event image h).at ≡ stop.Fault cause pc → IsNearest image nearest
-  faulted cause pc is =
-      let stopped : HasStopped (after_stop (next_event image h).now x.at.after (next_event image h).at) = rw is tt in
+  pub faulted : (cause pc : ℕ) → (next_event image h).at ≡ stop.Fault cause pc → IsInOrder image (epoch + 1) → ⊥
+  faulted cause pc is order =
       let outcome = outcome_there image epoch h (memory_before image epoch) x.at.after (Faults cause pc x.at.after) x.at.runs (rw is refl) tt in
       let whole = one_more_epoch image epoch epoch (memory_before image epoch) done_before ∙ ap (result_of image epoch) outcome in
-      nearest_of image (epoch + 1) nearest
-      (no_later (λ order. let other : end.Fault epoch cause pc ≡ end.Done (suc epoch) = sym (ap (λ (r : SequentialResult). r.end) whole) ∙ order in cc)) (least_after stopped)
+      let next : IsInOrder image (suc epoch) = subst (λ n. IsInOrder image n) (add-one epoch) order in
+      let other : end.Fault epoch cause pc ≡ end.Done (suc epoch) = sym (ap (λ (r : SequentialResult). r.end) whole) ∙ next in absurd cc

@@ -118,7 +118,7 @@ all_up image (suc h) is order =
 -- ---- what the run shows
 
 -- of an epoch that it has
-run_in_order : (image : LoadedImage) (cores epoch : ℕ) → IsInOrder image epoch → run_memory image cores epoch ≡ memory_before image epoch
+pub run_in_order : (image : LoadedImage) (cores epoch : ℕ) → IsInOrder image epoch → run_memory image cores epoch ≡ memory_before image epoch
 run_in_order image cores epoch is = ap (memory_by image cores epoch) is
 
 shown_by : (image : LoadedImage) (cores h a : ℕ) → (ConflictInOrder image cores → ⊥) → h < image.epochs → IsInOrder image h
@@ -149,7 +149,7 @@ in_order_alike image cores h is free within order =
 itself : (image : LoadedImage) (epoch : ℕ) (memory : List ℕ) → IsAlike image epoch memory memory
 itself image epoch memory = record { there = λ step h after runs. (after, runs); back = λ step h after runs. (after, runs) }
 
-number_done : (image : LoadedImage) (epoch n : ℕ) → (first_epochs image epoch).end ≡ Done n → IsInOrder image epoch
+pub number_done : (image : LoadedImage) (epoch n : ℕ) → (first_epochs image epoch).end ≡ Done n → IsInOrder image epoch
 number_done image epoch n is = is ∙ ap Done (sym (done_number image epoch n is))
 
 alike_by : (image : LoadedImage) (cores epoch : ℕ) → IsImage image → (ConflictInOrder image cores → ⊥) → epoch < image.epochs → (e : End) → (first_epochs image epoch).end ≡ e

@@ -1,10 +1,10 @@
 -- What the code keeps of the run in order: who wrote each byte last, 0 for nobody and else the epoch's number and 1.
-use Rattle.std.specs.Prelude.{◌≡◌, ℕ, zero, suc, ◌+◌, ◌-◌, ◌==◌, ◌||◌, ◌<◌, ◌≤◌, List, length, Option, Some, None, nat_lt, slice_index, if◌then◌else◌}
+use Rattle.std.specs.Prelude.{◌≡◌, ℕ, zero, suc, ◌+◌, ◌-◌, ◌==◌, ◌||◌, ◌<◌, ◌≤◌, Bool, false, List, length, Option, Some, None, nat_lt, slice_index, if◌then◌else◌}
 use Rattle.rv32_exec.specs.declared.sequential.End.TheVariants.{Done}
 use Rattle.rv32_image.specs.Image.{LoadedImage}
 use Rattle.rv32_exec.specs.Sequential.{first_epochs}
-use Rattle.dependences.specs.Paths.{Stores}
-use Rattle.dependences.specs.Conflict.{memory_before}
+use Rattle.dependences.specs.Paths.{ReadsOutside, Stores}
+use Rattle.dependences.specs.Conflict.{ConflictInOrder, IsInOrder, memory_before}
 use Rattle.dependences.specs.Nearest.{Depends}
 
 -- ---- distances
@@ -29,6 +29,11 @@ pub record IsMarked (old new : List ℕ) (address width writer : ℕ) : Type 0 w
   pub here : (a : ℕ) → address ≤ a → a < address + width → slice_index new a ≡ writer
   pub below : (a : ℕ) → a < address → slice_index new a ≡ slice_index old a
   pub past : (a : ℕ) → address + width ≤ a → slice_index new a ≡ slice_index old a
+
+-- two epochs that depend on each other are nearer than there are cores
+abbrev pub is_near : ℕ → Option ℕ → Bool
+is_near cores (Some distance) = nat_lt distance cores
+is_near cores None = false
 
 -- ---- what is kept
 
@@ -61,3 +66,27 @@ pub record AreKept (image : LoadedImage) (epoch : ℕ) (writers : List ℕ) (nea
 pub record GoesOn (image : LoadedImage) (epoch : ℕ) (memory writers : List ℕ) (nearest : Option ℕ) : Type 0 where
   pub done : first_epochs image epoch ≡ record { end = Done epoch; bytes = memory }
   pub kept : AreKept image epoch writers nearest
+
+-- so many epochs run in order, and no other does
+pub record AreAll (image : LoadedImage) (ran : ℕ) : Type 0 where
+  pub most : ran ≤ image.epochs
+  pub each : (epoch : ℕ) → epoch < ran → IsInOrder image epoch
+  pub no_more : (epoch : ℕ) → epoch < image.epochs → IsInOrder image epoch → epoch < ran
+
+-- all epochs that run in order are done, and it is kept what they did
+pub record HaveRun (image : LoadedImage) (ran : ℕ) (writers : List ℕ) (nearest : Option ℕ) : Type 0 where
+  pub all : AreAll image ran
+  pub kept : AreKept image ran writers nearest
+
+-- ---- epochs past the end
+
+-- alone over this memory, the epoch reads a byte from outside whose last writer is this epoch or a later one
+pub record MeetsWriter (image : LoadedImage) (epoch : ℕ) (memory writers : List ℕ) (first : ℕ) : Type 0 where
+  pub byte : ℕ
+  pub reads : ReadsOutside image epoch memory byte
+  pub written : first < slice_index writers byte
+
+-- epochs conflict, of which the later one is before this one
+pub record ConflictsBefore (image : LoadedImage) (cores epoch : ℕ) : Type 0 where
+  pub conflict : ConflictInOrder image cores
+  pub before : conflict.later < epoch

@@ -1,7 +1,10 @@
 //! What can roll back at all: the dependences of the run in order, and the law that without a conflict nothing is violated.
 #![tactic(auto)]
 
+mod alone;
+mod conflict;
 pub mod laws;
 mod nearest;
 
+pub use conflict::conflicts_over_bytes;
 pub use nearest::nearest_dependence;

@@ -2,6 +2,7 @@ ghost use Rattle.std.specs.Prelude.{◌≡◌, ℕ, ◌+◌, ◌<◌, ◌≤◌,
 ghost use Rattle.rv32_image.specs.Image.{IsImage};
 ghost use Rattle.rv32_exec.specs.declared.sequential.End.TheVariants.{Done};
 ghost use Rattle.rv32_exec.specs.Sequential.{first_epochs};
+ghost use Rattle.dependences.specs.Conflict.{IsInOrder};
 ghost use Rattle.dependences.specs.Nearest.{IsNearest};
 ghost use Rattle.dependences.specs.Kept as spec;
 
@@ -20,25 +21,39 @@ pub fn nearest_dependence(alloc: Global, image: &Image) -> Result<Option<u32>, N
     let mut memory = Vec::from_slice(alloc, image.bytes()).map_err(|_| NoMemory)?;
     let size = image.size() as usize;
     let mut writers = vec![in alloc; 0; size].map_err(|_| NoMemory)?;
-    Ok(nearest_in(image, memory.as_mut_slice(), writers.as_mut_slice()))
+    let ran = run_all(image, memory.as_mut_slice(), writers.as_mut_slice());
+    Ok(ran.nearest)
+}
+
+/// What came of the run in order: how many epochs it has, and how near they depend on each other.
+#[derive(Clone, Copy, Debug)]
+pub(crate) struct Ran {
+    pub(crate) epochs: u32,
+    pub(crate) nearest: Option<u32>,
 }
 
 /// Runs the epochs over memory, in order. No byte has a writer before.
-fn nearest_in(image: &Image, memory: &mut [u8], writers: &mut [u32]) -> Option<u32>
+pub(crate) fn run_all(image: &Image, memory: &mut [u8], writers: &mut [u32]) -> Ran
     requires memory { memory.old ≡ image.now.bytes }
     requires long { length writers.old ≡ image.now.size }
     requires none { (a : ℕ) → slice_index writers.old a ≡ 0 }
-    ensures { IsNearest image.now result }
+    ensures { spec.HaveRun image.now result.epochs writers.new result.nearest }
 {
     let mut nearest = None;
     for epoch in 0..image.epochs() {
         let followed = follow(image, epoch, memory, writers, nearest);
         nearest = followed.nearest;
         if !followed.goes_on {
-            return nearest;
+            return Ran {
+                epochs: epoch + 1,
+                nearest,
+            };
         }
     }
-    nearest
+    Ran {
+        epochs: image.epochs(),
+        nearest,
+    }
 }
 
 /// What came of an epoch: whether the next one runs, and how near epochs depend on each other so far.
@@ -61,8 +76,9 @@ fn follow(
     requires epoch { epoch < image.now.epochs }
     requires before { first_epochs image.now epoch ≡ record { end = Done epoch; bytes = memory.old } }
     requires kept { spec.AreKept image.now epoch writers.old nearest }
-    ensures goes_on { result.goes_on ≡ true → spec.GoesOn image.now (epoch + 1) memory.new writers.new result.nearest }
-    ensures ends { result.goes_on ≡ false → IsNearest image.now result.nearest }
+    ensures kept { spec.AreKept image.now (epoch + 1) writers.new result.nearest }
+    ensures goes_on { result.goes_on ≡ true → first_epochs image.now (epoch + 1) ≡ record { end = Done (epoch + 1); bytes = memory.new } }
+    ensures ends { result.goes_on ≡ false → IsInOrder image.now (epoch + 1) → ⊥ }
 {
     let mut hart = start(image, epoch);
     let mut nearest = nearest;
@@ -138,7 +154,7 @@ fn nearer(first: Option<u32>, second: Option<u32>) -> Option<u32>
 }
 
 /// Notes who wrote the bytes of a store.
-fn mark(writers: &mut [u32], addr: u32, width: u32, writer: u32)
+pub(crate) fn mark(writers: &mut [u32], addr: u32, width: u32, writer: u32)
     requires small { length writers.old < 2 ^ 32 }
     requires within { addr + width ≤ length writers.old }
     ensures long { length writers.new ≡ length writers.old }

@@ -8,7 +8,7 @@ use Rattle.rv32_exec.specs.Arrival.{after_number}
 use Rattle.rv32_exec.specs.Sequential.{exits}
 use Rattle.rv32_exec.proofs.Accesses.{stop_of_event}
 use Rattle.spec_history.proofs.OneEntry.Accesses.{load_counts}
-use Rattle.dependences.proofs.Following.{ended_exits, ended_goes_on, faulted, following_load, following_start, following_store, runs_in_order}
+use Rattle.dependences.proofs.Following.{ended_exits, ended_goes_on, faulted, following_load, following_start, following_store, kept_after, runs_in_order}
 use Rattle.dependences.proofs.nearest.follow.Goals as goal
 
 pub accesses-init : goal.accesses-init
@@ -45,6 +45,14 @@ accesses-preserved c =
     let room = store.access.room in
     record { following = rw (c.write_number.ensures, hart) next; within = rw hart (omega (arith, room)) }
 
+pub returns-in-Ended-clause-kept : goal.returns-in-Ended-clause-kept
+returns-in-Ended-clause-kept c =
+    let image = c.args.image.now in
+    let h = c.accesses.hart in
+    let is : (next_event image h).at ≡ stop.Ended = sym c.advance-arrived.ensures.at ∙ (sym c.at.ensures.at ∙ c.in-Ended.is) in
+    kept_after image c.args.epoch c.args.memory.now c.accesses.memory c.accesses.writers h c.accesses.nearest c.accesses.invariant.following c.requires.before c.requires.epoch
+    (rw is tt)
+
 pub returns-in-Ended-clause-goes_on : goal.returns-in-Ended-clause-goes_on
 returns-in-Ended-clause-goes_on c goes =
     let image = c.args.image.now in
@@ -55,18 +63,26 @@ returns-in-Ended-clause-goes_on c goes =
     is (sym exit ∙ not-true c.exits-goes_on.result goes)
 
 pub returns-in-Ended-clause-ends : goal.returns-in-Ended-clause-ends
-returns-in-Ended-clause-ends c ends =
+returns-in-Ended-clause-ends c ends order =
     let image = c.args.image.now in
     let h = c.accesses.hart in
     let is : (next_event image h).at ≡ stop.Ended = sym c.advance-arrived.ensures.at ∙ (sym c.at.ensures.at ∙ c.in-Ended.is) in
     let exit : c.exits-goes_on.result ≡ exits image (next_event image h).now = c.exits-goes_on.ensures ∙ ap (exits image) (c.now.ensures ∙ c.advance-arrived.ensures.now) in
     ended_exits image c.args.epoch c.args.memory.now c.accesses.memory c.accesses.writers h c.accesses.nearest c.accesses.invariant.following c.requires.before c.requires.epoch
-    is (sym exit ∙ not-false c.exits-goes_on.result ends)
+    is (sym exit ∙ not-false c.exits-goes_on.result ends) order
 
 pub returns-in-Fault-clause-ends : goal.returns-in-Fault-clause-ends
-returns-in-Fault-clause-ends c ends =
+returns-in-Fault-clause-ends c ends order =
     let image = c.args.image.now in
     let h = c.accesses.hart in
     let is : (next_event image h).at ≡ stop.Fault c.in-Fault.cause c.in-Fault.pc = sym c.advance-arrived.ensures.at ∙ (sym c.at.ensures.at ∙ c.in-Fault.is) in
     faulted image c.args.epoch c.args.memory.now c.accesses.memory c.accesses.writers h c.accesses.nearest c.accesses.invariant.following c.requires.before c.requires.epoch
-    c.in-Fault.cause c.in-Fault.pc is
+    c.in-Fault.cause c.in-Fault.pc is order
+
+pub returns-in-Fault-clause-kept : goal.returns-in-Fault-clause-kept
+returns-in-Fault-clause-kept c =
+    let image = c.args.image.now in
+    let h = c.accesses.hart in
+    let is : (next_event image h).at ≡ stop.Fault c.in-Fault.cause c.in-Fault.pc = sym c.advance-arrived.ensures.at ∙ (sym c.at.ensures.at ∙ c.in-Fault.is) in
+    kept_after image c.args.epoch c.args.memory.now c.accesses.memory c.accesses.writers h c.accesses.nearest c.accesses.invariant.following c.requires.before c.requires.epoch
+    (rw is tt)

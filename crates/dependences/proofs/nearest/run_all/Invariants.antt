@@ -1,5 +1,5 @@
 use Rattle.dependences.specs.Kept.{GoesOn}
-use Rattle.dependences.proofs.nearest.nearest_in.Given as goal
+use Rattle.dependences.proofs.nearest.run_all.Given as goal
 
 -- the epochs so far are done
 abbrev pub invariant-loop-epoch : goal.invariant-loop-epoch

@@ -1,0 +1,218 @@
+-- One epoch alone over a memory: what it has read from outside so far, and who wrote that.
+use Rattle.std.proofs.Common.{◌≡◌, ◌≢◌, ◌⊎◌, ℕ, zero, suc, ◌+◌, ◌-◌, ◌<◌, ◌≤◌, Bool, true, false, List, length, slice_index, Option, Some, None, refl, sym, ap, subst, ◌∙◌, inl, inr, arith, add-one}
+use Rattle.std.proofs.lemmas.Bool.{cases_lt}
+use Rattle.rv32_image.specs.Image.{LoadedImage}
+use Rattle.memory_bytes.specs.Bytes.{number_at, with_number}
+use Rattle.memory_bytes.specs.Maps.{joined, nothing, over, stored}
+use Rattle.memory_bytes.proofs.Bytes.{number_at_same}
+use Rattle.rv32_exec.specs.declared.stop.Stop.TheVariants as stop
+use Rattle.rv32_exec.specs.declared.sequential.End.TheVariants as end
+use Rattle.rv32_exec.specs.Hart.{HartState, start_of, stepped}
+use Rattle.rv32_exec.specs.Execute.{Stops, hart_effect}
+use Rattle.rv32_exec.specs.NextEvent.{next_event}
+use Rattle.rv32_exec.specs.Arrival.{after_number}
+use Rattle.rv32_exec.specs.Sequential.{SequentialResult, Ends, Faults, after_stop, exits, first_epochs, result_of}
+use Rattle.rv32_exec.specs.Laws.{HasStopped}
+use Rattle.rv32_exec.proofs.Epochs.{first_epochs-ends, first_epochs-exits, one_more_epoch}
+use Rattle.spec_history.proofs.OneEntry.Accesses.{load_counts}
+use Rattle.spec_history.proofs.OneEntry.Progress.{outcome_there}
+use Rattle.dependences.specs.Paths.{LoadsAt, ReadsOutside, StoresAt}
+use Rattle.dependences.specs.Conflict.{IsInOrder}
+use Rattle.dependences.specs.Kept.{IsMarked, MeetsWriter}
+use Rattle.dependences.proofs.Paths.{IsAt, access_stops, at_start, covered, either, load_after, neither, past_load, past_store, reads_there, start_after, store_after}
+use Rattle.dependences.proofs.Following.{all_loaded, hart_there, load_late, no_both, same_load, unmarked}
+
+-- ---- what is read from outside up to the next event
+
+module _ (image : LoadedImage) (epoch : ℕ) (memory : List ℕ) (h : HartState) (own : ℕ → Option ℕ) (at : IsAt image epoch memory h own) where
+  outside_by : (a : ℕ) (reads : ReadsOutside image epoch memory a) → h.done ≤ reads.step → (o : Option ℕ) → own a ≡ o → own a ≡ None
+  outside_by a reads from (Some byte) is =
+      let stored = at.early a byte is in
+      let early = stored.1 in absurd (reads.exposed stored.0 (omega (arith, early, from)) stored.2)
+  outside_by a reads from None is = is
+
+  -- it has been read before, or the load that is the next event reads it
+  pub read_by_load : (address width : ℕ) (signed : Bool) (rd a : ℕ) → (next_event image h).at ≡ stop.Load address width signed rd
+      → (reads : ReadsOutside image epoch memory a) → reads.step < (next_event image h).now.done + 1
+      → (reads.step < h.done) ⊎ ((address ≤ a) × (a < address + width) × (own a ≡ None))
+  read_by_load address width signed rd a is reads low = elim (cases_lt reads.step h.done) [
+    | inl before ↦ inl before
+    | inr from ↦
+        (let past = load_late image epoch memory h own at a reads.step reads.there from in
+        let here = hart_there image epoch memory h own at reads.step reads.there.hart reads.there.after (omega (arith, past, low)) reads.there.runs in
+        let covers = same_load (hart_effect image (next_event image h).now) address width signed rd reads.there.address reads.there.width reads.there.signed
+        reads.there.rd a (access_stops image h (rw is tt) ∙ ap Stops is) (ap (hart_effect image) here ∙ reads.there.stops) reads.there.from reads.there.below in
+        inr (covers.0, covers.1, outside_by a reads from (own a) refl))
+  ]
+
+  -- a store reads nothing
+  pub read_by_store : (address width value a : ℕ) → (next_event image h).at ≡ stop.Store address width value
+      → (reads : ReadsOutside image epoch memory a) → reads.step < (next_event image h).now.done + 1 → reads.step < h.done
+  read_by_store address width value a is reads low = elim (cases_lt reads.step h.done) [
+    | inl before ↦ before
+    | inr from ↦
+        (let past = load_late image epoch memory h own at a reads.step reads.there from in
+        let here = hart_there image epoch memory h own at reads.step reads.there.hart reads.there.after (omega (arith, past, low)) reads.there.runs in
+        absurd (no_both (hart_effect image (next_event image h).now) address width value reads.there.address reads.there.width reads.there.signed reads.there.rd
+        (access_stops image h (rw is tt) ∙ ap Stops is) (ap (hart_effect image) here ∙ reads.there.stops)))
+  ]
+
+-- ---- over memory
+
+-- the epoch runs over memory, from this hart on
+pub record OnPath (image : LoadedImage) (epoch : ℕ) (memory now : List ℕ) (h : HartState) : Type 0 where
+  pub own : ℕ → Option ℕ
+  pub at : IsAt image epoch memory h own
+  pub is : at.after ≡ now
+
+pub path_start : (image : LoadedImage) (epoch : ℕ) (memory : List ℕ) → length memory ≡ image.size → OnPath image epoch memory memory (start_of image epoch)
+path_start image epoch memory long = record { own = nothing; at = at_start image epoch memory long; is = start_after image epoch memory long }
+
+seen_now : (image : LoadedImage) (epoch : ℕ) (memory now : List ℕ) (h : HartState) (own : ℕ → Option ℕ) (at : IsAt image epoch memory h own) → at.after ≡ now
+    → (address width value : ℕ) → number_at (λ a. slice_index now a) address width ≡ value → number_at (over own (λ a. slice_index memory a)) address width ≡ value
+seen_now image epoch memory now h own at is address width value number =
+    number_at_same (over own (λ a. slice_index memory a)) (λ a. slice_index now a) address width (λ a low high. at.holds.bytes a ∙ ap (λ m. slice_index m a) is) ∙ number
+
+pub path_load : (image : LoadedImage) (epoch : ℕ) (memory now : List ℕ) (h : HartState) → OnPath image epoch memory now h
+    → (address width : ℕ) (signed : Bool) (rd value : ℕ) → (next_event image h).at ≡ stop.Load address width signed rd
+    → number_at (λ a. slice_index now a) address width ≡ value
+    → OnPath image epoch memory now (after_number (next_event image h).now (next_event image h).at value)
+path_load image epoch memory now h x address width signed rd value is number =
+    let seen = seen_now image epoch memory now h x.own x.at x.is address width value number in record {
+      own = x.own;
+      at = past_load image epoch memory h x.own address width signed rd value x.at is seen;
+      is = load_after image epoch memory h x.own address width signed rd value x.at is seen ∙ x.is;
+    }
+
+pub path_store : (image : LoadedImage) (epoch : ℕ) (memory now : List ℕ) (h : HartState) → OnPath image epoch memory now h
+    → (address width value : ℕ) → (next_event image h).at ≡ stop.Store address width value
+    → OnPath image epoch memory (with_number now address width value) (stepped (next_event image h).now)
+path_store image epoch memory now h x address width value is = record {
+  own = joined (stored address width value) x.own;
+  at = past_store image epoch memory h x.own address width value x.at is;
+  is = store_after image epoch memory h x.own address width value x.at is ∙ ap (λ m. with_number m address width value) x.is;
+}
+
+pub path_long : (image : LoadedImage) (epoch : ℕ) (memory now : List ℕ) (h : HartState) → OnPath image epoch memory now h → length now ≡ image.size
+path_long image epoch memory now h x = sym (ap (λ m. length m) x.is) ∙ x.at.holds.long
+
+-- ---- an epoch that another one follows
+
+module _ (image : LoadedImage) (epoch : ℕ) (memory now : List ℕ) (h : HartState) (x : OnPath image epoch memory now h)
+    (done : first_epochs image epoch ≡ record { end = end.Done epoch; bytes = memory }) (order : IsInOrder image (epoch + 1)) where
+  next : IsInOrder image (suc epoch)
+  next = subst (λ n. IsInOrder image n) (add-one epoch) order
+
+  goes_on_by : (b : Bool) → exits image (next_event image h).now ≡ b → (next_event image h).at ≡ stop.Ended
+      → first_epochs image (epoch + 1) ≡ record { end = end.Done (epoch + 1); bytes = now }
+  goes_on_by false goes_on is =
+      let outcome = outcome_there image epoch h memory x.at.after (Ends (next_event image h).now x.at.after) x.at.runs (rw is refl) tt in
+      first_epochs-ends image epoch (next_event image h).now memory x.at.after done (sym outcome) goes_on
+      ∙ ap (λ (m : List ℕ). let r : SequentialResult = record { end = end.Done (epoch + 1); bytes = m } in r) x.is
+  goes_on_by true exit is =
+      let outcome = outcome_there image epoch h memory x.at.after (Ends (next_event image h).now x.at.after) x.at.runs (rw is refl) tt in
+      let whole = first_epochs-exits image epoch (next_event image h).now memory x.at.after done (sym outcome) exit in
+      let other : end.Exit epoch ≡ end.Done (suc epoch) = sym (ap (λ (r : SequentialResult). r.end) whole) ∙ next in absurd cc
+
+  pub goes_on : (next_event image h).at ≡ stop.Ended → first_epochs image (epoch + 1) ≡ record { end = end.Done (epoch + 1); bytes = now }
+  goes_on is = goes_on_by (exits image (next_event image h).now) refl is
+
+  pub no_fault : (cause pc : ℕ) → (next_event image h).at ≡ stop.Fault cause pc → ⊥
+  no_fault cause pc is =
+      let outcome = outcome_there image epoch h memory x.at.after (Faults cause pc x.at.after) x.at.runs (rw is refl) tt in
+      let whole = one_more_epoch image epoch epoch memory done ∙ ap (result_of image epoch) outcome in
+      let other : end.Fault epoch cause pc ≡ end.Done (suc epoch) = sym (ap (λ (r : SequentialResult). r.end) whole) ∙ next in cc
+
+-- ---- the last writers of what it reads
+
+-- what the epoch has stored has no writer now, and what it has read from outside has none from `first` on
+pub record Alone (image : LoadedImage) (epoch : ℕ) (memory writers : List ℕ) (first : ℕ) (now marks : List ℕ) (h : HartState) : Type 0 where
+  pub own : ℕ → Option ℕ
+  pub at : IsAt image epoch memory h own
+  pub is : at.after ≡ now
+  pub long : length marks ≡ image.size
+  pub mine : (a byte : ℕ) → own a ≡ Some byte → slice_index marks a ≡ 0
+  pub others : (a : ℕ) → own a ≡ None → slice_index marks a ≡ slice_index writers a
+  pub none : (a : ℕ) → (reads : ReadsOutside image epoch memory a) → reads.step < h.done → slice_index writers a ≤ first
+
+pub alone_start : (image : LoadedImage) (epoch : ℕ) (memory writers : List ℕ) (first : ℕ) → length memory ≡ image.size → length writers ≡ image.size
+    → Alone image epoch memory writers first memory writers (start_of image epoch)
+alone_start image epoch memory writers first long long' = record {
+  own = nothing;
+  at = at_start image epoch memory long;
+  is = start_after image epoch memory long;
+  long = long';
+  mine = λ a byte is. absurd cc;
+  others = λ a none. refl;
+  none = λ a reads before. absurd (omega (arith, before));
+}
+
+module _ (image : LoadedImage) (epoch : ℕ) (memory writers : List ℕ) (first : ℕ) (now marks : List ℕ) (h : HartState)
+    (x : Alone image epoch memory writers first now marks h) where
+  meets_by : (address width : ℕ) (signed : Bool) (rd i : ℕ) → (next_event image h).at ≡ stop.Load address width signed rd → i < width
+      → first < slice_index marks (address + i) → (o : Option ℕ) → x.own (address + i) ≡ o → MeetsWriter image epoch memory writers first
+  meets_by address width signed rd i is within written (Some byte) own =
+      let zeroed = x.mine (address + i) byte own in absurd (omega (arith, written, zeroed))
+  meets_by address width signed rd i is within written None own =
+      let same = x.others (address + i) own in record {
+        byte = address + i;
+        reads = reads_there image epoch memory h x.own x.at address width signed rd (address + i) is (omega arith) (omega (arith, within)) own;
+        written = omega (arith, written, same);
+      }
+
+  -- a load of such a byte
+  pub alone_meets : (address width : ℕ) (signed : Bool) (rd : ℕ) → (next_event image h).at ≡ stop.Load address width signed rd
+      → (i : ℕ) × (i < width) × (first < slice_index marks (address + i)) → MeetsWriter image epoch memory writers first
+  alone_meets address width signed rd is here = meets_by address width signed rd here.0 is here.1 here.2 (x.own (address + here.0)) refl
+
+  none_by : (address width a : ℕ) → ((i : ℕ) → i < width → slice_index marks (address + i) ≤ first)
+      → (address ≤ a) × (a < address + width) × (x.own a ≡ None) → slice_index writers a ≤ first
+  none_by address width a unwritten (from, below, own) =
+      let place : address + (a - address) ≡ a = omega (arith, from) in
+      let low = unwritten (a - address) (omega (arith, from, below)) in
+      let same = sym (ap (λ b. slice_index marks b) place) in
+      let writer = x.others a own in omega (arith, low, same, writer)
+
+  pub alone_load : (address width : ℕ) (signed : Bool) (rd value : ℕ) → (next_event image h).at ≡ stop.Load address width signed rd
+      → number_at (λ a. slice_index now a) address width ≡ value → ((i : ℕ) → i < width → slice_index marks (address + i) ≤ first)
+      → Alone image epoch memory writers first now marks (after_number (next_event image h).now (next_event image h).at value)
+  alone_load address width signed rd value is number unwritten =
+      let seen = seen_now image epoch memory now h x.own x.at x.is address width value number in
+      let count = load_counts image h address width signed rd value is in record {
+        own = x.own;
+        at = past_load image epoch memory h x.own address width signed rd value x.at is seen;
+        is = load_after image epoch memory h x.own address width signed rd value x.at is seen ∙ x.is;
+        long = x.long;
+        mine = x.mine;
+        others = x.others;
+        none = λ a reads before. elim (read_by_load image epoch memory h x.own x.at address width signed rd a is reads (omega (arith, before, count))) [
+          | inl early ↦ x.none a reads early
+          | inr here ↦ none_by address width a unwritten here
+        ];
+      }
+
+  mine_by : (marks' : List ℕ) (address width value a byte : ℕ) → IsMarked marks marks' address width 0 → (o : Option ℕ) → stored address width value a ≡ o
+      → ((b : ℕ) × (stored address width value a ≡ Some b)) ⊎ (x.own a ≡ Some byte) → slice_index marks' a ≡ 0
+  mine_by marks' address width value a byte marked (Some b) is either = let within = covered address width value a b is in marked.here a within.0 within.1
+  mine_by marks' address width value a byte marked None is (inl now) = let some = now.1 in absurd cc
+  mine_by marks' address width value a byte marked None is (inr before) = unmarked marks marks' address width 0 value a marked is ∙ x.mine a byte before
+
+  pub alone_store : (marks' : List ℕ) (address width value : ℕ) → (next_event image h).at ≡ stop.Store address width value
+      → length marks' ≡ length marks → IsMarked marks marks' address width 0
+      → Alone image epoch memory writers first (with_number now address width value) marks' (stepped (next_event image h).now)
+  alone_store marks' address width value is long marked = record {
+    own = joined (stored address width value) x.own;
+    at = past_store image epoch memory h x.own address width value x.at is;
+    is = store_after image epoch memory h x.own address width value x.at is ∙ ap (λ m. with_number m address width value) x.is;
+    long = long ∙ x.long;
+    mine = λ a byte some. mine_by marks' address width value a byte marked (stored address width value a) refl (either (stored address width value a) (x.own a) byte some);
+    others = λ a none. let parts = neither (stored address width value a) (x.own a) none in
+        unmarked marks marks' address width 0 value a marked parts.0 ∙ x.others a parts.1;
+    none = λ a reads before. x.none a reads (read_by_store image epoch memory h x.own x.at address width value a is reads before);
+  }
+
+  -- where it has stopped, it has met none
+  pub alone_none : HasStopped (after_stop (next_event image h).now x.at.after (next_event image h).at) → MeetsWriter image epoch memory writers first → ⊥
+  alone_none stopped m =
+      let low = x.none m.byte m.reads (all_loaded image epoch memory h x.own x.at stopped m.byte m.reads.step m.reads.there) in
+      let written = m.written in omega (arith, low, written)

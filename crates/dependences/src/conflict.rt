@@ -1,0 +1,112 @@
+ghost use Rattle.std.specs.Prelude.{◌≡◌, ℕ, IfOk, true, false, length, slice_index};
+ghost use Rattle.dependences.specs.Conflict.{Conflict, ConflictInOrder};
+ghost use Rattle.dependences.specs.Kept as spec;
+
+use crate::alone::{meets_writer, run_between};
+use crate::nearest::run_all;
+use rv32_exec::NoMemory;
+use rv32_image::Image;
+use std::alloc::Global;
+
+/// Whether two epochs that so many cores can run beside each other conflict over bytes: the earlier one stores a byte that the
+/// later one reads from outside, which can be past the loop's exit or fault. Where none do, nor do any two paths, and no schedule
+/// of so many cores over a store without lines has a violation.
+///
+/// It runs the loop in order. Where that ends early it runs it once more, and each epoch past the end that the cores can reach
+/// over a copy of memory.
+///
+/// `NoMemory`: there was none for two copies of the image's bytes, and two words beside each.
+pub fn conflicts_over_bytes(alloc: Global, image: &Image, cores: u32) -> Result<bool, NoMemory>
+    ensures found { IfOk result (λ found. found ≡ true → ConflictInOrder image.now cores) }
+    ensures none { IfOk result (λ found. found ≡ false → ConflictInOrder image.now cores → ⊥) }
+    ensures never { IfOk result (λ found. found ≡ false → Conflict image.now cores → ⊥) }
+{
+    let mut memory = Vec::from_slice(alloc, image.bytes()).map_err(|_| NoMemory)?;
+    let size = image.size() as usize;
+    let mut writers = vec![in alloc; 0; size].map_err(|_| NoMemory)?;
+    let ran = run_all(image, memory.as_mut_slice(), writers.as_mut_slice());
+    if is_near(cores, ran.nearest) {
+        return Ok(true);
+    }
+    if ran.epochs == image.epochs() {
+        return Ok(false);
+    }
+    conflicts_past_end(alloc, image, cores, ran.epochs, writers.as_slice())
+}
+
+/// Whether two epochs that depend on each other are nearer than there are cores.
+fn is_near(cores: u32, nearest: Option<u32>) -> bool
+    ensures { result ≡ spec.is_near cores nearest }
+{
+    match nearest {
+        Some(distance) => distance < cores,
+        None => false,
+    }
+}
+
+/// Whether an epoch past those that run in order, of which there are so many, conflicts with one of them.
+fn conflicts_past_end(
+    alloc: Global,
+    image: &Image,
+    cores: u32,
+    ran: u32,
+    writers: &[u32],
+) -> Result<bool, NoMemory>
+    requires all { spec.AreAll image.now ran }
+    requires long { length writers.now ≡ image.now.size }
+    requires writer { (a : ℕ) → spec.IsLastWriter image.now ran a (slice_index writers.now a) }
+    requires before { spec.ConflictsBefore image.now cores ran → ⊥ }
+    ensures found { IfOk result (λ found. found ≡ true → ConflictInOrder image.now cores) }
+    ensures none { IfOk result (λ found. found ≡ false → ConflictInOrder image.now cores → ⊥) }
+{
+    let mut memory = Vec::from_slice(alloc, image.bytes()).map_err(|_| NoMemory)?;
+    let mut alone = Vec::from_slice(alloc, image.bytes()).map_err(|_| NoMemory)?;
+    let mut marks = Vec::from_slice(alloc, writers).map_err(|_| NoMemory)?;
+    let memory = memory.as_mut_slice();
+    Ok(search(
+        image,
+        cores,
+        ran,
+        writers,
+        memory,
+        alone.as_mut_slice(),
+        marks.as_mut_slice(),
+    ))
+}
+
+/// Runs each epoch past the end over a copy of memory as the epochs before the first one beside it leave it.
+fn search(
+    image: &Image,
+    cores: u32,
+    ran: u32,
+    writers: &[u32],
+    memory: &mut [u8],
+    alone: &mut [u8],
+    marks: &mut [u32],
+) -> bool
+    requires all { spec.AreAll image.now ran }
+    requires long { length writers.now ≡ image.now.size }
+    requires writer { (a : ℕ) → spec.IsLastWriter image.now ran a (slice_index writers.now a) }
+    requires before { spec.ConflictsBefore image.now cores ran → ⊥ }
+    requires memory { memory.old ≡ image.now.bytes }
+    requires alone { length alone.old ≡ image.now.size }
+    requires marks { length marks.old ≡ image.now.size }
+    ensures found { result ≡ true → ConflictInOrder image.now cores }
+    ensures none { result ≡ false → ConflictInOrder image.now cores → ⊥ }
+{
+    let mut done = 0;
+    for later in ran..image.epochs() {
+        let first = later.saturating_sub(cores.saturating_sub(1));
+        if first >= ran {
+            return false;
+        }
+        run_between(image, done, first, memory);
+        done = first;
+        alone.copy_from_slice(memory);
+        marks.copy_from_slice(writers);
+        if meets_writer(image, later, first, alone, marks) {
+            return true;
+        }
+    }
+    false
+}
