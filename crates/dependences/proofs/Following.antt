@@ -18,7 +18,7 @@ use Rattle.rv32_exec.proofs.Epochs.{first_epochs-ends, first_epochs-exits, one_m
 use Rattle.rv32_exec.proofs.LawsOfRuns.{Accesses, after_steps-+, next_event_reached, one_step}
 use Rattle.spec_history.proofs.OneEntry.Accesses.{load_counts}
 use Rattle.spec_history.proofs.OneEntry.Progress.{comes_to_event, event_does, outcome_there}
-use Rattle.dependences.specs.Paths.{LoadsAt, Stores}
+use Rattle.dependences.specs.Paths.{LoadsAt, Stores, StoresAt}
 use Rattle.dependences.specs.Conflict.{IsInOrder, memory_before}
 use Rattle.dependences.specs.Nearest.{Depends, IsNearest}
 use Rattle.dependences.specs.Kept.{AreKept, DependsBefore, GoesOn, IsLastWriter, IsLeast, IsMarked, behind, load_behind}
@@ -90,6 +90,13 @@ module _ (image : LoadedImage) (epoch : ℕ) (memory : List ℕ) (h : HartState)
     | inr past ↦ past
   ]
 
+  -- nor a store
+  pub store_late : (a step : ℕ) → StoresAt image epoch memory step a → h.done ≤ step → (next_event image h).now.done ≤ step
+  store_late a step there from = elim (cases_lt step (next_event image h).now.done) [
+    | inl before ↦ absurd (quiet_from step there.hart there.after (stop.Store there.address there.width there.value) from before there.runs there.stops)
+    | inr past ↦ past
+  ]
+
 pub hart_before : (image : LoadedImage) (h : HartState) → h.done ≤ (next_event image h).now.done
 hart_before image h = let counted = (next_event_reached image h []).counted in omega (arith, counted)
 
@@ -143,12 +150,14 @@ module _ (image : LoadedImage) (epoch : ℕ) (memory : List ℕ) (h : HartState)
     | inr from ↦ absurd (none_from step there.hart there.after (stop.Load there.address there.width there.signed there.rd) tt from there.runs there.stops)
   ]
 
-  pub all_stored : (a : ℕ) → own a ≡ None → Stores image epoch memory a → ⊥
-  all_stored a none stores = elim (cases_lt stores.step h.done) [
-    | inl before ↦ at.no_others a stores.step none before stores.there
-    | inr from ↦ none_from stores.step stores.there.hart stores.there.after (stop.Store stores.there.address stores.there.width stores.there.value) tt from
-        stores.there.runs stores.there.stops
+  pub all_stored_early : (a step : ℕ) → StoresAt image epoch memory step a → step < h.done
+  all_stored_early a step there = elim (cases_lt step h.done) [
+    | inl before ↦ before
+    | inr from ↦ absurd (none_from step there.hart there.after (stop.Store there.address there.width there.value) tt from there.runs there.stops)
   ]
+
+  pub all_stored : (a : ℕ) → own a ≡ None → Stores image epoch memory a → ⊥
+  all_stored a none stores = at.no_others a stores.step none (all_stored_early a stores.step stores.there) stores.there
 
 -- ---- a load
 

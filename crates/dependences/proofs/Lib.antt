@@ -21,3 +21,5 @@ pub mod Following
 -- Epochs past the end: each alone, and whether it conflicts.
 pub mod Outside
 pub mod Ending
+-- The loads that depend on earlier epochs.
+pub mod Flowing

@@ -17,7 +17,7 @@ use Rattle.rv32_exec.proofs.Epochs.{first_epochs-ends, first_epochs-exits, one_m
 use Rattle.spec_history.proofs.OneEntry.Accesses.{load_counts}
 use Rattle.spec_history.proofs.OneEntry.Progress.{outcome_there}
 use Rattle.dependences.specs.Paths.{LoadsAt, ReadsOutside, StoresAt}
-use Rattle.dependences.specs.Conflict.{IsInOrder}
+use Rattle.dependences.specs.Conflict.{IsInOrder, memory_before}
 use Rattle.dependences.specs.Kept.{IsMarked, MeetsWriter}
 use Rattle.dependences.proofs.Paths.{IsAt, access_stops, at_start, covered, either, load_after, neither, past_load, past_store, reads_there, start_after, store_after}
 use Rattle.dependences.proofs.Following.{all_loaded, hart_there, load_late, no_both, same_load, unmarked}
@@ -68,7 +68,7 @@ pub record OnPath (image : LoadedImage) (epoch : ℕ) (memory now : List ℕ) (h
 pub path_start : (image : LoadedImage) (epoch : ℕ) (memory : List ℕ) → length memory ≡ image.size → OnPath image epoch memory memory (start_of image epoch)
 path_start image epoch memory long = record { own = nothing; at = at_start image epoch memory long; is = start_after image epoch memory long }
 
-seen_now : (image : LoadedImage) (epoch : ℕ) (memory now : List ℕ) (h : HartState) (own : ℕ → Option ℕ) (at : IsAt image epoch memory h own) → at.after ≡ now
+pub seen_now : (image : LoadedImage) (epoch : ℕ) (memory now : List ℕ) (h : HartState) (own : ℕ → Option ℕ) (at : IsAt image epoch memory h own) → at.after ≡ now
     → (address width value : ℕ) → number_at (λ a. slice_index now a) address width ≡ value → number_at (over own (λ a. slice_index memory a)) address width ≡ value
 seen_now image epoch memory now h own at is address width value number =
     number_at_same (over own (λ a. slice_index memory a)) (λ a. slice_index now a) address width (λ a low high. at.holds.bytes a ∙ ap (λ m. slice_index m a) is) ∙ number
@@ -96,32 +96,44 @@ path_store image epoch memory now h x address width value is = record {
 pub path_long : (image : LoadedImage) (epoch : ℕ) (memory now : List ℕ) (h : HartState) → OnPath image epoch memory now h → length now ≡ image.size
 path_long image epoch memory now h x = sym (ap (λ m. length m) x.is) ∙ x.at.holds.long
 
--- ---- an epoch that another one follows
+-- ---- its end
+
+pub done_before : (image : LoadedImage) (epoch : ℕ) (memory : List ℕ) → first_epochs image epoch ≡ record { end = end.Done epoch; bytes = memory }
+    → first_epochs image epoch ≡ record { end = end.Done epoch; bytes = memory_before image epoch }
+done_before image epoch memory done =
+    done ∙ sym (ap (λ (m : List ℕ). let r : SequentialResult = record { end = end.Done epoch; bytes = m } in r) (ap (λ (r : SequentialResult). r.bytes) done))
 
 module _ (image : LoadedImage) (epoch : ℕ) (memory now : List ℕ) (h : HartState) (x : OnPath image epoch memory now h)
-    (done : first_epochs image epoch ≡ record { end = end.Done epoch; bytes = memory }) (order : IsInOrder image (epoch + 1)) where
-  next : IsInOrder image (suc epoch)
-  next = subst (λ n. IsInOrder image n) (add-one epoch) order
-
-  goes_on_by : (b : Bool) → exits image (next_event image h).now ≡ b → (next_event image h).at ≡ stop.Ended
+    (done : first_epochs image epoch ≡ record { end = end.Done epoch; bytes = memory }) where
+  pub ends_so : (next_event image h).at ≡ stop.Ended → exits image (next_event image h).now ≡ false
       → first_epochs image (epoch + 1) ≡ record { end = end.Done (epoch + 1); bytes = now }
-  goes_on_by false goes_on is =
+  ends_so is goes_on =
       let outcome = outcome_there image epoch h memory x.at.after (Ends (next_event image h).now x.at.after) x.at.runs (rw is refl) tt in
       first_epochs-ends image epoch (next_event image h).now memory x.at.after done (sym outcome) goes_on
       ∙ ap (λ (m : List ℕ). let r : SequentialResult = record { end = end.Done (epoch + 1); bytes = m } in r) x.is
-  goes_on_by true exit is =
+
+  -- after its exit or fault no other one runs
+  pub no_exit : (next_event image h).at ≡ stop.Ended → exits image (next_event image h).now ≡ true → IsInOrder image (epoch + 1) → ⊥
+  no_exit is exit order =
       let outcome = outcome_there image epoch h memory x.at.after (Ends (next_event image h).now x.at.after) x.at.runs (rw is refl) tt in
       let whole = first_epochs-exits image epoch (next_event image h).now memory x.at.after done (sym outcome) exit in
-      let other : end.Exit epoch ≡ end.Done (suc epoch) = sym (ap (λ (r : SequentialResult). r.end) whole) ∙ next in absurd cc
+      let next : IsInOrder image (suc epoch) = subst (λ n. IsInOrder image n) (add-one epoch) order in
+      let other : end.Exit epoch ≡ end.Done (suc epoch) = sym (ap (λ (r : SequentialResult). r.end) whole) ∙ next in cc
 
-  pub goes_on : (next_event image h).at ≡ stop.Ended → first_epochs image (epoch + 1) ≡ record { end = end.Done (epoch + 1); bytes = now }
-  goes_on is = goes_on_by (exits image (next_event image h).now) refl is
-
-  pub no_fault : (cause pc : ℕ) → (next_event image h).at ≡ stop.Fault cause pc → ⊥
-  no_fault cause pc is =
+  pub no_fault : (cause pc : ℕ) → (next_event image h).at ≡ stop.Fault cause pc → IsInOrder image (epoch + 1) → ⊥
+  no_fault cause pc is order =
       let outcome = outcome_there image epoch h memory x.at.after (Faults cause pc x.at.after) x.at.runs (rw is refl) tt in
       let whole = one_more_epoch image epoch epoch memory done ∙ ap (result_of image epoch) outcome in
+      let next : IsInOrder image (suc epoch) = subst (λ n. IsInOrder image n) (add-one epoch) order in
       let other : end.Fault epoch cause pc ≡ end.Done (suc epoch) = sym (ap (λ (r : SequentialResult). r.end) whole) ∙ next in cc
+
+  goes_on_by : (b : Bool) → exits image (next_event image h).now ≡ b → (next_event image h).at ≡ stop.Ended → IsInOrder image (epoch + 1)
+      → first_epochs image (epoch + 1) ≡ record { end = end.Done (epoch + 1); bytes = now }
+  goes_on_by false goes_on is order = ends_so is goes_on
+  goes_on_by true exit is order = absurd (no_exit is exit order)
+
+  pub goes_on : (next_event image h).at ≡ stop.Ended → IsInOrder image (epoch + 1) → first_epochs image (epoch + 1) ≡ record { end = end.Done (epoch + 1); bytes = now }
+  goes_on is order = goes_on_by (exits image (next_event image h).now) refl is order
 
 -- ---- the last writers of what it reads
 

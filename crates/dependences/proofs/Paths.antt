@@ -173,6 +173,19 @@ module _ (image : LoadedImage) (epoch : ℕ) (memory : List ℕ) (h : HartState)
     exposed = λ step before stores. before_event a step none before stores;
   }
 
+-- both are there with the hart
+pub load_hart : (image : LoadedImage) (epoch : ℕ) (memory : List ℕ) (h : HartState) (own : ℕ → Option ℕ) (at : IsAt image epoch memory h own)
+    → (address width : ℕ) (signed : Bool) (rd a : ℕ) → (is : (next_event image h).at ≡ stop.Load address width signed rd) → (from : address ≤ a) → (below : a < address + width)
+    → (loads_there image epoch memory h own at address width signed rd a is from below).hart ≡ (next_event image h).now
+unfolding loads_there
+load_hart image epoch memory h own at address width signed rd a is from below = refl
+
+pub store_hart : (image : LoadedImage) (epoch : ℕ) (memory : List ℕ) (h : HartState) (own : ℕ → Option ℕ) (at : IsAt image epoch memory h own)
+    → (address width value a : ℕ) → (is : (next_event image h).at ≡ stop.Store address width value) → (from : address ≤ a) → (below : a < address + width)
+    → (stores_there image epoch memory h own at address width value a is from below).hart ≡ (next_event image h).now
+unfolding stores_there
+store_hart image epoch memory h own at address width value a is from below = refl
+
 -- what is before a hart is before its next event
 further : (image : LoadedImage) (epoch : ℕ) (memory : List ℕ) (h : HartState) (own : ℕ → Option ℕ) → IsAt image epoch memory h own
     → (step : ℕ) → step < h.done → (done : ℕ) → done ≡ (next_event image h).now.done + 1 → step < done

@@ -1,8 +1,11 @@
 -- Definitions to believe: Paths (an epoch alone, what it stores, and what it reads from outside), Conflict (what can roll back
--- at all), Laws (what the laws take, and what they say) and Nearest (how near epochs depend on each other in order).
+-- at all), Laws (what the laws take, and what they say), Nearest (how near epochs depend on each other in order) and Flow (the loads
+-- that depend on earlier epochs).
 pub mod Paths
 pub mod Conflict
 pub mod Laws
 pub mod Nearest
+pub mod Flow
 -- What the code keeps.
 pub mod Kept
+pub mod KeptStores

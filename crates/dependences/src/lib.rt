@@ -3,8 +3,10 @@
 
 mod alone;
 mod conflict;
+mod flow;
 pub mod laws;
 mod nearest;
 
 pub use conflict::conflicts_over_bytes;
+pub use flow::{Dependence, dependences_in_order};
 pub use nearest::nearest_dependence;

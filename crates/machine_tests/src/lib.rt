@@ -12,4 +12,6 @@ mod errors;
 #[cfg(test)]
 mod execution;
 #[cfg(test)]
+mod flow;
+#[cfg(test)]
 mod images;

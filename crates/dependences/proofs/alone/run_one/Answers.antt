@@ -46,7 +46,7 @@ returns-in-Ended-clause-done c =
     let h = c.accesses.hart in
     let at : (next_event image h).at ≡ c.at.result = sym c.advance-arrived.ensures.at ∙ sym c.at.ensures.at in
     elim c.in-Ended.is [
-      | inl ended ↦ goes_on image c.args.epoch c.args.memory.now c.accesses.memory h c.accesses.invariant.path c.requires.before c.requires.order (at ∙ ended)
-      | inr fault ↦ absurd (no_fault image c.args.epoch c.args.memory.now c.accesses.memory h c.accesses.invariant.path c.requires.before c.requires.order
-          fault.0 fault.1 (at ∙ fault.2))
+      | inl ended ↦ goes_on image c.args.epoch c.args.memory.now c.accesses.memory h c.accesses.invariant.path c.requires.before (at ∙ ended) c.requires.order
+      | inr fault ↦ absurd (no_fault image c.args.epoch c.args.memory.now c.accesses.memory h c.accesses.invariant.path c.requires.before
+          fault.0 fault.1 (at ∙ fault.2) c.requires.order)
     ]

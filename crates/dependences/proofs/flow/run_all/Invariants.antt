@@ -1,0 +1,12 @@
+use Rattle.std.proofs.Common.{◌≡◌, length}
+use Rattle.rv32_exec.specs.declared.sequential.End.TheVariants.{Done}
+use Rattle.rv32_exec.specs.Sequential.{first_epochs}
+use Rattle.dependences.specs.KeptStores.{AreStoresKept}
+use Rattle.dependences.proofs.flow.run_all.Given as goal
+
+-- the epochs so far are done
+abbrev pub invariant-loop-epoch : goal.invariant-loop-epoch
+invariant-loop-epoch l = record {
+  done : first_epochs l.image l.epoch ≡ record { end = Done l.epoch; bytes = l.memory };
+  kept : AreStoresKept l.image l.epoch l.stores l.found.items;
+}

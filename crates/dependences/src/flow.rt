@@ -1,0 +1,211 @@
+ghost use Rattle.std.specs.Prelude.{◌≡◌, ℕ, ◌+◌, ◌<◌, ◌≤◌, ◌^◌, IfOk, true, false, [], length, slice_index};
+ghost use Rattle.rv32_image.specs.Image.{IsImage};
+ghost use Rattle.rv32_exec.specs.declared.sequential.End.TheVariants.{Done};
+ghost use Rattle.rv32_exec.specs.Sequential.{first_epochs};
+ghost use Rattle.dependences.specs.Conflict.{IsInOrder};
+ghost use Rattle.dependences.specs.Flow.{AreDependences};
+ghost use Rattle.dependences.specs.KeptStores as spec;
+
+use crate::nearest::mark;
+use memory_bytes::{read_number, write_number};
+use rv32_exec::{Hart, NoMemory, Stop, advance, loaded, start, stored};
+use rv32_image::Image;
+use std::alloc::Global;
+use std::marker::Model;
+
+/// A load that reads from outside what an earlier epoch stores, and the last store of that.
+#[derive(Clone, Copy, Debug, PartialEq, Eq)]
+pub struct Dependence {
+    /// The epoch that stores.
+    pub earlier: u32,
+    /// How many instructions it has executed at the store.
+    pub stored: u32,
+    /// The pc of the store.
+    pub store_pc: u32,
+    /// The epoch that loads.
+    pub later: u32,
+    /// How many instructions it has executed at the load.
+    pub loaded: u32,
+    /// The pc of the load.
+    pub load_pc: u32,
+    /// Of the bytes of the load, the first of those whose last store is the latest epoch's.
+    pub byte: u32,
+}
+
+/// The dependences of the run in order: one of each load that reads from outside what an earlier epoch stores, in order.
+///
+/// `NoMemory`: there was none for a copy of the image's bytes, three words beside each, and the dependences.
+pub fn dependences_in_order(alloc: Global, image: &Image) -> Result<Vec<Dependence>, NoMemory>
+    ensures { IfOk result (λ found. AreDependences image.now found.items) }
+{
+    let mut memory = Vec::from_slice(alloc, image.bytes()).map_err(|_| NoMemory)?;
+    let mut stores = LastStores::none(alloc, image.size() as usize)?;
+    let mut found = Vec::new(alloc);
+    run_all(image, memory.as_mut_slice(), &mut stores, &mut found)?;
+    Ok(found)
+}
+
+/// Runs the epochs over memory, in order, and notes their dependences. No byte has been stored before.
+fn run_all(
+    image: &Image,
+    memory: &mut [u8],
+    stores: &mut LastStores,
+    found: &mut Vec<Dependence>,
+) -> Result<(), NoMemory>
+    requires memory { memory.old ≡ image.now.bytes }
+    requires long { spec.AreLong stores.old image.now.size }
+    requires none { (a : ℕ) → slice_index stores.old.writers a ≡ 0 }
+    requires found { found.old.items ≡ [] }
+    ensures { IfOk result (λ done. AreDependences image.now found.new.items) }
+{
+    for epoch in 0..image.epochs() {
+        if !follow(image, epoch, memory, stores, found)? {
+            return Ok(());
+        }
+    }
+    Ok(())
+}
+
+/// Runs one epoch over memory, notes its dependences, and keeps the last store of each byte. Answers whether the next one runs.
+fn follow(
+    image: &Image,
+    epoch: u32,
+    memory: &mut [u8],
+    stores: &mut LastStores,
+    found: &mut Vec<Dependence>,
+) -> Result<bool, NoMemory>
+    requires limits { IsImage image.now }
+    requires size { length memory.old ≡ image.now.size }
+    requires epoch { epoch < image.now.epochs }
+    requires before { first_epochs image.now epoch ≡ record { end = Done epoch; bytes = memory.old } }
+    requires kept { spec.AreStoresKept image.now epoch stores.old found.old.items }
+    ensures kept { IfOk result (λ goes_on. spec.AreStoresKept image.now (epoch + 1) stores.new found.new.items) }
+    ensures goes_on { IfOk result (λ goes_on. goes_on ≡ true → first_epochs image.now (epoch + 1) ≡ record { end = Done (epoch + 1); bytes = memory.new }) }
+    ensures ends { IfOk result (λ goes_on. goes_on ≡ false → IsInOrder image.now (epoch + 1) → ⊥) }
+{
+    let mut hart = start(image, epoch);
+    'accesses: loop {
+        let arrived = advance(image, hart);
+        let now = arrived.now();
+        match arrived.at() {
+            Stop::Load { addr, width, .. } => {
+                note_load(stores, epoch, &now, addr, width, found)?;
+                hart = loaded(&arrived, read_number(memory, addr as usize, width));
+            }
+            Stop::Store { addr, width, value } => {
+                write_number(memory, addr as usize, width, value);
+                stores.mark(addr, width, epoch + 1, &now);
+                hart = stored(&arrived);
+            }
+            Stop::Ended => return Ok(!now.exits(image)),
+            Stop::Fault { .. } => return Ok(false),
+        }
+    }
+}
+
+/// Notes the dependence of a load that this hart is at, where it has one.
+fn note_load(
+    stores: &LastStores,
+    epoch: u32,
+    hart: &Hart,
+    addr: u32,
+    width: u32,
+    found: &mut Vec<Dependence>,
+) -> Result<(), NoMemory>
+    requires long { spec.AreLong stores.now (length stores.now.writers) }
+    requires small { length stores.now.writers < 2 ^ 32 }
+    requires within { addr + width ≤ length stores.now.writers }
+    requires step { hart.now.done < 2 ^ 32 }
+    ensures { IfOk result (λ done. spec.IsNoted stores.now epoch hart.now addr width found.old.items found.new.items) }
+{
+    match nearest_byte(stores.writers.as_slice(), epoch, addr, width) {
+        Some(byte) => found
+            .push(stores.dependence(epoch, hart, byte))
+            .map_err(|_| NoMemory),
+        None => Ok(()),
+    }
+}
+
+/// Of the bytes of a load whose last writer is an epoch before this one, the first of the latest such epoch.
+fn nearest_byte(writers: &[u32], epoch: u32, addr: u32, width: u32) -> Option<u32>
+    requires small { length writers.now < 2 ^ 32 }
+    requires within { addr + width ≤ length writers.now }
+    ensures { spec.IsNearestByte writers.now epoch addr width result }
+{
+    let mut nearest = None;
+    let mut latest = 0;
+    for byte in addr..addr + width {
+        let writer = writers[byte as usize];
+        if latest < writer && writer <= epoch {
+            latest = writer;
+            nearest = Some(byte);
+        }
+    }
+    nearest
+}
+
+/// Of each byte the last store: the number of its epoch and 1, or 0 for none; the instructions done there; and its pc.
+#[derive(Drop)]
+struct LastStores {
+    writers: Vec<u32>,
+    steps: Vec<u32>,
+    pcs: Vec<u32>,
+}
+
+impl Model for LastStores {
+    ghost use Rattle.dependences.specs.KeptStores.{Stores};
+
+    ghost Value = { Stores };
+
+    ghost view = { λ s. record { writers = s.writers.items; steps = s.steps.items; pcs = s.pcs.items } };
+}
+
+impl LastStores {
+    /// None, of so many bytes.
+    fn none(alloc: Global, size: usize) -> Result<LastStores, NoMemory>
+        ensures long { IfOk result (λ s. spec.AreLong s size) }
+        ensures none { IfOk result (λ s. (a : ℕ) → slice_index s.writers a ≡ 0) }
+    {
+        let writers = vec![in alloc; 0; size].map_err(|_| NoMemory)?;
+        let steps = vec![in alloc; 0; size].map_err(|_| NoMemory)?;
+        let pcs = vec![in alloc; 0; size].map_err(|_| NoMemory)?;
+        Ok(LastStores {
+            writers,
+            steps,
+            pcs,
+        })
+    }
+
+    /// Keeps the store of these bytes that this hart is at.
+    fn mark(&mut self, addr: u32, width: u32, writer: u32, hart: &Hart)
+        requires long { spec.AreLong self.old (length self.old.writers) }
+        requires small { length self.old.writers < 2 ^ 32 }
+        requires within { addr + width ≤ length self.old.writers }
+        requires step { hart.now.done < 2 ^ 32 }
+        ensures { spec.AreMarked self.old self.new addr width writer hart.now.done hart.now.pc }
+    {
+        mark(self.writers.as_mut_slice(), addr, width, writer);
+        mark(self.steps.as_mut_slice(), addr, width, hart.done() as u32);
+        mark(self.pcs.as_mut_slice(), addr, width, hart.pc());
+    }
+
+    /// The dependence of a load that this hart is at, by this byte.
+    fn dependence(&self, epoch: u32, hart: &Hart, byte: u32) -> Dependence
+        requires long { spec.AreLong self.now (length self.now.writers) }
+        requires within { byte < length self.now.writers }
+        requires some { 0 < slice_index self.now.writers byte }
+        requires step { hart.now.done < 2 ^ 32 }
+        ensures { result ≡ spec.dependence_of self.now epoch hart.now byte }
+    {
+        let at = byte as usize;
+        Dependence {
+            earlier: self.writers[at] - 1,
+            stored: self.steps[at],
+            store_pc: self.pcs[at],
+            later: epoch,
+            loaded: hart.done() as u32,
+            load_pc: hart.pc(),
+            byte,
+        }
+    }
+}

@@ -1,0 +1,92 @@
+//! The loads of a loop that depend on earlier epochs.
+
+use dependences::{Dependence, dependences_in_order};
+use rv32_exec::{Image, NoMemory, image_of};
+use std::alloc::Global;
+use std::test::Fail;
+
+/// A recurrence: each term is the sum of the two before it.
+const RECURRENCE: &str =
+    "size 256\nepochs 14\nlimit 100\ncode 130715009307000493162500131727003387e700b386d7000327070083a606001305250013152500b387a7003307d70023a0e70067800000\nat 00000040 00000000010000000000000000000000\n";
+
+/// Transfers between accounts.
+const TRANSFERS: &str =
+    "size 160\nepochs 8\nlimit 60\ncode 131525001375c501930500063305b5008345250093f57500035605009395250093060008b385d50003a70500034535003307c74023a0e50013757500131525003305d50083250500b385c5002320b50067800000\nat 00000060 1e000001050002030c00040519000106\nat 00000070 2800070207000500640003043c000607\nat 00000080 64000000640000006400000064000000\nat 00000090 64000000640000006400000064000000\n";
+
+/// Four counters in turn.
+const COUNTERS: &str =
+    "size 256\nepochs 16\nlimit 200\ncode 93753500370600001306060493952500b385c50003a605009306000013074000131515003345d50093861600e39ae6fe1305160023a0a50067800000\n";
+
+/// A loop; how many loads depend on earlier epochs; and of those that two instructions, by the pcs of the store and the load,
+/// join: how many, and their least and greatest distance. The values are those of an independent program.
+const ROWS: [(&str, usize, u32, u32, usize, u32, u32); 5] = [
+    (RECURRENCE, 25, 0x30, 0x18, 13, 1, 1),
+    (RECURRENCE, 25, 0x30, 0x1c, 12, 2, 2),
+    (TRANSFERS, 8, 0x34, 0x44, 4, 3, 5),
+    (TRANSFERS, 8, 0x4c, 0x28, 4, 3, 5),
+    (COUNTERS, 12, 0x34, 0x14, 12, 4, 4),
+];
+
+/// The dependences. Where memory is refused it says so, and the next call is as if nothing had been.
+fn dependences(alloc: Global, image: &Image) -> Result<Vec<Dependence>, NoMemory> {
+    match dependences_in_order(alloc, image) {
+        Ok(found) => Ok(found),
+        Err(NoMemory) => dependences_in_order(alloc, image),
+    }
+}
+
+/// How many dependences two instructions join, and their least and greatest distance.
+fn joined(found: &[Dependence], store: u32, load: u32) -> (usize, u32, u32) {
+    let mut times: usize = 0;
+    let mut least = u32::MAX;
+    let mut most: u32 = 0;
+    for one in found {
+        if one.store_pc == store && one.load_pc == load {
+            let distance = one.later.saturating_sub(one.earlier);
+            times = times.saturating_add(1);
+            least = least.min(distance);
+            most = most.max(distance);
+        }
+    }
+    (times, least, most)
+}
+
+/// Dependences of loops, by pairs of instructions.
+#[test]
+fn joins_pairs_of_instructions(rt: HostRuntime) -> Result<(), Fail> {
+    for (text, all, store, load, times, least, most) in ROWS {
+        let image = image_of(rt.alloc(), text.as_bytes())?;
+        let found = dependences(rt.alloc(), &image)?;
+        assert!(rt; found.len() == all, "{text}");
+        assert!(rt;
+            joined(found.as_slice(), store, load) == (times, least, most),
+            "{store} {load} {text}"
+        );
+    }
+    Ok(())
+}
+
+/// lw x5, 64(x0); add x5, x5, x10; sw x5, 64(x0); jalr x0, 0(x1): each of the 16 epochs but the first reads what the one before
+/// it stores, its first instruction what that one's third stored.
+#[test]
+fn tells_of_the_store_and_the_load(rt: HostRuntime) -> Result<(), Fail> {
+    let text = "size 256\nepochs 16\nlimit 100\ncode 83220004b382a2002320500467800000\n";
+    let image = image_of(rt.alloc(), text.as_bytes())?;
+    let found = dependences(rt.alloc(), &image)?;
+    assert!(rt; found.len() == 15);
+    let mut later: u32 = 1;
+    for one in found.as_slice() {
+        let wanted = Dependence {
+            earlier: one.earlier,
+            stored: 2,
+            store_pc: 8,
+            later,
+            loaded: 0,
+            load_pc: 0,
+            byte: 64,
+        };
+        assert!(rt; *one == wanted && later.saturating_sub(1) == one.earlier);
+        later = later.saturating_add(1);
+    }
+    Ok(())
+}
