@@ -101,7 +101,7 @@ module _ (image : LoadedImage) (cores ran : ℕ) (all : AreAll image ran) where
   past_memory epoch past within = past_by epoch past within (first_epochs image epoch).end refl
 
   -- the memory of such an epoch
-  memory_there : (epoch first : ℕ) (memory : List ℕ) → ran ≤ epoch → epoch < image.epochs → first ≡ first_beside cores epoch
+  pub memory_there : (epoch first : ℕ) (memory : List ℕ) → ran ≤ epoch → epoch < image.epochs → first ≡ first_beside cores epoch
       → first_epochs image first ≡ record { end = Done first; bytes = memory } → run_memory image cores epoch ≡ memory
   memory_there epoch first memory past within is done =
       past_memory epoch past within ∙ (sym (ap (memory_before image) is) ∙ ap (λ (r : SequentialResult). r.bytes) done)

@@ -23,3 +23,5 @@ pub mod Outside
 pub mod Ending
 -- The loads that depend on earlier epochs.
 pub mod Flowing
+-- Lines of the caches: who stored in them, and who reads in them.
+pub mod Lining

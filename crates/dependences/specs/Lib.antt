@@ -9,3 +9,4 @@ pub mod Flow
 -- What the code keeps.
 pub mod Kept
 pub mod KeptStores
+pub mod KeptLines

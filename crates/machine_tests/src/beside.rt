@@ -1,82 +1,116 @@
 //! Whether epochs that cores can run beside each other conflict, also those past the loop's end.
 
-use dependences::conflicts_over_bytes;
+use dependences::{conflicts_over_bytes, conflicts_over_lines};
 use rv32_exec::{Image, NoMemory, image_of};
 use std::alloc::Global;
 use std::test::Fail;
 
-/// Loops, and the least number of cores, up to 8, on which two epochs of it conflict over bytes. The first four values are those
-/// of an independent program; the others are worked out by hand.
-const ROWS: [(&str, Option<u32>); 9] = [
+/// Loops, and the least number of cores, up to 8, on which two epochs of it conflict over bytes, and over lines of the caches. The
+/// values of the first six are those of an independent program; the others are worked out by hand.
+const ROWS: [(&str, Option<u32>, Option<u32>); 11] = [
     // Four counters in turn.
     (
         "size 256\nepochs 16\nlimit 200\ncode 93753500370600001306060493952500b385c50003a605009306000013074000131515003345d50093861600e39ae6fe1305160023a0a50067800000\n",
         Some(5),
+        Some(2),
+    ),
+    // The same, 64 bytes apart.
+    (
+        "size 256\nepochs 16\nlimit 200\ncode 93753500370600001306060493954500b385c50003a605009306000013074000131515003345d50093861600e39ae6fe1305160023a0a50067800000\n",
+        Some(5),
+        Some(5),
+    ),
+    // In lines of 32 bytes.
+    (
+        "version 2\nsize 131072\nepochs 4\nlimit 100\ncode 370302009312450033035300832303f0b383a300232073f067800000\nat 0001ff10 0a\n",
+        None,
+        Some(2),
     ),
     // Each epoch loads a word and stores in the one before it.
     (
         "size 256\nepochs 7\nlimit 100\ncode 9312250003a3420423a0620467800000\n",
         None,
+        Some(2),
     ),
     // A word for each epoch, and the greatest of four.
     (
         "size 128\nepochs 12\nlimit 100\ncode 9377350093060007939727001315250013070004b387d7003307a70083a60700032707006374d7001387060023a0e70067800000\nat 00000040 03000000080000000200000007000000\nat 00000050 09000000010000000b00000004000000\nat 00000060 05000000060000000a00000000000000\n",
         Some(5),
+        Some(2),
     ),
     // Epochs past the exit that store and load a word, and none that commits stores it.
     (
         "size 256\nepochs 3\nlimit 100\nexit\ncode 9302f5ff639402002320a0041303e5ff63140300832300041305100067800000\n",
         None,
+        Some(3),
     ),
     // lw x5, 64(x0); sw x5, 64(x0); addi x10, x0, 1; jalr x0, 0(x1): epoch 0 exits, and the next one reads what it stores.
     (
         "size 256\nepochs 16\nlimit 100\nexit\ncode 83220004232050041305100067800000\n",
+        Some(2),
         Some(2),
     ),
     // sw x10, 64(x0); lw x5, 64(x0); addi x10, x0, 1; jalr x0, 0(x1): epoch 0 exits, and each reads what it stores itself.
     (
         "size 256\nepochs 16\nlimit 100\nexit\ncode 2320a004832200041305100067800000\n",
         None,
+        None,
     ),
     // Epoch 0 stores a word and exits, and of those past it epoch 2 loads that word.
     (
         "size 256\nepochs 16\nlimit 100\nexit\ncode 9302e5ff639402000323000463160500232000041305100067800000\n",
+        Some(3),
         Some(3),
     ),
     // The same, but that the loop has two epochs.
     (
         "size 256\nepochs 2\nlimit 100\nexit\ncode 9302e5ff639402000323000463160500232000041305100067800000\n",
         None,
+        None,
     ),
     // lw x5, 64(x0); sw x5, 64(x0); a word that is no instruction: epoch 0 faults.
     (
         "size 256\nepochs 16\nlimit 100\ncode 832200042320500400000000\n",
         Some(2),
+        Some(2),
     ),
 ];
 
-/// Whether it conflicts on so many cores. Where memory is refused it says so, and the next call is as if nothing had been.
-fn conflicts(alloc: Global, image: &Image, cores: u32) -> Result<bool, NoMemory> {
+/// Whether it conflicts over bytes on so many cores. Where memory is refused it says so, and the next call is as if nothing had
+/// been.
+fn over_bytes(alloc: Global, image: &Image, cores: u32) -> Result<bool, NoMemory> {
     match conflicts_over_bytes(alloc, image, cores) {
         Ok(found) => Ok(found),
         Err(NoMemory) => conflicts_over_bytes(alloc, image, cores),
     }
 }
 
+/// The same over lines.
+fn over_lines(alloc: Global, image: &Image, cores: u32) -> Result<bool, NoMemory> {
+    match conflicts_over_lines(alloc, image, cores) {
+        Ok(found) => Ok(found),
+        Err(NoMemory) => conflicts_over_lines(alloc, image, cores),
+    }
+}
+
+/// Whether so many cores are no fewer than the least.
+fn is_reached(least: Option<u32>, cores: u32) -> bool {
+    match least {
+        Some(number) => number <= cores,
+        None => false,
+    }
+}
+
 /// On each number of cores a loop conflicts or not.
 #[test]
 fn conflicts_begin_with_so_many_cores(rt: HostRuntime) -> Result<(), Fail> {
-    for (text, least) in ROWS {
+    for (text, bytes, lines) in ROWS {
         let image = image_of(rt.alloc(), text.as_bytes())?;
         for cores in 0..9 {
-            let wanted = match least {
-                Some(number) => number <= cores,
-                None => false,
-            };
-            assert!(rt;
-                conflicts(rt.alloc(), &image, cores)? == wanted,
-                "{cores} {text}"
-            );
+            let found = over_bytes(rt.alloc(), &image, cores)?;
+            assert!(rt; found == is_reached(bytes, cores), "bytes, {cores} {text}");
+            let found = over_lines(rt.alloc(), &image, cores)?;
+            assert!(rt; found == is_reached(lines, cores), "lines, {cores} {text}");
         }
     }
     Ok(())

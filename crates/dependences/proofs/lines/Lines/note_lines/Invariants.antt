@@ -1,0 +1,6 @@
+use Rattle.dependences.specs.KeptLines.{AreLinesNoted}
+use Rattle.dependences.proofs.lines.Lines.note_lines.Given as goal
+
+-- the lines of the bytes so far are noted
+abbrev pub invariant-loop-i : goal.invariant-loop-i
+invariant-loop-i l = AreLinesNoted l.image l.fn.self l.self l.epoch l.addr l.i

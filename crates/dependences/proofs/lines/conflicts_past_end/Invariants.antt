@@ -1,0 +1,17 @@
+use Rattle.std.proofs.Common.{◌≡◌, ◌≤◌, length}
+use Rattle.rv32_exec.specs.declared.sequential.End.TheVariants.{Done}
+use Rattle.rv32_exec.specs.Sequential.{first_epochs}
+use Rattle.dependences.specs.Conflict.{first_beside}
+use Rattle.dependences.specs.KeptLines.{AreLinesKept, LineConflictsBefore}
+use Rattle.dependences.proofs.lines.conflicts_past_end.Given as goal
+
+-- no epoch before this one conflicts
+abbrev pub invariant-loop-later : goal.invariant-loop-later
+invariant-loop-later l = record {
+  before : first_epochs l.image l.done ≡ record { end = Done l.done; bytes = l.memory };
+  low : l.done ≤ first_beside l.cores l.later;
+  size : length l.memory ≡ l.image.size;
+  alone : length l.alone ≡ l.image.size;
+  kept : AreLinesKept l.image l.cores l.later l.lines;
+  none : LineConflictsBefore l.image l.cores l.later → ⊥;
+}
