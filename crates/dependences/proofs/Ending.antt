@@ -1,5 +1,5 @@
 -- The epochs that run in order, those past them, and conflicts among both.
-use Rattle.std.proofs.Common.{◌≡◌, ◌≢◌, ◌⊎◌, ℕ, zero, suc, ◌+◌, ◌-◌, ◌<◌, ◌≤◌, nat_lt, Bool, true, false, List, length, slice_index, Option, Some, None, refl, sym, ap, subst, ◌∙◌, inl, inr, arith, add-one}
+use Rattle.std.proofs.Common.{◌≡◌, ℕ, ◌+◌, ◌-◌, ◌<◌, ◌≤◌, true, false, List, slice_index, Option, Some, None, refl, sym, ap, subst, ◌∙◌, inl, inr, arith}
 use Rattle.std.proofs.lemmas.Bool.{cases_eq, cases_lt}
 use Rattle.std.proofs.lemmas.Bool.Decides.{nat_tests}
 use Rattle.rv32_image.specs.Image.{LoadedImage}
@@ -8,7 +8,6 @@ use Rattle.rv32_exec.specs.declared.sequential.End.TheVariants.{Done, Exit, Faul
 use Rattle.rv32_exec.specs.Sequential.{SequentialResult, first_epochs}
 use Rattle.dependences.specs.Paths.{ReadsOutside, Stores}
 use Rattle.dependences.specs.Conflict.{ConflictInOrder, IsInOrder, first_beside, memory_before, memory_by, path_memory, run_memory}
-use Rattle.dependences.specs.Nearest.{Depends}
 use Rattle.dependences.specs.Kept.{AreAll, ConflictsBefore, DependsBefore, IsLastWriter, IsLeast, MeetsWriter, is_near}
 use Rattle.dependences.proofs.InOrder.{all_in_order, low_most}
 use Rattle.dependences.proofs.Showing.{number_done, run_in_order}

@@ -1,10 +1,10 @@
 -- One epoch in order: its loads that depend on earlier epochs, and the last store of each byte.
-use Rattle.std.proofs.Common.{◌≡◌, ◌≢◌, ◌⊎◌, ℕ, zero, suc, ◌+◌, ◌-◌, ◌<◌, ◌≤◌, Bool, List, [], ◌∷◌, ◌++◌, length, slice_get, slice_index, Option, Some, None, refl, sym, ap, subst, ◌∙◌, inl, inr, arith, add-one}
+use Rattle.std.proofs.Common.{◌≡◌, ◌⊎◌, ℕ, zero, suc, ◌+◌, ◌-◌, ◌<◌, ◌≤◌, Bool, List, [], ◌∷◌, ◌++◌, length, slice_get, slice_index, Option, Some, None, refl, sym, ap, subst, ◌∙◌, inl, inr, arith, add-one}
 use Rattle.std.proofs.lemmas.Bool.{cases_eq, cases_lt}
 use Rattle.std.proofs.lemmas.Option.{slice_get_within}
 use Rattle.rv32_image.specs.Image.{LoadedImage}
 use Rattle.memory_bytes.specs.Bytes.{number_at, with_number}
-use Rattle.memory_bytes.specs.Maps.{joined, nothing, over, stored}
+use Rattle.memory_bytes.specs.Maps.{joined, nothing, stored}
 use Rattle.memory_bytes.proofs.Bytes.{stored_within}
 use Rattle.rv32_exec.specs.declared.stop.Stop.TheVariants as stop
 use Rattle.rv32_exec.specs.declared.sequential.End.TheVariants as end
@@ -19,7 +19,7 @@ use Rattle.dependences.specs.declared.flow.Dependence.{Dependence}
 use Rattle.dependences.specs.Paths.{LoadsAt, ReadsOutside, StoresAt}
 use Rattle.dependences.specs.Conflict.{IsInOrder, memory_before}
 use Rattle.dependences.specs.Flow.{AreDependences, DependsAt, IsBefore, IsDependence, LastStore}
-use Rattle.dependences.specs.Kept.{AreAll, IsMarked}
+use Rattle.dependences.specs.Kept.{AreAll}
 use Rattle.dependences.specs.KeptStores.{AreBefore, AreLong, AreMarked, IsNearest, IsNearestByte, IsNoted, IsStoredLast, Stores, AreStoresKept, dependence_of, noted}
 use Rattle.dependences.proofs.Paths.{IsAt, access_stops, at_start, before_event, covered, either, load_after, load_hart, loads_there, neither, past_load, past_store, same_store, start_after, store_after, store_hart, stores_there}
 use Rattle.dependences.proofs.Following.{all_loaded, all_stored_early, hart_before, hart_there, load_late, no_both, store_late, unmarked}

@@ -21,9 +21,8 @@ use Rattle.spec_history.proofs.OneEntry.Progress.{comes_to_event, event_does, ou
 use Rattle.dependences.specs.Paths.{LoadsAt, Stores, StoresAt}
 use Rattle.dependences.specs.Conflict.{IsInOrder, memory_before}
 use Rattle.dependences.specs.Nearest.{Depends, IsNearest}
-use Rattle.dependences.specs.Kept.{AreKept, DependsBefore, GoesOn, IsLastWriter, IsLeast, IsMarked, behind, load_behind}
+use Rattle.dependences.specs.Kept.{AreKept, DependsBefore, IsLastWriter, IsLeast, IsMarked, behind, load_behind}
 use Rattle.dependences.proofs.Paths.{IsAt, access_stops, at_start, covered, either, load_after, neither, now_step, past_load, past_store, path_stores, quiet, reads_there, start_after, store_after}
-use Rattle.dependences.proofs.InOrder.{all_in_order}
 use Rattle.dependences.proofs.Writers.{IsBehind, behind_is, is_behind, least_so, load_least}
 
 -- an epoch before this one depends on another this far before it, or this one does, by what it has loaded so far

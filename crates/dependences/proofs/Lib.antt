@@ -25,3 +25,5 @@ pub mod Ending
 pub mod Flowing
 -- Lines of the caches: who stored in them, and who reads in them.
 pub mod Lining
+pub mod Buffering
+pub mod Caching

@@ -1,31 +1,25 @@
 -- One epoch and the lines of the caches: in which it stores, and which it reads in which others have stored.
-use Rattle.std.proofs.Common.{◌≡◌, ◌≢◌, ◌⊎◌, ℕ, zero, suc, ◌+◌, ◌-◌, ◌==◌, ◌<◌, ◌≤◌, nat_lt, Bool, true, false, cond, List, length, slice_index, Option, Some, None, refl, sym, ap, subst, ◌∙◌, inl, inr, arith, add-one}
+use Rattle.std.proofs.Common.{◌≡◌, ◌≢◌, ◌⊎◌, ℕ, zero, suc, ◌+◌, ◌-◌, ◌==◌, ◌<◌, ◌≤◌, Bool, true, false, cond, List, length, slice_index, Option, Some, None, refl, sym, ap, subst, ◌∙◌, inl, inr, arith, add-one}
 use Rattle.std.proofs.lemmas.Bool.{cases_eq, cases_lt}
 use Rattle.std.proofs.lemmas.Bool.Decides.{nat_tests}
-use Rattle.rv32_image.specs.Image.{LoadedImage, IsImage}
+use Rattle.rv32_image.specs.Image.{LoadedImage}
 use Rattle.memory_bytes.specs.Bytes.{number_at, with_number}
 use Rattle.memory_bytes.specs.Maps.{first_of, joined, nothing, stored}
 use Rattle.memory_bytes.proofs.Bytes.{stored_within}
 use Rattle.rv32_exec.specs.declared.stop.Stop.TheVariants as stop
-use Rattle.rv32_exec.specs.declared.sequential.End.{End}
-use Rattle.rv32_exec.specs.declared.sequential.End.TheVariants.{Done}
 use Rattle.rv32_exec.specs.Hart.{HartState, start_of, stepped}
 use Rattle.rv32_exec.specs.NextEvent.{next_event}
 use Rattle.rv32_exec.specs.Arrival.{after_number}
-use Rattle.rv32_exec.specs.Sequential.{SequentialResult, after_stop, first_epochs}
+use Rattle.rv32_exec.specs.Sequential.{after_stop}
 use Rattle.rv32_exec.specs.Laws.{HasStopped}
 use Rattle.spec_history.specs.Conflict.{line_number}
 use Rattle.spec_history.proofs.OneEntry.Accesses.{load_counts}
 use Rattle.dependences.specs.Paths.{ReadsOutside, Stores}
-use Rattle.dependences.specs.Conflict.{IsInOrder, LineConflictInOrder, StoresIn, first_beside, memory_before, run_memory}
-use Rattle.dependences.specs.Kept.{AreAll}
-use Rattle.dependences.specs.KeptLines.{AreLinesKept, AreLinesNoted, AreStored, HaveRoom, IsLastOf, IsLineNoted, LineConflictsBefore, Lines, MeetsLine, MeetsNone, StoresInLine, writer_before}
+use Rattle.dependences.specs.Conflict.{IsInOrder, LineConflictInOrder, first_beside, run_memory}
+use Rattle.dependences.specs.KeptLines.{AreLines, AreLinesKept, AreLinesNoted, AreStored, IsLastOf, IsLineNoted, LastTwo, Lines, MeetsLine, MeetsNone, StoresInLine, other_before}
 use Rattle.dependences.proofs.Paths.{IsAt, at_start, covered, either, load_after, neither, past_load, past_store, path_stores, reads_there, start_after, store_after}
-use Rattle.dependences.proofs.InOrder.{all_in_order, low_most}
-use Rattle.dependences.proofs.Showing.{run_in_order}
 use Rattle.dependences.proofs.Following.{all_loaded, all_stored, unmarked}
 use Rattle.dependences.proofs.Outside.{OnPath, read_by_load, read_by_store, seen_now}
-use Rattle.dependences.proofs.Ending.{memory_there}
 
 -- ---- who stored in a line last
 
@@ -33,27 +27,27 @@ writer_other_by : (b : Bool) (last before epoch : ℕ) → (last == epoch + 1) �
 writer_other_by true last before epoch is other = absurd (grind (arith, nat_tests))
 writer_other_by false last before epoch is other = refl
 
-writer_other : (s : Lines) (epoch line : ℕ) → slice_index s.last line ≢ epoch + 1 → writer_before s epoch line ≡ slice_index s.last line
+pub writer_other : (s : LastTwo) (epoch line : ℕ) → slice_index s.last line ≢ epoch + 1 → other_before s epoch line ≡ slice_index s.last line
 writer_other s epoch line other = writer_other_by (slice_index s.last line == epoch + 1) (slice_index s.last line) (slice_index s.before line) epoch refl other
 
-last_low : (P : ℕ → Type 0) (epoch w : ℕ) → IsLastOf P epoch w → w ≤ epoch
+pub last_low : (P : ℕ → Type 0) (epoch w : ℕ) → IsLastOf P epoch w → w ≤ epoch
 last_low P epoch zero is = omega arith
 last_low P epoch (suc d) is = let low = is.0 in omega (arith, low)
 
 -- one from `first` on
-some_from : (P : ℕ → Type 0) (epoch w first : ℕ) → IsLastOf P epoch w → first < w → (d : ℕ) × (first ≤ d) × (d < epoch) × P d
+pub some_from : (P : ℕ → Type 0) (epoch w first : ℕ) → IsLastOf P epoch w → first < w → (d : ℕ) × (first ≤ d) × (d < epoch) × P d
 some_from P epoch zero first is less = absurd (omega (arith, less))
 some_from P epoch (suc d) first is less = (d, omega (arith, less), is.0, is.1)
 
-none_from : (P : ℕ → Type 0) (epoch w first : ℕ) → IsLastOf P epoch w → w ≤ first → (d : ℕ) → first ≤ d → d < epoch → P d → ⊥
+pub none_from : (P : ℕ → Type 0) (epoch w first : ℕ) → IsLastOf P epoch w → w ≤ first → (d : ℕ) → first ≤ d → d < epoch → P d → ⊥
 none_from P epoch zero first is most d from low p = is d low p
 none_from P epoch (suc e) first is most d from low p = let last = is.2 d low p in omega (arith, last, most, from)
 
-last_now : (P : ℕ → Type 0) (epoch w : ℕ) → w ≡ epoch + 1 → P epoch → IsLastOf P (epoch + 1) w
+pub last_now : (P : ℕ → Type 0) (epoch w : ℕ) → w ≡ epoch + 1 → P epoch → IsLastOf P (epoch + 1) w
 last_now P epoch w is p =
     subst (λ n. IsLastOf P (epoch + 1) n) (sym (is ∙ add-one epoch)) (omega arith, p, λ d low q. omega (arith, low))
 
-last_still : (P : ℕ → Type 0) (epoch w : ℕ) → IsLastOf P epoch w → (P epoch → ⊥) → IsLastOf P (epoch + 1) w
+pub last_still : (P : ℕ → Type 0) (epoch w : ℕ) → IsLastOf P epoch w → (P epoch → ⊥) → IsLastOf P (epoch + 1) w
 last_still P epoch zero is none = λ d low p. elim (cases_eq d epoch) [
   | inl e ↦ none (subst P e p)
   | inr other ↦ is d (omega (arith, low, other)) p
@@ -68,23 +62,38 @@ last_still P epoch (suc w) is none =
       ],
     )
 
+-- whether a line is that of one of these bytes
+pub among : (image : LoadedImage) (l address width : ℕ) → ((i : ℕ) × (i < width) × (l ≡ line_number image (address + i))) ⊎ ((i : ℕ) → i < width → l ≢ line_number image (address + i))
+among image l address zero = inr (λ i low. absurd (omega (arith, low)))
+among image l address (suc width) = elim (cases_eq l (line_number image (address + width))) [
+  | inl e ↦ inl (width, omega arith, e)
+  | inr other ↦ elim (among image l address width) [
+    | inl one ↦ (let low = one.1 in inl (one.0, omega (arith, low), one.2))
+    | inr none ↦ inr (λ i low. elim (cases_eq i width) [
+      | inl e ↦ subst (λ n. l ≢ line_number image (address + n)) (sym e) other
+      | inr less ↦ none i (omega (arith, low, less))
+    ])
+  ]
+]
+
 -- ---- while the epoch runs
 
 pub record InLines (image : LoadedImage) (cores epoch : ℕ) (memory now : List ℕ) (s : Lines) (h : HartState) : Type 0 where
   pub stored : ℕ → Option ℕ
   pub at : IsAt image epoch memory h stored
   pub is : at.after ≡ now
-  pub room : HaveRoom image s
+  pub own_long : length s.own ≡ image.size
+  pub lines : AreLines image s.two
   pub mine : (a byte : ℕ) → stored a ≡ Some byte → slice_index s.own a ≡ epoch + 1
   pub others : (a : ℕ) → stored a ≡ None → slice_index s.own a ≤ epoch
-  pub writer : (line : ℕ) → IsLastOf (StoresInLine image cores line) epoch (writer_before s epoch line)
-  pub noted : (line : ℕ) → slice_index s.last line ≡ epoch + 1 → (a : ℕ) × (byte : ℕ) × (line_number image a ≡ line) × (stored a ≡ Some byte)
-  pub all : (a byte : ℕ) → stored a ≡ Some byte → slice_index s.last (line_number image a) ≡ epoch + 1
+  pub writer : (line : ℕ) → IsLastOf (StoresInLine image cores line) epoch (other_before s.two epoch line)
+  pub noted : (line : ℕ) → slice_index s.two.last line ≡ epoch + 1 → (a : ℕ) × (byte : ℕ) × (line_number image a ≡ line) × (stored a ≡ Some byte)
+  pub all : (a byte : ℕ) → stored a ≡ Some byte → slice_index s.two.last (line_number image a) ≡ epoch + 1
   pub none : (a d : ℕ) → (reads : ReadsOutside image epoch memory a) → reads.step < h.done → first_beside cores epoch ≤ d → d < epoch
       → StoresInLine image cores (line_number image a) d → ⊥
 
-not_noted : (image : LoadedImage) (cores epoch line : ℕ) (s : Lines) → AreLinesKept image cores epoch s → slice_index s.last line ≢ epoch + 1
-not_noted image cores epoch line s kept = let low = last_low (StoresInLine image cores line) epoch (slice_index s.last line) (kept.writer line) in omega (arith, low)
+not_noted : (image : LoadedImage) (cores epoch line : ℕ) (s : Lines) → AreLinesKept image cores epoch s → slice_index s.two.last line ≢ epoch + 1
+not_noted image cores epoch line s kept = let low = last_low (StoresInLine image cores line) epoch (slice_index s.two.last line) (kept.writer line) in omega (arith, low)
 
 pub lines_start : (image : LoadedImage) (cores epoch : ℕ) (memory : List ℕ) (s : Lines) → length memory ≡ image.size → AreLinesKept image cores epoch s
     → InLines image cores epoch memory memory s (start_of image epoch)
@@ -92,11 +101,12 @@ lines_start image cores epoch memory s long kept = record {
   stored = nothing;
   at = at_start image epoch memory long;
   is = start_after image epoch memory long;
-  room = kept.room;
+  own_long = kept.own;
+  lines = kept.lines;
   mine = λ a byte is. absurd cc;
   others = λ a none. kept.owner a;
   writer = λ line.
-      subst (λ w. IsLastOf (StoresInLine image cores line) epoch w) (sym (writer_other s epoch line (not_noted image cores epoch line s kept))) (kept.writer line);
+      subst (λ w. IsLastOf (StoresInLine image cores line) epoch w) (sym (writer_other s.two epoch line (not_noted image cores epoch line s kept))) (kept.writer line);
   noted = λ line is. absurd (not_noted image cores epoch line s kept is);
   all = λ a byte is. absurd cc;
   none = λ a d reads before. absurd (omega (arith, before));
@@ -137,12 +147,12 @@ module _ (image : LoadedImage) (cores epoch : ℕ) (memory now : List ℕ) (s : 
   unmet_by address width a d unmet (from, below, none) first low p =
       let place : address + (a - address) ≡ a = omega (arith, from) in
       let owner = x.others a none in
-      let most : writer_before s epoch (line_number image a) ≤ first_beside cores epoch = elim (cases_lt (first_beside cores epoch) (writer_before s epoch (line_number image a))) [
+      let most : other_before s.two epoch (line_number image a) ≤ first_beside cores epoch = elim (cases_lt (first_beside cores epoch) (other_before s.two epoch (line_number image a))) [
         | inl less ↦ absurd (unmet (record {
           i = a - address;
           within = omega (arith, from, below);
           foreign = subst (λ b. slice_index s.own b ≢ epoch + 1) (sym place) (omega (arith, owner));
-          written = subst (λ b. first_beside cores epoch < writer_before s epoch (line_number image b)) (sym place) less;
+          written = subst (λ b. first_beside cores epoch < other_before s.two epoch (line_number image b)) (sym place) less;
         }))
         | inr most ↦ most
       ] in none_from (StoresInLine image cores (line_number image a)) epoch _ (first_beside cores epoch) (x.writer (line_number image a)) most d first low p
@@ -156,7 +166,8 @@ module _ (image : LoadedImage) (cores epoch : ℕ) (memory now : List ℕ) (s : 
         stored = x.stored;
         at = past_load image epoch memory h x.stored address width signed rd value x.at is seen;
         is = load_after image epoch memory h x.stored address width signed rd value x.at is seen ∙ x.is;
-        room = x.room;
+        own_long = x.own_long;
+        lines = x.lines;
         mine = x.mine;
         others = x.others;
         writer = x.writer;
@@ -176,29 +187,16 @@ module _ (image : LoadedImage) (cores epoch : ℕ) (memory now : List ℕ) (s : 
   mine_by s' address width value a byte are None is (inl now) = let some = now.1 in absurd cc
   mine_by s' address width value a byte are None is (inr before) = unmarked s.own s'.own address width (epoch + 1) value a are.marked is ∙ x.mine a byte before
 
-  among : (l address width : ℕ) → ((i : ℕ) × (i < width) × (l ≡ line_number image (address + i))) ⊎ ((i : ℕ) → i < width → l ≢ line_number image (address + i))
-  among l address zero = inr (λ i low. absurd (omega (arith, low)))
-  among l address (suc width) = elim (cases_eq l (line_number image (address + width))) [
-    | inl e ↦ inl (width, omega arith, e)
-    | inr other ↦ elim (among l address width) [
-      | inl one ↦ (let low = one.1 in inl (one.0, omega (arith, low), one.2))
-      | inr none ↦ inr (λ i low. elim (cases_eq i width) [
-        | inl e ↦ subst (λ n. l ≢ line_number image (address + n)) (sym e) other
-        | inr less ↦ none i (omega (arith, low, less))
-      ])
-    ]
-  ]
-
   all_by : (s' : Lines) (address width value a byte : ℕ) → AreStored image s s' epoch address width
-      → ((b : ℕ) × (stored address width value a ≡ Some b)) ⊎ (x.stored a ≡ Some byte) → slice_index s'.last (line_number image a) ≡ epoch + 1
+      → ((b : ℕ) × (stored address width value a ≡ Some b)) ⊎ (x.stored a ≡ Some byte) → slice_index s'.two.last (line_number image a) ≡ epoch + 1
   all_by s' address width value a byte are (inl now) =
       let within = covered address width value a now.0 now.1 in
       let from = within.0 in
       let below = within.1 in
       let place : address + (a - address) ≡ a = omega (arith, from) in
-      subst (λ b. slice_index s'.last (line_number image b) ≡ epoch + 1) place (are.lines.here (a - address) (omega (arith, from, below)))
-  all_by s' address width value a byte are (inr before) = elim (among (line_number image a) address width) [
-    | inl one ↦ ap (slice_index s'.last) one.2 ∙ are.lines.here one.0 one.1
+      subst (λ b. slice_index s'.two.last (line_number image b) ≡ epoch + 1) place (are.lines.here (a - address) (omega (arith, from, below)))
+  all_by s' address width value a byte are (inr before) = elim (among image (line_number image a) address width) [
+    | inl one ↦ ap (slice_index s'.two.last) one.2 ∙ are.lines.here one.0 one.1
     | inr none ↦ are.lines.others (line_number image a) none ∙ x.all a byte before
   ]
 
@@ -206,9 +204,9 @@ module _ (image : LoadedImage) (cores epoch : ℕ) (memory now : List ℕ) (s : 
   joined_some None second byte is = (byte, is)
   joined_some (Some b) second byte is = (b, refl)
 
-  noted_by : (s' : Lines) (address width value line : ℕ) → AreStored image s s' epoch address width → slice_index s'.last line ≡ epoch + 1
+  noted_by : (s' : Lines) (address width value line : ℕ) → AreStored image s s' epoch address width → slice_index s'.two.last line ≡ epoch + 1
       → (a : ℕ) × (byte : ℕ) × (line_number image a ≡ line) × (joined (stored address width value) x.stored a ≡ Some byte)
-  noted_by s' address width value line are is = elim (among line address width) [
+  noted_by s' address width value line are is = elim (among image line address width) [
     | inl one ↦
         (let low = one.1 in
         (address + one.0, _, sym one.2, ap (λ o. first_of o (x.stored (address + one.0))) (stored_within address width value (address + one.0) (omega arith) (omega (arith, low)))))
@@ -223,12 +221,13 @@ module _ (image : LoadedImage) (cores epoch : ℕ) (memory now : List ℕ) (s : 
     stored = joined (stored address width value) x.stored;
     at = past_store image epoch memory h x.stored address width value x.at is;
     is = store_after image epoch memory h x.stored address width value x.at is ∙ ap (λ m. with_number m address width value) x.is;
-    room = record { own = are.own_long ∙ x.room.own; last = are.lines.last_long ∙ x.room.last; before = are.lines.before_long ∙ x.room.before };
+    own_long = are.own_long ∙ x.own_long;
+    lines = record { last = are.lines.last_long ∙ x.lines.last; before = are.lines.before_long ∙ x.lines.before };
     mine = λ a byte some. mine_by s' address width value a byte are (stored address width value a) refl (either (stored address width value a) (x.stored a) byte some);
     others = λ a none.
         let parts = neither (stored address width value a) (x.stored a) none in
         rw (unmarked s.own s'.own address width (epoch + 1) value a are.marked parts.0) (x.others a parts.1);
-    writer = λ line. rw (are.lines.writer line) (x.writer line);
+    writer = λ line. rw (are.lines.other line) (x.writer line);
     noted = λ line noted. noted_by s' address width value line are noted;
     all = λ a byte some. all_by s' address width value a byte are (either (stored address width value a) (x.stored a) byte some);
     none = λ a d reads before. x.none a d reads (read_by_store image epoch memory h x.stored x.at address width value a is reads before);
@@ -241,29 +240,29 @@ module _ (image : LoadedImage) (cores epoch : ℕ) (memory now : List ℕ) (s : 
   owner_by a None is = let low = x.others a is in omega (arith, low)
 
   none_here : HasStopped (after_stop (next_event image h).now x.at.after (next_event image h).at) → memory ≡ run_memory image cores epoch → (line : ℕ)
-      → slice_index s.last line ≢ epoch + 1 → (p : StoresInLine image cores line epoch) → (o : Option ℕ) → x.stored p.at ≡ o → ⊥
-  none_here stopped same line other p (Some byte) is = other (sym (ap (slice_index s.last) p.in_line) ∙ x.all p.at byte is)
+      → slice_index s.two.last line ≢ epoch + 1 → (p : StoresInLine image cores line epoch) → (o : Option ℕ) → x.stored p.at ≡ o → ⊥
+  none_here stopped same line other p (Some byte) is = other (sym (ap (slice_index s.two.last) p.in_line) ∙ x.all p.at byte is)
   none_here stopped same line other p None is =
       all_stored image epoch memory h x.stored x.at stopped p.at is (subst (λ n. Stores image epoch n p.at) (sym same) p.stores)
 
   writer_on : HasStopped (after_stop (next_event image h).now x.at.after (next_event image h).at) → memory ≡ run_memory image cores epoch → (line : ℕ)
-      → IsLastOf (StoresInLine image cores line) (epoch + 1) (slice_index s.last line)
-  writer_on stopped same line = elim (cases_eq (slice_index s.last line) (epoch + 1)) [
+      → IsLastOf (StoresInLine image cores line) (epoch + 1) (slice_index s.two.last line)
+  writer_on stopped same line = elim (cases_eq (slice_index s.two.last line) (epoch + 1)) [
     | inl e ↦
         (let here = x.noted line e in
-        last_now (StoresInLine image cores line) epoch (slice_index s.last line) e (record {
+        last_now (StoresInLine image cores line) epoch (slice_index s.two.last line) e (record {
           at = here.0;
           in_line = here.2;
           stores = subst (λ n. Stores image epoch n here.0) same (path_stores x.at here.0 here.1 here.3);
         }))
-    | inr other ↦ last_still (StoresInLine image cores line) epoch (slice_index s.last line)
-        (subst (λ w. IsLastOf (StoresInLine image cores line) epoch w) (writer_other s epoch line other) (x.writer line))
+    | inr other ↦ last_still (StoresInLine image cores line) epoch (slice_index s.two.last line)
+        (subst (λ w. IsLastOf (StoresInLine image cores line) epoch w) (writer_other s.two epoch line other) (x.writer line))
         (λ p. none_here stopped same line other p (x.stored p.at) refl)
   ]
 
   pub lines_kept : HasStopped (after_stop (next_event image h).now x.at.after (next_event image h).at) → memory ≡ run_memory image cores epoch
       → AreLinesKept image cores (epoch + 1) s
-  lines_kept stopped same = record { room = x.room; owner = λ a. owner_by a (x.stored a) refl; writer = λ line. writer_on stopped same line }
+  lines_kept stopped same = record { own = x.own_long; lines = x.lines; owner = λ a. owner_by a (x.stored a) refl; writer = λ line. writer_on stopped same line }
 
   pub meets_none : HasStopped (after_stop (next_event image h).now x.at.after (next_event image h).at) → memory ≡ run_memory image cores epoch → MeetsNone image cores epoch
   meets_none stopped same a d reads first low p =
@@ -273,68 +272,35 @@ module _ (image : LoadedImage) (cores epoch : ℕ) (memory now : List ℕ) (s : 
   pub lines_path : OnPath image epoch memory now h
   lines_path = record { own = x.stored; at = x.at; is = x.is }
 
--- ---- one epoch after another
-
--- where this epoch meets none, and none conflicts before it, none conflicts up to it
-pub none_more : (image : LoadedImage) (cores epoch : ℕ) → MeetsNone image cores epoch → (LineConflictsBefore image cores epoch → ⊥) → LineConflictsBefore image cores (epoch + 1) → ⊥
-none_more image cores epoch meets none y = elim (cases_eq y.conflict.later epoch) [
-  | inl e ↦
-      (let c = y.conflict in
-      let from = c.beside.from in
-      let before = c.beside.before in
-      meets c.read c.earlier (subst (λ n. ReadsOutside image n (run_memory image cores n) c.read) e c.reads) (subst (λ n. first_beside cores n ≤ c.earlier) e from)
-      (omega (arith, before, e)) (record { at = c.written; in_line = c.same; stores = c.stores }))
-  | inr other ↦ (let before = y.before in none (record { conflict = y.conflict; before = omega (arith, before, other) }))
-]
-
-pub none_at_first : (image : LoadedImage) (cores : ℕ) → LineConflictsBefore image cores 0 → ⊥
-none_at_first image cores y = let before = y.before in omega (arith, before)
-
-pub none_further : (image : LoadedImage) (cores ran later : ℕ) → AreAll image ran → ran ≤ first_beside cores later → (LineConflictsBefore image cores later → ⊥)
-    → LineConflictInOrder image cores → ⊥
-none_further image cores ran later all past none conflict = elim (cases_lt conflict.later later) [
-  | inl before ↦ none (record { conflict = conflict; before = before })
-  | inr from ↦
-      (let first = conflict.beside.from in
-      let before = conflict.beside.before in
-      let within = conflict.beside.within in
-      let low = all.no_more (first_beside cores conflict.later) (omega (arith, first, before, within)) conflict.beside.starts in omega (arith, low, past, from))
-]
-
-pub none_at_all : (image : LoadedImage) (cores : ℕ) → (LineConflictsBefore image cores image.epochs → ⊥) → LineConflictInOrder image cores → ⊥
-none_at_all image cores none conflict = none (record { conflict = conflict; before = conflict.beside.within })
-
--- the memory of an epoch that runs in order
-pub memory_in_order : (image : LoadedImage) (cores epoch : ℕ) (memory : List ℕ) → first_epochs image epoch ≡ record { end = Done epoch; bytes = memory }
-    → memory ≡ run_memory image cores epoch
-memory_in_order image cores epoch memory done =
-    sym (run_in_order image cores epoch (ap (λ (r : SequentialResult). r.end) done) ∙ ap (λ (r : SequentialResult). r.bytes) done)
-
 -- ---- what is noted
 
-pub noted_none : (image : LoadedImage) (s : Lines) (epoch address : ℕ) → AreLinesNoted image s s epoch address 0
+pub noted_none : (image : LoadedImage) (s : LastTwo) (epoch address : ℕ) → AreLinesNoted image s s epoch address 0
 noted_none image s epoch address = record {
-  own = refl;
   last_long = refl;
   before_long = refl;
   here = λ i low. absurd (omega (arith, low));
   others = λ l none. refl;
-  writer = λ l. refl;
+  other = λ l. refl;
 }
 
-pub noted_more : (image : LoadedImage) (old s new : Lines) (epoch address i line : ℕ) → line ≡ line_number image (address + i) → AreLinesNoted image old s epoch address i
+-- a list with one more noted at this line
+pub here_more : (image : LoadedImage) (new : List ℕ) (old : List ℕ) (epoch address i line : ℕ) → line ≡ line_number image (address + i) → slice_index new line ≡ epoch + 1
+    → ((l : ℕ) → l ≢ line → slice_index new l ≡ slice_index old l) → ((j : ℕ) → j < i → slice_index old (line_number image (address + j)) ≡ epoch + 1)
+    → (j : ℕ) → j < i + 1 → slice_index new (line_number image (address + j)) ≡ epoch + 1
+here_more image new old epoch address i line is here others before j low = elim (cases_eq (line_number image (address + j)) line) [
+  | inl e ↦ ap (slice_index new) e ∙ here
+  | inr other ↦ elim (cases_eq j i) [
+    | inl e ↦ absurd (other (ap (λ n. line_number image (address + n)) e ∙ sym is))
+    | inr less ↦ others (line_number image (address + j)) other ∙ before j (omega (arith, low, less))
+  ]
+]
+
+pub noted_more : (image : LoadedImage) (old s new : LastTwo) (epoch address i line : ℕ) → line ≡ line_number image (address + i) → AreLinesNoted image old s epoch address i
     → IsLineNoted s new epoch line → AreLinesNoted image old new epoch address (i + 1)
 noted_more image old s new epoch address i line is are one = record {
-  own = one.own ∙ are.own;
   last_long = one.last_long ∙ are.last_long;
   before_long = one.before_long ∙ are.before_long;
-  here = λ j low. elim (cases_eq (line_number image (address + j)) line) [
-    | inl e ↦ ap (slice_index new.last) e ∙ one.here
-    | inr other ↦ elim (cases_eq j i) [
-      | inl e ↦ absurd (other (ap (λ n. line_number image (address + n)) e ∙ sym is))
-      | inr less ↦ one.others (line_number image (address + j)) other ∙ are.here j (omega (arith, low, less))
-    ]
-  ];
+  here = here_more image new.last s.last epoch address i line is one.here one.others are.here;
   others = λ l none. one.others l (subst (λ n. l ≢ n) (sym is) (none i (omega arith))) ∙ are.others l (λ j low. none j (omega (arith, low)));
-  writer = λ l. one.writer l ∙ are.writer l;
+  other = λ l. one.other l ∙ are.other l;
 }

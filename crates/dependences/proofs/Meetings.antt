@@ -247,7 +247,7 @@ module _ (image : LoadedImage) (cores : ℕ) (s : FlatState) (going : Going imag
 -- ---- the lines of a buffer
 
 -- the numbers below this one that pass a test, the greatest first
-record Passing (P : ℕ → Type 0) (n count : ℕ) : Type 0 where
+pub record Passing (P : ℕ → Type 0) (n count : ℕ) : Type 0 where
   pub list : List ℕ
   pub long : length list ≡ count
   pub falling : AreFalling n list
@@ -279,7 +279,7 @@ passing_more P test n false is passes rest = record {
   each = rest.each;
 }
 
-passing : (P : ℕ → Type 0) (test : ℕ → Bool) → ((k : ℕ) → test k ≡ true → P k) → (n : ℕ) → Passing P n (count_below n test)
+pub passing : (P : ℕ → Type 0) (test : ℕ → Bool) → ((k : ℕ) → test k ≡ true → P k) → (n : ℕ) → Passing P n (count_below n test)
 unfolding count_below
 passing P test passes zero = record { list = []; long = refl; falling = tt; each = all_none P }
 passing P test passes (suc n) = passing_more P test n (test n) refl (passes n) (passing P test passes n)

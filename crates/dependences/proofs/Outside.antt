@@ -1,5 +1,5 @@
 -- One epoch alone over a memory: what it has read from outside so far, and who wrote that.
-use Rattle.std.proofs.Common.{◌≡◌, ◌≢◌, ◌⊎◌, ℕ, zero, suc, ◌+◌, ◌-◌, ◌<◌, ◌≤◌, Bool, true, false, List, length, slice_index, Option, Some, None, refl, sym, ap, subst, ◌∙◌, inl, inr, arith, add-one}
+use Rattle.std.proofs.Common.{◌≡◌, ◌⊎◌, ℕ, suc, ◌+◌, ◌-◌, ◌<◌, ◌≤◌, Bool, true, false, List, length, slice_index, Option, Some, None, refl, sym, ap, subst, ◌∙◌, inl, inr, arith, add-one}
 use Rattle.std.proofs.lemmas.Bool.{cases_lt}
 use Rattle.rv32_image.specs.Image.{LoadedImage}
 use Rattle.memory_bytes.specs.Bytes.{number_at, with_number}
@@ -16,7 +16,7 @@ use Rattle.rv32_exec.specs.Laws.{HasStopped}
 use Rattle.rv32_exec.proofs.Epochs.{first_epochs-ends, first_epochs-exits, one_more_epoch}
 use Rattle.spec_history.proofs.OneEntry.Accesses.{load_counts}
 use Rattle.spec_history.proofs.OneEntry.Progress.{outcome_there}
-use Rattle.dependences.specs.Paths.{LoadsAt, ReadsOutside, StoresAt}
+use Rattle.dependences.specs.Paths.{ReadsOutside}
 use Rattle.dependences.specs.Conflict.{IsInOrder, memory_before}
 use Rattle.dependences.specs.Kept.{IsMarked, MeetsWriter}
 use Rattle.dependences.proofs.Paths.{IsAt, access_stops, at_start, covered, either, load_after, neither, past_load, past_store, reads_there, start_after, store_after}
@@ -92,9 +92,6 @@ path_store image epoch memory now h x address width value is = record {
   at = past_store image epoch memory h x.own address width value x.at is;
   is = store_after image epoch memory h x.own address width value x.at is ∙ ap (λ m. with_number m address width value) x.is;
 }
-
-pub path_long : (image : LoadedImage) (epoch : ℕ) (memory now : List ℕ) (h : HartState) → OnPath image epoch memory now h → length now ≡ image.size
-path_long image epoch memory now h x = sym (ap (λ m. length m) x.is) ∙ x.at.holds.long
 
 -- ---- its end
 

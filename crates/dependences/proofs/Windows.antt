@@ -15,7 +15,7 @@ use Rattle.spec_history.proofs.Replay.Replays.{effect-on, effect-idle}
 
 -- ---- counts
 
-count_same : (n : ℕ) (f g : ℕ → Bool) → ((k : ℕ) → k < n → f k ≡ g k) → count_below n f ≡ count_below n g
+pub count_same : (n : ℕ) (f g : ℕ → Bool) → ((k : ℕ) → k < n → f k ≡ g k) → count_below n f ≡ count_below n g
 unfolding count_below
 count_same zero f g same = refl
 count_same (suc n) f g same = rw (count_same n f g (λ k below. same k (omega (arith, below))), same n (omega arith)) refl
@@ -24,17 +24,17 @@ most_by : (n : ℕ) (f : ℕ → Bool) (b : Bool) → count_below n f ≤ n → 
 most_by n f true most = omega (arith, most)
 most_by n f false most = omega (arith, most)
 
-count_most : (n : ℕ) (f : ℕ → Bool) → count_below n f ≤ n
+pub count_most : (n : ℕ) (f : ℕ → Bool) → count_below n f ≤ n
 unfolding count_below
 count_most zero f = omega arith
 count_most (suc n) f = most_by n f (f n) (count_most n f)
 
-count_last : (n : ℕ) (f : ℕ → Bool) (b : Bool) → f n ≡ b → count_below (suc n) f ≡ count_below n f + cond b 1 0
+pub count_last : (n : ℕ) (f : ℕ → Bool) (b : Bool) → f n ≡ b → count_below (suc n) f ≡ count_below n f + cond b 1 0
 unfolding count_below
 count_last n f b is = ap (λ x. count_below n f + cond x 1 0) is
 
 -- one more passes
-count_more : (n at : ℕ) (f g : ℕ → Bool) → at < n → ((k : ℕ) → k ≢ at → f k ≡ g k) → f at ≡ false → g at ≡ true → count_below n g ≡ count_below n f + 1
+pub count_more : (n at : ℕ) (f g : ℕ → Bool) → at < n → ((k : ℕ) → k ≢ at → f k ≡ g k) → f at ≡ false → g at ≡ true → count_below n g ≡ count_below n f + 1
 count_more zero at f g within same fails passes = absurd (omega (arith, within))
 count_more (suc n) at f g within same fails passes = elim (cases_eq n at) [
   | inl e ↦

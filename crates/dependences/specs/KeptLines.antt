@@ -1,10 +1,10 @@
--- What the code keeps of the lines of the caches: who stored in each last.
+-- What the code keeps of the lines of the caches: who did something in each last, and who stored in each.
 use Rattle.std.specs.Prelude.{◌≡◌, ◌≢◌, ℕ, zero, suc, ◌+◌, ◌/◌, ◌==◌, ◌<◌, ◌≤◌, List, length, slice_index, if◌then◌else◌}
 use Rattle.rv32_image.specs.Image.{LoadedImage}
 use Rattle.rv32_image.specs.Version.{limits_of}
 use Rattle.spec_history.specs.Conflict.{line_number}
 use Rattle.dependences.specs.Paths.{ReadsOutside}
-use Rattle.dependences.specs.Conflict.{LineConflictInOrder, StoresIn, first_beside, run_memory}
+use Rattle.dependences.specs.Conflict.{StoresIn, first_beside, run_memory}
 use Rattle.dependences.specs.Kept.{IsMarked}
 
 -- of the epochs before this one, the last of this kind, and 1; 0 where there is none
@@ -16,65 +16,65 @@ IsLastOf P epoch (suc last) = (last < epoch) × P last × ((d : ℕ) → d < epo
 abbrev pub StoresInLine : LoadedImage → ℕ → ℕ → ℕ → Type 0
 StoresInLine image cores line epoch = StoresIn image epoch (run_memory image cores epoch) line
 
--- of each byte the last epoch that stored it, and 1; of each line the last that stored in it, and 1, and the last before that one
-pub record Lines : Type 0 where
-  pub own : List ℕ
+-- of each line the last epoch that did something in it, and 1, and the last before that one
+pub record LastTwo : Type 0 where
   pub last : List ℕ
   pub before : List ℕ
 
--- the last epoch that stored in the line, and 1, this one aside
-abbrev pub writer_before : Lines → ℕ → ℕ → ℕ
-writer_before s epoch line = if slice_index s.last line == epoch + 1 then slice_index s.before line else slice_index s.last line
+-- of each byte the last epoch that stored it, and 1; and the last that stored in each line
+pub record Lines : Type 0 where
+  pub own : List ℕ
+  pub two : LastTwo
 
--- memory has so many bytes, and lines of this version
-pub record HaveRoom (image : LoadedImage) (s : Lines) : Type 0 where
-  pub own : length s.own ≡ image.size
-  pub last : length s.last ≡ image.size / (limits_of image.version).line_length
-  pub before : length s.before ≡ image.size / (limits_of image.version).line_length
+-- the last epoch that did so in the line, and 1, this one aside
+abbrev pub other_before : LastTwo → ℕ → ℕ → ℕ
+other_before s epoch line = if slice_index s.last line == epoch + 1 then slice_index s.before line else slice_index s.last line
+
+-- memory has so many lines of this version
+abbrev pub line_count : LoadedImage → ℕ
+line_count image = image.size / (limits_of image.version).line_length
+
+pub record AreLines (image : LoadedImage) (s : LastTwo) : Type 0 where
+  pub last : length s.last ≡ line_count image
+  pub before : length s.before ≡ line_count image
 
 -- it is kept what the epochs before this one stored
 pub record AreLinesKept (image : LoadedImage) (cores epoch : ℕ) (s : Lines) : Type 0 where
-  pub room : HaveRoom image s
+  pub own : length s.own ≡ image.size
+  pub lines : AreLines image s.two
   pub owner : (a : ℕ) → slice_index s.own a ≤ epoch
-  pub writer : (line : ℕ) → IsLastOf (StoresInLine image cores line) epoch (slice_index s.last line)
+  pub writer : (line : ℕ) → IsLastOf (StoresInLine image cores line) epoch (slice_index s.two.last line)
 
--- this epoch has stored in this line now
-pub record IsLineNoted (old new : Lines) (epoch line : ℕ) : Type 0 where
-  pub own : new.own ≡ old.own
+-- this epoch has done so in this line now
+pub record IsLineNoted (old new : LastTwo) (epoch line : ℕ) : Type 0 where
   pub last_long : length new.last ≡ length old.last
   pub before_long : length new.before ≡ length old.before
   pub here : slice_index new.last line ≡ epoch + 1
   pub others : (l : ℕ) → l ≢ line → slice_index new.last l ≡ slice_index old.last l
-  pub writer : (l : ℕ) → writer_before new epoch l ≡ writer_before old epoch l
+  pub other : (l : ℕ) → other_before new epoch l ≡ other_before old epoch l
 
 -- and in the lines of these bytes
-pub record AreLinesNoted (image : LoadedImage) (old new : Lines) (epoch address width : ℕ) : Type 0 where
-  pub own : new.own ≡ old.own
+pub record AreLinesNoted (image : LoadedImage) (old new : LastTwo) (epoch address width : ℕ) : Type 0 where
   pub last_long : length new.last ≡ length old.last
   pub before_long : length new.before ≡ length old.before
   pub here : (i : ℕ) → i < width → slice_index new.last (line_number image (address + i)) ≡ epoch + 1
   pub others : (l : ℕ) → ((i : ℕ) → i < width → l ≢ line_number image (address + i)) → slice_index new.last l ≡ slice_index old.last l
-  pub writer : (l : ℕ) → writer_before new epoch l ≡ writer_before old epoch l
+  pub other : (l : ℕ) → other_before new epoch l ≡ other_before old epoch l
 
 -- an epoch stores these bytes
 pub record AreStored (image : LoadedImage) (old new : Lines) (epoch address width : ℕ) : Type 0 where
   pub marked : IsMarked old.own new.own address width (epoch + 1)
   pub own_long : length new.own ≡ length old.own
-  pub lines : AreLinesNoted image (record { own = new.own; last = old.last; before = old.before }) new epoch address width
+  pub lines : AreLinesNoted image old.two new.two epoch address width
 
 -- a byte of these, which the epoch has not stored, lies in a line in which this epoch or a later one has
 pub record MeetsLine (image : LoadedImage) (s : Lines) (epoch first address width : ℕ) : Type 0 where
   pub i : ℕ
   pub within : i < width
   pub foreign : slice_index s.own (address + i) ≢ epoch + 1
-  pub written : first < writer_before s epoch (line_number image (address + i))
+  pub written : first < other_before s.two epoch (line_number image (address + i))
 
 -- the epoch reads no byte from outside in a line in which an epoch beside it stores
 abbrev pub MeetsNone : LoadedImage → ℕ → ℕ → Type 0
 MeetsNone image cores epoch = (a d : ℕ) → ReadsOutside image epoch (run_memory image cores epoch) a → first_beside cores epoch ≤ d → d < epoch
     → StoresInLine image cores (line_number image a) d → ⊥
-
--- epochs conflict over lines, of which the later one is before this one
-pub record LineConflictsBefore (image : LoadedImage) (cores epoch : ℕ) : Type 0 where
-  pub conflict : LineConflictInOrder image cores
-  pub before : conflict.later < epoch

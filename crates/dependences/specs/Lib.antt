@@ -10,3 +10,4 @@ pub mod Flow
 pub mod Kept
 pub mod KeptStores
 pub mod KeptLines
+pub mod KeptTouches

@@ -2,13 +2,16 @@
 #![tactic(auto)]
 
 mod alone;
+mod caches;
 mod conflict;
 mod flow;
+mod last_two;
 pub mod laws;
 mod lines;
 mod nearest;
+mod touches;
 
+pub use caches::{CacheConflict, conflict_over_caches};
 pub use conflict::conflicts_over_bytes;
 pub use flow::{Dependence, dependences_in_order};
-pub use lines::conflicts_over_lines;
 pub use nearest::nearest_dependence;

@@ -1,6 +1,6 @@
 //! Whether epochs that cores can run beside each other conflict, also those past the loop's end.
 
-use dependences::{conflicts_over_bytes, conflicts_over_lines};
+use dependences::{CacheConflict, conflict_over_caches, conflicts_over_bytes};
 use rv32_exec::{Image, NoMemory, image_of};
 use std::alloc::Global;
 use std::test::Fail;
@@ -85,11 +85,15 @@ fn over_bytes(alloc: Global, image: &Image, cores: u32) -> Result<bool, NoMemory
     }
 }
 
-/// The same over lines.
-fn over_lines(alloc: Global, image: &Image, cores: u32) -> Result<bool, NoMemory> {
-    match conflicts_over_lines(alloc, image, cores) {
+/// What it conflicts in over caches.
+fn over_caches(
+    alloc: Global,
+    image: &Image,
+    cores: u32,
+) -> Result<Option<CacheConflict>, NoMemory> {
+    match conflict_over_caches(alloc, image, cores) {
         Ok(found) => Ok(found),
-        Err(NoMemory) => conflicts_over_lines(alloc, image, cores),
+        Err(NoMemory) => conflict_over_caches(alloc, image, cores),
     }
 }
 
@@ -109,8 +113,51 @@ fn conflicts_begin_with_so_many_cores(rt: HostRuntime) -> Result<(), Fail> {
         for cores in 0..9 {
             let found = over_bytes(rt.alloc(), &image, cores)?;
             assert!(rt; found == is_reached(bytes, cores), "bytes, {cores} {text}");
-            let found = over_lines(rt.alloc(), &image, cores)?;
-            assert!(rt; found == is_reached(lines, cores), "lines, {cores} {text}");
+            let wanted = if is_reached(lines, cores) {
+                Some(CacheConflict::Line)
+            } else {
+                None
+            };
+            let found = over_caches(rt.alloc(), &image, cores)?;
+            assert!(rt; found == wanted, "lines, {cores} {text}");
+        }
+    }
+    Ok(())
+}
+
+/// Code of loops that load nothing, and the least number of cores, up to 8, on which a buffer of 4 lines is too small, worked out by
+/// hand.
+const STORES: [(&str, Option<u32>); 4] = [
+    // sw x0, 64(x0) and so on, each 16 bytes further: each epoch stores in the same four lines.
+    ("2320000423280004232000062328000667800000", None),
+    // In the same five.
+    ("232000042328000423200006232800062320000867800000", Some(2)),
+    // slli x6, x10, 7; sw x0, 64(x6) and so on: in five of its own.
+    (
+        "13137500232003042328030423200306232803062320030867800000",
+        None,
+    ),
+    // Epoch 2 stores in five, and epoch 0 in one of these.
+    (
+        "9302e5ff639c02002320000423280004232000062328000623200008631405002322000467800000",
+        Some(3),
+    ),
+];
+
+/// On each number of cores a buffer is too small or not.
+#[test]
+fn buffers_are_too_small_with_so_many_cores(rt: HostRuntime) -> Result<(), Fail> {
+    for (code, least) in STORES {
+        let text = format!(in rt.alloc(); "size 4096\nepochs 8\nlimit 100\ncode {code}\n")?;
+        let image = image_of(rt.alloc(), text.as_bytes())?;
+        for cores in 0..9 {
+            let wanted = if is_reached(least, cores) {
+                Some(CacheConflict::Buffer)
+            } else {
+                None
+            };
+            let found = over_caches(rt.alloc(), &image, cores)?;
+            assert!(rt; found == wanted, "{cores} {text}");
         }
     }
     Ok(())

@@ -2,7 +2,7 @@ use Rattle.std.proofs.Common.{◌≡◌, ◌<◌, ◌/◌, ◌∙◌, sym, ap, s
 use Rattle.rv32_image.specs.declared.version.Limits.{Limits}
 use Rattle.rv32_image.specs.Version.{limits_of}
 use Rattle.rv32_image.proofs.Bounds.{number_below}
-use Rattle.dependences.proofs.lines.line_of.Goals as goal
+use Rattle.dependences.proofs.last_two.line_of.Goals as goal
 
 pub returns-clause-inside : goal.returns-clause-inside
 returns-clause-inside c below =

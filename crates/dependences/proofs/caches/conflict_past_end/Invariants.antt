@@ -2,8 +2,9 @@ use Rattle.std.proofs.Common.{◌≡◌, ◌≤◌, length}
 use Rattle.rv32_exec.specs.declared.sequential.End.TheVariants.{Done}
 use Rattle.rv32_exec.specs.Sequential.{first_epochs}
 use Rattle.dependences.specs.Conflict.{first_beside}
-use Rattle.dependences.specs.KeptLines.{AreLinesKept, LineConflictsBefore}
-use Rattle.dependences.proofs.lines.conflicts_past_end.Given as goal
+use Rattle.dependences.specs.KeptLines.{AreLinesKept}
+use Rattle.dependences.specs.KeptTouches.{AreClear, AreTouchesKept}
+use Rattle.dependences.proofs.caches.conflict_past_end.Given as goal
 
 -- no epoch before this one conflicts
 abbrev pub invariant-loop-later : goal.invariant-loop-later
@@ -12,6 +13,7 @@ invariant-loop-later l = record {
   low : l.done ≤ first_beside l.cores l.later;
   size : length l.memory ≡ l.image.size;
   alone : length l.alone ≡ l.image.size;
-  kept : AreLinesKept l.image l.cores l.later l.lines;
-  none : LineConflictsBefore l.image l.cores l.later → ⊥;
+  lines : AreLinesKept l.image l.cores l.later l.lines;
+  touches : AreTouchesKept l.image l.cores l.later l.touches;
+  clear : AreClear l.image l.cores l.later;
 }

@@ -1,11 +1,13 @@
 use Rattle.std.proofs.Common.{◌-◌, ◌+◌, ◌≤◌}
+use Rattle.dependences.proofs.Buffering.{InBuffers}
 use Rattle.dependences.proofs.Lining.{InLines}
-use Rattle.dependences.proofs.lines.meets_line.Given as goal
+use Rattle.dependences.proofs.caches.conflict_of.Given as goal
 
--- it is kept in which lines it has stored so far
+-- it is kept what it has touched so far
 abbrev pub invariant-accesses : goal.invariant-accesses
 invariant-accesses l = record {
-  within_lines : InLines l.image l.cores l.epoch l.fn.memory l.memory l.lines l.hart;
+  in_lines : InLines l.image l.cores l.epoch l.fn.memory l.memory l.lines l.hart;
+  in_buffers : InBuffers l.image l.cores l.epoch l.fn.memory l.memory l.touches l.hart;
   within : l.hart.done ≤ l.image.limit;
 }
 

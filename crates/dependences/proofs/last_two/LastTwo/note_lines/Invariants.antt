@@ -1,5 +1,5 @@
 use Rattle.dependences.specs.KeptLines.{AreLinesNoted}
-use Rattle.dependences.proofs.lines.Lines.note_lines.Given as goal
+use Rattle.dependences.proofs.last_two.LastTwo.note_lines.Given as goal
 
 -- the lines of the bytes so far are noted
 abbrev pub invariant-loop-i : goal.invariant-loop-i

@@ -1,6 +1,5 @@
-use Rattle.std.proofs.Common.{◌≡◌}
 use Rattle.dependences.proofs.Lining.{noted_more, noted_none}
-use Rattle.dependences.proofs.lines.Lines.note_lines.Goals as goal
+use Rattle.dependences.proofs.last_two.LastTwo.note_lines.Goals as goal
 
 pub loop-i-init : goal.loop-i-init
 loop-i-init c = noted_none c.args.image.now c.args.self.now c.args.epoch c.args.addr

@@ -1,0 +1,123 @@
+use Rattle.std.proofs.Common.{◌≡◌, ◌-◌, sym, ap, subst, inl, inr, ◌∙◌, arith}
+use Rattle.rv32_exec.specs.declared.stop.Stop.TheVariants as stop
+use Rattle.rv32_exec.specs.Hart.{stepped}
+use Rattle.rv32_exec.specs.Execute.{IsAccess, IsStore}
+use Rattle.rv32_exec.specs.NextEvent.{next_event}
+use Rattle.rv32_exec.specs.Arrival.{after_number}
+use Rattle.rv32_exec.proofs.Accesses.{stop_of_event}
+use Rattle.spec_history.proofs.OneEntry.Accesses.{load_counts}
+use Rattle.dependences.specs.Conflict.{first_beside}
+use Rattle.dependences.specs.KeptLines.{AreLinesNoted, MeetsLine}
+use Rattle.dependences.specs.KeptTouches.{AreCounted, AreStoredIn}
+use Rattle.dependences.proofs.Outside.{goes_on, no_fault}
+use Rattle.dependences.proofs.Lining.{line_conflict, lines_kept, lines_load, lines_path, lines_start, lines_store, meets_none}
+use Rattle.dependences.proofs.Buffering.{buffer_conflict, buffers_kept, buffers_load, buffers_start, buffers_store, counted_on, no_overflow, stored_from}
+use Rattle.dependences.proofs.caches.conflict_of.Goals as goal
+
+pub accesses-init : goal.accesses-init
+accesses-init c = record {
+  in_lines = rw c.start-hart.ensures
+      (lines_start c.args.image.now c.args.cores c.args.epoch c.args.memory.now c.args.lines.now c.requires.size c.requires.lines);
+  in_buffers = rw (c.start-hart.ensures, c.begin.ensures)
+      (buffers_start c.args.image.now c.args.cores c.args.epoch c.args.memory.now c.args.touches.now c.requires.size c.requires.touches);
+  within = rw c.start-hart.ensures (omega arith);
+}
+
+pub returns-then-meets-clause-found : goal.returns-then-meets-clause-found
+returns-then-meets-clause-found c =
+    let image = c.args.image.now in
+    let h = c.accesses.hart in
+    let is : (next_event image h).at ≡ stop.Load c.in-Load.addr c.in-Load.width c.in-Load.signed c.in-Load.rd = sym c.advance-arrived.ensures.at ∙ (sym c.at.ensures.at ∙ c.in-Load.is) in
+    let first : c.saturating_sub-first.result ≡ first_beside c.args.cores c.args.epoch = c.saturating_sub-first.ensures ∙ ap (λ n. c.args.epoch - n) c.saturating_sub.ensures in
+    line_conflict image c.args.cores c.args.epoch c.args.memory.now c.accesses.memory c.accesses.lines h c.accesses.invariant.in_lines
+    c.in-Load.addr c.in-Load.width c.in-Load.signed c.in-Load.rd is c.requires.memory c.requires.within c.requires.starts
+    (subst (λ n. MeetsLine image c.accesses.lines c.args.epoch n c.in-Load.addr c.in-Load.width) first (c.meets.ensures.found c.if-meets.true))
+
+pub accesses-preserved-in-Load : goal.accesses-preserved-in-Load
+accesses-preserved-in-Load c =
+    let image = c.args.image.now in
+    let h = c.accesses.hart in
+    let is : (next_event image h).at ≡ stop.Load c.in-Load.addr c.in-Load.width c.in-Load.signed c.in-Load.rd = sym c.advance-arrived.ensures.at ∙ (sym c.at.ensures.at ∙ c.in-Load.is) in
+    let hart : c.loaded-hart.result ≡ after_number (next_event image h).now (next_event image h).at c.read_number.result =
+    rw (c.advance-arrived.ensures.now, c.advance-arrived.ensures.at) at c.loaded-hart.ensures in
+    let first : c.saturating_sub-first.result ≡ first_beside c.args.cores c.args.epoch = c.saturating_sub-first.ensures ∙ ap (λ n. c.args.epoch - n) c.saturating_sub.ensures in
+    let unmet = subst (λ n. MeetsLine image c.accesses.lines c.args.epoch n c.in-Load.addr c.in-Load.width → ⊥) first (c.meets.ensures.none c.if-meets.false) in
+    let lines = lines_load image c.args.cores c.args.epoch c.args.memory.now c.accesses.memory c.accesses.lines h c.accesses.invariant.in_lines
+    c.in-Load.addr c.in-Load.width c.in-Load.signed c.in-Load.rd c.read_number.result is (sym c.read_number.ensures.number) unmet in
+    let buffers = buffers_load image c.args.cores c.args.epoch c.args.memory.now c.accesses.memory c.accesses.touches h c.accesses.invariant.in_buffers c.touch.new.self
+    c.in-Load.addr c.in-Load.width c.in-Load.signed c.in-Load.rd c.read_number.result is (sym c.read_number.ensures.number)
+    c.touch.ensures.two c.touch.ensures.stored c.touch.ensures.count c.touch.ensures.shared in
+    let access : IsAccess image (next_event image h).now c.in-Load.addr c.in-Load.width = rw is at (stop_of_event image h) in
+    let room = access.room in
+    let count = load_counts image h c.in-Load.addr c.in-Load.width c.in-Load.signed c.in-Load.rd c.read_number.result is in
+    record { in_lines = rw hart lines; in_buffers = rw hart buffers; within = rw hart (omega (arith, count, room)) }
+
+pub store-requires-in-Store-clause-counted : goal.store-requires-in-Store-clause-counted
+store-requires-in-Store-clause-counted c =
+    let first : c.saturating_sub-first.result ≡ first_beside c.args.cores c.args.epoch = c.saturating_sub-first.ensures ∙ ap (λ n. c.args.epoch - n) c.saturating_sub.ensures in
+    counted_on c.args.image.now c.accesses.touches c.touch-in-Store.new.self c.args.epoch c.saturating_sub-first.result c.in-Store.addr c.in-Store.width
+    c.touch-in-Store.ensures.two c.touch-in-Store.ensures.stored c.touch-in-Store.ensures.count c.touch-in-Store.ensures.shared
+    (subst (λ n. AreCounted c.accesses.touches c.args.epoch n) (sym first) c.accesses.invariant.in_buffers.counted)
+
+pub accesses-preserved : goal.accesses-preserved
+accesses-preserved c =
+    let image = c.args.image.now in
+    let h = c.accesses.hart in
+    let is : (next_event image h).at ≡ stop.Store c.in-Store.addr c.in-Store.width c.in-Store.value = sym c.advance-arrived.ensures.at ∙ (sym c.at.ensures.at ∙ c.in-Store.is) in
+    let hart : c.stored-hart.result ≡ stepped (next_event image h).now = rw c.advance-arrived.ensures.now at c.stored-hart.ensures in
+    let first : c.saturating_sub-first.result ≡ first_beside c.args.cores c.args.epoch = c.saturating_sub-first.ensures ∙ ap (λ n. c.args.epoch - n) c.saturating_sub.ensures in
+    let lines = lines_store image c.args.cores c.args.epoch c.args.memory.now c.accesses.memory c.accesses.lines h c.accesses.invariant.in_lines
+    c.store.new.self c.in-Store.addr c.in-Store.width c.in-Store.value is c.store.ensures in
+    let noted = subst (λ two. AreLinesNoted image c.accesses.touches.two two c.args.epoch c.in-Store.addr c.in-Store.width) (sym c.store-in-Store.ensures.two) c.touch-in-Store.ensures.two in
+    let are = stored_from image c.accesses.touches c.touch-in-Store.new.self c.store-in-Store.new.self c.args.epoch (first_beside c.args.cores c.args.epoch) c.in-Store.addr c.in-Store.width
+    c.touch-in-Store.ensures.stored
+    (subst (λ n. AreStoredIn image c.touch-in-Store.new.self c.store-in-Store.new.self c.args.epoch n c.in-Store.addr c.in-Store.width) first c.store-in-Store.ensures) in
+    let buffers = buffers_store image c.args.cores c.args.epoch c.args.memory.now c.accesses.memory c.accesses.touches h c.accesses.invariant.in_buffers c.store-in-Store.new.self
+    c.in-Store.addr c.in-Store.width c.in-Store.value is noted are in
+    let store : IsStore image (next_event image h).now c.in-Store.addr c.in-Store.width c.in-Store.value = rw is at (stop_of_event image h) in
+    let room = store.access.room in
+    record { in_lines = rw (c.write_number.ensures, hart) lines; in_buffers = rw (c.write_number.ensures, hart) buffers; within = rw hart (omega (arith, room)) }
+
+pub returns-then-overflows-clause-found : goal.returns-then-overflows-clause-found
+returns-then-overflows-clause-found c =
+    let image = c.args.image.now in
+    let at : (next_event image c.accesses.hart).at ≡ c.at.result = sym c.advance-arrived.ensures.at ∙ sym c.at.ensures.at in
+    buffer_conflict image c.args.cores c.args.epoch c.args.memory.now c.accesses.memory c.accesses.touches c.accesses.hart c.accesses.invariant.in_buffers
+    (elim c.in-Ended.is [ inl ended ↦ rw (at ∙ ended) tt | inr fault ↦ rw (at ∙ fault.2) tt ]) c.requires.memory c.requires.within c.requires.starts
+    (sym c.overflows.ensures ∙ c.if-overflows.true)
+
+pub returns-in-Ended-clause-none : goal.returns-in-Ended-clause-none
+returns-in-Ended-clause-none c none =
+    let image = c.args.image.now in
+    let at : (next_event image c.accesses.hart).at ≡ c.at.result = sym c.advance-arrived.ensures.at ∙ sym c.at.ensures.at in
+    record {
+      lines = meets_none image c.args.cores c.args.epoch c.args.memory.now c.accesses.memory c.accesses.lines c.accesses.hart c.accesses.invariant.in_lines
+          (elim c.in-Ended.is [ inl ended ↦ rw (at ∙ ended) tt | inr fault ↦ rw (at ∙ fault.2) tt ]) c.requires.memory;
+      buffers = no_overflow image c.args.cores c.args.epoch c.args.memory.now c.accesses.memory c.accesses.touches c.accesses.hart c.accesses.invariant.in_buffers
+          (elim c.in-Ended.is [ inl ended ↦ rw (at ∙ ended) tt | inr fault ↦ rw (at ∙ fault.2) tt ]) c.requires.memory (sym c.overflows.ensures ∙ c.if-overflows.false);
+    }
+
+pub returns-in-Ended-clause-lines : goal.returns-in-Ended-clause-lines
+returns-in-Ended-clause-lines c none =
+    let image = c.args.image.now in
+    let at : (next_event image c.accesses.hart).at ≡ c.at.result = sym c.advance-arrived.ensures.at ∙ sym c.at.ensures.at in
+    lines_kept image c.args.cores c.args.epoch c.args.memory.now c.accesses.memory c.accesses.lines c.accesses.hart c.accesses.invariant.in_lines
+    (elim c.in-Ended.is [ inl ended ↦ rw (at ∙ ended) tt | inr fault ↦ rw (at ∙ fault.2) tt ]) c.requires.memory
+
+pub returns-in-Ended-clause-touches : goal.returns-in-Ended-clause-touches
+returns-in-Ended-clause-touches c none =
+    let image = c.args.image.now in
+    let at : (next_event image c.accesses.hart).at ≡ c.at.result = sym c.advance-arrived.ensures.at ∙ sym c.at.ensures.at in
+    buffers_kept image c.args.cores c.args.epoch c.args.memory.now c.accesses.memory c.accesses.touches c.accesses.hart c.accesses.invariant.in_buffers
+    (elim c.in-Ended.is [ inl ended ↦ rw (at ∙ ended) tt | inr fault ↦ rw (at ∙ fault.2) tt ]) c.requires.memory
+
+pub returns-in-Ended-clause-done : goal.returns-in-Ended-clause-done
+returns-in-Ended-clause-done c none done order =
+    let image = c.args.image.now in
+    let h = c.accesses.hart in
+    let at : (next_event image h).at ≡ c.at.result = sym c.advance-arrived.ensures.at ∙ sym c.at.ensures.at in
+    let path = lines_path image c.args.cores c.args.epoch c.args.memory.now c.accesses.memory c.accesses.lines h c.accesses.invariant.in_lines in
+    elim c.in-Ended.is [
+      | inl ended ↦ goes_on image c.args.epoch c.args.memory.now c.accesses.memory h path done (at ∙ ended) order
+      | inr fault ↦ absurd (no_fault image c.args.epoch c.args.memory.now c.accesses.memory h path done fault.0 fault.1 (at ∙ fault.2) order)
+    ]

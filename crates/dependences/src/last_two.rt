@@ -1,0 +1,89 @@
+ghost use Rattle.std.specs.Prelude.{◌≡◌, ℕ, ◌+◌, ◌<◌, ◌≤◌, ◌^◌, IfOk, length, slice_index};
+ghost use Rattle.rv32_image.specs.Image.{IsImage};
+ghost use Rattle.spec_history.specs.Conflict.{line_number};
+ghost use Rattle.dependences.specs.KeptLines as spec;
+
+use rv32_exec::NoMemory;
+use rv32_image::Image;
+use std::alloc::Global;
+use std::marker::Model;
+
+/// The number of the line of the caches in which a byte lies.
+pub(crate) fn line_of(image: &Image, addr: u32) -> u32
+    ensures line { result ≡ line_number image.now addr }
+    ensures inside { addr < image.now.size → result < spec.line_count image.now }
+{
+    addr / image.version().limits().line_length
+}
+
+/// Of each line the last epoch that did something in it, and 1, and the last before that one. 0 for none.
+#[derive(Drop)]
+pub(crate) struct LastTwo {
+    last: Vec<u32>,
+    before: Vec<u32>,
+}
+
+impl Model for LastTwo {
+    ghost use Rattle.dependences.specs.KeptLines as spec;
+
+    ghost Value = { spec.LastTwo };
+
+    ghost view = { λ s. record { last = s.last.items; before = s.before.items } };
+}
+
+impl LastTwo {
+    /// None.
+    pub(crate) fn none(alloc: Global, image: &Image) -> Result<LastTwo, NoMemory>
+        ensures lines { IfOk result (λ s. spec.AreLines image.now s) }
+        ensures last { IfOk result (λ s. (line : ℕ) → slice_index s.last line ≡ 0) }
+    {
+        let count = line_of(image, image.size()) as usize;
+        let last = vec![in alloc; 0; count].map_err(|_| NoMemory)?;
+        let before = vec![in alloc; 0; count].map_err(|_| NoMemory)?;
+        Ok(LastTwo { last, before })
+    }
+
+    /// The last epoch that did so in a line, and 1, this one aside.
+    pub(crate) fn other_before(&self, epoch: u32, line: u32) -> u32
+        requires epoch { epoch < 2 ^ 16 }
+        requires last { line < length self.now.last }
+        requires before { line < length self.now.before }
+        ensures { result ≡ spec.other_before self.now epoch line }
+    {
+        let last = self.last[line as usize];
+        if last == epoch + 1 {
+            self.before[line as usize]
+        } else {
+            last
+        }
+    }
+
+    /// Notes that this epoch does so in the lines of these bytes.
+    pub(crate) fn note_lines(&mut self, image: &Image, epoch: u32, addr: u32, width: u32)
+        requires limits { IsImage image.now }
+        requires epoch { epoch < 2 ^ 16 }
+        requires within { addr + width ≤ image.now.size }
+        requires lines { spec.AreLines image.now self.old }
+        ensures { spec.AreLinesNoted image.now self.old self.new epoch addr width }
+    {
+        for i in 0..width {
+            let line = line_of(image, addr + i);
+            self.note(epoch, line);
+        }
+    }
+
+    /// Notes that this epoch does so in this line.
+    fn note(&mut self, epoch: u32, line: u32)
+        requires epoch { epoch < 2 ^ 16 }
+        requires last { line < length self.old.last }
+        requires before { line < length self.old.before }
+        ensures { spec.IsLineNoted self.old self.new epoch line }
+    {
+        let at = line as usize;
+        let last = self.last[at];
+        if last != epoch + 1 {
+            self.before[at] = last;
+            self.last[at] = epoch + 1;
+        }
+    }
+}
