@@ -17,7 +17,7 @@ use Rattle.spec_history.proofs.Replay.Joining.{splits}
 use Rattle.spec_history.proofs.Replay.Reaching.{no_entries}
 use Rattle.spec_history.proofs.Replay.Replays.{first_whole, legal_by, one_entry, replayed}
 use Rattle.dependences.specs.Conflict.{Conflict}
-use Rattle.dependences.specs.Laws.{NoneStartsAfterCancel}
+use Rattle.homefree.specs.Ending.{NoneStartsAfterCancel}
 use Rattle.dependences.proofs.Windows.{AllRun, CancelsNone, IsInWindow, StartsNone, all_run_still, first_all_run, near_of, near_still}
 use Rattle.dependences.proofs.Starting.{IsOrderly, first_orderly}
 use Rattle.dependences.proofs.Keeping.{orderly_still}

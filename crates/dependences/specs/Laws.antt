@@ -1,21 +1,16 @@
 -- What the laws take of a history, and what they say.
-use Rattle.std.specs.Prelude.{◌≡◌, ◌⊎◌, ℕ, ◌<◌, Bool, true, false, List, take, Option, Some, slice_get}
+use Rattle.std.specs.Prelude.{◌≡◌, ◌⊎◌, ℕ, Bool, true, false, List, take, Option, Some, slice_get}
 use Rattle.rv32_image.specs.Image.{LoadedImage}
 use Rattle.rv32_exec.specs.Hart.{HartState, start_of}
 use Rattle.rv32_exec.specs.Sequential.{Runs, after_steps}
 use Rattle.spec_history.specs.declared.entry.Entry.{Entry}
 use Rattle.spec_history.specs.declared.entry.What.{What}
-use Rattle.spec_history.specs.declared.entry.What.TheVariants.{Start, Store, Hurt, Cancel, Publish, Commit, Fault}
+use Rattle.spec_history.specs.declared.entry.What.TheVariants.{Store, Hurt, Publish, Commit, Fault}
 use Rattle.spec_history.specs.declared.kind.Kind.TheVariants.{TrueSharing, SilentStore}
 use Rattle.spec_history.specs.FlatState.{CoreState, FlatState}
 use Rattle.spec_history.specs.Refusal.{has}
 use Rattle.spec_history.specs.Replay.{replay}
 use Rattle.spec_history.specs.Conflict.{cause_of, is_hurt, kind_of, what_at}
-
--- no epoch starts once one has been cancelled: the loop is about to end
-abbrev pub NoneStartsAfterCancel : List Entry → Type 0
-NoneStartsAfterCancel history = (place later by core cancelled started : ℕ) → slice_get history place ≡ Some (record { by = by; what = Cancel cancelled })
-    → slice_get history later ≡ Some (record { by = core; what = Start started }) → later < place
 
 -- no epoch is violated
 abbrev pub NoneIsHurt : List Entry → Type 0

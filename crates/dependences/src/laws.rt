@@ -1,4 +1,4 @@
-//! What no schedule can roll back, over the definitions alone: each function does nothing, and its contract is the law.
+//! What no schedule can roll back: each function does nothing, and its contract is the law.
 
 ghost use Rattle.std.specs.Prelude.{◌≡◌, ℕ, ◌<◌, List, Option, Some};
 ghost use Rattle.rv32_image.specs.Image.{LoadedImage, IsImage};
@@ -8,7 +8,11 @@ ghost use Rattle.spec_history.specs.Replay.{replay};
 ghost use Rattle.spec_history.specs.Conflict.{AreKnown};
 ghost use Rattle.dependences.specs.Conflict.{Conflict, ConflictInOrder, IsInOrder, LineConflict, LineConflictInOrder, Overflow, OverflowInOrder, memory_before, path_memory};
 ghost use Rattle.dependences.specs.Nearest.{IsFar, IsNearest};
-ghost use Rattle.dependences.specs.Laws.{IsAlike, MeetInBytes, NoneIsHurt, NoneStartsAfterCancel};
+ghost use Rattle.homefree.specs.Ending.{NoneStartsAfterCancel};
+ghost use Rattle.dependences.specs.Laws.{IsAlike, MeetInBytes, NoneIsHurt};
+
+use homefree::Book;
+use violations::EpochStore;
 
 /// Where no two epochs conflict over bytes, the path of an epoch that runs in order is that run: it comes to the same harts, after
 /// as many instructions.
@@ -46,3 +50,12 @@ pub fn without_line_conflict_and_overflow_none_is_hurt()
     ensures { (image : LoadedImage) (cores : ℕ) (history : List Entry) (s : FlatState) → IsImage image → replay image cores history ≡ Some s
         → NoneStartsAfterCancel history → AreKnown image cores history → (LineConflict image cores → ⊥) → (Overflow image cores → ⊥) → NoneIsHurt history }
 {}
+
+/// Of every book, whatever turns led to it, on one thread or on many, and over any store: where no two epochs conflict over lines of
+/// the caches, and none overflows, its history has no violation.
+pub fn without_line_conflict_and_overflow_no_book_is_hurt<S: EpochStore>(book: &Book<S>)
+    ensures { (LineConflict book.now.image book.now.cores → ⊥) → (Overflow book.now.image book.now.cores → ⊥) → NoneIsHurt book.now.history }
+{
+    without_line_conflict_and_overflow_none_is_hurt();
+    book.look();
+}
