@@ -48,7 +48,7 @@ END = 'codes "\\n"'
 LABELLED = Form('named (codes " x ") {} ++ ', 'push_named(text, b" x ", {})?;\n    ', 'push_text(text, b"\\n")')
 NUMBERED = Form('number (codes " x ") {} ++ ', 'push_number(text, b" x ", {})?;\n    ', 'text.extend_from_slice(b"\\n")')
 ADDED = Form('codes " x " ++ decimal {} ++ ', 'text.extend_from_slice(b" x ")?;\n    push_number(text, {})?;\n    ', 'text.extend_from_slice(b"\\n")')
-MADE = Form('codes " x " ++ decimal {} ++ ', 'text.extend_from_slice(b" x ")?;\n    push_number(&mut text, {})?;\n    ', 'text.extend_from_slice(b"\\n")')
+MADE = Form('codes " x " ++ decimal {} ++ ', 'text.extend_from_slice(b" x ")?;\n    trace_text::push_number(&mut text, {})?;\n    ', 'text.extend_from_slice(b"\\n")')
 LINES = {
     "conflict_text": [
         Line(LABELLED, "specs/Lines.antt", "hurt_line", "src/lines.rt", "push_hurt", "f.lost", "found.lost as u128"),
