@@ -5,7 +5,7 @@ crate with one edit its refusal has to be kept, and the edit be tried again wher
 
 Usage: tests/wrong_bodies.py
 
-Needs the command `rt` of the Rattle kit, and is left out without it. It takes about two minutes. Exits with 1 where a check failed.
+Needs the command `rt` of the Rattle kit, and is left out without it. It takes about three minutes. Exits with 1 where a check failed.
 """
 import contextlib
 import json
@@ -18,6 +18,11 @@ import tempfile
 from pathlib import Path
 
 TOP = Path(__file__).resolve().parent.parent
+sys.path.insert(0, str(TOP / "tests/wrong-bodies"))
+sys.dont_write_bytecode = True
+
+from checks import is_another
+
 SOURCE = """\
 //! Numbers one after the other.
 #![tactic(auto)]
@@ -126,6 +131,35 @@ impl Count for Ones {
         1 + n
     }
 }
+
+/// Counts by two.
+#[derive(Drop)]
+pub struct Twos {
+    pub made: u32,
+}
+
+impl Count for Twos {
+    fn after(&self, n: u32) -> u32 {
+        2 + n
+    }
+}
+
+/// The number two after `n`, by a proof that names each step.
+pub fn two_by_steps(n: u32) -> u32
+    requires { n < 99 }
+    ensures { result ≡ 1 + (1 + n) }
+{
+    let first = one_after(n);
+    one_after(first)
+}
+
+/// The number one after `n`.
+fn one_after(n: u32) -> u32
+    requires { n < 100 }
+    ensures { result ≡ 1 + n }
+{
+    1 + n
+}
 """
 ANSWERS = """\
 use Rattle.std.proofs.Common.{arith}
@@ -137,10 +171,18 @@ two-steps c = let one = c.next-one.ensures in let two = c.next.ensures in omega 
 pub returns : goal.returns
 returns = two-steps
 """
+STEPS_ANSWERS = """\
+use Rattle.std.proofs.Common.{◌∙◌, ◌+◌, ap}
+use Rattle.steps.proofs.two_by_steps.Goals as goal
+
+pub returns : goal.returns
+returns c = c.one_after.ensures ∙ ap (λ k. 1 + k) c.one_after-first.ensures
+"""
+PROOF = "proofs/next_but_one/Answers.antt"
 LONG_NAME = "number_that_comes_two_steps_after_another_number"
 LONG_STEP = "number_that_comes_one_step_after_it"
 # Where a step has another name, `two-steps` names one that isn't there, and `returns` depends on it, "which was rejected".
-# Name of an edit: its pairs of old and new text, and what has to be told of it.
+# Name of an edit: its pairs of old and new text, and of a file that isn't the source, or a line; and what has to be told of it.
 EDITS = {
     "next_is_two_more": ([("    n + 1", "    n + 2")], "refused: "),
     "next_but_one_adds_the_limit": ([("    next(one)", "    next(one) + 1")], "refused: "),
@@ -152,10 +194,25 @@ EDITS = {
     "next_does_not_compile": ([("    n + 1", "    n + true")], "FAILED, DOES NOT COMPILE: src/lib.rt:11:9: error[mismatched-types]"),
     "next_of_a_text_that_is_not_there": ([("    n + 7", "    n + 1")], "FAILED, BAD EDIT: a text of it stands in src/lib.rt 0 times"),
     "next_but_one_renames_a_step": (
-        [("let one = next(n);\n    next(one)", "let first = next(n);\n    next(first)")], "FAILED, NOT REFUSED by a message at next_but_one"),
+        [("let one = next(n);\n    next(one)", "let first = next(n);\n    next(first)")], "misfit: ./proofs/next_but_one"),
     "a_step_with_a_long_name_is_renamed": (
         [(f"let {LONG_STEP} = next(n);\n    next({LONG_STEP})", "let first = next(n);\n    next(first)")],
-        f"FAILED, NOT REFUSED by a message at {LONG_NAME}"),
+        f"FAILED, MISFIT: ./proofs/{LONG_NAME}"),
+    "next_but_one_renames_a_step_in_its_answers_too": (
+        [("let one = next(n);\n    next(one)", "let first = next(n);\n    next(first)"), ("c.next-one.ensures", "c.next-first.ensures", PROOF)],
+        "FAILED, NOT REFUSED by a message at next_but_one: proved"),
+    "next_but_one_is_wrong_with_answers_that_fit": (
+        [("let one = next(n);\n    next(one)", "let first = next(n);\n    next(first) + 1"), ("c.next-one.ensures", "c.next-first.ensures", PROOF)], "refused: "),
+    "next_but_one_with_the_answers_of_another": (
+        [("    next(one)", "    next(one) + 1"), (f"c.next-{LONG_STEP}.ensures", "c.next.ensures", f"proofs/{LONG_NAME}/Answers.antt")],
+        "FAILED, BAD EDIT: it changes a proof of a function that it doesn't change"),
+    "two_by_steps_is_right_by_one_step_more": (
+        [("    one_after(first)", "    one_after(first + 1 - 1)")], "FAILED, MISFIT: ./proofs/two_by_steps"),
+    "two_by_steps_is_three": ([("    one_after(first)", "    one_after(first) + 1")], "refused: ./proofs/two_by_steps"),
+    "two_by_steps_is_three_without_answers": ([("    one_after(first)", "    one_after(first) + 1"), "without answers"], "refused: note: src/lib.rt:"),
+    "two_by_steps_is_right_without_answers": (
+        [("    one_after(first)", "    one_after(first + 1 - 1)"), "without answers"], "FAILED, NOT REFUSED by a message at two_by_steps: proved"),
+    "after_of_the_trait_is_the_same": ([("        2 + n", "        n")], "refused: "),
     "next_but_two_is_right_over_a_broken_one": (
         [("    next_but_one(after)", "    next(next_but_one(n))")], "FAILED, NOT REFUSED by a message at next_but_two: proved"),
     "next_but_two_beside_a_change_that_is_taken_back": (
@@ -173,9 +230,28 @@ EDITS = {
     "count_of_small_is_three": ([("Size::Small => 1,", "Size::Small => 3,")], "refused: "),
     "count_of_small_in_a_twin_of_one_arm_is_right": (
         [("Size::Small => 1,", "Size::Small => (1),")], "FAILED, NOT REFUSED by a message at count_of: proved"),
+    "next_is_three_more_and_known_as_a_misfit": ([("    n + 1", "    n + 3")], "FAILED, NO MISFIT: misfits.txt has it, refused: "),
     "the_head_of_the_file": ([("//! Numbers one", "//! Numbers, one")], "FAILED, BAD EDIT: it changes no function"),
 }
 
+
+# Two terms at the one place at which an answer doesn't fit, and whether they are other values for sure.
+TERMS = [
+    ("1", "2", True),
+    ("1", "1", False),
+    ("mathlib.Core.Bool.true", "mathlib.Core.Bool.false", True),
+    ("Rattle.steps.specs.declared.Size.TheVariants.Small", "Rattle.steps.specs.declared.Size.TheVariants.Large", True),
+    ("Rattle.steps.specs.Words.small", "Rattle.steps.specs.Words.large", False),
+    ("c.args.n", "c.args.m", True),
+    ("c.args.n", "c.next.result", False),
+    ("c.args.n", "(Prim.Native.Nat.◌/◌ c.args.n 2)", True),
+    ("c.args.n", "(Prim.Native.Nat.◌/◌ c.args.n 1)", False),
+    ("(c.next.result + 1)", "c.next.result", True),
+    ("(c.next.result + 1 - 1)", "c.next.result", False),
+    ("(c.next.result + 0)", "c.next.result", False),
+]
+# The list of those that are known to be misfits, of which one isn't there.
+KNOWN = ["next_but_one_renames_a_step", "next_is_three_more_and_known_as_a_misfit", "next_of_an_edit_that_is_not_there"]
 
 # A crate over another one, and its edit.
 LOW = """\
@@ -230,9 +306,10 @@ def write(path, text):
 
 
 def edit_text(pairs):
-    """The lines of an edit; a pair of several lines is one pair for each line."""
-    lines = ["file: src/lib.rt"]
-    for old, new in pairs:
+    """The lines of an edit; a pair of several lines is one pair for each line, and a third part is its file. What isn't a pair is a line."""
+    lines = [it for it in pairs if isinstance(it, str)]
+    for old, new, *file in (it for it in pairs if not isinstance(it, str)):
+        lines += [f"file: {it}" for it in file or ["src/lib.rt"]]
         for before, after in zip(old.split("\n"), new.split("\n")):
             lines += [f"old: {before}", f"new: {after}"]
     return "\n".join(lines) + "\n"
@@ -250,8 +327,10 @@ def repository(top):
     write(top / "tests/wrong-bodies/over/next_to_one_is_three.edit", edit_text(OVER_EDIT))
     write(top / "crates/steps/src/lib.rt", SOURCE)
     write(top / "crates/steps/proofs/next_but_one/Answers.antt", ANSWERS)
+    write(top / "crates/steps/proofs/two_by_steps/Answers.antt", STEPS_ANSWERS)
     long_answers = ANSWERS.replace("next_but_one", LONG_NAME).replace("next-one", f"next-{LONG_STEP}")
     write(top / f"crates/steps/proofs/{LONG_NAME}/Answers.antt", long_answers)
+    write(top / "tests/wrong-bodies/misfits.txt", "".join(f"steps/{it}\n" for it in KNOWN))
     for name, (pairs, _) in EDITS.items():
         write(top / f"tests/wrong-bodies/steps/{name}.edit", edit_text(pairs))
     for file in [*(TOP / "tests/wrong-bodies").glob("*.py"), TOP / "tests/wrong-bodies/run", TOP / "tools/crates.py"]:
@@ -343,14 +422,17 @@ def main():
         path = kit_of_its_own(folder)
         said, lines, status = told(top, path, "steps")
         kept = [*keeping(top, folder, path)]
-    refused = sum(wanted.startswith("refused") for _, wanted in EDITS.values())
-    checks = [(name, said.get(name, "nothing"), wanted) for name, (_, wanted) in EDITS.items()]
-    checks += [("the last line", lines[-1], f"{refused} refused, {len(EDITS) - refused} failed"), ("the status", str(status), "1"), *kept]
-    failed = [it for it in checks if not it[1].startswith(it[2])]
-    for name, got, wanted in failed:
+    told_of = {name: wanted for name, (_, wanted) in EDITS.items()} | {KNOWN[-1]: "FAILED, NO EDIT: misfits.txt has it"}
+    counts = [sum(wanted.startswith(word) for wanted in told_of.values()) for word in ("refused", "FAILED", "misfit")]
+    checks = [(name, said.get(name, "nothing"), wanted) for name, wanted in told_of.items()]
+    checks += [("the last line", lines[-1], f"{counts[0]} refused, {counts[1]} failed"), ("the third line from the end", lines[-3:][0], f"{counts[2]} misfits")]
+    checks += [("the status", str(status), "1"), *kept]
+    checks += [(f"{one} and {other}", str(is_another(one, other) or is_another(other, one)), str(wanted)) for one, other, wanted in TERMS]
+    wrong = [it for it in checks if not it[1].startswith(it[2])]
+    for name, got, wanted in wrong:
         print(f"FAILED {name}: got {got!r}, wanted {wanted!r}")
-    print(f"{len(checks) - len(failed)} checks passed, {len(failed)} failed")
-    return 1 if failed else 0
+    print(f"{len(checks) - len(wrong)} checks passed, {len(wrong)} failed")
+    return 1 if wrong else 0
 
 
 if __name__ == "__main__":

@@ -1,4 +1,5 @@
 """One check of a crate with other texts in some of its files, and what it says of the functions that it was asked for."""
+import contextlib
 import os
 import re
 import shutil
@@ -13,14 +14,24 @@ AT_ANSWER = re.compile(r"(?:\./)?proofs/(\S+)/(?:Answers|Invariants|Proof)\.antt
 GOAL = re.compile(r"\(`([^`]+)`\)")
 UNPROVED = re.compile(r"not proved|not shown|does not hold")
 FALSE_GOAL = "allow values at which this goal is false"
+# A tactic in an answer says so of a goal where it found values at which all holds that is known there, and the goal fails; or where it met
+# no limit.
+NO_CONSEQUENCE = re.compile("the goal does not follow|Every way was tried")
+# Where an answer would fit but for one place: the terms there. Some are other values for sure: two numbers, Bools or variants; two fields
+# of one thing; or a term and what a number makes of it.
+PLACE = re.compile(r"differ(?: only)? where one has `([^`]*)` \(expected\)(?:, right after `[^`]*`)?,? and the other has `([^`]*)`")
+VALUE = re.compile(r"\d+|mathlib\.Core\.Bool\.(?:true|false)|Rattle\.[\w.]+\.TheVariants\.\w+")
+FIELD = re.compile(r"(?!Rattle\.)([\w.-]+)\.\w+")
+OPERATOR_FIRST = re.compile(r"(?:Prim\.Native\.Nat\.)?◌([-+*/%])◌ (\S+) (\S+)")
+MADE_OF = re.compile(r"\((\S+) (?:[-+] [1-9]|[*/%] (?!1\)))\d*\)")
+# What a tactic gave up says nothing: the goal may hold.
+GAVE_UP = "gave up at one of its limits"
 # A mistake in a function's answers, as long as there is one, keeps the checker from offering proof files, which takes it as long as a
 # few proofs. What it says of the function's goals stays the same.
-MISTAKE = "\n\nmistake : nothing-has-this-name\nmistake = nothing-has-this-name\n"
-# An answer that names what the text took away says nothing of the function's promise, and neither does the mistake. Where the name of
-# a record is long, the checker says on the next line what the record has not.
-NAMES = re.compile(
-    r"has no field|is not a field of|is not in scope|has no `|was not admitted|which was rejected|^record `[^`]*`(?: \(nearest: .*\))?$"
-)
+MISTAKES_NAME = "nothing-has-this-name"
+MISTAKE = f"\n\nmistake : {MISTAKES_NAME}\nmistake = {MISTAKES_NAME}\n"
+# A proof that stands open: what calls the function rests on what it promises.
+OPEN = "use Rattle.{path}.Statement.{{statement}}\n\npub {name}_spec : {{M : Type 1}} → statement M\n{name}_spec = ?\n"
 
 
 @dataclass
@@ -33,24 +44,24 @@ class Said:
     seconds: float = 0.0
 
 
-def check(kit, crates, name, texts, functions, others, kept, twins=(), offers=False):
+def check(kit, crates, name, texts, functions, others, kept, twins=(), bare=(), offers=False):
     """Checks these functions of a crate with these texts of its files, over what earlier checks left in the folder `kept`. A twin
-    of a function, a pair of both paths, has its proof files. Without offers of such files no function is told as proved: each
-    has a mistake in its answers. The others of the crate have none but a mistake for a proof: what calls them rests on what they
-    promise."""
+    of a function, a pair of both paths, has its proof files. Those in `bare` have no answers. Without offers of such files no
+    function is told as proved: each has a mistake in its answers. The proofs of the crate's others stand open."""
     with tempfile.TemporaryDirectory(prefix="wrong-bodies-", ignore_cleanup_errors=True) as room:
         for part in PARTS:
             if os.path.isdir(f"{crates.folder(name)}/{part}"):
                 shutil.copytree(f"{crates.folder(name)}/{part}", f"{room}/{part}")
+        for twin, of in twins:
+            copy_proofs(room, twin, of)
         for path, text in texts.items():
             with open(f"{room}/{path}", "w", encoding="utf-8") as it:
                 it.write(text)
-        for twin, of in twins:
-            copy_proofs(room, twin, of)
-        take_proofs(room, others)
+        open_proofs(room, name, others)
+        take_answers(room, bare)
         if not offers:
             add_mistakes(room, functions)
-        words = [kit.checker, "check", *crates.words(name, kit), kit.logic(), "--jobs=1", f"--incremental={kept}"]
+        words = [kit.checker, "check", *crates.words(name, kit), kit.logic(), "--jobs=1", f"--incremental={kept}", *["--allow-holes"] * bool(others)]
         return said_by([*words, *[f"--only={it}" for it in sorted(functions)]], room, {f"{name}::{it}" for it in functions})
 
 
@@ -65,16 +76,25 @@ def copy_proofs(room, twin, of):
             it.write(re.sub(rf"\.{re.escape(of.replace('::', '.'))}(?=[.\s])", f".{twin.replace('::', '.')}", text))
 
 
-def take_proofs(room, functions):
-    """Gives each function, and the cycle of one that calls itself, a mistake for a proof by hand, so that it is refused at once."""
+def open_proofs(room, name, functions):
+    """Gives each function of a crate, and the cycle of one that calls itself, a proof by hand that stands open."""
     for function in functions:
         *above, own = function.split("::")
-        cycle = "/".join([room, "proofs", *above, f"+{own}"])
-        folder = cycle if os.path.isdir(cycle) else "/".join([room, "proofs", *above, own])
+        own = f"+{own}" if os.path.isdir("/".join([room, "proofs", *above, f"+{own}"])) else own
+        folder = "/".join([room, "proofs", *above, own])
         shutil.rmtree(folder, ignore_errors=True)
         os.makedirs(folder)
         with open(f"{folder}/Proof.antt", "w", encoding="utf-8") as it:
-            it.write(MISTAKE)
+            it.write(OPEN.format(path=".".join([name, "proofs", *above, own]), name=own))
+
+
+def take_answers(room, functions):
+    """Takes the answers of functions away, so that tactics alone judge their goals."""
+    for function in functions:
+        *above, own = function.split("::")
+        for folder in (own, f"+{own}"):
+            with contextlib.suppress(FileNotFoundError):
+                os.remove("/".join([room, "proofs", *above, folder, "Answers.antt"]))
 
 
 def add_mistakes(room, functions):
@@ -107,18 +127,50 @@ def said_by(words, folder, functions):
     return said
 
 
-def refusal(said, path, file, function):
-    """The first message by which a check refuses a function, at its own lines or in its own answers, or None."""
+def own_messages(said, path, file, function, alone=False):
+    """The messages at a function: those in its own answers, and those on its goals, at its own lines. Where it was tried alone these
+    are all on goals, since one may stand at a clause of the trait."""
     *above, _ = path.split("::")
     own = {"/".join([*above, it]) for it in (function.name, f"+{function.name}", f"+{function.cycle}")}
-    answers = [it for it in map(AT_ANSWER.match, said.lines) if it and it[1] in own]
-    broken = {it[2] for it in answers if NAMES.search(it[3])}
+    answers = [it for it in map(AT_ANSWER.match, whole_messages(said)) if it and it[1] in own and MISTAKES_NAME not in it[0]]
+    goals = [it for it in map(AT_SOURCE.match, said.lines) if it and UNPROVED.search(it[3])]
+    return answers, [it for it in goals if alone or it[1] == file and function.first <= int(it[2]) <= function.last]
+
+
+def whole_messages(said):
+    """The lines of a check, each with those below it that go on with it."""
+    messages = []
+    for line in said.lines:
+        if line.startswith("  ") and messages:
+            messages[-1] += " " + line.strip()
+        else:
+            messages.append(line)
+    return messages
+
+
+def is_of_another_value(message):
+    """Whether a message says that an answer would fit but for one value, which is another one."""
+    return any(is_another(one, other) or is_another(other, one) for one, other in PLACE.findall(message))
+
+
+def is_another(one, other):
+    """Whether two terms are other values for sure."""
+    fields, made = [FIELD.fullmatch(it) for it in (one, other)], MADE_OF.fullmatch(OPERATOR_FIRST.sub(r"\2 \1 \3", one))
+    are_values = VALUE.fullmatch(one) and VALUE.fullmatch(other)
+    return one != other and bool(are_values or all(fields) and fields[0][1] == fields[1][1] or made and made[1] == other)
+
+
+def verdict(said, path, file, function, bare=False, alone=False):
+    """Whether a check refuses a function, and the message by which; or None, where it says nothing of it. It refuses it by a goal that is
+    false, or that doesn't follow; by one for which tactics that met no limit found no proof, if its answers are there, and it has none
+    that was rejected; or by an answer that would fit but for one value, which is another one."""
+    answers, goals = own_messages(said, path, file, function, alone)
+    rejected = {it[2] for it in answers}
+    for it in goals:
+        goal = GOAL.search(it[3])
+        if FALSE_GOAL in it[3] or not bare and GAVE_UP not in it[3] and not (goal and goal[1] in rejected):
+            return True, it[0]
     for it in answers:
-        if not NAMES.search(it[3]):
-            return it[0]
-    for it in map(AT_SOURCE.match, said.lines):
-        if it and it[1] == file and function.first <= int(it[2]) <= function.last and UNPROVED.search(it[3]):
-            goal = GOAL.search(it[3])
-            if FALSE_GOAL in it[3] or not (goal and goal[1] in broken):
-                return it[0]
-    return None
+        if NO_CONSEQUENCE.search(it[0]) or is_of_another_value(it[0]):
+            return True, it[0]
+    return next(((False, it[0]) for it in [*answers, *goals]), None)

@@ -8,6 +8,7 @@ from sources import functions_of, module_of, types_of
 IMPORTS = ("use ", "ghost use ")
 CLAUSE = re.compile(r"(?m)^ *(?:requires|ensures)\b")
 MUCH = 8  # lines
+WITHOUT_ANSWERS = "without answers"
 ARM = re.compile(r" *\w+::(\w+)(?: \{[^{}]*\})? => .*")
 
 
@@ -36,26 +37,23 @@ class Twin:
 
 @dataclass(frozen=True)
 class Edit:
-    """A wrong body: its name, what it changes, the paths of the functions that it changes, and whether it changes nothing but
-    their bodies, so that no other function can tell. Where the wrong body stands in a twin, the function itself stays right."""
+    """A wrong body: its name, what it changes, the paths of the functions that it changes, whether it changes nothing but their
+    bodies, so that no other function can tell, and whether it is tried without their answers. Where the wrong body stands in a twin,
+    the function itself stays right."""
 
     name: str
     changes: tuple
     functions: frozenset
     in_bodies: bool
+    bare: bool
     twin: Twin = None
 
 
 class Sources:
-    """The source files of a crate, and the functions in them."""
+    """The source files of a crate, the functions in them, and the files of its proofs."""
 
     def __init__(self, folder):
-        self.folder, self.texts = folder, {}
-        for at, _, names in os.walk(f"{folder}/src"):
-            for name in names:
-                path = os.path.relpath(f"{at}/{name}", folder)
-                with open(f"{at}/{name}", encoding="utf-8") as it:
-                    self.texts[path] = it.read()
+        self.folder, self.texts, self.proofs = folder, texts_in(folder, "src"), texts_in(folder, "proofs")
         self.homes = {name: module_of(path) for path, text in self.texts.items() for name in types_of(text)}
         self.holders = {name for text in self.texts.values() for name in types_of(text, "struct|enum")}
 
@@ -72,10 +70,24 @@ class Sources:
         """The functions of the crate that have a body."""
         return {path for file, text in self.texts.items() for path, it in self.functions(file, text).items() if has_body(it, text)}
 
+    def text_of(self, file):
+        """The text of a file, or None."""
+        return self.texts.get(file, self.proofs.get(file))
+
     def is_in_cycle(self, path):
         """Whether a function calls itself, or others that call it: it has a proof of its cycle."""
         above, _, own = path.replace("::", "/").rpartition("/")
         return os.path.isdir(f"{self.folder}/proofs/{above}/+{own}")
+
+
+def texts_in(folder, part):
+    """The texts of the files in a part of a crate, by their paths in the crate."""
+    texts = {}
+    for at, _, names in os.walk(f"{folder}/{part}"):
+        for name in names:
+            with open(f"{at}/{name}", encoding="utf-8") as it:
+                texts[os.path.relpath(f"{at}/{name}", folder)] = it.read()
+    return texts
 
 
 def has_body(function, text):
@@ -84,7 +96,7 @@ def has_body(function, text):
 
 
 def changes_of(text):
-    """The pairs of an edit's text: lines `file: PATH`, `old: TEXT`, `new: TEXT`."""
+    """The pairs of an edit's text: lines `file: PATH`, `old: TEXT`, `new: TEXT`. A line `without answers` may stand beside them."""
     file, old, found = None, None, []
     for line in text.split("\n"):
         if line.startswith("file: "):
@@ -105,7 +117,7 @@ def changed(sources, changes, texts=None):
     """The texts of the files that these changes make of the sources, or of `texts` where that has the file."""
     texts = dict(texts or {})
     for it in changes:
-        text = texts.get(it.file, sources.texts.get(it.file))
+        text = texts.get(it.file, sources.text_of(it.file))
         if text is None:
             raise BadEdit(f"there is no file {it.file}")
         if text.count(it.old) != 1:
@@ -184,21 +196,31 @@ def read_edit(name, text, sources):
     for it in changes:
         before = texts.get(it.file, sources.texts.get(it.file, ""))
         texts = changed(sources, [it], texts)
+        if it.file in sources.proofs:
+            continue
         line = before[: before.find(it.old)].count("\n") + 1
         found = [of for of in functions_of(before) if of.first <= line <= of.last]
         in_bodies = in_bodies and (it.old.startswith(IMPORTS) or any(stays_inside(it, line, of) for of in found))
-    functions = {it for file, text in texts.items() for it in changed_functions(sources, file, text)}
-    if texts == {file: sources.texts[file] for file in texts}:
+    functions = {it for file, text in texts.items() if file in sources.texts for it in changed_functions(sources, file, text)}
+    if texts == {file: sources.text_of(file) for file in texts}:
         raise BadEdit("it changes nothing")
     if not functions:
         raise BadEdit("it changes no function")
-    return Edit(name, changes, frozenset(functions), in_bodies)
+    if any(file in sources.proofs and not any(is_own_proof(file, it) for it in functions) for file in texts):
+        raise BadEdit("it changes a proof of a function that it doesn't change")
+    return Edit(name, changes, frozenset(functions), in_bodies, WITHOUT_ANSWERS in text.split("\n"))
 
 
 def changed_functions(sources, file, text):
     """The paths of the functions of a file that have other lines in this text than in the sources."""
     was, now = (lines_by_function(sources, file, it) for it in (sources.texts[file], text))
     return {it for it in now if now[it] != was.get(it)}
+
+
+def is_own_proof(file, function):
+    """Whether a file of proofs/ is one of this function, or of its cycle."""
+    *above, own = function.split("::")
+    return os.path.dirname(file) in ("/".join(["proofs", *above, it]) for it in (own, f"+{own}"))
 
 
 def lines_by_function(sources, file, text):
