@@ -23,6 +23,7 @@ pub mod Outside
 pub mod Ending
 -- The loads that depend on earlier epochs.
 pub mod Flowing
+pub mod Joining
 -- Lines of the caches: who stored in them, and who reads in them.
 pub mod Lining
 pub mod Buffering

@@ -9,9 +9,11 @@ mod last_two;
 pub mod laws;
 mod lines;
 mod nearest;
+mod pairs;
 mod touches;
 
 pub use caches::{CacheConflict, conflict_over_caches};
 pub use conflict::conflicts_over_bytes;
 pub use flow::{Dependence, dependences_in_order};
 pub use nearest::nearest_dependence;
+pub use pairs::{PairSum, sums_by_pair};

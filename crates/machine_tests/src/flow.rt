@@ -1,8 +1,9 @@
 //! The loads of a loop that depend on earlier epochs.
 
-use dependences::{Dependence, dependences_in_order};
+use dependences::{Dependence, PairSum, dependences_in_order, sums_by_pair};
 use rv32_exec::{Image, NoMemory, image_of};
 use std::alloc::Global;
+use std::collections::BTreeMap;
 use std::test::Fail;
 
 /// A recurrence: each term is the sum of the two before it.
@@ -17,14 +18,14 @@ const TRANSFERS: &str =
 const COUNTERS: &str =
     "size 256\nepochs 16\nlimit 200\ncode 93753500370600001306060493952500b385c50003a605009306000013074000131515003345d50093861600e39ae6fe1305160023a0a50067800000\n";
 
-/// A loop; how many loads depend on earlier epochs; and of those that two instructions, by the pcs of the store and the load,
-/// join: how many, and their least and greatest distance. The values are those of an independent program.
-const ROWS: [(&str, usize, u32, u32, usize, u32, u32); 5] = [
-    (RECURRENCE, 25, 0x30, 0x18, 13, 1, 1),
-    (RECURRENCE, 25, 0x30, 0x1c, 12, 2, 2),
-    (TRANSFERS, 8, 0x34, 0x44, 4, 3, 5),
-    (TRANSFERS, 8, 0x4c, 0x28, 4, 3, 5),
-    (COUNTERS, 12, 0x34, 0x14, 12, 4, 4),
+/// A loop; how many loads depend on earlier epochs, and how many pairs of instructions join them; and of one pair, by the pcs of
+/// the store and the load: how many, and their least and greatest distance. The values are those of an independent program.
+const ROWS: [(&str, usize, usize, (u32, u32), u64, u32, u32); 5] = [
+    (RECURRENCE, 25, 2, (0x30, 0x18), 13, 1, 1),
+    (RECURRENCE, 25, 2, (0x30, 0x1c), 12, 2, 2),
+    (TRANSFERS, 8, 2, (0x34, 0x44), 4, 3, 5),
+    (TRANSFERS, 8, 2, (0x4c, 0x28), 4, 3, 5),
+    (COUNTERS, 12, 1, (0x34, 0x14), 12, 4, 4),
 ];
 
 /// The dependences. Where memory is refused it says so, and the next call is as if nothing had been.
@@ -35,33 +36,28 @@ fn dependences(alloc: Global, image: &Image) -> Result<Vec<Dependence>, NoMemory
     }
 }
 
-/// How many dependences two instructions join, and their least and greatest distance.
-fn joined(found: &[Dependence], store: u32, load: u32) -> (usize, u32, u32) {
-    let mut times: usize = 0;
-    let mut least = u32::MAX;
-    let mut most: u32 = 0;
-    for one in found {
-        if one.store_pc == store && one.load_pc == load {
-            let distance = one.later.saturating_sub(one.earlier);
-            times = times.saturating_add(1);
-            least = least.min(distance);
-            most = most.max(distance);
-        }
+/// The sums of their pairs. Where memory is refused it says so, and the next call is as if nothing had been.
+fn sums(alloc: Global, found: &[Dependence]) -> Result<BTreeMap<(u32, u32), PairSum>, NoMemory> {
+    match sums_by_pair(alloc, found) {
+        Ok(sums) => Ok(sums),
+        Err(NoMemory) => sums_by_pair(alloc, found),
     }
-    (times, least, most)
 }
 
 /// Dependences of loops, by pairs of instructions.
 #[test]
 fn joins_pairs_of_instructions(rt: HostRuntime) -> Result<(), Fail> {
-    for (text, all, store, load, times, least, most) in ROWS {
+    for (text, all, count, pair, times, least, most) in ROWS {
         let image = image_of(rt.alloc(), text.as_bytes())?;
         let found = dependences(rt.alloc(), &image)?;
         assert!(rt; found.len() == all, "{text}");
-        assert!(rt;
-            joined(found.as_slice(), store, load) == (times, least, most),
-            "{store} {load} {text}"
-        );
+        let sums = sums(rt.alloc(), found.as_slice())?;
+        assert!(rt; sums.len() == count, "{text}");
+        let is = match sums.get(&pair) {
+            Some(sum) => (sum.times, sum.least, sum.most) == (times, least, most),
+            None => false,
+        };
+        assert!(rt; is, "{text}");
     }
     Ok(())
 }
@@ -88,5 +84,23 @@ fn tells_of_the_store_and_the_load(rt: HostRuntime) -> Result<(), Fail> {
         assert!(rt; *one == wanted && later.saturating_sub(1) == one.earlier);
         later = later.saturating_add(1);
     }
+    let sums = sums(rt.alloc(), found.as_slice())?;
+    let wanted = PairSum {
+        times: 15,
+        least: 1,
+        most: 1,
+        lowest: 64,
+        highest: 64,
+        first: Dependence {
+            earlier: 0,
+            stored: 2,
+            store_pc: 8,
+            later: 1,
+            loaded: 0,
+            load_pc: 0,
+            byte: 64,
+        },
+    };
+    assert!(rt; sums.get(&(8, 0)).copied() == Some(wanted));
     Ok(())
 }

@@ -1,0 +1,77 @@
+-- Sums of dependences by pairs of instructions.
+use Rattle.std.proofs.Common.{◌≡◌, ℕ, ◌+◌, ◌≤◌, ◌==◌, ◌&&◌, Bool, true, false, cond, nat_lt, List, [], ◌∷◌, ◌++◌, length, Option, Some, None, refl, sym, ap, ◌∙◌, arith, eqb-true, ltb-true}
+use Rattle.std.proofs.lemmas.Bool.{and_parts, false_from_ne_true}
+use Rattle.std.specs.Ordering.{is_eq, nat_cmp, ordering_then}
+use Rattle.std.specs.declared.cmp.Ordering.{Ordering}
+use Rattle.std.specs.declared.cmp.Ordering.TheVariants.{Less, Equal, Greater}
+use Rattle.dependences.specs.declared.flow.Dependence.{Dependence}
+use Rattle.dependences.specs.declared.pairs.PairSum.{PairSum}
+use Rattle.dependences.specs.Pairs.{by_pcs, joins, pair_sum, sum_after, sum_with}
+
+-- ---- the same pcs
+
+first_so : (t e : Bool) (o : Ordering) → (t ≡ true → e ≡ false) → is_eq (ordering_then (cond t Less (cond e Equal Greater)) o) ≡ (e && is_eq o)
+first_so true true o no_both = let clash : true ≡ false = no_both refl in absurd cc
+first_so true false o no_both = refl
+first_so false true o no_both = refl
+first_so false false o no_both = refl
+
+second_so : (t e : Bool) → (t ≡ true → e ≡ false) → is_eq (cond t Less (cond e Equal Greater)) ≡ e
+second_so true true no_both = let clash : true ≡ false = no_both refl in absurd cc
+second_so true false no_both = refl
+second_so false true no_both = refl
+second_so false false no_both = refl
+
+apart : (a b : ℕ) → nat_lt a b ≡ true → (a == b) ≡ false
+apart a b less = false_from_ne_true (a == b) (λ same. omega (arith, ltb-true a b less, eqb-true a b same))
+
+at_pcs : (store load : ℕ) (x : Dependence) → is_eq (by_pcs (x.store_pc, x.load_pc) (store, load)) ≡ joins store load x
+at_pcs store load x =
+    first_so (nat_lt x.store_pc store) (x.store_pc == store) (nat_cmp x.load_pc load) (apart x.store_pc store)
+    ∙ ap (λ b. (x.store_pc == store) && b) (second_so (nat_lt x.load_pc load) (x.load_pc == load) (apart x.load_pc load))
+
+-- ---- one more
+
+sum_after_more : (store load : ℕ) (sum : Option PairSum) (xs : List Dependence) (x : Dependence)
+    → sum_after store load sum (xs ++ x ∷ []) ≡ cond (joins store load x) (sum_with (sum_after store load sum xs) x) (sum_after store load sum xs)
+sum_after_more store load sum [] x = refl
+sum_after_more store load sum (y ∷ ys) x = sum_after_more store load (cond (joins store load y) (sum_with sum y) sum) ys x
+
+more_by : (store load : ℕ) (before : List Dependence) (x : Dependence) (old new : Option PairSum) (sum : PairSum) (b : Bool) → joins store load x ≡ b
+    → old ≡ pair_sum store load before → Some sum ≡ sum_with (pair_sum x.store_pc x.load_pc before) x
+    → cond b (Some sum) old ≡ cond b (sum_with (pair_sum store load before) x) (pair_sum store load before)
+more_by store load before x old new sum true is was now =
+    let parts = and_parts (x.store_pc == store) (x.load_pc == load) is in
+    let first : x.store_pc ≡ store = eqb-true x.store_pc store parts.0 in
+    let second : x.load_pc ≡ load = eqb-true x.load_pc load parts.1 in
+    now ∙ (ap (λ s. sum_with (pair_sum s x.load_pc before) x) first ∙ ap (λ l. sum_with (pair_sum store l before) x) second)
+more_by store load before x old new sum false is was now = was
+
+pub sums_more : (store load : ℕ) (before after : List Dependence) (x : Dependence) (old new : Option PairSum) (sum : PairSum) → after ≡ before ++ x ∷ []
+    → new ≡ cond (is_eq (by_pcs (x.store_pc, x.load_pc) (store, load))) (Some sum) old
+    → old ≡ pair_sum store load before → Some sum ≡ sum_with (pair_sum x.store_pc x.load_pc before) x → new ≡ pair_sum store load after
+sums_more store load before after x old new sum all updated was now =
+    updated ∙ (ap (λ b. cond b (Some sum) old) (at_pcs store load x)
+    ∙ (more_by store load before x old new sum (joins store load x) refl was now
+    ∙ (sym (sum_after_more store load None before x) ∙ ap (pair_sum store load) (sym all))))
+
+-- ---- how many
+
+some_times : (x : Dependence) (sum : Option PairSum) (n : ℕ) → ((s : PairSum) → sum ≡ Some s → s.times ≤ n) → (s : PairSum) → sum_with sum x ≡ Some s → s.times ≤ n + 1
+some_times x None n most s is = let one : 1 ≡ s.times = cc in omega (arith, one)
+some_times x (Some t) n most s is = let more : t.times + 1 ≡ s.times = cc in let low = most t refl in omega (arith, more, low)
+
+cond_times : (b : Bool) (x : Dependence) (sum : Option PairSum) (n : ℕ) → ((s : PairSum) → sum ≡ Some s → s.times ≤ n) → (s : PairSum)
+    → cond b (sum_with sum x) sum ≡ Some s → s.times ≤ n + 1
+cond_times true x sum n most s is = some_times x sum n most s is
+cond_times false x sum n most s is = let low = most s is in omega (arith, low)
+
+times_after : (store load : ℕ) (sum : Option PairSum) (xs : List Dependence) (n : ℕ) → ((s : PairSum) → sum ≡ Some s → s.times ≤ n) → (s : PairSum)
+    → sum_after store load sum xs ≡ Some s → s.times ≤ n + length xs
+times_after store load sum [] n most s is = let low = most s is in omega (arith, low)
+times_after store load sum (x ∷ rest) n most s is =
+    let low = times_after store load (cond (joins store load x) (sum_with sum x) sum) rest (n + 1) (cond_times (joins store load x) x sum n most) s is in omega (arith, low)
+
+-- no more than dependences
+pub times_low : (store load : ℕ) (xs : List Dependence) (s : PairSum) → pair_sum store load xs ≡ Some s → s.times ≤ length xs
+times_low store load xs s is = let low = times_after store load None xs 0 (λ t none. absurd cc) s is in omega (arith, low)
