@@ -1,7 +1,7 @@
 """The report of `why`: each violation with its cause and its cost, attempts that ended otherwise, and sums. docs/conflicts.md says what each word means."""
 
 import re
-from collections.abc import Iterable, Iterator
+from collections.abc import Callable, Iterable, Iterator
 from dataclasses import dataclass, field
 from itertools import chain
 
@@ -244,7 +244,8 @@ class Conflicts:
 
     def parts(self) -> Iterator[str]:
         """The text, in parts."""
-        lists = (self.violations, self.cancelled, self.open, self.epochs, self.pairs, self.lines, self.instructions, self.kinds)
+        lists: tuple[Iterable[Part], ...] = (self.violations, self.cancelled, self.open, self.epochs, self.pairs,
+                                             self.lines, self.instructions, self.kinds)
         yield from (part.text() for part in chain.from_iterable(lists))
         if self.total:
             yield self.total.text()
@@ -258,9 +259,11 @@ class Conflicts:
 # What a line of the report says, and the field of the report that has it.
 Part = Violation | Cancelled | Open | OfEpoch | OfPair | OfLine | OfInstruction | OfKind | Total
 FIELDS: dict[type, str] = {
-    Violation: "violations", Cancelled: "cancelled", Open: "open", OfEpoch: "epochs", OfPair: "pairs", OfLine: "lines", OfInstruction: "instructions", OfKind: "kinds",
-    Total: "total",
+    Violation: "violations", Cancelled: "cancelled", Open: "open", OfEpoch: "epochs", OfPair: "pairs", OfLine: "lines",
+    OfInstruction: "instructions", OfKind: "kinds", Total: "total",
 }
+# Lines of numbers alone.
+COUNTED: dict[str, Callable[..., Part]] = {"cancel": Cancelled, "open": Open, "epoch": OfEpoch, "total": Total}
 # Lines that stand below that of their violation.
 BELOW = ("also", "later", "vain", "moot")
 
@@ -311,8 +314,9 @@ def pair_of(words: tuple[str, ...]) -> Pair:
 
 
 def violation_of(words: tuple[str, ...]) -> Violation:
-    return Violation(int(words[0]), words[1], *map(int, words[2:7]), number(words[7]), int(words[8]), int(words[9]), number(words[10]), words[11],
-                     pair_of(words[12:]))
+    epoch, attempt, core, lost, entered = map(int, words[2:7])
+    return Violation(int(words[0]), words[1], epoch, attempt, core, lost, entered, number(words[7]), int(words[8]),
+                     int(words[9]), number(words[10]), words[11], pair_of(words[12:]))
 
 
 def belongs(violation: Violation, what: str, words: tuple[str, ...]) -> None:
@@ -334,16 +338,17 @@ def part_of(what: str, words: tuple[str, ...]) -> Part:
     if what == "hurt":
         return violation_of(words)
     if what == "pair":
-        counts = list(map(int, words[3:14]))
-        return OfPair(words[0] == "asked", int(words[1], 16), int(words[2], 16), *counts[:2], ByKind(*counts[2:6]), *counts[6:], place_of(*words[14:16]))
+        rollbacks, lost, true, silent, false, buffer, stale, vain, later, least, most = map(int, words[3:14])
+        return OfPair(words[0] == "asked", int(words[1], 16), int(words[2], 16), rollbacks, lost,
+                      ByKind(true, silent, false, buffer), stale, vain, later, least, most, place_of(*words[14:16]))
     if what == "line":
-        counts = list(map(int, words[1:]))
-        return OfLine(int(words[0], 16), *counts[:2], ByKind(*counts[2:]))
+        rollbacks, lost, *kinds = map(int, words[1:])
+        return OfLine(int(words[0], 16), rollbacks, lost, ByKind(*kinds))
     if what == "pc":
         return OfInstruction(int(words[0], 16), *map(int, words[1:]))
     if what == "kind":
         return OfKind(words[0], int(words[1]), int(words[2]))
-    return {"cancel": Cancelled, "open": Open, "epoch": OfEpoch, "total": Total}[what](*map(int, words))
+    return COUNTED[what](*map(int, words))
 
 
 def iter_conflicts(lines: Iterable[str]) -> Iterator[Part]:
@@ -354,7 +359,7 @@ def iter_conflicts(lines: Iterable[str]) -> Iterator[Part]:
         match = FORMS[what].fullmatch(line) if what in FORMS else None
         if match is None or (what in BELOW and violation is None):
             raise Unreadable(f"{line!r} is no line of the report of why")
-        if what in BELOW:
+        if what in BELOW and violation is not None:
             belongs(violation, what, match.groups())
             continue
         if violation:

@@ -67,7 +67,8 @@ def plain(value: Any) -> Any:
     """A value as JSON has it."""
     if value is None or isinstance(value, (int, str)):
         return value
-    names = names_of(type(value))
+    kind: type = type(value)
+    names = names_of(kind)
     if names:
         return {name: plain(getattr(value, name)) for name in names}
     if isinstance(value, bytes):
@@ -111,4 +112,5 @@ def to_json(text: str, form: str | None = None) -> str:
 
 def from_json(text: str) -> str:
     """The text that JSON says."""
-    return content_of(json.loads(text)).text()
+    told: str = content_of(json.loads(text)).text()
+    return told

@@ -20,6 +20,12 @@ DECODER = json.JSONDecoder()
 LIST = "list"
 
 
+def behind_blanks(text: str, place: int = 0) -> int:
+    """The place of the next character of a text that is no blank."""
+    blanks = BLANKS.match(text, place)
+    return blanks.end() if blanks else place
+
+
 class Items:
     """A list of which no item is kept: they are read anew each time."""
 
@@ -58,10 +64,10 @@ class Reader:
 
     def peek(self) -> str:
         """The next character that is no blank, which is the next one to be taken then; nothing at the end."""
-        self.place = BLANKS.match(self.buffer, self.place).end()
+        self.place = behind_blanks(self.buffer, self.place)
         while self.place == len(self.buffer) and not self.ended:
             self.more(CHUNK)
-            self.place = BLANKS.match(self.buffer).end()
+            self.place = behind_blanks(self.buffer)
         return self.buffer[self.place:self.place + 1]
 
     def take(self, marks: str) -> str:
@@ -155,7 +161,7 @@ def read_document(path: Path, lists: dict[str, dict[str, Any]]) -> dict[str, Any
         for key in reader.keys():
             if key in told:
                 raise Unreadable(f"{key!r} is said twice")
-            told[key] = read_value(reader, path, lists.get(told.get("form")) if key == "content" else None)
+            told[key] = read_value(reader, path, lists.get(told.get("form", "")) if key == "content" else None)
         if reader.peek():
             raise Unreadable("something stands behind the document")
     return told

@@ -234,9 +234,9 @@ def read_survey(text: str) -> Survey:
     lines = text.splitlines()
     counts = [int(line.split(" ")[1]) for line in lines[:3]]
     if len(lines) == 3:
-        return Survey(*counts)
-    return Survey(*counts, int(lines[3].split(" ")[1]), turns_of(lines[4]), int(lines[5].split(" ")[1]), turns_of(lines[6]),
-                  read_report("\n".join(lines[7:])))
+        return Survey(counts[0], counts[1], counts[2])
+    return Survey(counts[0], counts[1], counts[2], int(lines[3].split(" ")[1]), turns_of(lines[4]),
+                  int(lines[5].split(" ")[1]), turns_of(lines[6]), read_report("\n".join(lines[7:])))
 
 
 def read_verdict(text: str) -> Verdict:

@@ -5,11 +5,12 @@ A document is the same to the byte as `to_json` writes it, and a text as `from_j
 
 import json
 from collections.abc import Callable, Iterator
+from functools import partial
 from itertools import takewhile
 from pathlib import Path
 from typing import Any
 
-from .conflicts import BELOW, Total, iter_conflicts
+from .conflicts import BELOW, Part, Total, iter_conflicts
 from .documents import FORMS, VERSION, content_of, form_of_lines, from_json, plain
 from .images import Unreadable, read_image
 from .pieces import LIST, Items, read_document
@@ -70,7 +71,8 @@ def output_of(lines: Lines) -> dict[str, Any]:
     if trace:
         trace["entries"].check()
     told = read_output(above_trace(lines))
-    return {"report": told.report, "counts": told.counts, "trace": trace, "turns": None if told.turns is None else Items(lambda: told.turns)}
+    return {"report": told.report, "counts": told.counts, "trace": trace,
+            "turns": None if told.turns is None else Items(told.turns.__iter__)}
 
 
 def output(path: Path) -> dict[str, Any]:
@@ -88,10 +90,13 @@ def conflicts(path: Path) -> dict[str, Any]:
     """The report of `why`."""
     def lines(words: tuple[str, ...]) -> Iterator[str]:
         return (line for line in iter_split(iter_lines(path)) if not words or line.split(" ", 1)[0] in words)
+
+    def parts(words: tuple[str, ...]) -> Iterator[Part]:
+        return iter_conflicts(lines(words))
     total = None
-    for part in iter_conflicts(lines(())):
+    for part in parts(()):
         total = part if isinstance(part, Total) else total
-    return {name: Items(lambda words=words: iter_conflicts(lines(words))) for name, words in WORDS.items()} | {"total": total}
+    return {name: Items(partial(parts, words)) for name, words in WORDS.items()} | {"total": total}
 
 
 LONG: dict[str, Callable[[Path], dict[str, Any]]] = {"traced": traced, "output": output, "steps": steps, "conflicts": conflicts}
@@ -125,7 +130,8 @@ def iter_document(path: Path, form: str | None = None) -> Iterator[str]:
 def iter_text(path: Path) -> Iterator[str]:
     """The text of a document that stands in a file, in parts. What is wrong with it may be raised behind some of them."""
     content = content_of(read_document(path, LISTS))
-    return content.parts() if hasattr(content, "parts") else iter([content.text()])
+    parts: Iterator[str] = content.parts() if hasattr(content, "parts") else iter([content.text()])
+    return parts
 
 
 def write_text(source: Path, target: Path) -> None:
