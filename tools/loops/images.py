@@ -3,6 +3,7 @@
 import re
 from dataclasses import dataclass, field
 from functools import cached_property
+from typing import TypeVar
 
 from .instructions import access_spelled
 from .names import word
@@ -17,6 +18,16 @@ SENTENCE = re.compile(r"(?:\d+\. )?.+?(?:\.(?= [\"'(]?[A-Z])|$)")
 
 class Unreadable(ValueError):
     """A text that isn't of the form that was asked for; the words say where."""
+
+
+Value = TypeVar("Value")
+
+
+def there(value: Value | None) -> Value:
+    """What has to be there, as the epoch of an entry `start`."""
+    if value is None:
+        raise Unreadable("something is said nowhere that has to be")
+    return value
 
 
 @dataclass(frozen=True)

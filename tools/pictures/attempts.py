@@ -1,8 +1,10 @@
 """The attempts of a run, and the turns that made entries: what a picture's lanes are."""
 
 from dataclasses import dataclass, field
+from typing import NamedTuple
 
 from loops import Entry, Traced, Violation
+from loops.images import there
 
 
 @dataclass(slots=True)
@@ -17,78 +19,107 @@ class Attempt:
     violation: Violation | None = None
     undone: int | None = None               # the turn in which it was violated or cancelled
     fate: str = "open"                      # committed, fault, violated, cancelled
-    accesses: list = field(default_factory=list)    # (turn, entry)
+    accesses: list[tuple[int, Entry]] = field(default_factory=list)     # each with its turn
+
+
+class Blamed(NamedTuple):
+    """Two instructions that are to blame: the addresses of the causer's and of the victim's, and whether a buffer was
+    full."""
+    causer: int
+    victim: int
+    full: bool
+
+
+Pairs = list[tuple[Blamed, list[Violation]]]
+
+
+def pairs_of(violations: list[Violation]) -> Pairs:
+    """Violations by the two instructions that are to blame, those that lost most first."""
+    groups: dict[Blamed, list[Violation]] = {}
+    for violation in violations:
+        if violation.victims and violation.causers:
+            blamed = Blamed(violation.causers.pc, violation.victims.pc, violation.kind == "buffer")
+            groups.setdefault(blamed, []).append(violation)
+    return sorted(groups.items(), key=lambda group: (-sum(one.lost for one in group[1]), -len(group[1]), group[0]))
 
 
 class Run:
     """The attempts of a trace. A turn is what one core did while it had the lock: violations and cancellations first, then its act."""
 
     def __init__(self, traced: Traced, violations: list[Violation]):
-        self.image, self.cores, self.entries, self.violations = traced.image, traced.trace.cores, traced.trace.entries, violations
-        self.attempts, self.turns, self.turn_of = [], 0, []
-        self.end = None
+        self.image, self.cores, self.entries = traced.image, traced.trace.cores, traced.trace.entries
+        self.violations = violations
+        self.attempts: list[Attempt] = []
+        self.turns = 0
+        self.turn_of: list[int] = []                                    # of each entry
         self._told = {violation.place: violation for violation in violations}
-        self._now = [None] * self.cores
-        self._tries = {}
+        self._now: list[Attempt | None] = [None] * self.cores           # what each core runs
+        self._tries: dict[int, int] = {}                                # of each epoch
         for entry in self.entries:
             self.turn_of.append(self.turns)
             getattr(self, "_" + entry.what)(entry)
             if entry.what not in ("hurt", "cancel", "publish"):
                 self.turns += 1
 
-    def _begin(self, core, epoch):
+    def _begin(self, core: int, epoch: int) -> None:
         self._tries[epoch] = self._tries.get(epoch, 0) + 1
-        self._now[core] = Attempt(core, epoch, self._tries[epoch], self.turns)
-        self.attempts.append(self._now[core])
+        begun = self._now[core] = Attempt(core, epoch, self._tries[epoch], self.turns)
+        self.attempts.append(begun)
 
-    def _running(self, epoch):
-        return next((attempt for attempt in self._now if attempt and attempt.epoch == epoch), None)
+    def _on(self, core: int) -> Attempt:
+        return there(self._now[core])
 
-    def _start(self, entry: Entry):
-        self._begin(entry.core, entry.epoch)
+    def _running(self, epoch: int | None) -> Attempt:
+        return there(next((attempt for attempt in self._now if attempt and attempt.epoch == epoch), None))
 
-    def _restart(self, entry):
-        before = self._now[entry.core]
+    def _start(self, entry: Entry) -> None:
+        self._begin(entry.core, there(entry.epoch))
+
+    def _restart(self, entry: Entry) -> None:
+        before = self._on(entry.core)
         before.last = self.turns
         self._begin(entry.core, before.epoch)
 
-    def _load(self, entry):
-        self._now[entry.core].accesses.append((self.turns, entry))
+    def _load(self, entry: Entry) -> None:
+        self._on(entry.core).accesses.append((self.turns, entry))
 
     _store = _load
 
-    def _hurt(self, entry):
+    def _hurt(self, entry: Entry) -> None:
         victim = self._running(entry.epoch)
         victim.fate, victim.undone, victim.violation = "violated", self.turns, self._told[entry.place]
 
-    def _cancel(self, entry):
+    def _cancel(self, entry: Entry) -> None:
         victim = self._running(entry.epoch)
         victim.last = self.turns
         if victim.fate == "open":
             victim.fate, victim.undone = "cancelled", self.turns
         self._now[victim.core] = None
 
-    def _publish(self, entry):
-        self._now[entry.core].straight = self.turns
+    def _publish(self, entry: Entry) -> None:
+        self._on(entry.core).straight = self.turns
 
-    def _commit(self, entry):
+    def _commit(self, entry: Entry) -> None:
         self._leave(entry.core, "committed")
         self._now[entry.core] = None
 
-    def _fault(self, entry):
+    def _fault(self, entry: Entry) -> None:
         self._leave(entry.core, "fault")
 
-    def _leave(self, core, fate):
-        self._now[core].fate, self._now[core].last = fate, self.turns
+    def _leave(self, core: int, fate: str) -> None:
+        left = self._on(core)
+        left.fate, left.last = fate, self.turns
 
-    def span(self, attempt):
+    def span(self, attempt: Attempt) -> tuple[int, float]:
         """The turns in which an attempt ran: of a violated one until it was violated."""
         end = self.turns if attempt.last is None else attempt.last + (attempt.fate in ("committed", "fault"))
-        return attempt.first, attempt.undone + 0.5 if attempt.fate == "violated" else end
+        return attempt.first, there(attempt.undone) + 0.5 if attempt.fate == "violated" else end
 
-    def shares(self, columns):
-        """For each core and each of so many columns of turns, how many turns of useful, lost and other attempts lie in it."""
-        wide, found = max(1, self.turns) / columns, {}
+    def shares(self, columns: int) -> dict[tuple[int, int], list[float]]:
+        """For each core and each of so many columns of turns, how many turns of useful, lost and other attempts lie in
+        it."""
+        wide = max(1, self.turns) / columns
+        found: dict[tuple[int, int], list[float]] = {}
         for attempt in self.attempts:
             first, last = self.span(attempt)
             kind = {"committed": 0, "fault": 0, "violated": 1}.get(attempt.fate, 2)
@@ -99,18 +130,13 @@ class Run:
         return found
 
     @property
-    def committed(self):
+    def committed(self) -> int:
         return sum(attempt.fate == "committed" for attempt in self.attempts)
 
     @property
-    def lost(self):
+    def lost(self) -> int:
         return sum(violation.lost for violation in self.violations)
 
-    def pairs(self):
+    def pairs(self) -> Pairs:
         """The violations by their two instructions and whether a buffer was full, those that lost most first."""
-        groups = {}
-        for violation in self.violations:
-            if violation.victims and violation.causers:
-                key = (violation.causers.pc, violation.victims.pc, violation.kind == "buffer")
-                groups.setdefault(key, []).append(violation)
-        return sorted(groups.items(), key=lambda group: (-sum(v.lost for v in group[1]), -len(group[1]), group[0]))
+        return pairs_of(self.violations)

@@ -8,6 +8,8 @@ from .words import advice, plural
 
 MOST_PAIRS = 6
 BAR = 160.0
+# Draws a sign of the legend at a place.
+Shape = Callable[[float, float], None]
 
 
 def blame(page: Page, run: Run, x: float, y: float) -> float:
@@ -26,7 +28,8 @@ def blame(page: Page, run: Run, x: float, y: float) -> float:
             page.box(at, y + 4, BAR * part / top, 14, hatched(kind), tip=f"{kind}: {plural(part, 'instruction')} lost")
             at += BAR * part / top
         names = sorted({run.image.name_of(first) if found is None else found.name
-                        for first in {v.first for v in violations} - {None} for found in [run.image.variable_of(first)]})
+                        for first in {v.first for v in violations} if first is not None
+                        for found in [run.image.variable_of(first)]})
         counted = ", ".join(f"{count} {kind}" for kind in COLOURS for count in [sum(v.kind == kind for v in violations)] if count)
         lost = sum(v.lost for v in violations)
         page.text(x + BAR + 10, y + 15, f"{lost:,} of {run.lost:,} lost, {plural(len(violations), 'rollback')} on {' and '.join(names)} ({counted})", 11, bold=True)
@@ -49,11 +52,15 @@ def kind_shown(page: Page, x: float, y: float, kind: str) -> None:
 
 def legend(page: Page, run: Run, x: float, y: float, lanes: bool) -> float:
     """How to read the picture: what occurs in it."""
-    def bar(fill: str) -> Callable[[float, float], None]:
+    def bar(fill: str) -> Shape:
         return lambda a, b: page.box(a, b - 7, 26, 14, fill, INK, line=0.6)
 
-    rows = [(bar(USEFUL), "an attempt that commits (e5 try 3, e5 #3 or #3: the third try of epoch 5)" if lanes else "epochs: attempts that commit"),
-            (bar(LOST), "lost: this attempt was rolled back")]
+    def of_kind(kind: str) -> Shape:
+        return lambda a, b: kind_shown(page, a, b, kind)
+
+    useful = ("an attempt that commits (e5 try 3, e5 #3 or #3: the third try of epoch 5)" if lanes
+              else "epochs: attempts that commit")
+    rows: list[tuple[Shape, str]] = [(bar(USEFUL), useful), (bar(LOST), "lost: this attempt was rolled back")]
     if any(attempt.straight is not None for attempt in run.attempts) and lanes:
         rows.append((bar(STRAIGHT), "straight: published, its stores are committed at once"))
     if any(attempt.fate in ("cancelled", "open") for attempt in run.attempts):
@@ -66,7 +73,7 @@ def legend(page: Page, run: Run, x: float, y: float, lanes: bool) -> float:
                  (lambda a, b: page.flag(a + 9, b - 5), "commit")]
     for kind in COLOURS:
         if any(violation.kind == kind for violation in run.violations):
-            rows.append((lambda a, b, kind=kind: kind_shown(page, a, b, kind), MEANINGS[kind]))
+            rows.append((of_kind(kind), MEANINGS[kind]))
     page.text(x, y, "How to read it", 13, bold=True)
     for shape, words in rows:
         y += 19

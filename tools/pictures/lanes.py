@@ -1,6 +1,7 @@
 """A short run, entry by entry: a lane for each core, from left to right the turns that made an entry."""
 
 from loops import Violation
+from loops.images import there
 
 from .attempts import Attempt, Run
 from .below import blame, legend
@@ -54,10 +55,11 @@ class Lanes:
     def attempt(self, attempt: Attempt) -> None:
         page, y, left = self.page, self.y(attempt.core), self.x(attempt.first) + 1
         end = self.turns if attempt.last is None else attempt.last
-        right = attempt.undone + 0.5 if attempt.fate == "violated" else end + (attempt.fate in ("committed", "fault"))
+        _, right = self.run.span(attempt)
         tip = f"epoch {attempt.epoch}, try {attempt.number}: {attempt.fate}"
         if attempt.fate == "violated":
-            page.box(left, y, self.x(right) - left, BAR, LOST, COLOURS["true"], f"{tip}, {plural(attempt.violation.lost, 'instruction')} lost", 0.8)
+            lost = plural(there(attempt.violation).lost, "instruction")
+            page.box(left, y, self.x(right) - left, BAR, LOST, COLOURS["true"], f"{tip}, {lost} lost", 0.8)
             if self.x(end) > self.x(right) + 2:
                 page.line(self.x(right), y + BAR / 2, self.x(end), y + BAR / 2, COLOURS["true"], 1.2, "2 3")
         else:

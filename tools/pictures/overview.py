@@ -91,7 +91,8 @@ class Overview:
 
     def columns(self, y: float, wide: int) -> float:
         """Each core in columns of one pixel, with the shares of what it ran. Answers where it ends."""
-        run, steps = self.run, {}
+        run = self.run
+        steps: dict[str, list[str]] = {}
         for (core, column), shares in run.shares(wide).items():
             top = y + core * LANE + LANE - 2
             for fill, share in zip((LOST, CANCELLED, USEFUL), (shares[1], shares[2], shares[0])):
@@ -105,12 +106,14 @@ class Overview:
 
     def counts(self, y: float, wide: int) -> float:
         """How many rollbacks a pixel has, a block for each kind. Answers where it ends."""
-        run, counts = self.run, {}
+        run = self.run
+        counts: dict[int, dict[str, int]] = {}
         for violation in run.violations:
             kinds = counts.setdefault(int(run.turn_of[violation.place] * wide / max(1, run.turns)), dict.fromkeys(COLOURS, 0))
             kinds[violation.kind] += 1
         most = max([sum(kinds.values()) for kinds in counts.values()], default=1)
-        steps, base = {}, y + 4 + COUNTS
+        steps: dict[str, list[str]] = {}
+        base = y + 4 + COUNTS
         for column, kinds in counts.items():
             at = base
             for kind, count in kinds.items():

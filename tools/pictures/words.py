@@ -1,9 +1,9 @@
 """Sentences on a run, for people."""
 
-from collections.abc import Sequence
 from typing import Protocol
 
 from loops import Entry, Image, Violation
+from loops.images import there
 
 from .attempts import Run
 from .page import COLOURS
@@ -12,10 +12,18 @@ from .page import COLOURS
 MOST_NAMES = 4
 
 
+class Entries(Protocol):
+    """The entries that a sentence names, by their places."""
+    def __getitem__(self, place: int, /) -> Entry: ...
+
+
 class Lost(Protocol):
     """What these sentences need of a run."""
-    image: Image
-    entries: Sequence[Entry]
+    @property
+    def image(self) -> Image: ...
+
+    @property
+    def entries(self) -> Entries: ...
 
 
 def plural(count: int, word: str) -> str:
@@ -31,12 +39,12 @@ def heading(run: Run) -> tuple[str, str]:
 
 def bytes_of(run: Lost, violation: Violation) -> str:
     """`4 bytes at bins+4`."""
-    return f"{plural(violation.length, 'byte')} at {run.image.name_of(violation.first)}"
+    return f"{plural(violation.length, 'byte')} at {run.image.name_of(there(violation.first))}"
 
 
 def stored_at(run: Lost, violation: Violation) -> int | None:
     """The first byte of the blamed store, or None."""
-    return violation.causers and run.entries[violation.causers.entry].address
+    return None if violation.causers is None else run.entries[violation.causers.entry].address
 
 
 def named_apart(image: Image, places: list[int]) -> list[str]:
@@ -63,7 +71,7 @@ def sentence(run: Lost, violation: Violation) -> str:
                 f"buffer by its store at {spelled(violation.victims.pc)}; {lost}")
     else:
         told = {"publish": ", published", "commit": ", committed", "fault": ", committed by its fault"}.get(violation.cause_what, "")
-        to = f" to {run.image.name_of(stored_at(run, violation))}" if violation.kind == "false" else ""
+        to = f" to {run.image.name_of(there(stored_at(run, violation)))}" if violation.kind == "false" else ""
         said = (f"epoch {violation.epoch}'s load at {spelled(violation.victims.pc)} of {bytes_of(run, violation)} was hit by epoch "
                 f"{violation.by_epoch}'s store at {spelled(violation.causers.pc)}{to}{told}; {lost}; {violation.kind} sharing"
                 .replace("silent sharing", "a silent store"))
@@ -73,13 +81,14 @@ def sentence(run: Lost, violation: Violation) -> str:
 def advice(run: Lost, violations: list[Violation]) -> str:
     """What usually helps against the kind that lost most; no claim."""
     lost = {kind: sum(violation.lost for violation in violations if violation.kind == kind) for kind in COLOURS}
-    kind = max(lost, key=lost.get)
+    kind = max(lost, key=lambda one: lost[one])
     of_kind = [violation for violation in violations if violation.kind == kind and violation.first is not None]
-    found = {run.image.variable_of(first) for first in {violation.first for violation in of_kind}} - {None}
-    names = sorted(one.name for one in found)
-    names = listed(names) if len(names) > MOST_NAMES else " and ".join(names) or "these bytes"
+    found = {run.image.variable_of(first) for first in {there(violation.first) for violation in of_kind}}
+    variables = sorted(one.name for one in found if one is not None)
+    names = listed(variables) if len(variables) > MOST_NAMES else " and ".join(variables) or "these bytes"
     length = run.image.line_length
-    beside = sorted({place for violation in of_kind if kind == "false" for place in (violation.first, stored_at(run, violation))} - {None})
+    beside = sorted({place for violation in of_kind if kind == "false"
+                     for place in (violation.first, stored_at(run, violation)) if place is not None})
     return {
         "true": f"wait for {names}, or let each epoch keep its own and put them together at the end",
         "silent": f"store to {names} only where the value differs",
