@@ -4,15 +4,17 @@ import html
 import json
 import re
 from pathlib import Path
-from typing import Any
+
+from .data import PageData
 
 HERE = Path(__file__).resolve().parent
 SCRIPTS = ("state.js", "parts.js", "lanes.js", "page.js")
 
 
-def page(data: dict[str, Any]) -> str:
+def page(data: PageData) -> str:
     """The whole page, which stands alone."""
     told = json.dumps(data, separators=(",", ":")).replace("<", "\\u003c")
     script = "".join((HERE / name).read_text(encoding="utf-8") for name in SCRIPTS)
-    parts = {"@TITLE@": html.escape(data["about"] or "A run, turn by turn"), "@STYLE@": (HERE / "page.css").read_text(encoding="utf-8"), "@SCRIPT@": script, "@RUN@": told}
+    parts = {"@TITLE@": html.escape(data["about"] or "A run, turn by turn"),
+             "@STYLE@": (HERE / "page.css").read_text(encoding="utf-8"), "@SCRIPT@": script, "@RUN@": told}
     return re.sub("|".join(parts), lambda name: parts[name[0]], (HERE / "page.html").read_text(encoding="utf-8"))

@@ -2,9 +2,10 @@
 
 from collections.abc import Mapping
 from dataclasses import dataclass, field
-from typing import Any
+from typing import TypedDict
 
 from loops import Entry, Image, Step, Violation
+from loops.images import there
 from loops.instructions import spelled
 
 from .lanes import Lanes
@@ -64,6 +65,11 @@ class Turns:
             self.before = self._state
         self.lanes.end(self.count)
 
+    @property
+    def bounds(self) -> tuple[int, int]:
+        """The first turn that is shown, and the first one beyond, where no turn follows."""
+        return there(self.low), there(self.high)
+
     def _bound(self, turn: int) -> None:
         """Whether the next turn is the first one that is shown, or the first one beyond."""
         if self.low is None and turn >= self.first:
@@ -122,30 +128,61 @@ def first_memory(image: Image, touched: set[int]) -> dict[str, str]:
 
 def rollbacks(turns: Turns, violations: Mapping[int, Violation]) -> list[list[int]]:
     """The turn of each that is shown, the core that made it and the core that was rolled back."""
-    return [[one.number - turns.low, entry.core, violations[entry.place].core] for one in turns.shown for entry in one.step.entries if entry.place in violations]
+    low, _ = turns.bounds
+    return [[one.number - low, entry.core, violations[entry.place].core]
+            for one in turns.shown for entry in one.step.entries if entry.place in violations]
 
 
-def cut(turns: Turns) -> dict[str, str]:
-    """That turns aren't shown, and which are."""
-    low, high, count = turns.low, turns.high, turns.count
+def cut(turns: Turns) -> str | None:
+    """That turns aren't shown, and which are, where that is so."""
+    (low, high), count = turns.bounds, turns.count
     if high - low == count:
-        return {}
-    shown = f"Turns {turns.shown[0].step.turn:,} to {turns.shown[-1].step.turn:,} of {count:,} are on this page" if low < high else f"No turn of {count:,} is on this page"
-    return {"cut": f"{shown}: --from and --to of tools/view choose others."}
+        return None
+    shown = "No turn"
+    if low < high:
+        shown = f"Turns {turns.shown[0].step.turn:,} to {turns.shown[-1].step.turn:,}"
+    are = "are" if low < high else "is"
+    return f"{shown} of {count:,} {are} on this page: --from and --to of tools/view choose others."
 
 
-def page_data(run: Told, turns: Turns, cores: int, violations: Mapping[int, Violation], store: str) -> dict[str, Any]:
+class Cut(TypedDict, total=False):
+    """What is there where a page hasn't all turns."""
+    cut: str
+
+
+class PageData(Cut):
+    """All that the page shows, as its script reads it."""
+    about: str
+    store: str
+    cores: int
+    length: int                                         # of a line of the caches, in bytes
+    epochs: int
+    all: int                                            # turns of the run
+    variables: list[list[str | int]]                    # name, address and bytes
+    code: dict[str, str]                                # by the address
+    sources: dict[str, str]                             # by the address
+    causes: dict[str, str]
+    start: dict[str, str]                               # what stands at each place before the first turn that is shown
+    attempts: list[list[int | str | None]]
+    rollbacks: list[list[int]]
+    steps: list[list[int | str | list[str] | dict[str, str]]]
+
+
+def page_data(run: Told, turns: Turns, cores: int, violations: Mapping[int, Violation], store: str) -> PageData:
     """All that the page shows."""
-    image = run.image
+    image, left_out = run.image, cut(turns)
     words = [(pc, int.from_bytes(image.code[pc:pc + 4], "little")) for pc in range(0, len(image.code), 4)]
-    return {
-        "about": image.about, "store": store, "cores": cores, "length": image.line_length, "epochs": image.epochs, "all": turns.count,
+    data: PageData = {
+        "about": image.about, "store": store, "cores": cores, "length": image.line_length, "epochs": image.epochs,
+        "all": turns.count,
         "variables": [[one.name, one.address, one.length] for one in image.variables],
         "code": {f"{pc:08x}": spelled(word, pc) for pc, word in words},
         "sources": {f"{pc:08x}": line for pc, line in image.sources.items()}, "causes": CAUSES,
-        "start": first_memory(image, turns.rows) | turns.before, "attempts": turns.lanes.between(turns.low, turns.high),
+        "start": first_memory(image, turns.rows) | turns.before, "attempts": turns.lanes.between(*turns.bounds),
         "rollbacks": rollbacks(turns, violations),
         "steps": [[one.step.turn, one.step.core, [entry.text().rstrip() for entry in one.step.entries], one.changes,
                    turn_told(run, one.step, one.epoch, one.pc, violations), one.moved] for one in turns.shown],
-        **cut(turns),
     }
+    if left_out is not None:
+        data["cut"] = left_out
+    return data

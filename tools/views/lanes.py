@@ -3,6 +3,7 @@
 from dataclasses import dataclass
 
 from loops import Entry
+from loops.images import there
 
 from .words import OF_OTHERS
 
@@ -50,8 +51,9 @@ class Lanes:
 
     def between(self, low: int, high: int) -> list[list[int | str | None]]:
         """Those that a page from one turn to another shows, by the place of a turn on it."""
-        return [[lane.core, lane.epoch, lane.number, lane.first - low, lane.end - low, lane.fate, None if lane.undone is None else lane.undone - low]
-                for lane in self._kept if lane.first < high and lane.end >= low]
+        return [[lane.core, lane.epoch, lane.number, lane.first - low, there(lane.end) - low, lane.fate,
+                 None if lane.undone is None else lane.undone - low]
+                for lane in self._kept if lane.first < high and there(lane.end) >= low]
 
     def _settle(self, number: int) -> None:
         for entry in self._waiting:
@@ -60,7 +62,7 @@ class Lanes:
 
     def _act(self, entry: Entry, number: int) -> None:
         if entry.what == "start":
-            self._begin(entry.core, entry.epoch, number)
+            self._begin(entry.core, there(entry.epoch), number)
         elif entry.what == "restart":
             before = self._running[entry.core]
             before.end = number

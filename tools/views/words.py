@@ -1,6 +1,10 @@
 """What a turn did, in sentences."""
 
-from pictures.words import plural, sentence
+from collections.abc import Mapping
+
+from loops import Entry, Image, Step, Violation
+from loops.images import there
+from pictures.words import Lost, plural, sentence
 
 CAUSES = {
     "NoEpoch": "no epoch is left for it",
@@ -13,15 +17,15 @@ ENDS = {"done": "all epochs have committed, and the loop is over", "exit": "its 
 OF_OTHERS = ("hurt", "cancel", "publish")
 
 
-def access(image, entry, pc):
+def access(image: Image, entry: Entry, pc: int) -> str:
     """`loads 00000001 from bins+4, by lw x4,4(x3) at 00000010`"""
-    value = f"{entry.value:0{2 * entry.width}x}"
+    value = f"{entry.value:0{2 * there(entry.width)}x}"
     told = f"loads {value} from" if entry.what == "load" else f"stores {value} to"
     by = image.instruction_at(pc)
-    return f"{told} {image.name_of(entry.address)}" + (f", by {by} at {image.spelled(pc)}" if by else "")
+    return f"{told} {image.name_of(there(entry.address))}" + (f", by {by} at {image.spelled(pc)}" if by else "")
 
 
-def act(image, entry, epoch, pc):
+def act(image: Image, entry: Entry, epoch: int | None, pc: int) -> str:
     """What the turn's own entry says."""
     if entry.what in ("load", "store"):
         return f"epoch {epoch} {access(image, entry, pc)}"
@@ -35,21 +39,22 @@ def act(image, entry, epoch, pc):
     }[entry.what]
 
 
-def rolled_back(run, entry, violations):
+def rolled_back(run: Lost, entry: Entry, violations: Mapping[int, Violation]) -> str:
     """That an epoch is rolled back, and why."""
     why = violations.get(entry.place)
     lead = f"epoch {entry.epoch} is rolled back"
     return lead if why is None else f"{lead}: {sentence(run, why)}"
 
 
-def ended(text):
+def ended(text: str) -> str:
     """A clause as a sentence."""
     return text[0].upper() + text[1:] + "."
 
 
-def turn_told(run, step, epoch, pc, violations):
+def turn_told(run: Lost, step: Step, epoch: int | None, pc: int, violations: Mapping[int, Violation]) -> str:
     """What a turn did: its own act and whom it cancelled, and then in a line each whom it rolled back and why."""
-    said, answer = [], step.answer.split(" ")
+    said: list[str] = []
+    answer = step.answer.split(" ")
     if answer[0] == "again":
         said.append(f"core {step.core} waits: {CAUSES.get(answer[1], answer[1])}")
     own = [entry for entry in step.entries if entry.what not in ("hurt", "cancel")]
@@ -61,7 +66,7 @@ def turn_told(run, step, epoch, pc, violations):
     return "\n".join(map(ended, ["; ".join(said) or f"core {step.core}: {step.answer}", *hurts]))
 
 
-def copy_moved(before, now):
+def copy_moved(before: str, now: str) -> list[str]:
     """What became of a way of a cache: `00000040 from SpE to SpS`."""
     old, new = before.split(" "), now.split(" ")
     if old[0] == new[0]:
@@ -69,15 +74,15 @@ def copy_moved(before, now):
     return ([f"{old[0]} goes"] if before != "-" else []) + ([f"{new[0]} comes as {new[1]}"] if now != "-" else [])
 
 
-def buffer_moved(before, now):
+def buffer_moved(before: str, now: str) -> list[str]:
     """What entered a buffer and what left it."""
     old, new = before.split(), now.split()
     return [f"{line} enters its buffer" for line in new if line not in old] + [f"{line} leaves its buffer" for line in old if line not in new]
 
 
-def moves_told(step, state):
+def moves_told(step: Step, state: Mapping[str, str]) -> str:
     """What the caches did in a turn, core by core, by the state before it."""
-    said = {}
+    said: dict[str, list[str]] = {}
     for place, now in step.changes.items():
         kind, core = place.split(" ")[:2]
         if kind == "line":
