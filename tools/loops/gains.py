@@ -3,7 +3,7 @@
 import re
 from dataclasses import dataclass, field, fields
 
-from .images import Unreadable
+from .images import Unreadable, there
 
 
 @dataclass
@@ -35,8 +35,13 @@ class Gain:
             return head + " full\n"
         return head + "".join(f" {name} {self.told(name)}" for name in NAMES) + "\n"
 
+    def count(self, name: str) -> int:
+        """The steps or violations of a name, of a run that isn't full."""
+        found: int | None = getattr(self, name)
+        return there(found)
+
     def told(self, name: str) -> str:
-        value = getattr(self, name)
+        value: int | float | None = getattr(self, name)
         return "-" if value is None else f"{value:.2f}" if name == "gain" else str(value)
 
 

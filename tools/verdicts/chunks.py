@@ -6,6 +6,7 @@ from dataclasses import dataclass
 
 from loops import Image
 from loops.gains import Gain
+from pictures.words import stored_at
 
 from .losses import Losses
 
@@ -36,7 +37,7 @@ def apart(losses: Losses) -> Counter[tuple[str, int, int]]:
     apart in it, and by where that of epoch 0 would be."""
     found: Counter[tuple[str, int, int]] = Counter()
     for violation in losses.violations:
-        stored = violation.causers and losses.entries[violation.causers.entry].address
+        stored = stored_at(losses, violation)
         if (violation.kind != "false" or violation.first is None or stored is None
             or violation.epoch == violation.by_epoch):
             continue

@@ -4,6 +4,8 @@ from dataclasses import dataclass
 
 from loops import Report, Violation
 from loops.gains import Gain
+from loops.images import there
+from pictures.attempts import Blamed
 from pictures.words import advice, listed as places_listed, plural
 
 from .chunks import Chunk, Measured, maker_of
@@ -39,7 +41,7 @@ class Findings:
 
 
 def percent(part: int, run: Gain) -> float:
-    return 100 * part / (run.cores * run.steps)
+    return 100 * part / (run.cores * run.count("steps"))
 
 
 def listed(words: list[str]) -> str:
@@ -51,9 +53,10 @@ def listed(words: list[str]) -> str:
 def outcome(run: Gain, one: Gain) -> str:
     """A gain, or below 1 a loss."""
     steps = f"{run.steps:,} steps in place of {one.steps:,}"
-    if run.gain < 1:
-        return f"loses on {plural(run.cores, 'core')} at even speed, a gain of {run.gain:.2f}: {steps}."
-    return f"gains {run.gain:.2f} on {plural(run.cores, 'core')} at even speed: {steps}."
+    gain = there(run.gain)
+    if gain < 1:
+        return f"loses on {plural(run.cores, 'core')} at even speed, a gain of {gain:.2f}: {steps}."
+    return f"gains {gain:.2f} on {plural(run.cores, 'core')} at even speed: {steps}."
 
 
 def gained(found: Findings) -> str:
@@ -70,7 +73,7 @@ def gained(found: Findings) -> str:
     if caches_cost(found):
         told += " So the caches cost most of what there is to gain."
     parts = [f"{percent(count, caches):.0f} % are {word}" for word in ("useful", "lost", "dropped", "waiting", "idle")
-             for count in [getattr(caches, word)] if count]
+             for count in [caches.count(word)] if count]
     return f"{told} Of all steps {listed(parts)}."
 
 
@@ -94,7 +97,7 @@ def met_at(losses: Losses, violations: list[Violation]) -> str:
     return f" at {places_listed([losses.image.name_of(place) for place in places])}" if 0 < len(places) <= 4 else ""
 
 
-def pair_sentence(losses: Losses, pair: tuple[int, int, bool], violations: list[Violation]) -> str:
+def pair_sentence(losses: Losses, pair: Blamed, violations: list[Violation]) -> str:
     """What two instructions lost, and what may help."""
     store, load, full = pair
     if full:
@@ -110,7 +113,7 @@ def heaviest(violations: list[Violation]) -> str:
     return max(KINDS, key=lambda kind: sum(one.lost for one in violations if one.kind == kind))
 
 
-def lost(losses: Losses, told_before: set[tuple[int, int, bool]]) -> str:
+def lost(losses: Losses, told_before: set[Blamed]) -> str:
     """The rollbacks by their kinds, and the pairs of instructions that lost most, with what may help; nothing where all
     that is to say was told before."""
     pairs = [(pair, violations) for pair, violations in losses.pairs if pair not in told_before
@@ -148,25 +151,25 @@ def waits(losses: Losses) -> dict[str, str]:
 @dataclass
 class Told:
     """What was told of the run before: a run's sentences don't say it again."""
-    pairs: set[tuple[int, int, bool]]
+    pairs: set[Blamed]
     causes: set[str]
 
 
 def holding(run: Gain, losses: Losses, before: Told, chunk: str = "") -> list[str]:
     """What holds a run back, what takes most steps first: a sentence each. `chunk` stands behind what is lost."""
-    parts = ([("lost", lost(losses, before.pairs) + chunk)] if losses.violations and percent(run.lost, run) >= LEAST
-             else [])
+    def share(name: str) -> float:
+        return percent(run.count(name), run)
+
+    parts = [("lost", lost(losses, before.pairs) + chunk)] if losses.violations and share("lost") >= LEAST else []
     parts = [one for one in parts if one[1]]
-    parts += [(cause, f"In {percent(getattr(run, cause), run):.0f} % of the steps cores {told}.")
-              for cause, told in waits(losses).items()]
-    parts.append(("dropped", f"{percent(run.dropped, run):.0f} % of the steps are of epochs that the loop's exit "
+    parts += [(cause, f"In {share(cause):.0f} % of the steps cores {told}.") for cause, told in waits(losses).items()]
+    parts.append(("dropped", f"{share('dropped'):.0f} % of the steps are of epochs that the loop's exit "
                              "cancelled, or the end cut off."))
-    parts = sorted(parts, key=lambda one: -getattr(run, one[0]))
-    parts.append(("idle", f"In {percent(run.idle, run):.0f} % of the steps cores have no epoch: the loop has "
+    parts = sorted(parts, key=lambda one: -run.count(one[0]))
+    parts.append(("idle", f"In {share('idle'):.0f} % of the steps cores have no epoch: the loop has "
                           f"{losses.image.epochs:,}; it usually helps to have more, or shorter "
                           "ones."))
-    kept = [(cause, told) for cause, told in parts if percent(getattr(run, cause), run) >= LEAST
-            and cause not in before.causes]
+    kept = [(cause, told) for cause, told in parts if share(cause) >= LEAST and cause not in before.causes]
     before.causes |= {cause for cause, _ in kept} - {"lost"}
     return [told for _, told in kept]
 
@@ -187,7 +190,7 @@ def chunk_words(found: Findings) -> str:
         return told + "; measured so, its history is full."
     told += (f". Measured so, it takes {measured.caches.steps:,} steps and not {found.caches.steps:,}, a gain of "
              f"{measured.caches.gain:.2f}")
-    return told + ("." if measured.caches.steps < found.caches.steps else ": it doesn't help here.")
+    return told + ("." if measured.caches.count("steps") < found.caches.count("steps") else ": it doesn't help here.")
 
 
 def paragraph(found: Findings) -> str:
@@ -220,7 +223,7 @@ def faulted(name: str, losses: Losses, report: Report) -> str:
 
 def past(found: Findings, most_lost: float | None, least_gain: float | None) -> list[str]:
     """The limits that the loop is past."""
-    share, gain = percent(found.caches.lost, found.caches), found.caches.gain
+    share, gain = percent(found.caches.count("lost"), found.caches), found.caches.gain
     told = ([f"{share:.1f} % of the steps are lost, more than {most_lost:g} %"] if most_lost is not None
             and share > most_lost else [])
     if least_gain is not None and (gain is None or gain < least_gain):
