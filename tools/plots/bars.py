@@ -3,6 +3,7 @@
 import io
 import logging
 from dataclasses import dataclass
+from typing import Any
 
 logging.getLogger("matplotlib").setLevel(logging.ERROR)     # it tells that it makes its list of fonts, once on each machine
 import matplotlib  # noqa: E402
@@ -12,6 +13,7 @@ from loops.gains import Gain, Gains  # noqa: E402
 
 from .parts import PARTS, shares  # noqa: E402
 
+Axes = Any              # matplotlib's, which has no types
 STORES = ("caches", "plain")
 MOST_COLUMNS, PANEL_WIDTH, PANEL_HEIGHT = 3, 3.1, 1.8
 WIDTH, INK, PALE = 0.42, "#1d2733", "#6b7785"
@@ -28,7 +30,7 @@ class Loop:
     gains: Gains
 
 
-def bar(axes, loop: Loop, run: Gain, x: float) -> None:
+def bar(axes: Axes, loop: Loop, run: Gain, x: float) -> None:
     """A bar at a place: its parts, and the gain above it."""
     base = 0.0
     for part, share in [] if run.full else shares(run):
@@ -40,7 +42,7 @@ def bar(axes, loop: Loop, run: Gain, x: float) -> None:
     axes.text(x, -0.04, run.store[0], ha="center", va="top", size=6.2, color=PALE)
 
 
-def panel(axes, loop: Loop) -> None:
+def panel(axes: Axes, loop: Loop) -> None:
     """The bars of a loop."""
     cores = sorted({run.cores for run in loop.gains.runs})
     for run in loop.gains.runs:

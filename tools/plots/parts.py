@@ -35,13 +35,14 @@ PARTS = [USEFUL, *KINDS, *REST]
 
 def amounts(run: Gain) -> dict[Part, float]:
     """The steps of each part; those of all parts are cores x steps."""
-    violations = sum(getattr(run, part.name) for part in KINDS)
-    found = {part: float(getattr(run, part.name)) for part in (USEFUL, *REST)}
-    found |= {part: run.lost * getattr(run, part.name) / violations if violations else 0.0 for part in KINDS}
+    violations = sum(run.count(part.name) for part in KINDS)
+    found = {part: float(run.count(part.name)) for part in (USEFUL, *REST)}
+    lost = run.count("lost")
+    found |= {part: lost * run.count(part.name) / violations if violations else 0.0 for part in KINDS}
     return found
 
 
 def shares(run: Gain) -> list[tuple[Part, float]]:
     """The parts that occur, from below, each as its share of all steps."""
-    found, whole = amounts(run), run.cores * run.steps
+    found, whole = amounts(run), run.cores * run.count("steps")
     return [(part, found[part] / whole) for part in PARTS if found[part]]

@@ -10,7 +10,7 @@ NAMES = [one.name for one in fields(Gain)]
 
 
 def word_of(run: Gain, name: str) -> str:
-    value = getattr(run, name)
+    value: str | float | None = getattr(run, name)
     if value is None:
         return ""
     return f"{value:.2f}" if name == "gain" else str(int(value)) if name == "full" else str(value)
