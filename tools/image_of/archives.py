@@ -26,7 +26,8 @@ class Archive:
         with path.open("rb") as file:
             self.is_thin = file.read(len(WHOLE)) == THIN
             self.length = path.stat().st_size
-            self.names, self.places = b"", []
+            self.names = b""
+            self.places: list[int] = []
             place = len(WHOLE)
             # the index and the table of long names stand in front
             while place < self.length:

@@ -11,6 +11,7 @@ from collections.abc import Callable, Sequence
 from pathlib import Path
 from typing import TypeVar
 
+from loops.images import there
 from loops.names import line, word
 
 from .archives import THIN, WHOLE, Archive
@@ -27,7 +28,7 @@ FLAGS = ["-Wall", "-Wextra", "-ffreestanding", "-fno-pic", "-fno-common", "-fno-
          "-ffunction-sections", "-msmall-data-limit=0", "-mno-save-restore", "-fno-stack-protector", "-fstack-usage"]
 # What each language takes, by the ending of a file's name. LLVM IR is compiled, but has no language left that would
 # take flags of its own.
-LANGUAGES = {
+LANGUAGES: dict[str, list[str]] = {
     "c": ["-std=c11", *FLAGS], "c++": ["-std=c++17", "-fno-exceptions", "-fno-rtti", "-fno-threadsafe-statics",
                                        "-fno-use-cxa-atexit", *FLAGS],
     "assembly": [], "llvm": ["-ffunction-sections", "-fomit-frame-pointer", "-msmall-data-limit=0", "-fno-pic",
@@ -70,6 +71,43 @@ COMPILERS = {
         "clang and lld", ["clang", "--target=riscv32-unknown-elf"], ["-nostdlibinc", "-fno-unroll-loops"],
         ["ld.lld", "--error-limit=0"], ["llvm-objdump"], []),
 }
+
+
+class Options(Namespace):
+    """The options of tools/image-of, as its parser leaves them."""
+    sources: list[Path]
+    inputs: list[tuple[Path, str]]          # each with what it is
+    program: str                            # the name of the tool
+    epochs: int
+    limit: int
+    size: int | None
+    stack: int | None
+    exit: bool
+    version: int
+    entry: str
+    reg: list[tuple[int, int]]
+    optimize: str
+    define: list[str]
+    std: str | None
+    data: list[tuple[str, Path]]
+    g: bool
+    include: list[str]
+    cflags: list[str]
+    chunk: int
+    setup: str | None
+    libc: str | None
+    heap: int
+    compiler: str | None
+    assembly: bool
+    linked: Path | None                     # a linked program that is taken as it is
+    tools: Compiler | None                  # none where nothing is compiled
+    start: Start
+
+    @property
+    def toolchain(self) -> Compiler:
+        """The compiler, where something is compiled."""
+        return there(self.tools)
+
 
 LINKER_SCRIPT = """
 ENTRY({entry})
@@ -169,7 +207,7 @@ def check_llvm(source: Path) -> None:
 
 # --- Compiling and linking ---------------------------------------------------
 
-def further_flags(options: Namespace, language: str) -> list[str]:
+def further_flags(options: Options, language: str) -> list[str]:
     """The flags of the command line, for a language that takes them."""
     if language == "assembly":
         given = [f"-D{name}" for name in options.define] + [f"-I{folder}" for folder in options.include]
@@ -182,7 +220,7 @@ def further_flags(options: Namespace, language: str) -> list[str]:
     return level + (["-g"] if options.g else []) + given
 
 
-def made_with(options: Namespace) -> str:
+def made_with(options: Options) -> str:
     """The compiler of the first source and its flags, as words of a remark; none where nothing is compiled."""
     kinds = [kind for _, kind in options.inputs if kind in LANGUAGES]
     if not kinds or not options.tools:
@@ -191,22 +229,22 @@ def made_with(options: Namespace) -> str:
     return line(", with " + " ".join([done.stdout.partition("\n")[0], *further_flags(options, kinds[0])]))
 
 
-def words_of(source: Path, kind: str, options: Namespace) -> list[str]:
+def words_of(source: Path, kind: str, options: Options) -> list[str]:
     """How the compiler is called for a source. What lies beside the entry may be another's, and isn't looked at as
     closely."""
-    own = options.tools.words(kind)
+    own = options.toolchain.words(kind)
     if kind in ("c", "c++") and not re.search(rf"\b{re.escape(options.entry)}\s*\(", text_of(source)):
         own = [one for one in own if one != "-Wextra"]
-    library = LIBRARIES.get(options.libc)
+    library = LIBRARIES[options.libc] if options.libc else None
     return own + (["-isystem", str(library.headers)] if library and kind in ("c", "c++", "assembly") else [])
 
 
-def compiled(source: Path, kind: str, number: int, options: Namespace, directory: str) -> Path:
+def compiled(source: Path, kind: str, number: int, options: Options, directory: str) -> Path:
     """The path of the object file of a source. Warnings are shown."""
     made = Path(directory, f"{number}.o")
     if kind == "llvm":
         check_llvm(source)
-    convention = [] if options.stack or kind in ("assembly", "llvm") else options.tools.no_stack
+    convention = [] if options.stack or kind in ("assembly", "llvm") else options.toolchain.no_stack
     strict = ["-Werror=override-module"] if kind == "llvm" and not text_of(source) else []
     # the assembler's preprocessor alone knows -D
     language = (["-x", "assembler-with-cpp"] if kind == "assembly" and (source.suffix == ".S" or options.define
@@ -225,10 +263,10 @@ def compiled(source: Path, kind: str, number: int, options: Namespace, directory
     return made
 
 
-def check_frames(usage: Path, options: Namespace) -> None:
+def check_frames(usage: Path, options: Options) -> None:
     """Refuses a function whose frame is larger than a slot, and warns of one whose frame grows as it runs. The
     compiler's figures count saved registers too."""
-    stack = options.stack
+    stack = there(options.stack)
     for told in usage.read_text().splitlines() if usage.is_file() else []:
         place, taken, kind = told.rsplit("\t", 2)
         name = word(place.rsplit(":", 1)[1])
@@ -242,11 +280,11 @@ def check_frames(usage: Path, options: Namespace) -> None:
                           f"{enough} or more")
 
 
-def start_code(start: Start, options: Namespace, directory: str) -> Path:
+def start_code(start: Start, options: Options, directory: str) -> Path:
     """The path of the object file of the instructions before the entry."""
     source, made = Path(directory, "start.s"), Path(directory, "start.o")
     source.write_text(start.assembly(TOP), encoding="utf-8")
-    status, errors = run([*options.tools.words("assembly"), "-c", "-o", made, source])
+    status, errors = run([*options.toolchain.words("assembly"), "-c", "-o", made, source])
     if status:
         raise Refused("the assembler refuses the start code:\n" + errors)
     return made
@@ -268,7 +306,7 @@ def undefined(errors: str) -> list[str]:
                                  errors)) | set(re.findall(r"undefined symbol: (\S+)", errors)))
 
 
-def linked(objects: list[Path], options: Namespace, directory: str) -> Program:
+def linked(objects: list[Path], options: Options, directory: str) -> Program:
     """The program linked at address 0. What the compiler calls comes from its own library, where the inputs don't
     define it."""
     script, made = Path(directory, "link.ld"), Path(directory, "body.elf")
@@ -278,12 +316,12 @@ def linked(objects: list[Path], options: Namespace, directory: str) -> Program:
                 + ([LIBRARIES[options.libc].archive] if options.libc else []))
     # compressed jumps are none of the machine's, and a linker that relaxes objects of such a kind makes some
     compressed = any(Opened(one).header.flags & COMPRESSED for one in objects)
-    command = [*options.tools.linker, "-m", "elf32lriscv", *(["--no-relax"] if compressed else []), "-T", script, "-o",
-               made]
+    command = [*options.toolchain.linker, "-m", "elf32lriscv", *(["--no-relax"] if compressed else []), "-T",
+               str(script), "-o", str(made)]
 
     def link(given: list[Path]) -> tuple[int, str]:
-        return run([*command, *(["-u", options.entry, "--start-group", *objects, *given, "--end-group"] if given
-                                else objects)])
+        group: list[str | Path] = ["-u", options.entry, "--start-group", *objects, *given, "--end-group"]
+        return run([*command, *group] if given else [*command, *objects])
 
     status, errors = link(archives)
     if undefined(errors) and libgcc():
@@ -299,7 +337,7 @@ def linked(objects: list[Path], options: Namespace, directory: str) -> Program:
     return program
 
 
-def no_entry(program: Program, options: Namespace) -> str:
+def no_entry(program: Program, options: Options) -> str:
     """Why there is no entry, with the functions that are there."""
     reason = missing([options.entry], options.entry, options.exit, bool(options.libc))
     mangled = next((name for name in program.functions() if re.match(rf"_Z{len(options.entry)}{options.entry}\w*$",
@@ -319,7 +357,7 @@ def check_sizes(objects: list[Path]) -> None:
                       "1048576")
 
 
-def program_of(options: Namespace, directory: str) -> Program:
+def program_of(options: Options, directory: str) -> Program:
     """The linked program of all inputs."""
     kinds = dict(options.inputs)
     for path, kind in options.inputs:
@@ -353,7 +391,7 @@ def tools_of(compiler: str | None, kinds: set[str]) -> Compiler:
                   + ", or ".join(COMPILERS[name].package for name in names))
 
 
-def with_program(options: Namespace, work: Callable[[Program], Answer]) -> Answer:
+def with_program(options: Options, work: Callable[[Program], Answer]) -> Answer:
     """Links the inputs, or takes the linked program that is given, and does something with it."""
     if options.linked:
         return work(Program(options.linked))

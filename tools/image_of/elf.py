@@ -17,14 +17,14 @@ from .reasons import EXTENSIONS, FLAGS_OF_OBJECTS, Refused, section_reason
 from .words import extension_of
 
 try:
-    from elftools.construct import Array, ULInt8
-    from elftools.elf.elffile import ELFFile
+    from elftools.construct import Array as Array, ULInt8 as ULInt8
+    from elftools.elf.elffile import ELFFile as ELFFile
     from elftools.elf.enums import ENUM_E_MACHINE, ENUM_E_TYPE
 except ImportError:
     sys.path.append("/usr/lib/python3/dist-packages")       # Debian's packages, where another Python runs than Debian's
     try:
-        from elftools.construct import Array, ULInt8
-        from elftools.elf.elffile import ELFFile
+        from elftools.construct import Array as Array, ULInt8 as ULInt8
+        from elftools.elf.elffile import ELFFile as ELFFile
         from elftools.elf.enums import ENUM_E_MACHINE, ENUM_E_TYPE
     except ImportError:
         ELFFile = Array = ULInt8 = None

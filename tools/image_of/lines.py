@@ -36,7 +36,8 @@ class Lines:
     """FILE:LINE by address. Asking costs a search among all rows, however long the gaps between them are."""
 
     def __init__(self, sequences: list[Sequence]):
-        self.addresses, self.told = [], []
+        self.addresses: list[int] = []
+        self.told: list[str] = []
         for sequence in sorted(sequences, key=lambda one: one.first):
             if self.addresses and sequence.first < self.addresses[-1]:
                 continue                    # two for the same code, as where a linker folds functions: the first

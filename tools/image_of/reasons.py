@@ -91,8 +91,8 @@ def refusal_of(errors: str) -> str:
                 "compiler's own, as stdint.h, stdbool.h, stddef.h and limits.h; -I names a folder of others, and "
                 "--libc picolibc has those of a C library")
     needed = re.search(r"(\S+?:\d+):.*?(?:extension [`'](\w+)'|requires the following: '(\w+)')", errors)
-    extension = needed and SPELLED.get((needed[2] or needed[3]).lower())
-    if extension:
+    extension = SPELLED.get((needed[2] or needed[3]).lower()) if needed else None
+    if needed and extension:
         return f"{needed[1]}: the instruction needs the extension {extension}: {EXTENSIONS[extension]}\n{errors}"
     return "the compiler refuses the source:\n" + errors
 

@@ -32,7 +32,8 @@ def unicorn_module() -> ModuleType:
         except ImportError:
             raise Refused("--setup needs an emulator, and unicorn is not installed; install the Debian package "
                           "python3-unicorn") from None
-    return unicorn
+    found: ModuleType = unicorn
+    return found
 
 
 class Setup:
@@ -55,7 +56,8 @@ class Setup:
             self.machine.reg_write(getattr(self.unicorn.riscv_const, f"UC_RISCV_REG_X{number}"), value)
 
     def pc(self) -> int:
-        return self.machine.reg_read(self.unicorn.riscv_const.UC_RISCV_REG_PC)
+        pc: int = self.machine.reg_read(self.unicorn.riscv_const.UC_RISCV_REG_PC)
+        return pc
 
     def stopped(self, machine: object, cause: int, _: object) -> None:
         """What a processor stops at, as ECALL and EBREAK."""

@@ -142,7 +142,8 @@ def line_of(one: Instruction, top: str) -> str:
 
 def assembled(given: list[Instruction], named: dict[str, int], top: int = 0) -> list[int]:
     """The words of instructions from address 0 on; `named` are the addresses of names that are no labels among them."""
-    places, kept = dict(named), []
+    places = dict(named)
+    kept: list[Instruction] = []
     for one in given:
         if one.name == "label":
             places[str(one.third)] = 4 * len(kept)

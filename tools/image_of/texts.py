@@ -1,14 +1,14 @@
 """The text of the image of a linked program."""
 
-from argparse import Namespace
 from collections.abc import Iterator
 from dataclasses import dataclass
 from pathlib import Path
 
+from loops.images import there
 from loops.names import line as printable
 from loops.names import word
 
-from .compilers import REMARK, TOP, made_with, text_of
+from .compilers import REMARK, TOP, Options, made_with, text_of
 from .elf import EXECUTABLE, THREADS, WRITABLE, Program, Section, unfit
 from .lines import Lines, lines_of
 from .reasons import Refused, call_reason
@@ -28,8 +28,11 @@ def needs_stack(code: bytes) -> bool:
 
 def remarks(path: Path, kind: str) -> list[str]:
     """The lines at the top of a source that begin with its sign of a remark, without options."""
-    lines, sign = [], REMARK.get(kind)
-    for line in text_of(path).splitlines() if sign else []:
+    sign = REMARK.get(kind)
+    if sign is None:
+        return []
+    lines = []
+    for line in text_of(path).splitlines():
         if not line.startswith(sign):
             break
         if not line.startswith(f"{sign} image:"):
@@ -46,7 +49,7 @@ class Layout:
     threads: int | None             # where the thread_local variables are, if there are some
 
 
-def layout_of(program: Program, options: Namespace) -> Layout:
+def layout_of(program: Program, options: Options) -> Layout:
     """The layout of a program that was linked here."""
     program.check_sections((".text", ".rest", ".tdata"))
     top = program.symbol(TOP) or 0
@@ -107,7 +110,7 @@ def block_of_threads(program: Program, top: int) -> tuple[int | None, list[tuple
     return top, [(top, bytes(data))], top + len(data) + -len(data) % 16
 
 
-def layout_of_linked(program: Program, options: Namespace) -> Layout:
+def layout_of_linked(program: Program, options: Options) -> Layout:
     """The layout of a program that was linked elsewhere: where its sections are, with a jump to the entry at address
     0."""
     check_linked(program)
@@ -130,8 +133,8 @@ def layout_of_linked(program: Program, options: Namespace) -> Layout:
         raise Refused(f"{program.path}: {options.entry} isn't at address 0, and no {4 * len(words)} bytes are free "
                       "there for what leads to it; "
                       f"link it from address {max(32, 4 * len(words))} on, as by -Ttext={max(32, 4 * len(words)):#x}")
-    for number, one in enumerate(words):
-        code[4 * number:4 * number + 4] = one.to_bytes(4, "little")
+    for number, instruction in enumerate(words):
+        code[4 * number:4 * number + 4] = instruction.to_bytes(4, "little")
     return Layout(bytes(code), [(one.address, one.data()) for one in placed if one.address >= end] + block, top,
                   threads)
 
@@ -147,7 +150,7 @@ def line_remarks(program: Program, layout: Layout) -> Iterator[str]:
             yield f"# code {pc:08x} {found}"
 
 
-def map_of(program: Program, options: Namespace, layout: Layout) -> list[str]:
+def map_of(program: Program, options: Options, layout: Layout) -> list[str]:
     """Remarks that say where the variables and the stacks are, and with -g where the instructions come from."""
     start = options.start
     lines = [f"# {word(name)} {address:08x} {length}" for address, name, length in program.variables(layout.threads)]
@@ -173,7 +176,7 @@ def at_lines(start: int, data: bytes) -> Iterator[str]:
             yield f"at {first + place + skipped:08x} {part[skipped:].hex()}"
 
 
-def overlays(program: Program, options: Namespace, layout: Layout) -> Iterator[tuple[int, bytes]]:
+def overlays(program: Program, options: Options, layout: Layout) -> Iterator[tuple[int, bytes]]:
     """The files that --data puts over variables: address and bytes."""
     for name, path in options.data:
         variables = {one: (address, length) for address, one, length in program.variables(layout.threads)}
@@ -195,19 +198,19 @@ def whole_lines(start: int, data: bytes) -> Iterator[str]:
         yield f"at {start + place:08x} {data[place:place + 16].hex()}"
 
 
-def set_up(program: Program, options: Namespace, layout: Layout,
+def set_up(program: Program, options: Options, layout: Layout,
            over: list[tuple[int, bytes]]) -> list[tuple[int, bytes]]:
     """The memory behind the code, as the function of --setup leaves it."""
     memory = bytearray(layout.top)
     for address, data in [(0, layout.code), *layout.rest, *over]:
         memory[address:address + len(data)] = data
-    after = Setup(program, options.setup, bytes(memory), dict(registers_of(program, options, layout))).memory()
+    after = Setup(program, there(options.setup), bytes(memory), dict(registers_of(program, options, layout))).memory()
     if after[:len(layout.code)] != layout.code:
         raise Refused(f"--setup {options.setup} writes into the code")
     return [(len(layout.code), after[len(layout.code):])]
 
 
-def size_of(top: int, options: Namespace) -> int:
+def size_of(top: int, options: Options) -> int:
     """The bytes of memory, for a program that ends here and its stacks."""
     end = top + (options.start.stack or 0) * options.start.slots
     line, most = LINE[options.version], LARGEST_SIZE[options.version]
@@ -221,7 +224,7 @@ def size_of(top: int, options: Namespace) -> int:
     return size
 
 
-def registers_of(program: Program, options: Namespace, layout: Layout) -> list[tuple[int, int]]:
+def registers_of(program: Program, options: Options, layout: Layout) -> list[tuple[int, int]]:
     """Registers at the start: those of the command line, what a linked program expects in its global pointer, and where
     thread_local variables are."""
     found = dict(options.reg)
@@ -246,7 +249,7 @@ def check_words(program: Program) -> None:
                                 for extension, (pc, one) in found.items()))
 
 
-def check_stack(program: Program, options: Namespace, layout: Layout) -> None:
+def check_stack(program: Program, options: Options, layout: Layout) -> None:
     """Refuses a program that needs a stack and has none."""
     if not options.stack and 2 not in dict(options.reg) and needs_stack(layout.code):
         calls = call_reason([one.name for one in program.symbols])
@@ -254,7 +257,7 @@ def check_stack(program: Program, options: Namespace, layout: Layout) -> None:
                                                              "time, or give --stack BYTES"))
 
 
-def image_text(program: Program, options: Namespace) -> str:
+def image_text(program: Program, options: Options) -> str:
     """The text of the image."""
     layout = layout_of_linked(program, options) if options.linked else layout_of(program, options)
     check_words(program)
