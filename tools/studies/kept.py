@@ -51,7 +51,8 @@ class Work:
 
 def work_of(told: Row) -> Work:
     """The work that JSON says."""
-    return Work(**told | {"programs": tuple(sorted(told["programs"].items()))})
+    programs: dict[str, Any] = {"programs": tuple(sorted(told["programs"].items()))}
+    return Work(**told | programs)
 
 
 def line_of(work: Work, row: Row) -> str:

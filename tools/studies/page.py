@@ -24,7 +24,7 @@ def said(value: object) -> str:
     return "" if value is None else escape(shown(str(value)))
 
 
-def spread(values: list[object]) -> list[object]:
+def spread(values: list[float | None]) -> list[object]:
     """The least, the middle and the most of what is known; of the middle two the mean."""
     known = sorted(float(value) for value in values if value is not None)
     return [f"{value:.2f}".removesuffix(".00") for value in (known[0], median(known), known[-1])] if known else [None] * 3

@@ -55,7 +55,8 @@ class Plan:
     def ways(self, schedule: str) -> list[tuple[str, int | None]]:
         """The stores and seeds of a schedule."""
         stores = ["caches"] if schedule == "threads" else self.stores
-        return [(store, seed) for store in stores for seed in (self.seeds if schedule == "seeded" else [None])]
+        seeds: list[int | None] = [*self.seeds] if schedule == "seeded" else [None]
+        return [(store, seed) for store in stores for seed in seeds]
 
     def count(self) -> int:
         """How many runs there are."""
