@@ -315,7 +315,8 @@ class Builder:
     @cached_property
     def loops(self) -> list[Loop]:
         """The loops of all units, each with a place of its own."""
-        all_, seen = [loop for unit in self.units for loop in unit.loops], Counter()
+        all_ = [loop for unit in self.units for loop in unit.loops]
+        seen: Counter[str] = Counter()
         for loop in all_:
             seen[loop.line] += 1
             loop.place = loop.line if seen[loop.line] == 1 else f"{loop.line}.{seen[loop.line]}"

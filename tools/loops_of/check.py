@@ -4,6 +4,7 @@ program made of it."""
 from collections.abc import Iterator
 
 from loops import Programs
+from loops.images import there
 
 from .build import PAGE, Linked, Loop
 from .emulator import Entries, Run, Window
@@ -72,19 +73,21 @@ def check_image(text: str, loop: Loop, wanted: Wanted, window: Window) -> int:
     if report.ending == "fault" and report.cause == TOO_LONG:
         raise Refused(too_long(loop.line, part_of(wanted, report.epoch), LIMIT))
     if report.ending == "fault" and report.cause == MISALIGNED:
-        raise Refused(misaligned(window.program.line(report.pc), part_of(wanted, report.epoch)))
+        raise Refused(misaligned(window.program.line(there(report.pc)), part_of(wanted, report.epoch)))
     expected = ("exit", wanted.epochs - 1) if wanted.whole else ("done", wanted.epochs)
     if (report.ending, report.epoch) != expected:
-        cause = f" with cause {report.cause} at {window.program.line(report.pc)}" if report.ending == "fault" else ""
+        cause = ""
+        if report.ending == "fault":
+            cause = f" with cause {report.cause} at {window.program.line(there(report.pc))}"
         raise Otherwise(f"DIFFERENT the loop ends by {report.ending} {report.epoch}{cause}, and not by {expected[0]} "
                         f"{expected[1]}")
-    memory = bytearray(window.memory)
+    memory, after = bytearray(window.memory), window.after
     for row in report.rows:
         memory[row.address:row.address + len(row.data)] = row.data
     program = window.program
     dead, end = range(program.at("loops_guard"), window.registers[2] // 4 * 4), program.at("loops_end")
-    words = [at for at in differing(bytes(memory), window.after, 0, end) if at not in dead]
-    own = [at for at in words if word_of(window.after, at) in dead and word_of(memory, at) >= end]
+    words = [at for at in differing(bytes(memory), after, 0, end) if at not in dead]
+    own = [at for at in words if word_of(after, at) in dead and word_of(memory, at) >= end]
     different = sorted(set(words) - set(own))
     if different:
         raise Otherwise(f"DIFFERENT {len(different)} words, as in "

@@ -54,7 +54,8 @@ class Counted:
 
     @property
     def iterations(self) -> int:
-        return self.iterated.count
+        count: int = self.iterated.count
+        return count
 
 
 @dataclass
@@ -130,7 +131,7 @@ class Counting(Run):
     def counted(self) -> int:
         """Runs the whole program, and answers its steps."""
         self.whole()
-        total = self.steps.total - self.steps.marked
+        total: int = self.steps.total - self.steps.marked
         while self.active:
             self.close(total)
         return total

@@ -7,9 +7,11 @@ from collections.abc import Callable
 from dataclasses import dataclass, field
 from pathlib import Path
 from types import ModuleType
+from typing import Any
 
 from image_of.reasons import Refused as NoUnicorn
 from image_of.setup import unicorn_module
+from loops.images import there
 
 from .build import MEMORY, PAGE, Linked
 from .reasons import CAME_AGAIN, ENDS_WITHIN, Faults, Refused, Unusable, stack_ran_out, system_call
@@ -18,19 +20,23 @@ from .reasons import CAME_AGAIN, ENDS_WITHIN, Faults, Refused, Unusable, stack_r
 def imported() -> ModuleType | None:
     """Unicorn, or None. It takes one function of pkg_resources, which takes long to import: another one stands there
     meanwhile."""
+    def resource_filename(module: str, name: str) -> str:
+        return str(Path(there(sys.modules[module].__file__)).with_name(name))
+
     stand_in = ModuleType("pkg_resources")
-    stand_in.resource_filename = lambda module, name: str(Path(sys.modules[module].__file__).with_name(name))
-    there = sys.modules.setdefault("pkg_resources", stand_in)
+    vars(stand_in)["resource_filename"] = resource_filename
+    found = sys.modules.setdefault("pkg_resources", stand_in)
     try:
         return unicorn_module()
     except NoUnicorn:
         return None
     finally:
-        if there is stand_in:
+        if found is stand_in:
             del sys.modules["pkg_resources"]
 
 
-unicorn = imported()
+# It has no types. Where it is missing, nothing is run.
+unicorn: Any = imported()
 
 FILL = 0xA5
 END, PUT, PUT_ERROR, GET = range(4)         # the system's calls, as runtime.c has them
@@ -88,15 +94,15 @@ class Run:
                                  unicorn.UC_PROT_READ | unicorn.UC_PROT_EXEC)
         self.machine.mem_protect(self.guard, PAGE, unicorn.UC_PROT_NONE)
 
-    def hook(self, name: str, do: Callable[[], None]) -> None:
+    def hook(self, name: str, do: Callable[[], object]) -> None:
         """Calls a function where the program gets to a symbol."""
         if name in self.program.named:
             self.hook_at(self.program.at(name), do)
 
-    def hook_at(self, at: int, do: Callable[[], None]) -> None:
+    def hook_at(self, at: int, do: Callable[[], object]) -> None:
         self.machine.hook_add(unicorn.UC_HOOK_CODE, lambda *_: do(), begin=at, end=at)
 
-    def hook_native(self, kind: int, function: object, given: ctypes.Structure, at: int | None = None) -> None:
+    def hook_native(self, kind: int, function: Any, given: ctypes.Structure, at: int | None = None) -> None:
         """Calls a function of C, which a hook that is called often has to be: at each block, or at an instruction. (The
         package itself takes functions of Python alone.)"""
         bounds = (1, 0) if at is None else (at, at)
@@ -108,10 +114,12 @@ class Run:
             raise Unusable(f"the emulator takes no hook: error {status}")
 
     def register(self, number: int) -> int:
-        return self.machine.reg_read(self.numbers[number]) & 0xFFFFFFFF
+        value: int = self.machine.reg_read(self.numbers[number])
+        return value & 0xFFFFFFFF
 
     def pc(self) -> int:
-        return self.machine.reg_read(unicorn.riscv_const.UC_RISCV_REG_PC)
+        pc: int = self.machine.reg_read(unicorn.riscv_const.UC_RISCV_REG_PC)
+        return pc
 
     def word(self, at: int) -> int:
         return int.from_bytes(self.machine.mem_read(at, 4), "little")
@@ -214,7 +222,8 @@ class Window(Entries):
 
     def __init__(self, program: Linked, given: Given, entry: int, first: int, count: int) -> None:
         self.wanted, self.first, self.count = entry, first, count
-        self.memory = self.after = None
+        self.begun: bytes | None = None         # the memory where the window begins
+        self.ended: bytes | None = None         # and where it ends
         self.registers: list[int] = []
         self.depth = 0
         self.blocks: dict[int, Block] = {}
@@ -232,12 +241,12 @@ class Window(Entries):
                 self.hook_at(pc, self.given_block)
 
     def given_block(self) -> None:
-        if self.asked and self.memory is None and self.register(10):
+        if self.asked and self.begun is None and self.register(10):
             self.blocks[self.register(10)] = Block(*self.asked.pop())
 
     def caller(self) -> str:
         """The innermost line of the program's own that led here."""
-        if self.memory is not None:
+        if self.begun is not None:
             return "?"
         return next((line for line in map(self.program.lines.at, self.returns(self.high)) if line), "?")
 
@@ -247,37 +256,47 @@ class Window(Entries):
             return
         if self.iterations[-1] == self.first + 1:
             self.begin()
-        elif self.memory and self.iterations[-1] == self.first + self.count + 1:
+        elif self.begun and self.iterations[-1] == self.first + self.count + 1:
             self.finish()
 
     def left(self) -> None:
         super().left()
-        if self.memory and self.after is None:
+        if self.begun and self.ended is None:
             self.finish()
 
     def begin(self) -> None:
         """The window begins. What lies below the stack pointer is dead: filled, it tells how deep the loop's calls
         go."""
-        self.memory, self.registers = self.snapshot(), [self.register(number) for number in range(32)]
+        self.begun, self.registers = self.snapshot(), [self.register(number) for number in range(32)]
         low = self.guard + PAGE
         self.machine.mem_write(low, bytes([FILL]) * (self.registers[2] - low))
 
     def finish(self) -> None:
-        self.after = self.snapshot()
+        self.ended = after = self.snapshot()
         low, high = self.guard + PAGE, self.registers[2]
-        self.depth = len(self.after[low:high].lstrip(bytes([FILL])))
+        self.depth = len(after[low:high].lstrip(bytes([FILL])))
         self.machine.emu_stop()
 
     def before_call(self) -> None:
-        if self.memory and self.after is None:
+        if self.begun and self.ended is None:
             self.stop(Refused(self.calling() or ENDS_WITHIN))
 
     def run(self) -> "Window":
         """Runs to the end of the window."""
         self.start()
-        if self.after is None:
+        if self.ended is None:
             raise Refused(ENDS_WITHIN)
         return self
+
+    @property
+    def memory(self) -> bytes:
+        """The memory where the window begins, once it has run."""
+        return there(self.begun)
+
+    @property
+    def after(self) -> bytes:
+        """The memory where the window ends, once it has run."""
+        return there(self.ended)
 
     def calling(self) -> str | None:
         """Why a call of the system ends the window: the line in the loop that led to it. None where the loop was left

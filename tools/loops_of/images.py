@@ -49,7 +49,8 @@ def reachable(program: Linked, memory: bytes) -> set[int]:
     """The instructions that the body may come to: its own and those of the functions that it calls; where it calls by
     address, of all whose addresses are in memory."""
     starts = {at for at, _ in program.functions_at}
-    found, work, by_address = set(), [program.at("loops_body")], False
+    found: set[int] = set()
+    work, by_address = [program.at("loops_body")], False
     while work:
         inside = program.function_at(work.pop())
         if not inside or inside.start in found:
@@ -104,8 +105,9 @@ def remarks(program: Linked, loop: Loop, wanted: Wanted, window: Window) -> list
     lines += [f"# malloc:{block.line} {address:08x} {block.length}" for address, block in sorted(window.blocks.items())
               if block.length]
     # lines of loads and stores: what conflicts are told of; those of all instructions would be most of the text
-    inside = reachable(program, window.memory)
-    accesses = [pc for pc in sorted(inside) if window.memory[pc] & 0x5F == 3 and program.lines.at(pc)]
+    memory = window.memory
+    inside = reachable(program, memory)
+    accesses = [pc for pc in sorted(inside) if memory[pc] & 0x5F == 3 and program.lines.at(pc)]
     return lines + [f"# code {pc:08x} {program.line(pc)}" for pc in accesses]
 
 
