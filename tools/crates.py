@@ -2,6 +2,7 @@
 import os
 import shutil
 import subprocess
+from collections.abc import Iterable
 
 
 class CannotCheck(Exception):
@@ -11,7 +12,7 @@ class CannotCheck(Exception):
 class Kit:
     """The Rattle kit that the command `rt` belongs to."""
 
-    def __init__(self):
+    def __init__(self) -> None:
         if not shutil.which("rt"):
             raise CannotCheck("the command rt of the Rattle kit is not installed")
         page = subprocess.run(["rt", "doc"], capture_output=True, text=True, check=True).stdout
@@ -19,20 +20,20 @@ class Kit:
         self.checker = f"{self.folder}/bin/rattle"
         self.toolchain = f"--toolchain={self.folder}/toolchain"
 
-    def identity(self):
+    def identity(self) -> str:
         """The line by which the kit names itself."""
         return subprocess.run(["rt", "version"], capture_output=True, text=True, check=True).stdout.strip()
 
-    def libraries(self, names):
+    def libraries(self, names: Iterable[str]) -> list[str]:
         """The words by which the checker finds these libraries of the kit."""
         found = [f"--extern={it}={self.folder}/rlibs/{it}.rlib" for it in ("std", *names)]
         return [*found, f"-Ldependency={self.folder}/rlibs"]
 
-    def logic(self):
+    def logic(self) -> str:
         """The word by which a check finds what is proved of the logic itself."""
         return f"--logic-built={self.folder}/logic_built"
 
-    def link_words(self, made, program):
+    def link_words(self, made: str, program: str) -> list[str]:
         """The command that links a compiled program."""
         words = ["--target", "x86_64-unknown-linux-gnu", "--toolchain", f"{self.folder}/toolchain", "-o", program, made]
         return [f"{self.folder}/bin/rattle-link", *words, f"{self.folder}/c/libos_c.a", f"{self.folder}/c/liblibc_c.a"]
@@ -42,36 +43,37 @@ class Crates:
     """The crates that a repository's crates.txt names, and what each stands on. `built` is the folder below a crate's own in
     which its built library lies."""
 
-    def __init__(self, top, built):
-        self.top, self.built, self.uses = top, built, {}
+    def __init__(self, top: str, built: str) -> None:
+        self.top, self.built = top, built
+        self.uses: dict[str, list[str]] = {}
         with open(f"{top}/crates.txt", encoding="utf-8") as it:
             for line in it:
                 name, colon, uses = line.partition("#")[0].partition(":")
                 if colon:
                     self.uses[name.split()[0]] = uses.split()
 
-    def folder(self, name):
+    def folder(self, name: str) -> str:
         return f"{self.top}/crates/{name}"
 
-    def is_program(self, name):
+    def is_program(self, name: str) -> bool:
         return os.path.isfile(f"{self.folder(name)}/src/main.rt")
 
-    def library(self, name):
+    def library(self, name: str) -> str:
         """Where the built library of a crate lies."""
         return f"{self.folder(name)}/{self.built}/{name}.rlib"
 
-    def own(self, name):
+    def own(self, name: str) -> list[str]:
         """The crates of the repository that a crate names."""
         return [it for it in self.uses[name] if it in self.uses]
 
-    def below(self, name):
+    def below(self, name: str) -> list[str]:
         """The crates of the repository that a crate stands on, each once, after those that it stands on itself."""
-        found = {}
+        found: dict[str, None] = {}
         for it in self.own(name):
             found |= dict.fromkeys([*self.below(it), it])
         return [*found]
 
-    def words(self, name, kit):
+    def words(self, name: str, kit: Kit) -> list[str]:
         """The words by which the checker reads a crate in the current folder, over the built libraries below it."""
         root = "src/main.rt" if self.is_program(name) else "src/lib.rt"
         of_kit = [it for it in self.uses[name] if it not in self.uses]
