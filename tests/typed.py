@@ -1,0 +1,79 @@
+#!/usr/bin/env python3
+"""Tests that the types of the Python in tools/ hold, by mypy, as pyproject.toml says: each package and each program.
+
+Usage: tests/typed.py
+
+Nothing has to be built. Without Debian's mypy all is left out, and a line says so. Exits with 1 where a check failed.
+"""
+
+import shutil
+import subprocess
+import sys
+import tempfile
+import tomllib
+from collections.abc import Iterator
+from pathlib import Path
+
+# What a check is of, and what is wrong or None
+Results = Iterator[tuple[str, str | None]]
+ROOT = Path(__file__).resolve().parent.parent
+# A program whose functions have no types yet.
+UNTYPED = {"build"}
+# A function without types, and a field that isn't there: each has to be found.
+WRONG = "from loops import read_image\n\n\ndef size(text):\n    return read_image(text).length\n"
+
+
+class Checker:
+    """Calls of mypy. What it learns in one it needs not learn again in the next."""
+
+    def __init__(self, program: str, room: Path) -> None:
+        self.words, self.room = [program, "--cache-dir", str(room / "cache")], room
+
+    def says(self, *words: str) -> str | None:
+        """What is wrong with packages or files, or None."""
+        done = subprocess.run([*self.words, *words], cwd=ROOT, capture_output=True, text=True, check=False)
+        return (done.stdout + done.stderr).strip() or f"status {done.returncode}" if done.returncode else None
+
+
+def packages() -> list[str]:
+    """The packages of tools/."""
+    project = tomllib.loads((ROOT / "pyproject.toml").read_text(encoding="utf-8"))
+    told: list[str] = project["tool"]["setuptools"]["packages"]
+    return told
+
+
+def programs() -> list[Path]:
+    """The programs of tools/ that are Python, and the modules beside them."""
+    files = sorted(path for path in (ROOT / "tools").rglob("*") if path.is_file() and not path.suffix)
+    found = [path for path in files if b"python3" in path.read_bytes().partition(b"\n")[0] and path.name not in UNTYPED]
+    return [*sorted((ROOT / "tools").glob("*.py")), *found]
+
+
+def results(checker: Checker) -> Results:
+    """(what it shows, what is wrong or None)"""
+    yield "packages", checker.says(*(word for name in packages() for word in ("-p", name)))
+    for path in programs():
+        yield path.name, checker.says(str(path))
+    wrong = checker.room / "wrong.py"
+    wrong.write_text(WRONG, encoding="utf-8")
+    said = checker.says(str(wrong)) or ""
+    yield "a wrong program is refused", None if "[no-untyped-def]" in said and "[attr-defined]" in said else repr(said)
+
+
+def main() -> int:
+    program = shutil.which("mypy")
+    if program is None:
+        print("left out: types, since mypy is not installed")
+        return 0
+    with tempfile.TemporaryDirectory() as folder:
+        checked = list(results(Checker(program, Path(folder))))
+    for name, wrong in checked:
+        if wrong:
+            print(f"FAILED {name}: {wrong}")
+    failed = sum(wrong is not None for _, wrong in checked)
+    print(f"{len(checked) - failed} checks passed, {failed} failed")
+    return 1 if failed else 0
+
+
+if __name__ == "__main__":
+    sys.exit(main())
