@@ -32,6 +32,8 @@ ENTRIES = 50_000
 MOST_OF_WHY = 20
 # Six times as much input; what goes over all that was before at each epoch takes 36 times as long.
 FEW, MANY, MOST_OF_MANY = 10_000, 60_000, 8
+# A plain store that makes a cell for each byte and core takes some 300 times as long as caches do.
+MOST_OF_PLAIN = 20
 # Twice as much input; what goes over all that was before takes four times as long.
 MOST_OF_TWICE = 2.9
 # lw x5,64(x0); lw x5,68(x0); lw x5,72(x0); lw x5,76(x0); jalr x0,0(x1)
@@ -84,6 +86,8 @@ def bounds() -> list[Bound]:
     rows.append(Bound("even plain, 60,000 epochs to 10,000", MOST_OF_MANY, *even))
     audits = [Call("trace_cli", ("audit",), loads(count) + trace_of_loads(count)) for count in (MANY, FEW)]
     rows.append(Bound("audit, 60,000 epochs to 10,000", MOST_OF_MANY, *audits))
+    every = [Call("replay", ("all", store, "16", "2"), "version 2\n" + image(FOUR_LOADS, epochs=16, size=1_048_576)) for store in ("plain", "caches")]
+    rows.append(Bound("every schedule of 1 MiB, plain to caches", MOST_OF_PLAIN, *every))
     for store in ("plain", "caches"):
         even = [Call("replay", ("even", store, "4"), counters(count)) for count in (20_000, 10_000)]
         rows.append(Bound(f"even {store}, twice the epochs", MOST_OF_TWICE, *even))

@@ -1,5 +1,5 @@
 -- Some of memory's bytes, kept beside it.
-use Rattle.std.specs.Prelude.{◌≡◌, ℕ, ◌<◌, ◌^◌, List, length, Option, Some, None, true, is_some, slice_index, slice_index_or}
+use Rattle.std.specs.Prelude.{◌≡◌, ℕ, ◌-◌, ◌<◌, ◌≤◌, ◌^◌, List, [], ◌∷◌, ◌++◌, length, replicate, Option, Some, None, true, is_some, slice_index, slice_index_or, if◌then◌else◌}
 
 -- a byte or none at each address of memory, and for how many more there is room without taking memory
 pub record ShadowView : Type 0 where
@@ -24,3 +24,18 @@ pub record Covers (cells : List (Option ℕ)) (addresses : List ℕ) : Type 0 wh
   pub held : (place : ℕ) → place < length addresses → is_some (byte_in cells (slice_index addresses place)) ≡ true
   pub once : (first second : ℕ) → first < length addresses → second < length addresses
       → slice_index addresses first ≡ slice_index addresses second → first ≡ second
+
+-- ---- what the code keeps: cells up to the highest address at which a byte was set, of the first so many addresses
+
+abbrev pub padded : List (Option ℕ) → ℕ → List (Option ℕ)
+padded cells size = cells ++ replicate (size - length cells) None
+
+-- the list with this address too, where there is no byte
+abbrev pub noted : List (Option ℕ) → List ℕ → ℕ → List ℕ
+noted cells addresses addr = if is_some (byte_in cells addr) then addresses else addresses ++ addr ∷ []
+
+-- there is room for the cells of all these addresses, and the list has those of the bytes
+pub record IsShadow (cells : List (Option ℕ)) (size capacity : ℕ) (touched : List ℕ) : Type 0 where
+  pub within : length cells ≤ size
+  pub room : size ≤ capacity
+  pub covers : Covers (padded cells size) touched

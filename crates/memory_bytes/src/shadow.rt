@@ -1,4 +1,4 @@
-ghost use Rattle.std.specs.Prelude.{◌≡◌, ◌<◌, ◌≤◌, ◌+◌, ◌^◌, ℕ, [], OnOk, Some, None, length, slice_index, slice_set};
+ghost use Rattle.std.specs.Prelude.{◌≡◌, ◌<◌, ◌≤◌, ◌+◌, ◌-◌, ◌^◌, ℕ, [], OnOk, Some, None, vec_len, vec_capacity, length, slice_index, slice_set};
 ghost use Rattle.memory_bytes.specs.Bytes.{number_at};
 ghost use Rattle.memory_bytes.specs.Bytes.{IsWidth};
 ghost use Rattle.memory_bytes.specs.Maps.{joined, over, read_outside, stored};
@@ -9,24 +9,26 @@ use std::marker::Model;
 
 /// Some of memory's bytes, kept beside it: a byte or none at each address.
 ///
-/// It takes no memory before the first `reserve`, and a cell for each address up to the highest that was reserved.
-/// Reading and setting a byte take the same time whatever is kept, and clearing takes time for what was set. Contracts
-/// see the bytes by address, and for how many more there is room.
+/// It takes no memory before the first `reserve`, and then room for a cell for each address up to the highest that was
+/// reserved. The cells are made up to the highest address at which a byte is set, when it is. Else reading and setting a
+/// byte take the same time whatever is kept, and clearing takes time for what was set. Contracts see the bytes by address,
+/// and for how many more there is room.
 #[derive(Drop)]
 pub struct ShadowBytes {
     cells: Vec<Option<u8>>,
+    size: u32,
     touched: Vec<u32>,
 }
 
 impl Model for ShadowBytes {
     ghost use Rattle.std.specs.Prelude.{◌-◌, vec_len, vec_capacity};
-    ghost use Rattle.memory_bytes.specs.Shadow.{ShadowView, Covers};
+    ghost use Rattle.memory_bytes.specs.Shadow.{ShadowView, IsShadow, padded};
 
     ghost Value = { ShadowView };
 
-    ghost view = { λ s. record { cells = s.cells.items; room = vec_capacity s.touched - vec_len s.touched } };
+    ghost view = { λ s. record { cells = padded s.cells.items s.size; room = vec_capacity s.touched - vec_len s.touched } };
 
-    ghost invariant = { λ s. Covers s.cells.items s.touched.items };
+    ghost invariant = { λ s. IsShadow s.cells.items s.size (vec_capacity s.cells) s.touched.items };
 }
 
 impl ShadowBytes {
@@ -36,6 +38,7 @@ impl ShadowBytes {
     {
         ShadowBytes {
             cells: Vec::new(alloc),
+            size: 0,
             touched: Vec::new(alloc),
         }
     }
@@ -65,24 +68,26 @@ impl ShadowBytes {
         ensures cells { OnOk result (addr + width ≤ length self.new.cells) }
         ensures room { OnOk result (width ≤ self.new.room) }
     {
+        let end = addr + width;
         self.touched.reserve(width as usize)?;
-        grow(&mut self.cells, addr + width)
+        if end <= self.size {
+            return Ok(());
+        }
+        self.cells.reserve(end as usize - self.cells.len())?;
+        self.size = end;
+        Ok(())
     }
 
     /// Sets the byte at an address.
-    #[tactic(auto, using(crate::proofs::Shadows::covers_again, crate::proofs::Shadows::covers_more))]
+    #[inline]
     pub fn set(&mut self, addr: u32, byte: u8)
         requires within { addr < length self.old.cells }
         requires room { 0 < self.old.room }
         ensures cells { self.new.cells ≡ slice_set self.old.cells addr (Some byte) }
         ensures room { self.old.room ≤ self.new.room + 1 }
     {
-        if self.cells[addr as usize].is_some() {
-            self.cells[addr as usize] = Some(byte);
-            return;
-        }
-        self.cells[addr as usize] = Some(byte);
-        self.touched.push_reserved(addr);
+        reach(&mut self.cells, addr as usize);
+        put(&mut self.cells, &mut self.touched, addr, byte);
     }
 
     /// The byte of memory with these bytes over it.
@@ -158,7 +163,7 @@ impl ShadowBytes {
         ensures bytes { (a : ℕ) → slice_index memory.new.items a ≡ over (spec.byte_in self.now.cells) (λ b. slice_index memory.old.items b) a }
     {
         for addr in &self.touched {
-            if let Some(byte) = self.cells[*addr as usize] {
+            if let Some(byte) = self.get(*addr) {
                 memory[*addr as usize] = byte;
             }
         }
@@ -170,22 +175,68 @@ impl ShadowBytes {
         ensures none { (a : ℕ) → spec.byte_in self.new.cells a ≡ None }
         ensures room { self.old.room ≤ self.new.room }
     {
-        for addr in &self.touched {
-            self.cells[*addr as usize] = None;
-        }
-        self.touched.clear();
+        empty(&mut self.cells, &mut self.touched);
     }
 }
 
-/// Makes a cell without a byte for each address below this one that has none.
-fn grow(cells: &mut Vec<Option<u8>>, end: u32) -> Result<(), AllocError>
-    ensures bytes { (a : ℕ) → spec.byte_in cells.new.items a ≡ spec.byte_in cells.old.items a }
-    ensures more { length cells.old.items ≤ length cells.new.items }
-    ensures within { (size : ℕ) → length cells.old.items ≤ size → end ≤ size → length cells.new.items ≤ size }
-    ensures cells { OnOk result (end ≤ length cells.new.items) }
+/// Sets the byte at an address that has a cell, and notes the address, where there was none.
+#[inline]
+#[tactic(auto, using(crate::proofs::Shadows::noted_again, crate::proofs::Shadows::noted_more))]
+fn put(cells: &mut Vec<Option<u8>>, touched: &mut Vec<u32>, addr: u32, byte: u8)
+    requires there { addr < length cells.old.items }
+    requires room { vec_len touched.old < vec_capacity touched.old }
+    ensures cells { cells.new.items ≡ slice_set cells.old.items addr (Some byte) }
+    ensures list { touched.new.items ≡ spec.noted cells.old.items touched.old.items addr }
+    ensures capacity { vec_capacity cells.new ≡ vec_capacity cells.old }
+    ensures room { vec_capacity touched.old - vec_len touched.old ≤ vec_capacity touched.new - vec_len touched.new + 1 }
 {
-    for _ in cells.len()..end as usize {
-        cells.push(None)?;
+    if cells[addr as usize].is_some() {
+        cells[addr as usize] = Some(byte);
+        return;
     }
-    Ok(())
+    cells[addr as usize] = Some(byte);
+    touched.push_reserved(addr);
+}
+
+/// Takes the bytes at these addresses out, which are all that there are, and empties the list.
+fn empty(cells: &mut Vec<Option<u8>>, touched: &mut Vec<u32>)
+    requires within { (place : ℕ) → place < length touched.old.items → slice_index touched.old.items place < length cells.old.items }
+    requires each { (a byte : ℕ) → spec.byte_in cells.old.items a ≡ Some byte → spec.IsAmong a touched.old.items }
+    ensures long { length cells.new.items ≡ length cells.old.items }
+    ensures none { (a : ℕ) → spec.byte_in cells.new.items a ≡ None }
+    ensures capacity { vec_capacity cells.new ≡ vec_capacity cells.old }
+    ensures list { touched.new.items ≡ [] }
+    ensures room { vec_capacity touched.old ≤ vec_capacity touched.new }
+{
+    for addr in &*touched {
+        cells[*addr as usize] = None;
+    }
+    touched.clear();
+}
+
+/// Makes cells without a byte up to this address, for which there is room.
+#[inline]
+fn reach(cells: &mut Vec<Option<u8>>, addr: usize)
+    requires { addr < vec_capacity cells.old }
+    ensures there { addr < length cells.new.items }
+    ensures within { (size : ℕ) → addr < size → length cells.old.items ≤ size → length cells.new.items ≤ size }
+    ensures same { (size : ℕ) → addr < size → length cells.old.items ≤ size → spec.padded cells.new.items size ≡ spec.padded cells.old.items size }
+    ensures capacity { vec_capacity cells.old ≤ vec_capacity cells.new }
+{
+    if addr < cells.len() {
+        return;
+    }
+    lengthen(cells, addr);
+}
+
+/// Makes cells without a byte up to this address, which has none.
+#[inline(never)]
+fn lengthen(cells: &mut Vec<Option<u8>>, addr: usize)
+    requires past { length cells.old.items ≤ addr }
+    requires room { addr < vec_capacity cells.old }
+    ensures there { length cells.new.items ≡ addr + 1 }
+    ensures same { (size : ℕ) → addr < size → length cells.old.items ≤ size → spec.padded cells.new.items size ≡ spec.padded cells.old.items size }
+    ensures capacity { vec_capacity cells.old ≤ vec_capacity cells.new }
+{
+    cells.resize(addr + 1, None).unwrap();
 }

@@ -31,8 +31,8 @@ impl CoreState {
         }
     }
 
-    /// Makes room for so many accesses to so many bytes of memory: a cell for each byte where there is none yet, and the places of the
-    /// bytes that the accesses touch.
+    /// Makes room for so many accesses to so many bytes of memory: for a cell for each byte, and for the places of the bytes that the
+    /// accesses touch.
     pub fn reserve(&mut self, size: u32, accesses: u32) -> Result<(), NoMemory>
         requires least { 4 * accesses ≤ size }
         requires within { spec.IsWithin size self.old }

@@ -27,8 +27,9 @@ const MOST_ACCESSES: u32 = 64;
 /// written, changed or not; its speculative store violates nobody.
 ///
 /// A load and a store take the same time whatever is kept; a publish, a violation, a cancel and a leave take time for what the
-/// attempt has touched. It takes no memory for a core before the first `reserve`, which makes two cells for each byte of memory and each core;
-/// a later one grows nothing but the lists of touched bytes, and looks at the cores once in 64 accesses.
+/// attempt has touched. It takes no memory for a core before the first `reserve`, which takes room for two cells for each byte of memory and each
+/// core; they are made up to the highest byte that is touched. A later one grows nothing but the lists of touched bytes, and looks at the cores
+/// once in 64 accesses.
 #[derive(Drop)]
 pub struct PlainStore {
     size: u32,
