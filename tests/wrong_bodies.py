@@ -197,7 +197,7 @@ EDITS = {
         [("let one = next(n);\n    next(one)", "let first = next(n);\n    next(first)")], "misfit: ./proofs/next_but_one"),
     "a_step_with_a_long_name_is_renamed": (
         [(f"let {LONG_STEP} = next(n);\n    next({LONG_STEP})", "let first = next(n);\n    next(first)")],
-        f"FAILED, MISFIT: ./proofs/{LONG_NAME}"),
+        f"FAILED, misfit: ./proofs/{LONG_NAME}"),
     "next_but_one_renames_a_step_in_its_answers_too": (
         [("let one = next(n);\n    next(one)", "let first = next(n);\n    next(first)"), ("c.next-one.ensures", "c.next-first.ensures", PROOF)],
         "FAILED, NOT REFUSED by a message at next_but_one: proved"),
@@ -207,7 +207,7 @@ EDITS = {
         [("    next(one)", "    next(one) + 1"), (f"c.next-{LONG_STEP}.ensures", "c.next.ensures", f"proofs/{LONG_NAME}/Answers.antt")],
         "FAILED, BAD EDIT: it changes a proof of a function that it doesn't change"),
     "two_by_steps_is_right_by_one_step_more": (
-        [("    one_after(first)", "    one_after(first + 1 - 1)")], "FAILED, MISFIT: ./proofs/two_by_steps"),
+        [("    one_after(first)", "    one_after(first + 1 - 1)")], "FAILED, misfit: ./proofs/two_by_steps"),
     "two_by_steps_is_three": ([("    one_after(first)", "    one_after(first) + 1")], "refused: ./proofs/two_by_steps"),
     "two_by_steps_is_three_without_answers": ([("    one_after(first)", "    one_after(first) + 1"), "without answers"], "refused: note: src/lib.rt:"),
     "two_by_steps_is_right_without_answers": (
@@ -421,12 +421,14 @@ def main():
         repository(top)
         path = kit_of_its_own(folder)
         said, lines, status = told(top, path, "steps")
+        noted = told(top, path, "--left", "steps")[1][-1]
         kept = [*keeping(top, folder, path)]
     told_of = {name: wanted for name, (_, wanted) in EDITS.items()} | {KNOWN[-1]: "FAILED, NO EDIT: misfits.txt has it"}
     counts = [sum(wanted.startswith(word) for wanted in told_of.values()) for word in ("refused", "FAILED", "misfit")]
     checks = [(name, said.get(name, "nothing"), wanted) for name, wanted in told_of.items()]
     checks += [("the last line", lines[-1], f"{counts[0]} refused, {counts[1]} failed"), ("the third line from the end", lines[-3:][0], f"{counts[2]} misfits")]
-    checks += [("the status", str(status), "1"), *kept]
+    all_kept = sum(any(word in wanted for word in ("refused: ", "misfit: ")) for wanted in told_of.values())
+    checks += [("the status", str(status), "1"), ("what is kept of these", noted.partition(", ")[2], f"{all_kept} kept"), *kept]
     checks += [(f"{one} and {other}", str(is_another(one, other) or is_another(other, one)), str(wanted)) for one, other, wanted in TERMS]
     wrong = [it for it in checks if not it[1].startswith(it[2])]
     for name, got, wanted in wrong:

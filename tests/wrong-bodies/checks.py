@@ -30,8 +30,11 @@ GAVE_UP = "gave up at one of its limits"
 # few proofs. What it says of the function's goals stays the same.
 MISTAKES_NAME = "nothing-has-this-name"
 MISTAKE = f"\n\nmistake : {MISTAKES_NAME}\nmistake = {MISTAKES_NAME}\n"
-# A proof that stands open: what calls the function rests on what it promises.
-OPEN = "use Rattle.{path}.Statement.{{statement}}\n\npub {name}_spec : {{M : Type 1}} → statement M\n{name}_spec = ?\n"
+# A proof that stands open: what calls the function rests on what it promises. The checker prints what is open, which is short so.
+OPEN = (
+    "use Rattle.{path}.Statement.{{statement}}\n\nopen_at : {{A : Type 2}} → A\nopen_at = ?\n\n"
+    "pub {name}_spec : {{M : Type 1}} → statement M\n{name}_spec = open_at\n"
+)
 
 
 @dataclass

@@ -1,4 +1,4 @@
-"""What earlier runs on this machine saw refused: a note of each wrong body, named by a checksum of all that its trial reads."""
+"""What earlier runs on this machine saw refused, or a misfit: a note of each wrong body, named by a checksum of all that its trial reads."""
 import contextlib
 import functools
 import hashlib
@@ -115,7 +115,7 @@ class Refusals:
         return sum_of((reading.sum, edit, text))
 
     def of(self, name):
-        """The message by which the edit of this name was refused, or None."""
+        """What was said of the edit of this name, or None."""
         if not self.folder or self.anew:
             return None
         try:
@@ -129,7 +129,7 @@ class Refusals:
             return None
 
     def keep(self, name, why):
-        """Notes that the edit of this name was refused. The note is written apart and then renamed, so that nobody meets half of it."""
+        """Notes what was said of the edit of this name. The note is written apart and then renamed, so that nobody meets half of it."""
         if not self.folder:
             return
         with contextlib.suppress(OSError), tempfile.NamedTemporaryFile("w", prefix="new-", dir=self.folder, delete=False, encoding="utf-8") as it:
