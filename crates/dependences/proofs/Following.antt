@@ -65,7 +65,7 @@ following_start image epoch memory writers nearest long done kept =
 
 -- from a hart on, the next access of its path is its next event
 module _ (image : LoadedImage) (epoch : ℕ) (memory : List ℕ) (h : HartState) (own : ℕ → Option ℕ) (at : IsAt image epoch memory h own) where
-  to_event : after_steps image (next_event image h).now.done (start_of image epoch) memory ≡ Runs (next_event image h).now at.after
+  pub to_event : after_steps image (next_event image h).now.done (start_of image epoch) memory ≡ Runs (next_event image h).now at.after
   to_event = comes_to_event image (start_of image epoch) h memory at.after refl at.runs
 
   quiet_from : (step : ℕ) (g : HartState) (after : List ℕ) (s : Stop) → h.done ≤ step → step < (next_event image h).now.done

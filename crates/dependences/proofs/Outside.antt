@@ -1,6 +1,7 @@
 -- One epoch alone over a memory: what it has read from outside so far, and who wrote that.
-use Rattle.std.proofs.Common.{◌≡◌, ◌⊎◌, ℕ, suc, ◌+◌, ◌-◌, ◌<◌, ◌≤◌, Bool, true, false, List, length, slice_index, Option, Some, None, refl, sym, ap, subst, ◌∙◌, inl, inr, arith, add-one}
+use Rattle.std.proofs.Common.{◌≡◌, ◌⊎◌, ℕ, suc, ◌+◌, ◌-◌, ◌<◌, ◌≤◌, Bool, true, false, List, [], ◌∷◌, ◌++◌, length, slice_index, Option, Some, None, refl, sym, ap, subst, ◌∙◌, inl, inr, arith, add-one}
 use Rattle.std.proofs.lemmas.Bool.{cases_lt}
+use Rattle.std.proofs.lemmas.List.{get_or_append_left, get_or_push}
 use Rattle.rv32_image.specs.Image.{LoadedImage}
 use Rattle.memory_bytes.specs.Bytes.{number_at, with_number}
 use Rattle.memory_bytes.specs.Maps.{joined, nothing, over, stored}
@@ -11,16 +12,17 @@ use Rattle.rv32_exec.specs.Hart.{HartState, start_of, stepped}
 use Rattle.rv32_exec.specs.Execute.{Stops, hart_effect}
 use Rattle.rv32_exec.specs.NextEvent.{next_event}
 use Rattle.rv32_exec.specs.Arrival.{after_number}
-use Rattle.rv32_exec.specs.Sequential.{SequentialResult, Ends, Faults, after_stop, exits, first_epochs, result_of}
+use Rattle.rv32_exec.specs.Sequential.{SequentialResult, Runs, Ends, Faults, after_steps, after_stop, exits, first_epochs, result_of}
 use Rattle.rv32_exec.specs.Laws.{HasStopped}
 use Rattle.rv32_exec.proofs.Epochs.{first_epochs-ends, first_epochs-exits, one_more_epoch}
 use Rattle.spec_history.proofs.OneEntry.Accesses.{load_counts}
-use Rattle.spec_history.proofs.OneEntry.Progress.{outcome_there}
+use Rattle.spec_history.proofs.OneEntry.Progress.{event_does, outcome_there}
 use Rattle.dependences.specs.Paths.{ReadsOutside}
 use Rattle.dependences.specs.Conflict.{IsInOrder, memory_before}
 use Rattle.dependences.specs.Kept.{IsMarked, MeetsWriter}
+use Rattle.dependences.specs.Lengths.{Lasts}
 use Rattle.dependences.proofs.Paths.{IsAt, access_stops, at_start, covered, either, load_after, neither, past_load, past_store, reads_there, start_after, store_after}
-use Rattle.dependences.proofs.Following.{all_loaded, hart_there, load_late, no_both, same_load, unmarked}
+use Rattle.dependences.proofs.Following.{all_loaded, hart_there, load_late, no_both, same_load, to_event, unmarked}
 
 -- ---- what is read from outside up to the next event
 
@@ -131,6 +133,27 @@ module _ (image : LoadedImage) (epoch : ℕ) (memory now : List ℕ) (h : HartSt
 
   pub goes_on : (next_event image h).at ≡ stop.Ended → IsInOrder image (epoch + 1) → first_epochs image (epoch + 1) ≡ record { end = end.Done (epoch + 1); bytes = now }
   goes_on is order = goes_on_by (exits image (next_event image h).now) refl is order
+
+-- after so many instructions it ends or faults
+pub lasts : (image : LoadedImage) (epoch : ℕ) (memory now : List ℕ) (h : HartState) (x : OnPath image epoch memory now h) → memory ≡ memory_before image epoch
+    → HasStopped (after_stop (next_event image h).now x.at.after (next_event image h).at) → Lasts image epoch (next_event image h).now.done
+lasts image epoch memory now h x same stopped = record {
+  hart = (next_event image h).now;
+  after = x.at.after;
+  runs = subst (λ m. after_steps image (next_event image h).now.done (start_of image epoch) m ≡ Runs (next_event image h).now x.at.after) same (to_event image epoch memory h x.own x.at);
+  stops = rw (event_does image h x.at.after) stopped;
+}
+
+-- and one more does
+pub lasts_more : (image : LoadedImage) (epoch count : ℕ) (old new : List ℕ) → new ≡ old ++ count ∷ [] → length old ≡ epoch → Lasts image epoch count
+    → ((k : ℕ) → k < epoch → Lasts image k (slice_index old k)) → (k : ℕ) → k < epoch + 1 → Lasts image k (slice_index new k)
+lasts_more image epoch count old new is long one each k low = elim (cases_lt k epoch) [
+  | inl before ↦ subst (Lasts image k) (sym (ap (λ (s : List ℕ). slice_index s k) is ∙ get_or_append_left old (count ∷ []) 0 k (omega (arith, before, long)))) (each k before)
+  | inr from ↦
+      (let here : k ≡ length old = omega (arith, low, from, long) in
+      let same : k ≡ epoch = here ∙ long in
+      subst (Lasts image k) (sym (ap (λ (s : List ℕ). slice_index s k) is ∙ get_or_push old count 0 k (sym here))) (subst (λ n. Lasts image n count) (sym same) one))
+]
 
 -- ---- the last writers of what it reads
 

@@ -1,6 +1,6 @@
 //! The loads of a loop that depend on earlier epochs.
 
-use dependences::{Dependence, PairSum, dependences_in_order, sums_by_pair};
+use dependences::{Dependence, PairSum, dependences_in_order, lengths_in_order, sums_by_pair};
 use rv32_exec::{Image, NoMemory, image_of};
 use std::alloc::Global;
 use std::collections::BTreeMap;
@@ -102,5 +102,38 @@ fn tells_of_the_store_and_the_load(rt: HostRuntime) -> Result<(), Fail> {
         },
     };
     assert!(rt; sums.get(&(8, 0)).copied() == Some(wanted));
+    Ok(())
+}
+
+/// Loops of 16 epochs, by their code, how many epochs run in order, and how many instructions each executes, worked out by hand.
+const LENGTHS: [(&str, usize, u64); 3] = [
+    // lw x5, 64(x0); add x5, x5, x10; sw x5, 64(x0); jalr x0, 0(x1).
+    ("83220004b382a2002320500467800000", 16, 4),
+    // lw x5, 64(x0); sw x5, 64(x0); addi x10, x0, 1; jalr x0, 0(x1): the first one exits.
+    ("83220004232050041305100067800000\nexit", 1, 4),
+    // lw x5, 64(x0); sw x5, 64(x0); a word that is no instruction: the first one faults.
+    ("832200042320500400000000", 1, 2),
+];
+
+/// The lengths. Where memory is refused it says so, and the next call is as if nothing had been.
+fn lengths(alloc: Global, image: &Image) -> Result<Vec<u64>, NoMemory> {
+    match lengths_in_order(alloc, image) {
+        Ok(lengths) => Ok(lengths),
+        Err(NoMemory) => lengths_in_order(alloc, image),
+    }
+}
+
+/// How many instructions epochs execute.
+#[test]
+fn counts_the_instructions_of_epochs(rt: HostRuntime) -> Result<(), Fail> {
+    for (code, epochs, count) in LENGTHS {
+        let text = format!(in rt.alloc(); "size 256\nepochs 16\nlimit 100\ncode {code}\n")?;
+        let image = image_of(rt.alloc(), text.as_bytes())?;
+        let lengths = lengths(rt.alloc(), &image)?;
+        assert!(rt; lengths.len() == epochs, "{text}");
+        for length in lengths.as_slice() {
+            assert!(rt; *length == count, "{text}");
+        }
+    }
     Ok(())
 }
