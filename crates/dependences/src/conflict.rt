@@ -15,7 +15,7 @@ use std::alloc::Global;
 /// It runs the loop in order. Where that ends early it runs it once more, and each epoch past the end that the cores can reach
 /// over a copy of memory.
 ///
-/// `NoMemory`: there was none for two copies of the image's bytes, and two words beside each.
+/// `NoMemory`: there was none for three copies of the image's bytes, and two words beside each.
 pub fn conflicts_over_bytes(alloc: Global, image: &Image, cores: u32) -> Result<bool, NoMemory>
     ensures found { IfOk result (λ found. found ≡ true → ConflictInOrder image.now cores) }
     ensures none { IfOk result (λ found. found ≡ false → ConflictInOrder image.now cores → ⊥) }
