@@ -9,8 +9,7 @@ use rv32_image::Image;
 use std::alloc::Global;
 
 /// Whether two epochs that so many cores can run beside each other conflict over bytes: the earlier one stores a byte that the
-/// later one reads from outside, which can be past the loop's exit or fault. Where none do, nor do any two paths, and no schedule
-/// of so many cores over a store without lines has a violation.
+/// later one reads from outside, which can be past the loop's exit or fault. Where none do, nor do any two paths.
 ///
 /// It runs the loop in order. Where that ends early it runs it once more, and each epoch past the end that the cores can reach
 /// over a copy of memory.
