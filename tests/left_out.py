@@ -61,7 +61,7 @@ def spelled() -> Results:
 
 
 def packages() -> Results:
-    """What is missing is said, and both pages install all."""
+    """What is missing is said, and the README installs all."""
     program = ROOT / "tests" / "packages.py"
     whole = subprocess.run([program], capture_output=True, text=True, check=False)
     with tempfile.TemporaryDirectory() as folder:
@@ -71,9 +71,8 @@ def packages() -> Results:
     right = whole.returncode == bare.returncode == 0 and bare.stdout.startswith("not installed: chromium chromium-driver clang csmith ")
     yield "tests/packages.py", None if right else f"{whole}, {bare}"
     command = bare.stdout.rpartition(". ")[2].split()
-    for name in ("README.md", "CONTRIBUTING.md"):
-        told = re.search(r"(?m)^apt-get install (?:.*\\\n)*.*$", (ROOT / name).read_text(encoding="utf-8"))
-        yield f"{name} installs all of them", None if told and told[0].replace("\\\n", " ").split() == command else f"{told and told[0]!r}, not {command}"
+    told = re.search(r"(?m)^apt-get install (?:.*\\\n)*.*$", (ROOT / "README.md").read_text(encoding="utf-8"))
+    yield "README.md installs all of them", None if told and told[0].replace("\\\n", " ").split() == command else f"{told and told[0]!r}, not {command}"
 
 
 def main() -> int:
