@@ -468,27 +468,32 @@ module _ (image : LoadedImage) (cores epoch : ℕ) (memory now : List ℕ) (t : 
       (line_differs_by (k == line) k line refl parts.0, stores_in k (true_is t epoch k parts.1))
 
   overflow_by : epoch < image.epochs → IsInOrder image (first_beside cores epoch) → (limits_of image.version).buffer_lines < t.count
-      → (line : ℕ) → slice_index t.stored line ≡ epoch + 1 → (d : ℕ) × (first_beside cores epoch ≤ d) × (d < epoch) × TouchesInLine image cores line d → OverflowInOrder image cores
+      → (line : ℕ) → slice_index t.stored line ≡ epoch + 1 → (d : ℕ) × (first_beside cores epoch ≤ d) × (d < epoch) × TouchesInLine image cores line d
+      → (o : OverflowInOrder image cores) × (o.later ≡ epoch)
   overflow_by within starts full line here (d, from, low, p) =
       let there : slice_index t.stored (line_number image p.at) ≡ epoch + 1 = ap (slice_index t.stored) p.in_line ∙ here in
       let lines = passing (λ k. (k ≢ line_number image p.at) × StoresIn image epoch (run_memory image cores epoch) k) (other_line t epoch (line_number image p.at))
       (other_stored (line_number image p.at)) (length t.stored) in
       let fewer = one_fewer t epoch (first_beside cores epoch) (line_number image p.at) x.counted there in
-      let long = lines.long in record {
-        earlier = d;
-        later = epoch;
-        touched = p.at;
-        others = lines.list;
-        lines = length t.stored;
-        beside = record { from = from; before = low; within = within; starts = starts };
-        touches = p.touches;
-        stores = stores_in (line_number image p.at) there;
-        apart = lines.falling;
-        full = omega (arith, full, fewer, long);
-        each = lines.each;
-      }
+      let long = lines.long in (
+        record {
+          earlier = d;
+          later = epoch;
+          touched = p.at;
+          others = lines.list;
+          lines = length t.stored;
+          beside = record { from = from; before = low; within = within; starts = starts };
+          touches = p.touches;
+          stores = stores_in (line_number image p.at) there;
+          apart = lines.falling;
+          full = omega (arith, full, fewer, long);
+          each = lines.each;
+        },
+        refl,
+      )
 
-  pub buffer_conflict : epoch < image.epochs → IsInOrder image (first_beside cores epoch) → overflows image t ≡ true → OverflowInOrder image cores
+  pub buffer_conflict : epoch < image.epochs → IsInOrder image (first_beside cores epoch) → overflows image t ≡ true
+      → (o : OverflowInOrder image cores) × (o.later ≡ epoch)
   buffer_conflict within starts is =
       let parts = and_parts (nat_lt (limits_of image.version).buffer_lines t.count) t.shared is in
       let one = x.counted.some parts.1 in

@@ -8,6 +8,9 @@ use Rattle.dependences.specs.Kept.{AreAll}
 use Rattle.dependences.specs.KeptTouches.{AreClear, IsClear, IsNever}
 use Rattle.dependences.proofs.Showing.{buffers_shown, line_of, lines_shown}
 
+pub alone : (image : LoadedImage) (cores earlier later : ℕ) → cores < 2 → AreBeside image cores earlier later → ⊥
+alone image cores earlier later one beside = let from = beside.from in let before = beside.before in omega (arith, one, from, before)
+
 pub clear_first : (image : LoadedImage) (cores : ℕ) → AreClear image cores 0
 clear_first image cores = record { lines = λ conflict low. absurd (omega (arith, low)); buffers = λ overflow low. absurd (omega (arith, low)) }
 
@@ -65,3 +68,7 @@ never_buffers image cores is never =
 pub none_of : {X : Type 0} (o : Option X) → is_some o ≡ false → o ≡ None
 none_of None is = refl
 none_of (Some x) is = absurd cc
+
+-- one core runs no two epochs at a time
+pub never_alone : (image : LoadedImage) (cores : ℕ) → cores < 2 → IsNever image cores
+never_alone image cores one = record { lines = λ c. alone image cores c.earlier c.later one c.beside; buffers = λ o. alone image cores o.earlier o.later one o.beside }

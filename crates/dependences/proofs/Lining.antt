@@ -121,23 +121,28 @@ module _ (image : LoadedImage) (cores epoch : ℕ) (memory now : List ℕ) (s : 
 
   conflict_by : (address width : ℕ) (signed : Bool) (rd : ℕ) → (next_event image h).at ≡ stop.Load address width signed rd → memory ≡ run_memory image cores epoch
       → epoch < image.epochs → IsInOrder image (first_beside cores epoch) → (m : MeetsLine image s epoch (first_beside cores epoch) address width)
-      → (d : ℕ) × (first_beside cores epoch ≤ d) × (d < epoch) × StoresInLine image cores (line_number image (address + m.i)) d → LineConflictInOrder image cores
+      → (d : ℕ) × (first_beside cores epoch ≤ d) × (d < epoch) × StoresInLine image cores (line_number image (address + m.i)) d
+      → (c : LineConflictInOrder image cores) × (c.later ≡ epoch)
   conflict_by address width signed rd is same within starts m (d, from, low, p) =
       let inside = m.within in
-      let none = foreign (address + m.i) m.foreign (x.stored (address + m.i)) refl in record {
-        earlier = d;
-        later = epoch;
-        written = p.at;
-        read = address + m.i;
-        beside = record { from = from; before = low; within = within; starts = starts };
-        same = p.in_line;
-        stores = p.stores;
-        reads = subst (λ n. ReadsOutside image epoch n (address + m.i)) same
-            (reads_there image epoch memory h x.stored x.at address width signed rd (address + m.i) is (omega arith) (omega (arith, inside)) none);
-      }
+      let none = foreign (address + m.i) m.foreign (x.stored (address + m.i)) refl in (
+        record {
+          earlier = d;
+          later = epoch;
+          written = p.at;
+          read = address + m.i;
+          beside = record { from = from; before = low; within = within; starts = starts };
+          same = p.in_line;
+          stores = p.stores;
+          reads = subst (λ n. ReadsOutside image epoch n (address + m.i)) same
+              (reads_there image epoch memory h x.stored x.at address width signed rd (address + m.i) is (omega arith) (omega (arith, inside)) none);
+        },
+        refl,
+      )
 
   pub line_conflict : (address width : ℕ) (signed : Bool) (rd : ℕ) → (next_event image h).at ≡ stop.Load address width signed rd → memory ≡ run_memory image cores epoch
-      → epoch < image.epochs → IsInOrder image (first_beside cores epoch) → MeetsLine image s epoch (first_beside cores epoch) address width → LineConflictInOrder image cores
+      → epoch < image.epochs → IsInOrder image (first_beside cores epoch) → MeetsLine image s epoch (first_beside cores epoch) address width
+      → (c : LineConflictInOrder image cores) × (c.later ≡ epoch)
   line_conflict address width signed rd is same within starts m =
       conflict_by address width signed rd is same within starts m
       (some_from (StoresInLine image cores (line_number image (address + m.i))) epoch _ (first_beside cores epoch) (x.writer (line_number image (address + m.i))) m.written)

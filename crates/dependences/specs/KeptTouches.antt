@@ -68,8 +68,8 @@ OverflowsNone image cores epoch = (overflow : OverflowInOrder image cores) → o
 -- ---- what is found over caches
 
 abbrev pub IsFound : LoadedImage → ℕ → Option CacheConflict → Type 0
-IsFound image cores (Some found.Line) = LineConflictInOrder image cores
-IsFound image cores (Some found.Buffer) = OverflowInOrder image cores
+IsFound image cores (Some (found.Line later)) = (conflict : LineConflictInOrder image cores) × (conflict.later ≡ later)
+IsFound image cores (Some (found.Buffer later)) = (overflow : OverflowInOrder image cores) × (overflow.later ≡ later)
 IsFound image cores None = Unit {0}
 
 -- nothing where this epoch is the later one

@@ -10,7 +10,8 @@ use Rattle.spec_history.specs.declared.kind.Kind.TheVariants.{TrueSharing, Silen
 use Rattle.spec_history.specs.FlatState.{CoreState, FlatState}
 use Rattle.spec_history.specs.Refusal.{has}
 use Rattle.spec_history.specs.Replay.{replay}
-use Rattle.spec_history.specs.Conflict.{cause_of, is_hurt, kind_of, what_at}
+use Rattle.spec_history.specs.Conflict.{AreKnown, cause_of, is_hurt, kind_of, what_at}
+use Rattle.homefree.specs.Ending.{NoneStartsAfterCancel}
 
 -- no epoch is violated
 abbrev pub NoneIsHurt : List Entry → Type 0
@@ -34,6 +35,16 @@ abbrev pub MeetInBytes : LoadedImage → ℕ → List Entry → Type 0
 MeetInBytes image cores history =
     (place by k : ℕ) (s : FlatState) (c : CoreState) → slice_get history place ≡ Some (record { by = by; what = Hurt c.epoch })
     → replay image cores (take place history) ≡ Some s → s.cores k ≡ Some c → MeetsInBytes image s by k (what_at history (cause_of history place by))
+
+-- no legal history of so many cores has a violation, if each violation is of a kind
+abbrev pub NeverOverLines : LoadedImage → ℕ → Type 0
+NeverOverLines image cores =
+    (history : List Entry) (s : FlatState) → replay image cores history ≡ Some s → NoneStartsAfterCancel history → AreKnown image cores history → NoneIsHurt history
+
+-- none has, if violations meet in bytes that are committed
+abbrev pub NeverOverBytes : LoadedImage → ℕ → Type 0
+NeverOverBytes image cores =
+    (history : List Entry) (s : FlatState) → replay image cores history ≡ Some s → NoneStartsAfterCancel history → MeetInBytes image cores history → NoneIsHurt history
 
 -- the epoch comes to the same harts over both memories, after as many instructions
 pub record IsAlike (image : LoadedImage) (epoch : ℕ) (first second : List ℕ) : Type 0 where

@@ -6,6 +6,7 @@ ghost use Rattle.dependences.specs.Conflict.{IsInOrder, LineConflict, Overflow, 
 ghost use Rattle.dependences.specs.Kept.{AreAll};
 ghost use Rattle.dependences.specs.KeptLines.{AreLinesKept};
 ghost use Rattle.dependences.specs.KeptTouches as spec;
+ghost use Rattle.dependences.specs.Laws.{NeverOverLines};
 
 use crate::alone::run_between;
 use crate::lines::Lines;
@@ -19,10 +20,10 @@ use std::alloc::Global;
 /// In what two epochs conflict over caches.
 #[derive(Clone, Copy, Debug, PartialEq, Eq)]
 pub enum CacheConflict {
-    /// The earlier one stores in a line in which the later one reads a byte from outside.
-    Line,
-    /// The later one stores in a line that the earlier one touches, and in as many others as its buffer takes.
-    Buffer,
+    /// The earlier one stores in a line in which the later one, this one, reads a byte from outside.
+    Line { later: u32 },
+    /// The later one, this one, stores in a line that the earlier one touches, and in as many others as its buffer takes.
+    Buffer { later: u32 },
 }
 
 /// A conflict over caches of two epochs that so many cores can run beside each other, also past the loop's exit or fault; None
@@ -41,10 +42,14 @@ pub fn conflict_over_caches(
     ensures none { IfOk result (λ found. found ≡ None → spec.IsNever image.now cores) }
     ensures lines { IfOk result (λ found. found ≡ None → LineConflict image.now cores → ⊥) }
     ensures buffers { IfOk result (λ found. found ≡ None → Overflow image.now cores → ⊥) }
+    ensures never { IfOk result (λ found. found ≡ None → NeverOverLines image.now cores) }
 {
+    let size = image.size() as usize;
+    if cores < 2 {
+        return Ok(None);
+    }
     let mut memory = Vec::from_slice(alloc, image.bytes()).map_err(|_| NoMemory)?;
     let mut alone = Vec::from_slice(alloc, image.bytes()).map_err(|_| NoMemory)?;
-    let size = image.size() as usize;
     let mut writers = vec![in alloc; 0; size].map_err(|_| NoMemory)?;
     let ran = run_all(image, alone.as_mut_slice(), writers.as_mut_slice()).epochs;
     let mut lines = Lines::none(alloc, image)?;
@@ -169,7 +174,7 @@ fn conflict_of(
         match arrived.at() {
             Stop::Load { addr, width, .. } => {
                 if lines.meets(image, epoch, first, addr, width) {
-                    return Some(CacheConflict::Line);
+                    return Some(CacheConflict::Line { later: epoch });
                 }
                 touches.touch(image, epoch, addr, width);
                 hart = loaded(&arrived, read_number(memory, addr as usize, width));
@@ -183,7 +188,7 @@ fn conflict_of(
             }
             Stop::Ended | Stop::Fault { .. } => {
                 if touches.overflows(image) {
-                    return Some(CacheConflict::Buffer);
+                    return Some(CacheConflict::Buffer { later: epoch });
                 }
                 return None;
             }

@@ -1,6 +1,7 @@
 ghost use Rattle.std.specs.Prelude.{◌≡◌, ℕ, IfOk, true, false, length, slice_index};
 ghost use Rattle.dependences.specs.Conflict.{Conflict, ConflictInOrder};
 ghost use Rattle.dependences.specs.Kept as spec;
+ghost use Rattle.dependences.specs.Laws.{NeverOverBytes};
 
 use crate::alone::{meets_writer, run_between};
 use crate::nearest::run_all;
@@ -18,10 +19,14 @@ use std::alloc::Global;
 pub fn conflicts_over_bytes(alloc: Global, image: &Image, cores: u32) -> Result<bool, NoMemory>
     ensures found { IfOk result (λ found. found ≡ true → ConflictInOrder image.now cores) }
     ensures none { IfOk result (λ found. found ≡ false → ConflictInOrder image.now cores → ⊥) }
-    ensures never { IfOk result (λ found. found ≡ false → Conflict image.now cores → ⊥) }
+    ensures paths { IfOk result (λ found. found ≡ false → Conflict image.now cores → ⊥) }
+    ensures never { IfOk result (λ found. found ≡ false → NeverOverBytes image.now cores) }
 {
-    let mut memory = Vec::from_slice(alloc, image.bytes()).map_err(|_| NoMemory)?;
     let size = image.size() as usize;
+    if cores < 2 {
+        return Ok(false);
+    }
+    let mut memory = Vec::from_slice(alloc, image.bytes()).map_err(|_| NoMemory)?;
     let mut writers = vec![in alloc; 0; size].map_err(|_| NoMemory)?;
     let ran = run_all(image, memory.as_mut_slice(), writers.as_mut_slice());
     if is_near(cores, ran.nearest) {

@@ -113,13 +113,12 @@ fn conflicts_begin_with_so_many_cores(rt: HostRuntime) -> Result<(), Fail> {
         for cores in 0..9 {
             let found = over_bytes(rt.alloc(), &image, cores)?;
             assert!(rt; found == is_reached(bytes, cores), "bytes, {cores} {text}");
-            let wanted = if is_reached(lines, cores) {
-                Some(CacheConflict::Line)
-            } else {
-                None
-            };
             let found = over_caches(rt.alloc(), &image, cores)?;
-            assert!(rt; found == wanted, "lines, {cores} {text}");
+            let is_line = matches!(found, Some(CacheConflict::Line { .. }));
+            assert!(rt;
+                is_line == found.is_some() && is_line == is_reached(lines, cores),
+                "lines, {cores} {text}"
+            );
         }
     }
     Ok(())
@@ -151,13 +150,12 @@ fn buffers_are_too_small_with_so_many_cores(rt: HostRuntime) -> Result<(), Fail>
         let text = format!(in rt.alloc(); "size 4096\nepochs 8\nlimit 100\ncode {code}\n")?;
         let image = image_of(rt.alloc(), text.as_bytes())?;
         for cores in 0..9 {
-            let wanted = if is_reached(least, cores) {
-                Some(CacheConflict::Buffer)
-            } else {
-                None
-            };
             let found = over_caches(rt.alloc(), &image, cores)?;
-            assert!(rt; found == wanted, "{cores} {text}");
+            let is_buffer = matches!(found, Some(CacheConflict::Buffer { .. }));
+            assert!(rt;
+                is_buffer == found.is_some() && is_buffer == is_reached(least, cores),
+                "{cores} {text}"
+            );
         }
     }
     Ok(())

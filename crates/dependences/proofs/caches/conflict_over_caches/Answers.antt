@@ -1,5 +1,6 @@
 use Rattle.std.proofs.Common.{sym, ◌∙◌}
-use Rattle.dependences.proofs.Caching.{never_buffers, never_lines, none_of}
+use Rattle.dependences.proofs.Caching.{never_alone, never_buffers, never_lines, none_of}
+use Rattle.dependences.proofs.Violations.{over_lines}
 use Rattle.dependences.proofs.caches.conflict_over_caches.Goals as goal
 
 pub conflict_past_end-requires-clause-lines : goal.conflict_past_end-requires-clause-lines
@@ -16,3 +17,26 @@ returns-clause-lines c none = never_lines c.args.image.now c.args.cores c.bytes.
 
 pub returns-clause-buffers : goal.returns-clause-buffers
 returns-clause-buffers c none = never_buffers c.args.image.now c.args.cores c.bytes.ensures.limits (c.conflict_past_end.ensures.none none)
+
+pub returns-clause-never : goal.returns-clause-never
+returns-clause-never c none history s replays starts known =
+    let never = c.conflict_past_end.ensures.none none in
+    over_lines c.args.image.now c.args.cores history s c.bytes.ensures.limits replays starts known (never_lines c.args.image.now c.args.cores c.bytes.ensures.limits never)
+    (never_buffers c.args.image.now c.args.cores c.bytes.ensures.limits never)
+
+pub returns-then-cores-lt2-clause-none : goal.returns-then-cores-lt2-clause-none
+returns-then-cores-lt2-clause-none c none = never_alone c.args.image.now c.args.cores c.if-cores-lt2.true
+
+pub returns-then-cores-lt2-clause-lines : goal.returns-then-cores-lt2-clause-lines
+returns-then-cores-lt2-clause-lines c none =
+    never_lines c.args.image.now c.args.cores c.size-size.ensures.limits (never_alone c.args.image.now c.args.cores c.if-cores-lt2.true)
+
+pub returns-then-cores-lt2-clause-buffers : goal.returns-then-cores-lt2-clause-buffers
+returns-then-cores-lt2-clause-buffers c none =
+    never_buffers c.args.image.now c.args.cores c.size-size.ensures.limits (never_alone c.args.image.now c.args.cores c.if-cores-lt2.true)
+
+pub returns-then-cores-lt2-clause-never : goal.returns-then-cores-lt2-clause-never
+returns-then-cores-lt2-clause-never c none history s replays starts known =
+    let never = never_alone c.args.image.now c.args.cores c.if-cores-lt2.true in
+    over_lines c.args.image.now c.args.cores history s c.size-size.ensures.limits replays starts known (never_lines c.args.image.now c.args.cores c.size-size.ensures.limits never)
+    (never_buffers c.args.image.now c.args.cores c.size-size.ensures.limits never)
