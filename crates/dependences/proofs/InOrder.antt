@@ -79,7 +79,7 @@ all_in_order image (suc h) d is most = elim (cases_eq d (suc h)) [
 -- ---- what they write
 
 -- memory before an epoch that runs in order, beside memory before earlier ones
-record IsWrittenUp (image : LoadedImage) (cores h : ℕ) : Type 0 where
+pub record IsWrittenUp (image : LoadedImage) (cores h : ℕ) : Type 0 where
   pub long : length (memory_before image h) ≡ image.size
   pub written : (d : ℕ) → d ≤ h → (a : ℕ) → IsWritten image cores d h a
 
@@ -135,7 +135,7 @@ up_next image cores h free within is before up long =
     }
 
 -- for all epochs up to one that runs in order
-record AreWrittenUp (image : LoadedImage) (cores h : ℕ) : Type 0 where
+pub record AreWrittenUp (image : LoadedImage) (cores h : ℕ) : Type 0 where
   pub each : (d : ℕ) → d ≤ h → IsWrittenUp image cores d
 
 pub memory_none : (image : LoadedImage) → IsImage image → length (memory_before image 0) ≡ image.size
@@ -147,7 +147,7 @@ up_none image cores is = record {
   written = λ d most a. let none : 0 ≡ d = omega (arith, most) in subst (λ n. IsWritten image cores n 0 a) none (inl refl);
 }
 
-all_up : (image : LoadedImage) (cores h : ℕ) → IsImage image → (Conflict image cores → ⊥) → h ≤ image.epochs → IsInOrder image h → AreWrittenUp image cores h
+pub all_up : (image : LoadedImage) (cores h : ℕ) → IsImage image → (Conflict image cores → ⊥) → h ≤ image.epochs → IsInOrder image h → AreWrittenUp image cores h
 all_up image cores zero is free most order = record {
   each = λ d low. let none : 0 ≡ d = omega (arith, low) in subst (λ n. IsWrittenUp image cores n) none (up_none image cores is);
 }

@@ -7,9 +7,10 @@ pub mod Starting
 pub mod Accessing
 pub mod Committing
 pub mod Keeping
--- Where nothing conflicts, paths are the run in order; and what that run shows.
+-- Where nothing conflicts, paths are the run in order; what that run shows, and what more cores show of fewer.
 pub mod InOrder
 pub mod Showing
+pub mod Fewer
 -- Whole histories: what caused a violation, and what it met.
 pub mod Histories
 pub mod Causes

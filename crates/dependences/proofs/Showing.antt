@@ -56,7 +56,7 @@ stores_alike image epoch first second same step a there =
       below = there.below;
     }
 
-turned : (image : LoadedImage) (epoch : ℕ) (first second : List ℕ) → IsAlike image epoch first second → IsAlike image epoch second first
+pub turned : (image : LoadedImage) (epoch : ℕ) (first second : List ℕ) → IsAlike image epoch first second → IsAlike image epoch second first
 turned image epoch first second same = record { there = same.back; back = same.there }
 
 module _ (image : LoadedImage) (epoch : ℕ) (first second : List ℕ) (same : IsAlike image epoch first second) where
@@ -165,7 +165,7 @@ path_shown image cores epoch is free within = alike_by image cores epoch is free
 
 -- ---- the laws
 
-earlier_within : (image : LoadedImage) (cores earlier later : ℕ) → AreBeside image cores earlier later → earlier < image.epochs
+pub earlier_within : (image : LoadedImage) (cores earlier later : ℕ) → AreBeside image cores earlier later → earlier < image.epochs
 earlier_within image cores earlier later beside = omega (arith, beside.before, beside.within)
 
 pub bytes_shown : (image : LoadedImage) (cores : ℕ) → IsImage image → (ConflictInOrder image cores → ⊥) → Conflict image cores → ⊥

@@ -1,6 +1,6 @@
 //! What no schedule can roll back: each function does nothing, and its contract is the law.
 
-ghost use Rattle.std.specs.Prelude.{◌≡◌, ℕ, ◌<◌, List, Option, Some};
+ghost use Rattle.std.specs.Prelude.{◌≡◌, ℕ, ◌<◌, ◌≤◌, List, Option, Some};
 ghost use Rattle.rv32_image.specs.Image.{LoadedImage, IsImage};
 ghost use Rattle.spec_history.specs.declared.entry.Entry.{Entry};
 ghost use Rattle.spec_history.specs.FlatState.{FlatState};
@@ -27,6 +27,14 @@ pub fn one_run_shows_conflicts()
     ensures bytes { (image : LoadedImage) (cores : ℕ) → IsImage image → (ConflictInOrder image cores → ⊥) → Conflict image cores → ⊥ }
     ensures lines { (image : LoadedImage) (cores : ℕ) → IsImage image → (LineConflictInOrder image cores → ⊥) → LineConflict image cores → ⊥ }
     ensures buffers { (image : LoadedImage) (cores : ℕ) → IsImage image → (ConflictInOrder image cores → ⊥) → (OverflowInOrder image cores → ⊥) → Overflow image cores → ⊥ }
+{}
+
+/// From fewer cores to more a conflict stays one: where no two epochs conflict on so many cores, none do on fewer. So it is over
+/// bytes, over lines, and, where none conflict over bytes, of buffers.
+pub fn fewer_cores_conflict_no_more()
+    ensures bytes { (image : LoadedImage) (fewer more : ℕ) → IsImage image → fewer ≤ more → (Conflict image more → ⊥) → Conflict image fewer → ⊥ }
+    ensures lines { (image : LoadedImage) (fewer more : ℕ) → IsImage image → fewer ≤ more → (LineConflict image more → ⊥) → LineConflict image fewer → ⊥ }
+    ensures buffers { (image : LoadedImage) (fewer more : ℕ) → IsImage image → fewer ≤ more → (Conflict image more → ⊥) → (Overflow image more → ⊥) → Overflow image fewer → ⊥ }
 {}
 
 /// Where all epochs of a loop run in order, and those that depend on each other are as far apart as there are cores, no two
