@@ -33,3 +33,4 @@ pub use schedules::every_schedule;
 pub use seeded::{SeededRun, run_seeded};
 pub use survey::{Extreme, Survey, survey_schedules};
 pub use text::{print_survey, push_turns};
+pub use words::{Store, store_named};

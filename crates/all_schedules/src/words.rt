@@ -153,7 +153,8 @@ fn is_small(cores: u32, turns: u32) -> bool
     }
 }
 
-fn store_named(word: &str) -> Option<Store>
+/// The store that a word names. None: it names none.
+pub fn store_named(word: &str) -> Option<Store>
     ensures { result ≡ spec.store_named word.now }
 {
     if word == "caches" {
