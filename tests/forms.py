@@ -3,7 +3,7 @@
 
 Usage: tests/forms.py [COMMAND ..]
 
-COMMAND is a command of `trace_cli` that ends with the word `seq`; `why`, `replay` and `gain` are the programs that were built beside it. Without it those of this
+COMMAND is a command of `trace_cli` that ends with the word `seq`; `why`, `replay`, `gain` and `depends` are the programs that were built beside it. Without it those of this
 repository are tested. Texts worked by hand are tried first, which need no program; then all images of examples/, with what the programs print of them. Each
 document is held to tools/loops/schema.json where python3-jsonschema is installed. What isn't there is left out, and a line says so. Exits with 1 where a check failed.
 """
@@ -44,6 +44,8 @@ STEPS = ("turn 0 0 go\nentry 0 start 0\nattempt 0 0 homefree\nhart 0 00000000 0\
          "entry 0 store 00000040 4 00000001\nentry 0 commit\nattempt 0 -\nhart 0 -\norb 0\nline 0 0 0 00000040 M - 00000000 01000000\n"
          "kept 0 00000040 0000 000f 01\nat 00000040 01000000\nend\nend done 1\nat 00000040 01000000000000000000000000000000\n"
          "counts 0 1 0 1\ntrace 2\n0 start 0\n0 store 00000040 4 00000001\n0 commit\n")
+DEPENDS = ("dep store 00000034 load 00000014 times 12 distance 4 4 at 00000040 13 first 0 4 stored 25 of 27 loaded 5 of 27\n"
+           "from caches 2 epoch 1 load 00000014 by epoch 0 store 00000034\nturns 0 1 1 0 0\nnever plain 4\n")
 # (form, a text of that form)
 TEXTS = [
     ("image", "# One.\n#> end done 3\nversion 2\nexit\nsize 64\nepochs 3\nlimit 9\ncode 6780000013000000\nreg 2 0000ff00\nat 00000020 01ff\n"),
@@ -66,12 +68,19 @@ TEXTS = [
     ("output", "turns 0 1 0\nend done 1\ncounts 0 0 0 1\ntrace 2\n0 start 0\n0 commit\n"),
     ("steps", STEPS),
     ("steps", "end\nopen 0\ncounts 0 0 0 0\ntrace 1\n"),
+    ("dependences", DEPENDS),
+    ("dependences", "from caches 2 epoch 1 buffer by epoch 0\nturns 0\nopen plain 3\n"),
+    ("dependences", "never plain 8\n"),
+    ("dependences", "open caches 2\nnever plain 8\n"),
+    ("dependences", DEPENDS.partition("\n")[2]),
 ]
 # (form, what isn't of it)
 REFUSED = [
     ("image", "size 64\nspeed 3\n"), ("image", "size x\n"), ("traced", "size 64\n"), ("traced", "size 64\ntrace 2\n0 begin 0\n"), ("output", "end soon 3\n"),
     ("conflicts", "hurt 4 true epoch 1\n"), ("conflicts", "vain 4 hurt\n"), ("conflicts", HURT.replace("vain 4", "vain 5")), ("gains", "store caches cores 2 fast\n"),
     ("steps", STEPS.partition("end\n")[0]), ("steps", STEPS.replace("hart 0 -", "heart 0 -")), ("steps", STEPS.replace("end done 1", "end soon 1")),
+    ("dependences", DEPENDS.replace("turns 0 1 1 0 0\n", "")), ("dependences", DEPENDS.replace("distance 4", "distances 4")), ("dependences", "never plain\n"),
+    ("dependences", "never plain 4\n" + DEPENDS),
 ]
 
 
@@ -189,6 +198,9 @@ def by_hand():
     steps = FORMS["steps"][1](STEPS)
     facts = (len(steps.steps), steps.steps[1].answer, steps.steps[2].entries[1].place, steps.steps[2].changes["orb 0"], steps.output.counts.stores)
     yield "what steps say", None if facts == (3, "again NoWay", 2, "", 1) else f"got {facts}"
+    told = FORMS["dependences"][1](DEPENDS)
+    facts = (told.pairs[0].at.length, told.pairs[0].stored.of, told.over("caches").turns, told.over("caches").causer, told.over("plain").verdict)
+    yield "what dependences say", None if facts == (13, 27, [0, 1, 1, 0, 0], 0x34, "never") else f"got {facts}"
     for name in TOOLS:
         out, errors, status = tool(name, "", "--help")
         yield f"tools/{name} --help", None if (errors, status) == ("", 0) and out.startswith("usage: ") and len(out.split()) > 20 else f"got {out!r}, {errors!r}"
@@ -242,7 +254,7 @@ def printed(program, words, text):
 def examples(command):
     """All examples, and what the programs print of them."""
     programs = beside(command)
-    for name in ("why", "replay", "gain"):
+    for name in ("why", "replay", "gain", "depends"):
         if name not in programs:
             print(f"left out: what {name} prints, since it wasn't built beside the program that is tested")
     for path in sorted((ROOT / "examples").glob("*.image")):
@@ -271,13 +283,15 @@ def examples(command):
             yield f"{path.name}: a run at even speed", wrong_with("output", printed(programs["replay"], ["even", "caches", "4"], text))
         if "gain" in programs:
             yield f"{path.name}: its gains", wrong_with("gains", printed(programs["gain"], ["4"], text))
+        if "depends" in programs:
+            yield f"{path.name}: its dependences", wrong_with("dependences", printed(programs["depends"], ["4"], text))
 
 
 def beside(command):
     """The programs that were built beside a command of `trace_cli`."""
     given = Path(command[0]).resolve()
     folder = ROOT if given == ROOT / "trace_cli" else given.parents[2] if len(given.parents) > 2 else given.parent
-    found = {name: ROOT / name if folder == ROOT else folder / name / "out" / name for name in ("why", "replay", "gain")}
+    found = {name: ROOT / name if folder == ROOT else folder / name / "out" / name for name in ("why", "replay", "gain", "depends")}
     return {name: path for name, path in found.items() if path.is_file()}
 
 

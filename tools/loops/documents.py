@@ -12,6 +12,7 @@ from pathlib import Path
 from typing import Any, Union, get_args, get_origin, get_type_hints
 
 from .conflicts import Conflicts, read_conflicts
+from .dependences import Dependences, read_dependences
 from .gains import Gains, read_gains
 from .images import Image, Unreadable, read_image
 from .pieces import Items
@@ -23,11 +24,12 @@ SCHEMA = Path(__file__).with_name("schema.json")
 FORMS: dict[str, tuple[type, Callable[[str], Any]]] = {
     "image": (Image, read_image), "traced": (Traced, read_traced), "output": (Output, read_output), "survey": (Survey, read_survey),
     "verdict": (Verdict, read_verdict), "conflicts": (Conflicts, read_conflicts), "gains": (Gains, read_gains), "steps": (Steps, read_steps),
+    "dependences": (Dependences, read_dependences),
 }
 # The words that begin a text, and their forms; a text of another beginning is an image.
 BEGINNINGS = {
     "end": "output", "open": "output", "turns": "output", "schedules": "survey", "legal": "verdict", "illegal": "verdict", "store": "gains",
-    "turn": "steps", "hurt": "conflicts", "cancel": "conflicts", "epoch": "conflicts", "total": "conflicts",
+    "turn": "steps", "dep": "dependences", "never": "dependences", "from": "dependences", "hurt": "conflicts", "cancel": "conflicts", "epoch": "conflicts", "total": "conflicts",
 }
 
 
@@ -42,6 +44,8 @@ def form_of_lines(lines: Iterable[str]) -> str:
     first = next((line for line in rest if line and not line.startswith("#")), "").split(" ")
     if first[:2] == ["open", "epoch"]:
         return "conflicts"
+    if first[0] == "open" and first[1:2] in (["caches"], ["plain"]):
+        return "dependences"
     if first == ["end"]:
         return "steps"
     if first[0] in BEGINNINGS:

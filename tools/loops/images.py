@@ -9,7 +9,9 @@ from .instructions import access_spelled
 from .names import word
 from .texts import shown
 
+# By versions of images: the bytes of a line of the caches, and the most cores
 LINE_LENGTH = {1: 16, 2: 32}
+MOST_CORES = {1: 8, 2: 16}
 VARIABLE = re.compile(r" (\S+) ([0-9a-fA-F]{8}) (\d+)")
 SOURCE = re.compile(r" code ([0-9a-fA-F]{8}) (\S+:\d+)")
 # To a full stop that another sentence follows, or to the end; that of a number in front, as in `2. A histogram.`, is none.
@@ -87,6 +89,10 @@ class Image:
         """The variable that has this byte."""
         return next((one for one in self.variables if one.address <= address < one.address + one.length), None)
 
+    def variables_in(self, first: int, length: int) -> list[Variable]:
+        """The variables that have some of so many bytes."""
+        return [one for one in self.variables if one.address < first + length and first < one.address + one.length]
+
     def name_of(self, address: int) -> str:
         """`bins+4`, or the address where no remark names it."""
         found = self.variable_of(address)
@@ -106,6 +112,11 @@ class Image:
     def line_length(self) -> int:
         """The bytes of a line of the caches."""
         return LINE_LENGTH.get(self.version, 16)
+
+    @property
+    def most_cores(self) -> int:
+        """The most cores that the version allows."""
+        return MOST_CORES.get(self.version, 8)
 
     def text(self) -> str:
         """The image's text: remarks, limits, code, registers and memory."""

@@ -1,4 +1,4 @@
-"""Calls of the programs: `trace_cli`, `why`, `replay` and `gain`."""
+"""Calls of the programs: `trace_cli`, `why`, `replay`, `gain` and `depends`."""
 
 import argparse
 import os
@@ -10,6 +10,7 @@ from functools import cache
 from pathlib import Path
 
 from .conflicts import Conflicts, Part, iter_conflicts, read_conflicts
+from .dependences import Dependences, read_dependences
 from .gains import Gains, read_gains
 from .images import Image
 from .runs import Output, Survey, Trace, Traced, Verdict, read_output, read_survey, read_verdict
@@ -67,6 +68,13 @@ def built(program: str | Path) -> str:
     if done.returncode:
         raise Stopped(done.returncode, f"{Path(program).name} is not built\n")
     return text_in(done.stdout).removesuffix("\n")
+
+
+def is_there(program: Path) -> bool:
+    """Whether a program can be called at once: it is built, or a wrapper of the tree may build it."""
+    if program.resolve() != TREE / "trace_cli":
+        return program.is_file()
+    return bool(os.environ.get(MAY_BUILD)) or subprocess.run([str(program), "--is-built"], stdin=subprocess.DEVNULL, check=False).returncode == 0
 
 
 def call(program: str | Path, words: list[str], text: str, right: tuple[int, ...] = ENDED) -> str:
@@ -160,6 +168,14 @@ class Programs:
     def gain(self, image: Image | str, cores: int) -> Gains:
         """What the loop gains on up to so many cores."""
         return read_gains(call(self.folder / "gain", [str(cores)], text_of(image)))
+
+    def has_depends(self) -> bool:
+        """Whether `depends` can be called."""
+        return is_there(self.folder / "depends")
+
+    def depends(self, image: Image | str, cores: int, *stores: str) -> Dependences:
+        """What the loop depends on in order, and whether anything can roll back on up to so many cores."""
+        return read_dependences(call(self.folder / "depends", [str(cores), *stores], text_of(image)))
 
     def replay_all(self, image: Image | str, store: str, cores: int, turns: int) -> Survey:
         """Every schedule of so many turns."""

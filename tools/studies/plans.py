@@ -15,7 +15,6 @@ SCHEMA = Path(__file__).with_name("schema.json")
 DEBIANS_PACKAGES = "/usr/lib/python3/dist-packages"
 # The most bytes of an image that the programs read, and the most cells that are planned.
 LONGEST_IMAGE, MOST_CELLS = 33_554_432, 1_000_000
-MOST_CORES = {1: 8, 2: 16}
 
 
 class BadPlan(ValueError):

@@ -8,12 +8,12 @@ from functools import cache, cached_property
 from pathlib import Path
 
 from loops.gains import Gain, Gains, read_gains
-from loops.images import read_image
+from loops.images import MOST_CORES, read_image
 from loops.programs import TREE
 from loops.texts import shown, text_in
 
 from .kept import USES, Kept, Row, Work
-from .plans import MOST_CORES, Cell, Plan
+from .plans import Cell, Plan
 
 # `gain` runs on these numbers of cores besides the one that it is asked for, as far as they are fewer.
 POWERS = (1, 2, 4, 8)
