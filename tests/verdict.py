@@ -3,8 +3,8 @@
 
 Usage: tests/verdict.py [COMMAND ..]
 
-COMMAND is a command of `trace_cli` that ends with the word `seq`; `why`, `replay` and `gain` are the programs that were
-built beside it. Without it those of this repository are tested. The figures are those of a trial of the schedule
+COMMAND is a command of `trace_cli` that ends with the word `seq`; `why`, `replay`, `gain` and `depends` are the
+programs that were built beside it. Without it those of this repository are tested. The figures are those of a trial of the schedule
 outside the programs. Where a program isn't built, or none compiles, a line says what is left out. Exits with 1 where a
 check failed.
 """
@@ -51,6 +51,42 @@ FAULTS = {
     "8 00000008": "at 00000008, behind waits.c:7, with cause 8, more instructions than the limit allows.",
     "3 00000400": "at 00000400, with cause 3, a jump out of the code.",
 }
+# Epochs of eight instructions that load a word, compute and store it: where in them, by four forms, and what is told.
+LOAD, LOAD_THERE, ADD, STORE, NOTHING = "83220004", "83a20200", "93821200", "23205004", "13000000"
+CLEAR, AROUND = "93020000", "63040000"          # addi x5,x0,0; beq x0,x0,8
+WORD = "# Four epochs.\n# total 00000040 4\nsize 256\nepochs 4\nlimit 50\ncode {}67800000\n"
+FORMS = [
+    ([NOTHING] * 4 + [LOAD, ADD, STORE], "load 00000010", "1 1", "It looks like a reduction: each epoch changes total at its end"),
+    ([LOAD, ADD, STORE] + [NOTHING] * 4, "load 00000000", "1 1", "It looks like an induction: each epoch changes total near its start"),
+    ([LOAD, LOAD_THERE, STORE] + [NOTHING] * 4, "load 00000000", "1 1", "It looks like the walk of a list: each epoch finds in total"),
+    ([LOAD, AROUND] + [NOTHING] * 3 + [ADD, STORE], "load 00000000", "1 1",
+     "It looks like a recurrence: each epoch reads total early and changes it late"),
+    ([LOAD, CLEAR] + [NOTHING] * 4 + [STORE], "load 00000000", "1 1",
+     "It looks like a recurrence: an epoch needs what the one before it makes"),
+    ([LOAD] + [NOTHING] * 5 + [STORE], "load 00000000", "1 3", "Each epoch reads total, and some change it"),
+]
+NEVER = "never caches 8\nnever plain 8\n"
+MEETS = "from {} {} epoch 1 load 00000004 by epoch 0 store 00000014\nturns 0 1 0\n"
+DEP = ("dep store 00000014 load 00000004 times {} distance {} at {} first 0 1 stored {} loaded {}\n")
+# What `depends` prints of the loop above, and what is told then.
+FLOWS = [
+    (NEVER, "No schedule on up to 8 cores can roll this loop back (proved). What holds it back"),
+    (MEETS.format("caches", 2) + "never plain 8\n",
+     "Over caches a schedule rolls it back from 2 cores on; over a plain store of bytes none on up to 8 cores does. In order no "
+     "epoch reads what another one stores: what rolls back are lines that they share."),
+    ("open caches 2\nnever plain 8\n",
+     "Over caches epochs conflict from 2 cores on, but no schedule that rolls back is known; over a plain store of bytes none on up to "
+     "8 cores does. What holds it back"),
+    (DEP.format(1, "1 1", "00000040 1", "2 of 4", "1 of 4") + MEETS.format("caches", 2) + MEETS.format("plain", 2),
+     "A schedule rolls it back over caches from 2 cores on, and over a plain store of bytes too. What an epoch needs earliest of another: "
+     "the load at waits.c:7 reads, after 1 of 4 instructions, what the store at waits.c:4 left after 2 of 4, 1 epoch before; 1 time "
+     "in all, at flag. It looks like a recurrence: an epoch needs what the one before it makes; it usually helps to load it later, or "
+     "to store it earlier. What holds it back over a plain store already: 1 rollback by true sharing lost 3 instructions. 3 "
+     "instructions where the store at waits.c:4 hits the load at waits.c:7 at flag. In 20 %"),
+    (DEP.format(4, "2 5", "00000040 13", "2 of 4", "1 of 4") + MEETS.format("caches", 2) + MEETS.format("plain", 3),
+     "A schedule rolls it back over caches from 2 cores on, and over a plain store of bytes from 3. What "
+     "epochs need of one another is at least 2 epochs apart, so it holds nothing back on up to 2 cores. What holds it back"),
+]
 # What holds back six loops whose epochs wait for ways of full sets, by how they were written: the place, and the lines
 # of the store and of the load.
 HIDDEN = {
@@ -59,6 +95,12 @@ HIDDEN = {
     "blocks": ("unused", "unused = (epoch", "mine = unused"),
     "product": ("total", "total[0] += sum", "total[0] += sum"), "count": ("ways", "ways += 1", "ways += 1"),
     "words": ("used", "used = first + count", "first = used"),
+}
+# What their dependences look like, told where `depends` is built.
+SHAPES = {
+    "cipher": "a recurrence: each epoch reads state+48 early", "diffusion": "a recurrence: each epoch reads carried early",
+    "blocks": "a recurrence: each epoch reads unused early", "product": "a reduction: each epoch changes total at its end",
+    "count": "a reduction: each epoch changes ways again and again", "words": "a recurrence: each epoch reads used early",
 }
 NEIGHBOURS = ("unsigned out[64] __attribute__((aligned(16)));\nvoid body(unsigned e)\n{\n    unsigned s = e;\n"
               "    for (unsigned i = 0; i < 20; i++) {\n        s = s * 5 + i;\n"
@@ -76,6 +118,17 @@ EXAMPLES = {
     "padded_counters": ["gains 4.00 on 4 cores", "Nothing holds it back."],
     "list_walk": ["loses on 4 cores at even speed, a gain of 0.99", "18 rollbacks by true sharing lost"],
     "queens": ["gains 1.39 on 4 cores", "wait for a way in a full set"],
+}
+
+# What is told besides where `depends` is built.
+FLOWING = {
+    "histogram": ["A schedule rolls it back over caches from 2 cores on, and over a plain store of bytes from 3.",
+                  "7 times in all, at bins. It joins epochs 2 to 9 apart, as where data decide"],
+    "own_counters": ["over caches from 2 cores on, and over a plain store of bytes from 5.", "at least 4 epochs apart, so it holds nothing back on up to 4 cores"],
+    "padded_counters": ["A schedule rolls it back over caches from 5 cores on, and over a plain store of bytes too."],
+    "list_walk": ["after 0 of 200 instructions, what the store at 00000014 left after 5 of 200, 1 epoch before; 4 times in all, at cursor. It looks like "
+                  "the walk of a list"],
+    "queens": ["over a plain store of bytes none on up to 8 cores does"],
 }
 
 
@@ -134,6 +187,30 @@ def by_hand(folder: Path | str) -> Results:
     yield "no image", None if got[0] == "" and got[1].startswith("verdict: ") and got[2] == 2 else f"got {got}"
 
 
+def flows(folder: Path | str) -> Results:
+    """What `depends` adds, where it is there: whether anything can roll back, and what an epoch needs earliest of another."""
+    image = Path(folder, "waits.image")
+    image.write_text(IMAGE)
+    for name, output in (("gain", GAIN), ("replay", RUN), ("why", WHY)):
+        stub(folder, name, output)
+    for output, said in FLOWS:
+        stub(folder, "depends", output)
+        got = verdict(folder, image, "--cores", "2")
+        yield f"told of {output[:40]!r}", None if f" are idle. {said}" in got[0] and got[1:] == ("", 0) else f"got {got}"
+    for code, load, distance, said in FORMS:
+        image.write_text(WORD.format("".join(code)))
+        place = int(load.split()[1], 16) // 4
+        text = DEP.format(3, distance, "00000040 1", f"{code.index(STORE)} of 8", f"{place} of 8")
+        text = text.replace("load 00000004", load).replace("store 00000014", f"store {4 * code.index(STORE):08x}")
+        stub(folder, "depends", text + MEETS.format("caches", 2) + MEETS.format("plain", 2))
+        got = verdict(folder, image, "--cores", "2")
+        yield f"a shape: {said}", None if f"3 times in all, at total. {said}" in got[0] and got[1:] == ("", 0) else f"got {got}"
+    stub(folder, "depends", "", error="stopped NoMemory", status=3)
+    got = verdict(folder, image, "--cores", "2")
+    yield "depends is stopped", None if got == ("", "stopped NoMemory\n", 3) else f"got {got}"
+    Path(folder, "depends").unlink()
+
+
 def line_of(text: str, words: str) -> int:
     return 1 + next(place for place, line in enumerate(text.splitlines()) if words in line)
 
@@ -160,13 +237,14 @@ def hidden(folder: Path | str) -> Results:
                 print(f"left out: verdicts on tests/verdicts by {compiler}, since tools/image-of lacks something")
                 break
             got = verdict(folder, image)
-            first = f"hits the load at {name}.c:{line_of(text, load)} at {place}: it usually helps to"
+            first = f"hits the load at {name}.c:{line_of(text, load)} at {place}"
             pattern = (r"What holds it back over a plain store already: \d+ rollbacks?,? [^.]*lost [\d,]+ "
                        r"instructions\. [\d,]+ instructions where the store at "
-                       rf"{name}\.c:{line_of(text, store)} {re.escape(first)}")
+                       rf"{name}\.c:{line_of(text, store)} {re.escape(first)}(: it usually helps to|\.)")
             ways = ("What the caches add: " in got[0]
                     and "wait for a way in a full set" in got[0].partition("What the caches add: ")[2])
-            yield (f"the verdict on {name} by {compiler}", None if re.search(pattern, got[0]) and ways
+            shape = not Path(folder, "depends").exists() or f" in all, at {place}. It looks like {SHAPES[name]}" in got[0]
+            yield (f"the verdict on {name} by {compiler}", None if re.search(pattern, got[0]) and ways and shape
                    and got[1:] == ("", 0) else f"got {got}")
 
 
@@ -217,22 +295,25 @@ def beside(command: list[str]) -> dict[str, Path]:
     """The programs that were built beside a command of `trace_cli`."""
     given = Path(command[0]).resolve()
     top = ROOT if given == ROOT / "trace_cli" else given.parents[2] if len(given.parents) > 2 else given.parent
-    found = {name: ROOT / name if top == ROOT else top / name / "out" / name for name in ("why", "replay", "gain")}
+    found = {name: ROOT / name if top == ROOT else top / name / "out" / name for name in ("why", "replay", "gain", "depends")}
     return {name: path for name, path in found.items() if path.is_file()}
 
 
 def examples(folder: Path | str, command: list[str]) -> Results:
     """The verdicts on examples, by the programs."""
     programs = beside(command)
-    if len(programs) < 3:
+    if not {"why", "replay", "gain"} <= set(programs):
         print("left out: the examples, since why, replay or gain wasn't built beside the program that is tested")
         return
+    if "depends" not in programs:
+        print("left out: what verdicts tell of depends, since it wasn't built beside the program that is tested")
     for name, path in {**programs, "trace_cli": Path(command[0]).resolve()}.items():
         Path(folder, name).unlink(missing_ok=True)
         Path(folder, name).symlink_to(path)
     for name, wanted in EXAMPLES.items():
         got = verdict(folder, ROOT / "examples" / f"{name}.image")
-        missing = [words for words in wanted if words not in got[0]]
+        also = FLOWING[name] if "depends" in programs else []
+        missing = [words for words in [*wanted, *also] if words not in got[0]]
         yield (f"the verdict on {name}", None if not missing and got[1:] == ("", 0)
                else f"got {got}, which lacks {missing}")
     got = verdict(folder, ROOT / "examples" / "own_counters.image", "--min-gain", "2")
@@ -262,7 +343,7 @@ def examples(folder: Path | str, command: list[str]) -> Results:
 def main() -> int:
     command = sys.argv[1:] or [str(ROOT / "trace_cli"), "seq"]
     with tempfile.TemporaryDirectory() as folder:
-        results = [*by_hand(folder), *examples(folder, command)]
+        results = [*by_hand(folder), *flows(folder), *examples(folder, command)]
     for name, wrong in results:
         if wrong:
             print(f"FAILED {name}: {wrong}")

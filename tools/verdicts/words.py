@@ -2,13 +2,14 @@
 
 from dataclasses import dataclass
 
-from loops import Report, Violation
+from loops import Dependences, Report, Violation
 from loops.gains import Gain
 from loops.images import there
 from pictures.attempts import Blamed
 from pictures.words import advice, listed as places_listed, plural
 
 from .chunks import Chunk, Measured, maker_of
+from .flow import earliest, flow
 from .losses import Losses
 
 MOST_PAIRS = 3
@@ -38,6 +39,7 @@ class Findings:
     over_plain: Losses | None           # none where its history is full
     chunk: Chunk | None = None
     measured: Measured | None = None
+    flow: Dependences | None = None     # none where `depends` isn't built
 
 
 def percent(part: int, run: Gain) -> float:
@@ -97,15 +99,15 @@ def met_at(losses: Losses, violations: list[Violation]) -> str:
     return f" at {places_listed([losses.image.name_of(place) for place in places])}" if 0 < len(places) <= 4 else ""
 
 
-def pair_sentence(losses: Losses, pair: Blamed, violations: list[Violation]) -> str:
-    """What two instructions lost, and what may help."""
+def pair_sentence(losses: Losses, pair: Blamed, violations: list[Violation], is_told: bool) -> str:
+    """What two instructions lost, and what may help, unless it is told what their dependence looks like."""
     store, load, full = pair
     if full:
         what = f"{at(losses, store)} asks for a line that {at(losses, load)} holds in a full buffer"
     else:
         what = f"the store at {at(losses, store)} hits the load at {at(losses, load)}{met_at(losses, violations)}"
-    return (f" {plural(sum(one.lost for one in violations), 'instruction')} where {what}: it usually helps to "
-            f"{advice(losses, violations)}.")
+    helps = "" if is_told else f": it usually helps to {advice(losses, violations)}"
+    return f" {plural(sum(one.lost for one in violations), 'instruction')} where {what}{helps}."
 
 
 def heaviest(violations: list[Violation]) -> str:
@@ -113,9 +115,9 @@ def heaviest(violations: list[Violation]) -> str:
     return max(KINDS, key=lambda kind: sum(one.lost for one in violations if one.kind == kind))
 
 
-def lost(losses: Losses, told_before: set[Blamed]) -> str:
+def lost(losses: Losses, told_before: set[Blamed], flowing: tuple[int, int] | None) -> str:
     """The rollbacks by their kinds, and the pairs of instructions that lost most, with what may help; nothing where all
-    that is to say was told before."""
+    that is to say was told before. `flowing` is the pair whose dependence is told."""
     pairs = [(pair, violations) for pair, violations in losses.pairs if pair not in told_before
              or heaviest(violations) != "true"]
     if losses.pairs and not pairs:
@@ -129,7 +131,8 @@ def lost(losses: Losses, told_before: set[Blamed]) -> str:
             else f"{plural(count, 'rollback')}, {listed(kinds)},")
     told += f" lost {plural(losses.lost, 'instruction')}."
     for pair, violations in pairs[:MOST_PAIRS]:
-        told += pair_sentence(losses, pair, violations)
+        is_told = flowing == (pair.causer, pair.victim) and heaviest(violations) in ("true", "silent")
+        told += pair_sentence(losses, pair, violations, is_told)
         told_before.add(pair)
     return told
 
@@ -153,6 +156,7 @@ class Told:
     """What was told of the run before: a run's sentences don't say it again."""
     pairs: set[Blamed]
     causes: set[str]
+    flowing: tuple[int, int] | None = None      # the store and the load whose dependence in order was told
 
 
 def holding(run: Gain, losses: Losses, before: Told, chunk: str = "") -> list[str]:
@@ -160,7 +164,7 @@ def holding(run: Gain, losses: Losses, before: Told, chunk: str = "") -> list[st
     def share(name: str) -> float:
         return percent(run.count(name), run)
 
-    parts = [("lost", lost(losses, before.pairs) + chunk)] if losses.violations and share("lost") >= LEAST else []
+    parts = [("lost", lost(losses, before.pairs, before.flowing) + chunk)] if losses.violations and share("lost") >= LEAST else []
     parts = [one for one in parts if one[1]]
     parts += [(cause, f"In {share(cause):.0f} % of the steps cores {told}.") for cause, told in waits(losses).items()]
     parts.append(("dropped", f"{share('dropped'):.0f} % of the steps are of epochs that the loop's exit "
@@ -196,17 +200,19 @@ def chunk_words(found: Findings) -> str:
 def paragraph(found: Findings) -> str:
     """The verdict, without the limits: what holds the loop back over the plain store first, since caches may hide it,
     and then what the caches add."""
-    before = Told(set(), set())
+    pair = earliest(found.flow, found.caches.cores) if found.flow else None
+    before = Told(set(), set(), (pair.store, pair.load) if pair else None)
     plain = holding(found.plain, found.over_plain, before) if found.over_plain is not None else []
     caches = holding(found.caches, found.over_caches, before, chunk_words(found))
+    head = gained(found) + ("" if found.flow is None else f" {flow(found.over_caches.image, found.flow, found.caches.cores)}")
     if not plain and not caches:
-        return f"{gained(found)} Nothing holds it back."
+        return f"{head} Nothing holds it back."
     told = [f"What holds it back over a plain store already: {' '.join(plain)}"] if plain else []
     told += [f"What {'the caches add' if plain else 'holds it back'}: {' '.join(caches)}"] if caches else []
     losses = [one for one in (found.over_plain, found.over_caches) if one]
     lines = ([] if found.over_caches.image.sources or not any(one.violations for one in losses)
              else ["An image made with -g names the lines of the source."])
-    return " ".join([gained(found), *told, *lines, "What helps is advice, and no claim."])
+    return " ".join([head, *told, *lines, "What helps is advice, and no claim."])
 
 
 def faulted(name: str, losses: Losses, report: Report) -> str:
