@@ -1,5 +1,5 @@
 #!/usr/bin/env python3
-"""Tests tools/plot on lines of `gain`: the plot is read back as XML, the table as CSV. Nothing has to be built.
+"""Tests tools/plot on lines of `gain` and of `depends`: the plot is read back as XML, the table as CSV. Nothing has to be built.
 
 Usage: tests/plot.py
 
@@ -38,6 +38,18 @@ PARTS = {
     "queens-caches-4": {"useful": 35, "noway": 32, "idle": 33}, "queens-plain-4": {"useful": 95, "nothomefree": 5},
     "histogram-caches-4": {"useful": 57, "true": 26, "false": 3, "nothomefree": 8, "idle": 5}, "grown-caches-2": {"useful": 100},
 }
+
+
+# Two pairs of a loop, of which one is stored later in its epoch than it is loaded, and a loop without any; and one of fourteen pairs.
+DEP = "dep store {:08x} load {:08x} times {} distance {} at 00000040 13 first 0 4 stored {} loaded {}\n"
+NEVER = "never caches 8\nnever plain 8\n"
+DEPENDS = {
+    "flows": DEP.format(0x34, 0x14, 12, "4 4", "25 of 27", "5 of 27") + DEP.format(0x08, 0x20, 3, "1 5", "3 of 27", "9 of 27")
+             + "from caches 2 epoch 1 load 00000014 by epoch 0 store 00000034\nturns 0 1 1 0 0\nopen plain 5\n",
+    "alone": NEVER,
+    "many": "".join(DEP.format(4 * place, 4, 20 - place, f"{place + 1} 30", "2 of 4", "1 of 4") for place in range(14)) + NEVER,
+}
+IMAGE = "# counter 00000040 16\n# code 00000034 flows.c:20\n# code 00000014 flows.c:14\nsize 256\nepochs 16\nlimit 50\ncode 67800000\n"
 
 
 def text_of(rows):
@@ -126,10 +138,41 @@ def tables(words, folder):
         yield f"refused: {name}", None if got[0] == "" and said in got[1] and got[2] == 2 else f"{got}"
 
 
+def depends(folder):
+    """(what it shows, what is wrong or None) of what `depends` printed."""
+    Path(folder, "flows.image").write_text(IMAGE)
+    for name, text in DEPENDS.items():
+        Path(folder, f"{name}.dep").write_text(text)
+    words = [f"{folder}/{name}.dep" for name in DEPENDS]
+    out, errors, status = plot("--csv", *words)
+    rows = [line.split(",") for line in out.splitlines()]
+    yield "a row for each pair", None if (len(rows), errors, status) == (17, "", 0) else f"{out!r}, {errors!r}, {status}"
+    wanted = ["flows", "00000034", "00000014", "12", "4", "4", "00000040", "13", "0", "4", "25", "27", "5", "27"]
+    yield "the first pair", None if rows[1] == wanted else f"{rows[1]}"
+    got = plot("--csv", f"{folder}/flows.dep", f"{folder}/queens.txt")
+    yield "refused: lines of both programs", None if got[0] == "" and "is no line of gain" in got[1] and got[2] == 2 else f"{got}"
+    out, errors, status = plot("--images", folder, *words)
+    if "is not installed" in errors:
+        print("left out: plots of dependences, since python3-matplotlib isn't installed")
+        return
+    yield "a plot of dependences", None if (errors, status) == ("", 0) else f"{errors!r}, {status}"
+    root = xml.fromstring(out)
+    texts = ["".join(text.itertext()).strip() for text in root.iter(f"{SVG}text")]
+    for said in ("caches: rolls back from 2 cores on; plain: open from 5 cores on", "caches: never on up to 8 cores; plain: never on up to 8 cores",
+                 "12 times, 4 later: counter", "flows.c:20 to flows.c:14", "3 times, 1 to 5 later: counter", "00000008 to 00000020",
+                 "no epoch reads what another one stored", "3 more pairs, 24 times, at least 12 later"):
+        yield f"it is told: {said}", None if said in texts else f"{texts}"
+    arrows = {group.get("id"): "stroke-dasharray" in xml.tostring(group, "unicode") for group in root.iter(f"{SVG}g") if re.match(r"\w+-[0-9a-f]{8}-[0-9a-f]{8}", group.get("id", ""))}
+    yield "an arrow for each pair that has a row", None if len(arrows) == 13 else f"{arrows}"
+    told = (arrows["flows-00000034-00000014"], arrows["flows-00000008-00000020"])
+    yield "late and early by no colour alone", None if told == (False, True) else f"{told}"
+    yield "the same bytes of dependences again", None if plot("--images", folder, *words)[0] == out else "others"
+
+
 def main():
     with tempfile.TemporaryDirectory() as folder:
         words = list(files(folder))
-        results = [*plots(words), *tables(words, folder)]
+        results = [*plots(words), *tables(words, folder), *depends(folder)]
     for name, wrong in results:
         if wrong:
             print(f"FAILED {name}: {wrong}")

@@ -1,12 +1,14 @@
-"""The lines of `gain` as CSV: a row for each, with the name of its loop."""
+"""The lines of `gain`, or the lines `dep` of `depends`, as CSV: a row for each, with the name of its loop."""
 
 import csv
 import io
 from dataclasses import fields
 
+from loops import Dependences, Joined
 from loops.gains import Gain, Gains
 
 NAMES = [one.name for one in fields(Gain)]
+PAIR_NAMES = "store load times least_distance most_distance at bytes first_causer first_victim stored stored_of loaded loaded_of".split()
 
 
 def word_of(run: Gain, name: str) -> str:
@@ -22,4 +24,19 @@ def table(named: list[tuple[str, Gains]]) -> str:
     rows = csv.writer(made, lineterminator="\n")
     rows.writerow(["loop", *NAMES])
     rows.writerows([name, *(word_of(run, field) for field in NAMES)] for name, gains in named for run in gains.runs)
+    return made.getvalue()
+
+
+def pair_words(pair: Joined) -> list[str | int]:
+    """The fields of a pair of instructions; addresses have eight hexadecimal digits."""
+    return [f"{pair.store:08x}", f"{pair.load:08x}", pair.times, pair.least_distance, pair.most_distance, f"{pair.at.first:08x}", pair.at.length,
+            pair.first_causer, pair.first_victim, pair.stored.done, pair.stored.of, pair.loaded.done, pair.loaded.of]
+
+
+def pair_table(named: list[tuple[str, Dependences]]) -> str:
+    """The same of the pairs of instructions that dependences join."""
+    made = io.StringIO()
+    rows = csv.writer(made, lineterminator="\n")
+    rows.writerow(["loop", *PAIR_NAMES])
+    rows.writerows([name, *pair_words(pair)] for name, found in named for pair in found.pairs)
     return made.getvalue()
