@@ -170,6 +170,27 @@ def names(folder):
     yield "of a long report one line is read", (read.stdout, read.stderr) == (HURT.replace("true", "false").replace(" 4\n", " 4 flag\n") + "141\n", "")
 
 
+def dependences(folder):
+    """The same of tools/named --depends, with a stub in the place of `depends`."""
+    programs = Path(folder, "depends")
+    programs.mkdir()
+
+    def named(output, *words, **more):
+        stub(programs, "depends", output, **more)
+        done = subprocess.run([ROOT / "tools" / "named", "--depends", *words], input=IMAGE, capture_output=True, text=True,
+                              env={**os.environ, "LOOPS_PROGRAMS": str(programs)}, check=False)
+        return done.stdout, done.stderr, done.returncode
+
+    dep = "dep store 00000014 load 00000004 times 1 distance 1 1 at 00000040 1 first 0 1 stored 2 of 4 loaded 1 of 4"
+    met = "caches 2 epoch 1 load 00000004 by epoch 0 store 00000014"
+    rest = "from caches 2 epoch 1 buffer by epoch 0\nturns 0 1\nopen plain 8\n"
+    yield "names of dependences", named(f"{dep}\nfrom {met}\nturns 0 1 0\n") == (f"{dep} flag - waits.c:7\nfrom {met} waits.c:7 -\nturns 0 1 0\n", "", 0)
+    yield "no names", named(dep.replace("at 00000040 1", "at 00000044 60") + "\n" + rest)[0] == dep.replace("at 00000040 1", "at 00000044 60") + f" - - waits.c:7\n{rest}"
+    yield "several names", named(dep.replace("at 00000040 1", "at 0000003c 60") + "\n" + rest)[0].startswith(dep.replace("at 00000040 1", "at 0000003c 60") + " flag - ")
+    yield "refused by depends", named("", error="usage", status=2) == ("", "usage\n", 2)
+    yield "another line", named("depends\n")[1:] == ("named: 'depends' is no line of depends\n", 2)
+
+
 def traces(folder):
     """The same of tools/trace, with a stub in the place of the program."""
     programs, image = Path(folder, "programs"), Path(folder, "waits.image")
@@ -188,7 +209,7 @@ def traces(folder):
 
 def main():
     with tempfile.TemporaryDirectory() as folder:
-        results = [*rows(folder), *kinds(folder), *gathered(folder), *names(folder), *traces(folder)]
+        results = [*rows(folder), *kinds(folder), *gathered(folder), *names(folder), *dependences(folder), *traces(folder)]
     for name, holds in results:
         if not holds:
             print(f"FAILED {name}")
