@@ -32,9 +32,9 @@ PAGES = ["README.md", "CONTRIBUTING.md", "docs/**/*.md", "examples/*.md", "tests
 FOLDERS = ["bench", "docs", "examples", "tests", "tools"]
 # How a command begins that is this project's own.
 OWN = re.compile(r"(?m)^(?:\./|tools/|tests/|bench/|\.ci/).*")
-PROGRAMS = ["why", "replay", "gain"]
+PROGRAMS = ["why", "replay", "gain", "depends"]
 # The programs that a tool calls.
-TOOLS = {"named": ["why"], "picture": ["why"], "view": ["why", "replay"], "verdict": PROGRAMS, "study": [*PROGRAMS, "snakemake"]}
+TOOLS = {"named": ["why"], "picture": ["why"], "view": ["why", "replay"], "verdict": PROGRAMS, "study": ["why", "replay", "gain", "snakemake"]}
 MODULES = {"plot": ["matplotlib"], "study": ["jsonschema", "matplotlib"]}
 # Commands that no test runs, with the reason.
 NOT_RUN = {
