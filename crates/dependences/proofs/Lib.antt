@@ -29,3 +29,5 @@ pub mod Joining
 pub mod Lining
 pub mod Buffering
 pub mod Caching
+-- What no conflict says of histories.
+pub mod Nevers

@@ -1,4 +1,4 @@
-ghost use Rattle.std.specs.Prelude.{◌≡◌, ℕ, ◌+◌, ◌<◌, IfOk, None, length};
+ghost use Rattle.std.specs.Prelude.{◌≡◌, ℕ, ◌+◌, ◌<◌, ◌≤◌, IfOk, None, length};
 ghost use Rattle.rv32_image.specs.Image.{IsImage};
 ghost use Rattle.rv32_exec.specs.declared.sequential.End.TheVariants.{Done};
 ghost use Rattle.rv32_exec.specs.Sequential.{first_epochs};
@@ -42,7 +42,7 @@ pub fn conflict_over_caches(
     ensures none { IfOk result (λ found. found ≡ None → spec.IsNever image.now cores) }
     ensures lines { IfOk result (λ found. found ≡ None → LineConflict image.now cores → ⊥) }
     ensures buffers { IfOk result (λ found. found ≡ None → Overflow image.now cores → ⊥) }
-    ensures never { IfOk result (λ found. found ≡ None → NeverOverLines image.now cores) }
+    ensures never { IfOk result (λ found. found ≡ None → (fewer : ℕ) → fewer ≤ cores → NeverOverLines image.now fewer) }
 {
     let size = image.size() as usize;
     if cores < 2 {

@@ -1,4 +1,4 @@
-ghost use Rattle.std.specs.Prelude.{◌≡◌, ℕ, IfOk, true, false, length, slice_index};
+ghost use Rattle.std.specs.Prelude.{◌≡◌, ◌≤◌, ℕ, IfOk, true, false, length, slice_index};
 ghost use Rattle.dependences.specs.Conflict.{Conflict, ConflictInOrder};
 ghost use Rattle.dependences.specs.Kept as spec;
 ghost use Rattle.dependences.specs.Laws.{NeverOverBytes};
@@ -20,7 +20,7 @@ pub fn conflicts_over_bytes(alloc: Global, image: &Image, cores: u32) -> Result<
     ensures found { IfOk result (λ found. found ≡ true → ConflictInOrder image.now cores) }
     ensures none { IfOk result (λ found. found ≡ false → ConflictInOrder image.now cores → ⊥) }
     ensures paths { IfOk result (λ found. found ≡ false → Conflict image.now cores → ⊥) }
-    ensures never { IfOk result (λ found. found ≡ false → NeverOverBytes image.now cores) }
+    ensures never { IfOk result (λ found. found ≡ false → (fewer : ℕ) → fewer ≤ cores → NeverOverBytes image.now fewer) }
 {
     let size = image.size() as usize;
     if cores < 2 {

@@ -1,6 +1,6 @@
 use Rattle.std.proofs.Common.{sym, ◌∙◌}
 use Rattle.dependences.proofs.Caching.{never_alone, never_buffers, never_lines, none_of}
-use Rattle.dependences.proofs.Violations.{over_lines}
+use Rattle.dependences.proofs.Nevers.{never_lines_on_fewer}
 use Rattle.dependences.proofs.caches.conflict_over_caches.Goals as goal
 
 pub conflict_past_end-requires-clause-lines : goal.conflict_past_end-requires-clause-lines
@@ -19,10 +19,7 @@ pub returns-clause-buffers : goal.returns-clause-buffers
 returns-clause-buffers c none = never_buffers c.args.image.now c.args.cores c.bytes.ensures.limits (c.conflict_past_end.ensures.none none)
 
 pub returns-clause-never : goal.returns-clause-never
-returns-clause-never c none history s replays starts known =
-    let never = c.conflict_past_end.ensures.none none in
-    over_lines c.args.image.now c.args.cores history s c.bytes.ensures.limits replays starts known (never_lines c.args.image.now c.args.cores c.bytes.ensures.limits never)
-    (never_buffers c.args.image.now c.args.cores c.bytes.ensures.limits never)
+returns-clause-never c none = never_lines_on_fewer c.args.image.now c.args.cores c.bytes.ensures.limits (c.conflict_past_end.ensures.none none)
 
 pub returns-then-cores-lt2-clause-none : goal.returns-then-cores-lt2-clause-none
 returns-then-cores-lt2-clause-none c none = never_alone c.args.image.now c.args.cores c.if-cores-lt2.true
@@ -36,7 +33,5 @@ returns-then-cores-lt2-clause-buffers c none =
     never_buffers c.args.image.now c.args.cores c.size-size.ensures.limits (never_alone c.args.image.now c.args.cores c.if-cores-lt2.true)
 
 pub returns-then-cores-lt2-clause-never : goal.returns-then-cores-lt2-clause-never
-returns-then-cores-lt2-clause-never c none history s replays starts known =
-    let never = never_alone c.args.image.now c.args.cores c.if-cores-lt2.true in
-    over_lines c.args.image.now c.args.cores history s c.size-size.ensures.limits replays starts known (never_lines c.args.image.now c.args.cores c.size-size.ensures.limits never)
-    (never_buffers c.args.image.now c.args.cores c.size-size.ensures.limits never)
+returns-then-cores-lt2-clause-never c none =
+    never_lines_on_fewer c.args.image.now c.args.cores c.size-size.ensures.limits (never_alone c.args.image.now c.args.cores c.if-cores-lt2.true)
