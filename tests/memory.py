@@ -112,6 +112,7 @@ OTHERS = [
     ("a worked schedule", "replay", ["caches", "2"], (CRATES / "replay" / "stdin").read_text(), ((CRATES / "replay" / "stdout").read_text(), "", 0)),
     # A start, a load, an addition, a store, a return and a commit. The second core has no epoch.
     ("the gains of an epoch", "gain", ["2"], (CRATES / "gain" / "stdin").read_text(), ((CRATES / "gain" / "stdout").read_text(), "", 0)),
+    ("what a counter rolls back through", "depends", ["2"], (CRATES / "depends" / "stdin").read_text(), ((CRATES / "depends" / "stdout").read_text(), "", 0)),
     ("one schedule", "replay", ["all", "plain", "1", "4"], image(COUNTER),
      ("schedules 1\nover 1\nhistories 1\nleast 0\nturns 0 0 0 0\nmost 0\nturns 0 0 0 0\nend done 1\n", "", 0)),
     # The core that is first takes the epoch, and needs three of the other four turns to start, load, store and commit.

@@ -3,8 +3,8 @@
 
 Usage: tests/time_bounds.py [COMMAND ..]
 
-COMMAND is a command of `trace_cli` that ends with the word `seq`, such as crates/trace_cli/out/trace_cli seq; `why` and `replay` are the programs that were built beside
-it. Without it those of this repository are tested. Where one isn't built its rows are left out, and a line says so. A time is that of one process, by what the system
+COMMAND is a command of `trace_cli` that ends with the word `seq`, such as crates/trace_cli/out/trace_cli seq; `why`, `replay` and `depends` are the programs that were built
+beside it. Without it those of this repository are tested. Where one isn't built its rows are left out, and a line says so. A time is that of one process, by what the system
 counts of it, the least of ROUNDS; the two calls of a row take turns. The traces on which `why` is held to the audit are those of `bench/audit/hard.py`. Exits with 1
 where a ratio is past its bound, or a call fails.
 """
@@ -77,6 +77,15 @@ def counters(epochs: int) -> str:
     return image(COUNTERS, epochs=epochs)
 
 
+def late(epochs: int) -> str:
+    """The image of epochs each of which loads a word, which the last but one stores."""
+    wanted = epochs - 2
+    high = wanted + 0x800 & 0xFFFFF000
+    # lui x6,HIGH; addi x6,x6,LOW; lw x5,64(x0); bne x10,x6,8; sw x6,64(x0); jalr x0,0(x1)
+    words = [high | 0x337, (wanted - high & 0xFFF) << 20 | 0x30313, 0x4002283, 0x651463, 0x4602023, 0x8067]
+    return image(b"".join(word.to_bytes(4, "little") for word in words).hex(), epochs=epochs)
+
+
 def bounds() -> list[Bound]:
     rows = []
     for form in hard.FORMS:
@@ -93,6 +102,9 @@ def bounds() -> list[Bound]:
         rows.append(Bound(f"even {store}, twice the epochs", MOST_OF_TWICE, *even))
         steps = [Call("replay", ("steps", store, "4"), counters(65_535) + "turns" + " 0 1 2 3" * count + "\n") for count in (10_000, 5_000)]
         rows.append(Bound(f"steps {store}, twice the turns", MOST_OF_TWICE, *steps))
+    for name, loop in (("nothing depends", loads), ("each epoch depends", counters), ("the last epoch depends", late)):
+        twice = [Call("depends", ("8",), loop(count)) for count in (60_000, 30_000)]
+        rows.append(Bound(f"depends where {name}, twice the epochs", MOST_OF_TWICE, *twice))
     return rows
 
 
@@ -123,7 +135,7 @@ def ratio(row: Bound, programs: dict[str, str], folder: Path) -> float:
 
 
 def main() -> int:
-    found = {name: program_of(sys.argv[1:], name) for name in ("trace_cli", "why", "replay")}
+    found = {name: program_of(sys.argv[1:], name) for name in ("trace_cli", "why", "replay", "depends")}
     programs = {name: program for name, program in found.items() if program}
     for name in sorted(found.keys() - programs.keys()):
         print(f"left out: bounds on the time of {name}, since it isn't the program that is tested, nor was it built beside that")

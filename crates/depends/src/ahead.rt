@@ -1,0 +1,200 @@
+//! Schedules in which a later epoch runs ahead of those before it.
+ghost use Rattle.std.specs.Prelude.{◌≡◌, ◌≤◌, ◌<◌, All, IfOk, IfSome};
+ghost use Rattle.violations.specs.Rule.{IsCoreCount};
+ghost use Rattle.homefree.specs.BookView.{IsOfSameLoop};
+ghost use Rattle.homefree.specs.Counted.{IsNoMore};
+ghost use Rattle.homefree.specs.Held.{HaveArrived};
+ghost use Rattle.depends.specs.Ahead as spec;
+
+use homefree::{Answer, Book, TurnFault, step};
+use run_ledger::Shares;
+use rv32_exec::{Arrived, Image};
+use spec_history::{Entry, What};
+use std::alloc::{AllocError, Global};
+use violations::{EpochStore, MAX_CORES};
+
+/// The most turns of a schedule: no more than `replay` takes in lines of turns, which have at most 3 bytes for each.
+const MOST_TURNS: u32 = 8_388_608;
+
+/// A schedule up to its first violation, if it comes to one. The epochs before the window of this one commit in order, on core 0. Then
+/// the epochs of the window start, one on each core; the last one runs as far as it comes, and then each one before it; at last they
+/// commit in order. The cores are at least 1, and the room is 16 to 1,048,576 entries.
+///
+/// `AllocError`: memory ran out.
+pub fn run_ahead<S: EpochStore>(
+    alloc: Global,
+    image: &Image,
+    cores: u32,
+    room: u32,
+    later: u32,
+) -> Result<Vec<u32>, AllocError>
+    requires cores { IsCoreCount image.now cores }
+    requires least { 16 ≤ room }
+    requires most { room ≤ 1048576 }
+    ensures { IfOk result (λ schedule. All (λ core. core < cores) schedule.items) }
+{
+    let made: Result<(Book<S>, Shares), _> = Book::new(alloc, image, cores, room);
+    let Ok((mut book, mut shares)) = made else {
+        return Err(AllocError);
+    };
+    let mut schedule = Vec::new(alloc);
+    let plan = Plan::of(cores, later);
+    match take_turns(&mut book, &mut shares, cores, plan, &mut schedule) {
+        Ok(()) | Err(TurnFault::HistoryFull) => Ok(schedule),
+        Err(TurnFault::NoMemory) => Err(AllocError),
+    }
+}
+
+/// Takes the turns of a plan, and notes whose they are.
+fn take_turns<S: EpochStore>(
+    book: &mut Book<S>,
+    shares: &mut Shares,
+    cores: u32,
+    plan: Plan,
+    schedule: &mut Vec<u32>,
+) -> Result<(), TurnFault>
+    requires cores { book.old.cores ≡ cores }
+    requires shares { IsNoMore shares.old book.old.totals }
+    requires plan { spec.IsPlan cores plan }
+    requires schedule { All (λ core. core < cores) schedule.old.items }
+    ensures { All (λ core. core < cores) schedule.new.items }
+{
+    let mut held = [None; MAX_CORES];
+    let mut plan = plan;
+    for _taken in 0..MOST_TURNS {
+        let Ok(()) = schedule.push(plan.core) else {
+            return Err(TurnFault::NoMemory);
+        };
+        let before = book.history().len();
+        let answer = step(book, &mut held, plan.core, shares)?;
+        if has_violation(book.history(), before) {
+            return Ok(());
+        }
+        match plan.next(&answer) {
+            Some(next) => plan = next,
+            None => return Ok(()),
+        }
+    }
+    Ok(())
+}
+
+/// Whether a history has a violation at this place or behind it.
+fn has_violation(history: &[Entry], from: usize) -> bool {
+    match history.get(from..) {
+        Some(entries) => entries
+            .iter()
+            .any(|entry| matches!(entry.what, What::Hurt(_))),
+        None => false,
+    }
+}
+
+/// What cores do.
+#[derive(Clone, Copy)]
+enum Stage {
+    /// Core 0 runs so many epochs up to their commits.
+    Before { epochs: u32 },
+    /// Each core of the window starts its epoch, in order.
+    Start,
+    /// Each runs as far as it comes, the last one first.
+    Ahead,
+    /// Each runs up to its commit, in order.
+    InOrder,
+}
+
+impl Stage {
+    /// So many epochs are left before the window.
+    fn until(epochs: u32) -> Stage {
+        if epochs == 0 {
+            Stage::Start
+        } else {
+            Stage::Before { epochs }
+        }
+    }
+}
+
+/// Whose turn comes, where so many cores run the epochs of the window.
+#[derive(Clone, Copy)]
+struct Plan {
+    stage: Stage,
+    core: u32,
+    window: u32,
+}
+
+impl Plan {
+    /// At the start, for the window of an epoch.
+    fn of(cores: u32, later: u32) -> Plan
+        requires { 1 ≤ cores }
+        ensures { spec.IsPlan cores result }
+    {
+        let first = later.saturating_sub(cores - 1);
+        Plan {
+            stage: Stage::until(first),
+            core: 0,
+            window: cores.min(later.saturating_sub(first).saturating_add(1)),
+        }
+    }
+
+    /// After a turn. None: that was the last one.
+    fn next(self, answer: &Answer) -> Option<Plan>
+        ensures { IfSome result (spec.IsNext self) }
+    {
+        match self.stage {
+            Stage::Before { epochs } => self.before(epochs, answer),
+            Stage::Start => match self.behind() {
+                Some(core) => Some(Plan { core, ..self }),
+                None => Some(Plan {
+                    stage: Stage::Ahead,
+                    ..self
+                }),
+            },
+            Stage::Ahead | Stage::InOrder => match answer {
+                Answer::Go(_) => Some(self),
+                Answer::Again(_) | Answer::Left => self.another(),
+                Answer::Over(_) | Answer::Stopped(_) => None,
+            },
+        }
+    }
+
+    /// While epochs before the window run.
+    fn before(self, epochs: u32, answer: &Answer) -> Option<Plan>
+        ensures { IfSome result (spec.IsNext self) }
+    {
+        match answer {
+            Answer::Go(_) => Some(self),
+            Answer::Left => Some(Plan {
+                stage: Stage::until(epochs.saturating_sub(1)),
+                ..self
+            }),
+            Answer::Again(_) | Answer::Over(_) | Answer::Stopped(_) => None,
+        }
+    }
+
+    /// The next core of the stage, or of the next one.
+    fn another(self) -> Option<Plan>
+        ensures { IfSome result (spec.IsNext self) }
+    {
+        match self.stage {
+            Stage::Ahead if 1 < self.core => Some(Plan {
+                core: self.core - 1,
+                ..self
+            }),
+            Stage::Ahead => Some(Plan {
+                stage: Stage::InOrder,
+                core: 0,
+                ..self
+            }),
+            _ => {
+                let core = self.behind()?;
+                Some(Plan { core, ..self })
+            }
+        }
+    }
+
+    /// The core behind this one in the window.
+    fn behind(self) -> Option<u32>
+        ensures { IfSome result (λ core. core < self.window) }
+    {
+        let core = self.core.checked_add(1)?;
+        if core < self.window { Some(core) } else { None }
+    }
+}

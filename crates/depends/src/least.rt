@@ -1,0 +1,91 @@
+//! From how many cores on epochs conflict.
+ghost use Rattle.std.specs.Prelude.{◌≡◌, ◌≤◌, IfOk};
+ghost use Rattle.depends.specs.Never as spec;
+
+use all_schedules::Store;
+use dependences::{CacheConflict, conflict_over_caches, conflicts_over_bytes};
+use rv32_exec::Image;
+use std::alloc::{AllocError, Global};
+
+/// Two epochs that conflict.
+#[derive(Clone, Copy)]
+pub struct Found {
+    /// On so many cores.
+    pub cores: u32,
+    /// The later one, where the search tells it.
+    pub later: Option<u32>,
+}
+
+/// Two epochs that conflict over a store on the fewest cores, up to these, which are at most 16. None: on none of them any do, and no
+/// schedule has a violation.
+///
+/// `AllocError`: memory ran out.
+pub fn least_conflict(
+    alloc: Global,
+    image: &Image,
+    store: Store,
+    cores: u32,
+) -> Result<Option<Found>, AllocError>
+    requires few { cores ≤ 16 }
+    ensures { IfOk result (spec.IsLeast image.now store cores) }
+{
+    let Some(found) = conflict_on(alloc, image, store, cores)? else {
+        return Ok(None);
+    };
+    let mut least = found;
+    let mut low = 0;
+    'halves: while low < least.cores {
+        let middle = (low + least.cores) / 2;
+        match conflict_on(alloc, image, store, middle)? {
+            Some(found) => least = found,
+            None => low = middle + 1,
+        }
+    }
+    Ok(Some(least))
+}
+
+/// Two epochs that conflict on so many cores. None: on these, and on fewer, no schedule has a violation.
+fn conflict_on(
+    alloc: Global,
+    image: &Image,
+    store: Store,
+    cores: u32,
+) -> Result<Option<Found>, AllocError>
+    ensures { IfOk result (spec.IsFound image.now store cores) }
+{
+    match store {
+        Store::Caches => conflict_on_caches(alloc, image, cores),
+        Store::Plain => conflict_on_plain(alloc, image, cores),
+    }
+}
+
+fn conflict_on_caches(alloc: Global, image: &Image, cores: u32) -> Result<Option<Found>, AllocError>
+    ensures { IfOk result (spec.IsFound image.now Store.Caches cores) }
+{
+    let Ok(found) = conflict_over_caches(alloc, image, cores) else {
+        return Err(AllocError);
+    };
+    match found {
+        Some(conflict) => Ok(Some(Found {
+            cores,
+            later: Some(later_of(conflict)),
+        })),
+        None => Ok(None),
+    }
+}
+
+fn later_of(conflict: CacheConflict) -> u32 {
+    match conflict {
+        CacheConflict::Line { later } | CacheConflict::Buffer { later } => later,
+    }
+}
+
+fn conflict_on_plain(alloc: Global, image: &Image, cores: u32) -> Result<Option<Found>, AllocError>
+    ensures { IfOk result (spec.IsFound image.now Store.Plain cores) }
+{
+    match conflicts_over_bytes(alloc, image, cores) {
+        Ok(true) => Ok(Some(Found { cores, later: None })),
+        Ok(false) => Ok(None),
+        Err(_) => Err(AllocError),
+    }
+}

@@ -1,0 +1,209 @@
+//! The line of a store: whether a schedule of so many cores can violate an epoch over it.
+ghost use Rattle.std.specs.Prelude.{◌≡◌, ◌≤◌, ◌++◌, IfOk, OnOk};
+ghost use Rattle.violations.specs.Rule.{IsCoreCount};
+ghost use Rattle.depends.specs.Line as spec;
+
+use crate::ahead::run_ahead;
+use crate::least::{Found, least_conflict};
+use crate::shown::{Met, Shown, show};
+use crate::text::{push_address, push_named, push_word};
+use all_schedules::{Store, push_turns};
+use dependences::Dependence;
+use rv32_exec::Image;
+use std::alloc::{AllocError, Global};
+use violations::EpochStore;
+
+/// What is told of a store.
+#[derive(Drop)]
+pub enum Line {
+    /// No schedule has a violation.
+    Never,
+    /// Epochs conflict on so many cores, and on no fewer, and these turns make a violation.
+    From {
+        cores: u32,
+        turns: Vec<u32>,
+        shown: Shown,
+    },
+    /// Epochs conflict on so many cores, and on no fewer; the schedule that was tried makes no violation.
+    Open {
+        cores: u32,
+    },
+}
+
+/// What the run in order has shown.
+#[derive(Clone, Copy)]
+pub struct Known<'a> {
+    /// Its dependences.
+    pub found: &'a [Dependence],
+    /// How many epochs it has.
+    pub epochs: u32,
+}
+
+/// What is told of a store and up to so many cores. The cores are at least 1, and the room is 16 to 1,048,576 entries.
+///
+/// `AllocError`: memory ran out.
+pub fn line_over<S: EpochStore>(
+    alloc: Global,
+    image: &Image,
+    store: Store,
+    cores: u32,
+    room: u32,
+    known: Known<'_>,
+) -> Result<Line, AllocError>
+    requires cores { IsCoreCount image.now cores }
+    requires least { 16 ≤ room }
+    requires most { room ≤ 1048576 }
+    ensures { IfOk result (spec.IsLine S.starts S.makes S.view S.waits image.now store cores room) }
+{
+    match least_conflict(alloc, image, store, cores)? {
+        Some(least) => {
+            let (from, to) = laters(image, known, least);
+            line_from::<S>(alloc, image, least.cores, room, from, to)
+        }
+        None => Ok(Line::Never),
+    }
+}
+
+/// The line from so many cores on, where one of these epochs, from the first up to the one before the last, is tried as the later one.
+fn line_from<S: EpochStore>(
+    alloc: Global,
+    image: &Image,
+    cores: u32,
+    room: u32,
+    from: u32,
+    to: u32,
+) -> Result<Line, AllocError>
+    requires cores { IsCoreCount image.now cores }
+    requires least { 16 ≤ room }
+    requires most { room ≤ 1048576 }
+    ensures { IfOk result (spec.IsFrom S.starts S.makes S.view S.waits image.now cores room) }
+{
+    for later in from..to {
+        let turns = run_ahead::<S>(alloc, image, cores, room, later)?;
+        let shown = show::<S>(alloc, image, cores, room, turns.as_slice())?;
+        if let Some(shown) = shown {
+            return Ok(Line::From {
+                cores,
+                turns,
+                shown,
+            });
+        }
+    }
+    Ok(Line::Open { cores })
+}
+
+/// The epochs that may be the later one of a conflict, from the first up to the one before the last.
+fn laters(image: &Image, known: Known<'_>, least: Found) -> (u32, u32) {
+    let one = least.later.or_else(|| first_near(known.found, least.cores));
+    match one {
+        Some(later) => (later, later.saturating_add(1)),
+        None => {
+            let past = known.epochs.saturating_add(least.cores);
+            (known.epochs, past.min(image.epochs()))
+        }
+    }
+}
+
+/// The later epoch of the first dependence that is nearer than so many cores.
+fn first_near(found: &[Dependence], cores: u32) -> Option<u32> {
+    for one in found {
+        if one.later.saturating_sub(one.earlier) < cores {
+            return Some(one.later);
+        }
+    }
+    None
+}
+
+/// Adds what is told of a store on up to so many cores.
+///
+/// `AllocError`: memory ran out.
+#[tactic(auto, using(crate::proofs::Joining::joined))]
+pub fn push_line(text: &mut Vec<u8>, store: Store, most: u32, line: &Line) -> Result<(), AllocError>
+    ensures { OnOk result (text.new.items ≡ text.old.items ++ spec.line_text store most line.now) }
+{
+    match line {
+        Line::Never => push_never(text, store, most),
+        Line::From {
+            cores,
+            turns,
+            shown,
+        } => {
+            push_from(text, store, *cores, *shown)?;
+            push_turns(text, turns.as_slice())
+        }
+        Line::Open { cores } => push_open(text, store, *cores),
+    }
+}
+
+#[tactic(auto, using(crate::proofs::Joining::joined), unfolding(crate::specs::Line::never_text))]
+fn push_never(text: &mut Vec<u8>, store: Store, cores: u32) -> Result<(), AllocError>
+    ensures { OnOk result (text.new.items ≡ text.old.items ++ spec.never_text store cores) }
+{
+    push_head(text, b"never ", store, cores)?;
+    text.extend_from_slice(b"\n")
+}
+
+#[tactic(auto, using(crate::proofs::Joining::joined), unfolding(crate::specs::Line::open_text))]
+fn push_open(text: &mut Vec<u8>, store: Store, cores: u32) -> Result<(), AllocError>
+    ensures { OnOk result (text.new.items ≡ text.old.items ++ spec.open_text store cores) }
+{
+    push_head(text, b"open ", store, cores)?;
+    text.extend_from_slice(b"\n")
+}
+
+#[tactic(auto, using(crate::proofs::Joining::joined), unfolding(crate::specs::Line::from_text))]
+fn push_from(text: &mut Vec<u8>, store: Store, cores: u32, shown: Shown) -> Result<(), AllocError>
+    ensures { OnOk result (text.new.items ≡ text.old.items ++ spec.from_text store cores shown) }
+{
+    push_head(text, b"from ", store, cores)?;
+    push_shown(text, shown)?;
+    text.extend_from_slice(b"\n")
+}
+
+/// A name, which ends with a space, the store, and so many cores.
+#[tactic(auto, using(crate::proofs::Joining::joined), unfolding(crate::specs::Line::head_text))]
+fn push_head(text: &mut Vec<u8>, name: &[u8], store: Store, cores: u32) -> Result<(), AllocError>
+    ensures { OnOk result (text.new.items ≡ text.old.items ++ spec.head_text name.now store cores) }
+{
+    push_word(text, name, store_name(store).as_bytes())?;
+    push_named(text, b" ", cores as u64)
+}
+
+/// Who was violated, and by whom.
+#[tactic(auto, using(crate::proofs::Joining::joined), unfolding(crate::specs::Line::shown_text))]
+fn push_shown(text: &mut Vec<u8>, shown: Shown) -> Result<(), AllocError>
+    ensures { OnOk result (text.new.items ≡ text.old.items ++ spec.shown_text shown) }
+{
+    push_named(text, b" epoch ", shown.victim as u64)?;
+    push_victim(text, shown.met)?;
+    push_named(text, b" by epoch ", shown.causer as u64)?;
+    push_causer(text, shown.met)
+}
+
+fn push_victim(text: &mut Vec<u8>, met: Met) -> Result<(), AllocError>
+    ensures { OnOk result (text.new.items ≡ text.old.items ++ spec.victim_text met) }
+{
+    match met {
+        Met::Instructions { load, .. } => push_address(text, b" load ", load),
+        Met::Buffer => text.extend_from_slice(b" buffer"),
+    }
+}
+
+fn push_causer(text: &mut Vec<u8>, met: Met) -> Result<(), AllocError>
+    ensures { OnOk result (text.new.items ≡ text.old.items ++ spec.causer_text met) }
+{
+    match met {
+        Met::Instructions { store, .. } => push_address(text, b" store ", store),
+        Met::Buffer => Ok(()),
+    }
+}
+
+/// The word that names a store.
+fn store_name(store: Store) -> &'static str
+    ensures { result.now ≡ spec.store_name store }
+{
+    match store {
+        Store::Caches => "caches",
+        Store::Plain => "plain",
+    }
+}

@@ -1,0 +1,34 @@
+//! What a loop can roll back through: `depends CORES` takes an image on standard input, and prints a line for each pair of instructions
+//! that a dependence of the run in order joins, and for each store whether a schedule of up to so many cores can violate an epoch.
+#![tactic(auto)]
+
+use std::alloc::Global;
+use std::process::ExitCode;
+use trace_commands::{ROOM, words_given};
+use work::work;
+
+mod ahead;
+mod answer;
+mod least;
+mod line;
+mod lines;
+mod rows;
+mod shown;
+mod text;
+mod words;
+mod work;
+
+fn main(rt: HostRuntime) -> ExitCode {
+    let status = match words_given(&rt) {
+        Ok(words) => work(
+            rt.alloc(),
+            words.as_slice(),
+            ROOM,
+            &mut rt.stdin(),
+            &mut rt.stdout(),
+            &mut rt.stderr(),
+        ),
+        Err(outcome) => outcome.conclude(&mut rt.stderr()),
+    };
+    ExitCode::from(status)
+}

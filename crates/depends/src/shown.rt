@@ -1,0 +1,129 @@
+//! A violation that a schedule makes.
+ghost use Rattle.std.specs.Prelude.{◌≡◌, ◌≤◌, ◌<◌, All, IfOk, IfSome};
+ghost use Rattle.violations.specs.Rule.{IsCoreCount};
+ghost use Rattle.all_schedules.specs.Made.{loop_on};
+ghost use Rattle.conflicts.specs.Explained.{IsExplained};
+ghost use Rattle.depends.specs.Shown as spec;
+
+use all_schedules::drive_schedule;
+use conflicts::{Blame, Explanation, Site, explain, sites};
+use homefree::{Book, TurnFault};
+use rv32_exec::Image;
+use spec_history::Entry;
+use std::alloc::{AllocError, Global};
+use violations::EpochStore;
+
+/// At what the victim and the causer of a violation met.
+#[derive(Clone, Copy)]
+pub enum Met {
+    /// A load of the victim, and a store of the causer, by their pcs.
+    Instructions { load: u32, store: u32 },
+    /// A full buffer of the victim.
+    Buffer,
+}
+
+/// A violation.
+#[derive(Clone, Copy)]
+pub struct Shown {
+    /// The epoch that is violated.
+    pub victim: u32,
+    /// The epoch that violates it.
+    pub causer: u32,
+    /// At what they met.
+    pub met: Met,
+}
+
+/// The first violation that a schedule makes over a fresh store. None: it makes none, or its history is full before. The cores are at
+/// least 1, and the room is 16 to 1,048,576 entries.
+///
+/// `AllocError`: memory ran out.
+pub fn show<S: EpochStore>(
+    alloc: Global,
+    image: &Image,
+    cores: u32,
+    room: u32,
+    schedule: &[u32],
+) -> Result<Option<Shown>, AllocError>
+    requires cores { IsCoreCount image.now cores }
+    requires least { 16 ≤ room }
+    requires most { room ≤ 1048576 }
+    requires schedule { All (λ core. core < cores) schedule.now }
+    ensures { IfOk result (λ shown. IfSome shown (spec.IsShown S.starts S.makes S.view S.waits (loop_on image.now cores room) schedule.now)) }
+{
+    let made: Result<Book<S>, TurnFault> = drive_schedule(alloc, image, cores, room, schedule);
+    match made {
+        Ok(book) => first_of(alloc, image, cores, book.history()),
+        Err(TurnFault::HistoryFull) => Ok(None),
+        Err(TurnFault::NoMemory) => Err(AllocError),
+    }
+}
+
+/// The first violation of a history.
+fn first_of(
+    alloc: Global,
+    image: &Image,
+    cores: u32,
+    history: &[Entry],
+) -> Result<Option<Shown>, AllocError>
+    ensures { IfOk result (λ shown. IfSome shown (spec.IsOf image.now cores history.now)) }
+{
+    let Ok(explanations) = explain(alloc, image, cores, history) else {
+        return Err(AllocError);
+    };
+    let Ok(sites) = sites(alloc, image, cores, history) else {
+        return Err(AllocError);
+    };
+    match first_explanation(explanations.as_slice()) {
+        Some(explanation) => Ok(Some(shown_by(sites.as_slice(), &explanation))),
+        None => Ok(None),
+    }
+}
+
+fn first_explanation(explanations: &[Explanation]) -> Option<Explanation>
+    ensures { spec.IsFirst explanations.now result }
+{
+    match explanations.first() {
+        Some(explanation) => Some(*explanation),
+        None => None,
+    }
+}
+
+/// What an explanation says, where the entries are of these instructions.
+fn shown_by(sites: &[Option<Site>], explanation: &Explanation) -> Shown
+    ensures { result ≡ spec.shown_by sites.now explanation.now }
+{
+    Shown {
+        victim: explanation.victim.epoch,
+        causer: explanation.causer.epoch,
+        met: met_by(sites, explanation.blame),
+    }
+}
+
+/// The instructions that are blamed: a full buffer has none.
+fn met_by(sites: &[Option<Site>], blame: Option<Blame>) -> Met
+    ensures { result ≡ spec.met_by sites.now blame }
+{
+    match blame {
+        Some(blame) => met_at(pc_at(sites, blame.load), pc_at(sites, blame.store)),
+        None => Met::Buffer,
+    }
+}
+
+fn met_at(load: Option<u32>, store: Option<u32>) -> Met
+    ensures { result ≡ spec.met_at load store }
+{
+    match (load, store) {
+        (Some(load), Some(store)) => Met::Instructions { load, store },
+        _ => Met::Buffer,
+    }
+}
+
+/// The pc of the access at a place of the history.
+fn pc_at(sites: &[Option<Site>], place: usize) -> Option<u32>
+    ensures { result ≡ spec.pc_at sites.now place }
+{
+    match sites.get(place) {
+        Some(Some(site)) => Some(site.pc),
+        _ => None,
+    }
+}
