@@ -26,6 +26,7 @@ sys.path.insert(0, str(ROOT / "tests" / "model"))
 import depends as model  # noqa: E402
 import rv32_seq  # noqa: E402
 from fuzz import MATCH, RETURN, word_of_b, word_of_i, word_of_s  # noqa: E402
+from stress import loop_of  # noqa: E402
 
 STORES = ["caches", "plain"]
 COUNTER = image("83220004938212002320500467800000", epochs=4, limit=50)
@@ -126,7 +127,7 @@ def check_loop(programs, name, text, cores, deps, leasts, seeds):
     if told is None:
         return
     expect(f"{name}: dependences", told[0], deps)
-    loop = model.Loop(rv32_seq.image_of(text.encode("ascii")))
+    loop = model.Loop(rv32_seq.image_of(text.encode("latin-1")))
     for store in STORES:
         line, turns = told[1][store]
         at, words, least = f"{name} {store}", line.split(), leasts[store]
@@ -156,7 +157,7 @@ def check_examples(programs):
         cores = 16 if "\nversion 2\n" in f"\n{files[name]}" else 8
         check_loop(programs, name, files[name], cores, deps.get(name, []), leasts[name], [1, 2])
     for name, store in sorted(coarser):
-        print(f"known: {name} over {store} is told as a conflict of buffers, where no schedule violates anything: the definition is coarser than the machine")
+        print(f"known: {name} over {store} is told as a conflict on {leasts[name][store]} cores, where another program finds none: the definition is coarser than the machine")
 
 
 def check_rows(programs):
@@ -211,17 +212,22 @@ def small(rng):
     lines = [f"version {version}", "size 512", f"epochs {rng.randint(2, 6)}", f"limit {rng.choice([rng.randint(3, 8), *[40] * 9])}"]
     # code lies below 64 where it is short; else the places are in it, and stores fault
     lines += [f"code {code}", *(["exit"] if leaves else []), *(["at 00000040 0700000004000000"] if len(code) <= 128 else [])]
-    return "\n".join(lines) + "\n", rng.choice([2, 3, 4, 8])
+    return ("\n".join(lines) + "\n").encode("ascii"), rng.choice([2, 3, 4, 8])
 
 
 def check_random(programs, count):
     for index in range(count):
         rng = random.Random(f"depends/{index}")
-        text, cores = small(rng)
-        loop = model.Loop(rv32_seq.image_of(text.encode("ascii")))
-        leasts = {store: told[2] if told[0] == "open" else None for store in STORES for told in [model.store_line(loop, store, cores).split()]}
-        leasts = {store: None if least is None else int(least) for store, least in leasts.items()}
-        check_loop(programs, f"random {index}", text, cores, list(model.dep_lines(loop)), leasts, range(3))
+        text, cores = small(rng) if rng.random() < 0.5 else loop_of(rng)
+        try:
+            image_read = rv32_seq.image_of(text)
+        except rv32_seq.Refused as refused:
+            expect(f"random {index}", run(programs.depends, [str(cores)], text), ("", f"image {refused.line} {refused.name}\n", 2))
+            continue
+        loop = model.Loop(image_read)
+        told = {store: model.store_line(loop, store, cores).split() for store in STORES}
+        leasts = {store: None if words[0] == "never" else int(words[2]) for store, words in told.items()}
+        check_loop(programs, f"random {index}", text.decode("latin-1"), cores, list(model.dep_lines(loop)), leasts, range(3))
 
 
 def main():
