@@ -109,6 +109,7 @@ begin-begins bus core epoch h may =
     let shows : ShowsSame bus new core = attempt-shows bus core (Some (attempt_of epoch false)) h in
     record {
       shape = refl;
+      cached = refl;
       committed = with-committed bus new h refl with;
       attempt = ap (λ (core : CoreState). core.attempt) (at_core bus core own);
       own = own_stays bus new core shows;
@@ -126,6 +127,7 @@ ends-with bus core own h none with =
     let attempt : ((with_core core own bus).core core).attempt ≡ None = ap (λ (core : CoreState). core.attempt) (at_core bus core own) ∙ none in
     record {
       shape = refl;
+      cached = refl;
       committed = with-committed bus (with_core core own bus) h refl with;
       attempt = attempt;
       clear = clear-of (with_core core own bus) core (coherent-with (with_core core own bus) (committed bus) with) (ap speculates attempt);

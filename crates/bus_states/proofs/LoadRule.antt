@@ -1,5 +1,5 @@
 -- A speculative load does what the store's rule says.
-use Rattle.std.proofs.Common.{◌≡◌, ℕ, zero, suc, ◌+◌, ◌^◌, ◌%◌, ◌<◌, ◌≤◌, ◌&&◌, ◌||◌, not, Bool, true, false, cond, Option, None, refl, sym, ap, subst, ◌∙◌, arith}
+use Rattle.std.proofs.Common.{◌≡◌, ℕ, zero, suc, ◌+◌, ◌^◌, ◌%◌, ◌<◌, ◌≤◌, ◌&&◌, ◌||◌, not, Bool, true, false, cond, Option, None, refl, sym, ap, subst, ◌∙◌, true≢false, arith}
 use Rattle.std.proofs.lemmas.Bool.{both_ways}
 use Rattle.std.proofs.lemmas.Bool.Decides.{nat_tests}
 use Rattle.memory_bytes.specs.Bytes.{IsWidth, number_at}
@@ -192,6 +192,7 @@ takes-in bus core address width a h lies same outside =
           ∙ rw (line, place, itself addr) outside.within;
       in_line = line-viewed bus h (addr + outside.at) ∙ line ∙ same ∙ sym (line-viewed bus h a);
       outside = own-line bus core addr outside.at h (aligned_at bus h address) inside ∙ outside.out;
+      itself = λ none. absurd (true≢false none);
     }
   where
     before : (offset x : ℕ) → is_within offset width x ≡ true → offset + width ≤ bus.line_length → x < bus.line_length
@@ -213,6 +214,7 @@ load-loads bus core address width value room hurt h runs access victim goes is s
     let t = load-loaded bus core addr offset width room h (may-access bus core address width room h runs access victim) access.wide goes in
     record {
       shape = t.shape;
+      cached = refl;
       others = hurts-same (view_of bus) (view_of new) core hurt (load_violates bus core addr) are t.others;
       committed = with-committed bus new h t.length t.coherent;
       value_is = is ∙ number-line bus.line_length bus.shape.size address width (sees bus core) lies;

@@ -259,6 +259,7 @@ store-stores bus core address width value room hurt h runs access victim goes ar
     ∙ ap (λ (test : Bool). (view_of bus).own core a || test) (sym (accessed-line bus.line_length bus.shape.size address width a lies)) in
     record {
       shape = t.shape;
+      cached = refl;
       others = hurts-same (view_of bus) (view_of new) core hurt (store_violates bus core addr) are t.others;
       committed = with-committed bus new h t.length t.coherent;
       attempt = t.attempt;
@@ -268,6 +269,7 @@ store-stores bus core address width value room hurt h runs access victim goes ar
       own = owned;
       guarded = λ a. guarded_at bus new t.length core a ∙ t.loaded (line_at bus a) (aligned_at bus h a);
       meets = λ k hit. store-meets bus core address width k h access (sym (are k) ∙ hit);
+      eager = λ k hit. refl;
       told = λ owns k. are k ∙ store-told bus core address k h owns;
       tells = λ cached none k away later guards. are k ∙ store-tells_later bus core address width k h access none away later guards;
     }

@@ -90,6 +90,7 @@ straight_load-loads_straight bus core address width value room hurt h ordered ru
     let clear = clear-of bus core h (ap speculates runs.is) in
     record {
       shape = done.shape;
+      cached = refl;
       others = hurts-same (view_of bus) (view_of (after_straight_load bus core addr room)) core hurt (straight_load_violates bus core addr) are done.others;
       committed = with-committed bus (after_straight_load bus core addr room) h done.length (straight_load-with bus core addr room h may);
       value_is =
@@ -160,6 +161,7 @@ straight_store-stores_straight bus core address width value room hurt h ordered 
     let done = store-straight bus core addr offset width value room h may lies.ends in
     record {
       shape = done.shape;
+      cached = refl;
       others = hurts-same (view_of bus) (view_of new) core hurt (straight_store_violates bus core addr offset width value) are done.others;
       committed =
           λ a. committed_at bus new done.length a

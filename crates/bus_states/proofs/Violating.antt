@@ -88,6 +88,7 @@ overflows-crowded bus message k address h at inside over =
     let valid = speculative-valid copy.state (modified-marked copy (committed bus message.addr) up entering.0) in
     let line : View.line_of bus.shape address ≡ message.addr = line-viewed bus h address ∙ at in
     record {
+      cached = refl;
       here = subst (λ (line : ℕ). OwnsIn (view_of bus) k line) (sym line) (modified-owns bus k message.addr h valid entering.0);
       others = (bus.core k).buffer.lines;
       full = most (length (bus.core k).buffer.lines) (bus.core k).buffer.limit bus.shape.limits.buffer_lines (and_parts (reply bus message k).enters (is_full (bus.core k).buffer) over).1 (h.limits k inside);

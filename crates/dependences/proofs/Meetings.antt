@@ -21,7 +21,7 @@ use Rattle.spec_history.specs.Conflict.{Meeting, holds_line, is_beside, is_chang
 use Rattle.spec_history.proofs.OneEntry.Legal.{some_below}
 use Rattle.spec_history.proofs.OneEntry.Going.{Going}
 use Rattle.dependences.specs.Conflict.{AreBeside, AreFalling, Conflict, LineConflict, Overflow, PathReads, PathStores, PathTouches, StoresIn, path_memory}
-use Rattle.dependences.specs.Laws.{commits_bytes}
+use Rattle.homefree.specs.Caused.{commits_bytes}
 use Rattle.dependences.proofs.Paths.{IsAt, covered, loads_there, stores_there}
 use Rattle.dependences.proofs.Windows.{IsInWindow}
 use Rattle.dependences.proofs.Starting.{IsOrderly, beside, core_reached}

@@ -17,7 +17,8 @@ use Rattle.rv32_exec.specs.NextEvent.{next_event}
 use Rattle.dependences.specs.Conflict.{Conflict, LineConflict, Overflow, path_memory}
 use Rattle.dependences.proofs.Showing.{line_of}
 use Rattle.homefree.specs.Ending.{NoneStartsAfterCancel}
-use Rattle.dependences.specs.Laws.{MeetInBytes, MeetsInBytes, NoneIsHurt}
+use Rattle.homefree.specs.Caused.{MeetInBytes, MeetsInBytes}
+use Rattle.dependences.specs.Laws.{NoneIsHurt}
 use Rattle.dependences.proofs.Windows.{IsInWindow}
 use Rattle.dependences.proofs.Starting.{IsOrderly}
 use Rattle.dependences.proofs.Histories.{HurtsNone, none_is_hurt, says}

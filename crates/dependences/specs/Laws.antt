@@ -1,40 +1,18 @@
 -- What the laws take of a history, and what they say.
-use Rattle.std.specs.Prelude.{◌≡◌, ◌⊎◌, ℕ, Bool, true, false, List, take, Option, Some, slice_get}
+use Rattle.std.specs.Prelude.{◌≡◌, ℕ, false, List, Some, slice_get}
 use Rattle.rv32_image.specs.Image.{LoadedImage}
 use Rattle.rv32_exec.specs.Hart.{HartState, start_of}
 use Rattle.rv32_exec.specs.Sequential.{Runs, after_steps}
 use Rattle.spec_history.specs.declared.entry.Entry.{Entry}
-use Rattle.spec_history.specs.declared.entry.What.{What}
-use Rattle.spec_history.specs.declared.entry.What.TheVariants.{Store, Hurt, Publish, Commit, Fault}
-use Rattle.spec_history.specs.declared.kind.Kind.TheVariants.{TrueSharing, SilentStore}
-use Rattle.spec_history.specs.FlatState.{CoreState, FlatState}
-use Rattle.spec_history.specs.Refusal.{has}
+use Rattle.spec_history.specs.FlatState.{FlatState}
 use Rattle.spec_history.specs.Replay.{replay}
-use Rattle.spec_history.specs.Conflict.{AreKnown, cause_of, is_hurt, kind_of, what_at}
+use Rattle.spec_history.specs.Conflict.{AreKnown, is_hurt}
+use Rattle.homefree.specs.Caused.{MeetInBytes}
 use Rattle.homefree.specs.Ending.{NoneStartsAfterCancel}
 
 -- no epoch is violated
 abbrev pub NoneIsHurt : List Entry → Type 0
 NoneIsHurt history = (place : ℕ) (entry : Entry) → slice_get history place ≡ Some entry → is_hurt entry.what ≡ false
-
--- the core commits bytes by this: it publishes, commits or faults, or it has published and stores
-abbrev pub commits_bytes : Option CoreState → What → Bool
-commits_bytes core (Store address width value) = has core (λ c. c.straight)
-commits_bytes core Publish = true
-commits_bytes core Commit = true
-commits_bytes core (Fault cause pc) = true
-commits_bytes core what = false
-
--- the cause of a violation of core k commits bytes, and one of them the victim has read
-pub record MeetsInBytes (image : LoadedImage) (s : FlatState) (by k : ℕ) (cause : Option What) : Type 0 where
-  pub kind : (kind_of image s by k cause ≡ TrueSharing) ⊎ (kind_of image s by k cause ≡ SilentStore)
-  pub commits : (what : What) → cause ≡ Some what → commits_bytes (s.cores by) what ≡ true
-
--- so of each violation: a store without lines violates for bytes alone, and only by what it commits
-abbrev pub MeetInBytes : LoadedImage → ℕ → List Entry → Type 0
-MeetInBytes image cores history =
-    (place by k : ℕ) (s : FlatState) (c : CoreState) → slice_get history place ≡ Some (record { by = by; what = Hurt c.epoch })
-    → replay image cores (take place history) ≡ Some s → s.cores k ≡ Some c → MeetsInBytes image s by k (what_at history (cause_of history place by))
 
 -- no legal history of so many cores has a violation, if each violation is of a kind
 abbrev pub NeverOverLines : LoadedImage → ℕ → Type 0

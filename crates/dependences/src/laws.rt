@@ -8,8 +8,9 @@ ghost use Rattle.spec_history.specs.Replay.{replay};
 ghost use Rattle.spec_history.specs.Conflict.{AreKnown};
 ghost use Rattle.dependences.specs.Conflict.{Conflict, ConflictInOrder, IsInOrder, LineConflict, LineConflictInOrder, Overflow, OverflowInOrder, memory_before, path_memory};
 ghost use Rattle.dependences.specs.Nearest.{IsFar, IsNearest};
+ghost use Rattle.homefree.specs.Caused.{MeetInBytes};
 ghost use Rattle.homefree.specs.Ending.{NoneStartsAfterCancel};
-ghost use Rattle.dependences.specs.Laws.{IsAlike, MeetInBytes, NoneIsHurt};
+ghost use Rattle.dependences.specs.Laws.{IsAlike, NoneIsHurt};
 
 use homefree::Book;
 use violations::EpochStore;

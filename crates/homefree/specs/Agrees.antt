@@ -2,13 +2,14 @@
 use Rattle.std.specs.Prelude.{◌≡◌, ℕ, true, false, Option, Some, None, is_some}
 use Rattle.memory_bytes.specs.Maps.{over}
 use Rattle.spec_history.specs.FlatState.{CoreState, FlatState}
-use Rattle.violations.specs.View.{Shape, StoreView, attempt_of, line_of}
+use Rattle.violations.specs.View.{StoreView, attempt_of, line_of}
 
--- it has read from outside a byte of the line of this one
-pub record HasReadIn (shape : Shape) (c : CoreState) (a : ℕ) : Type 0 where
+-- it has read from outside a byte of the line of this one; without caches, this one itself
+pub record HasReadIn (v : StoreView) (c : CoreState) (a : ℕ) : Type 0 where
   pub at : ℕ
-  pub in_line : line_of shape at ≡ line_of shape a
+  pub in_line : line_of v.shape at ≡ line_of v.shape a
   pub read : is_some (c.outside at) ≡ true
+  pub itself : v.cached ≡ false → at ≡ a
 
 -- a core that runs an epoch and isn't hurt
 pub record AgreesCore (committed : ℕ → ℕ) (v : StoreView) (k : ℕ) (c : CoreState) : Type 0 where
@@ -16,9 +17,9 @@ pub record AgreesCore (committed : ℕ → ℕ) (v : StoreView) (k : ℕ) (c : C
   -- it sees its own bytes over the committed ones, and the store keeps just these for it
   pub sees : (a : ℕ) → v.sees k a ≡ over c.own committed a
   pub own : (a : ℕ) → v.own k a ≡ is_some (c.own a)
-  -- the store guards what it has read from outside, and nothing but bytes of lines from which it has read
+  -- the store guards what it has read from outside, and beside it none but bytes of lines from which it has read, if there are caches
   pub guards_read : (a byte : ℕ) → c.outside a ≡ Some byte → v.guarded k a ≡ true
-  pub guards_only : (a : ℕ) → v.guarded k a ≡ true → HasReadIn v.shape c a
+  pub guards_only : (a : ℕ) → v.guarded k a ≡ true → HasReadIn v c a
 
 -- any core: one that is idle or hurt has no attempt
 pub record AgreesAt (committed : ℕ → ℕ) (v : StoreView) (k : ℕ) (core : Option CoreState) : Type 0 where

@@ -83,6 +83,7 @@ HasAttempt v k (Some now) = HasAttemptUnless now.hurt v k
 -- the core has no attempt; memory and the other cores are as they were
 pub record EndsAttempt (v w : StoreView) (core : ℕ) : Type 0 where
   pub shape : w.shape ≡ v.shape
+  pub cached : w.cached ≡ v.cached
   pub committed : (a : ℕ) → w.committed a ≡ v.committed a
   pub none : w.attempt core ≡ None
   pub others : (k : ℕ) → k ≢ core → IsSameCore v w k

@@ -1,12 +1,12 @@
 -- What a book keeps: its fields and its store fit, its history is within its room and of its cores, and a stop for a full
 -- history is true.
-use Rattle.std.specs.Prelude.{◌≡◌, ℕ, ◌+◌, ◌<◌, ◌≤◌, All, length, Option, Some}
+use Rattle.std.specs.Prelude.{◌≡◌, ℕ, ◌+◌, ◌<◌, ◌≤◌, false, All, length, Option, Some}
 use Rattle.rv32_image.specs.Version.{limits_of}
 use Rattle.violations.specs.View.{StoreView}
 use Rattle.homefree.specs.declared.answer.StopCause.{StopCause}
 use Rattle.homefree.specs.declared.answer.StopCause.TheVariants.{HistoryFull}
 use Rattle.homefree.specs.declared.register.Register.{Register}
-use Rattle.homefree.specs.Caused.{HasCauses, HasKinds}
+use Rattle.homefree.specs.Caused.{HasCauses, HasKinds, MeetInBytes}
 use Rattle.homefree.specs.Ending.{IsOverAfterCancel, NoneStartsAfterCancel}
 use Rattle.homefree.specs.BookView.{BookView}
 use Rattle.homefree.specs.Kept.{Fits}
@@ -19,6 +19,7 @@ pub record IsBook {S : Type 0} (view : S → StoreView) (r : Register) (store : 
   pub over : IsOverAfterCancel r.history.items r.end
   pub starts : NoneStartsAfterCancel r.history.items
   pub kinds : HasKinds r.image (length r.running.items) r.history.items
+  pub meets : (view store).cached ≡ false → MeetInBytes r.image (length r.running.items) r.history.items
   pub passes : IsOfCaches view → PassesOverNone r.image (length r.running.items) r.history.items
   pub within : length r.history.items ≤ room
   pub most : room ≤ 1048576

@@ -1,12 +1,12 @@
 -- What holds of every book: its history leads to a state with which its store agrees.
-use Rattle.std.specs.Prelude.{◌≡◌, ◌<◌, ◌≤◌, All, length, Some}
+use Rattle.std.specs.Prelude.{◌≡◌, ◌<◌, ◌≤◌, false, All, length, Some}
 use Rattle.rv32_image.specs.Image.{IsImage}
 use Rattle.spec_history.specs.FlatState.{FlatState}
 use Rattle.violations.specs.View.{StoreView}
 use Rattle.violations.specs.Rule.{IsCoreCount, shape_of}
 use Rattle.homefree.specs.declared.answer.StopCause.TheVariants.{HistoryFull}
 use Rattle.homefree.specs.Agrees.{Agrees}
-use Rattle.homefree.specs.Caused.{HasCauses, HasKinds}
+use Rattle.homefree.specs.Caused.{HasCauses, HasKinds, MeetInBytes}
 use Rattle.homefree.specs.Counted.{counted_in}
 use Rattle.homefree.specs.Ending.{NoneStartsAfterCancel}
 use Rattle.homefree.specs.BookView.{BookView, IsFull, ReplaysTo}
@@ -24,6 +24,8 @@ pub record InStep {S : Type 0} (view : S → StoreView) (b : BookView S) : Type 
   -- each violation has its cause, which stands after it, and is of a kind
   pub caused : HasCauses b.history
   pub kinds : HasKinds b.image b.cores b.history
+  -- without caches, each meets in a byte that its cause commits
+  pub meets : (view b.store).cached ≡ false → MeetInBytes b.image b.cores b.history
   -- none starts once one has been cancelled
   pub starts : NoneStartsAfterCancel b.history
   -- over caches, no entry passes over a later epoch that has read in a line which it writes, further stores aside

@@ -1,6 +1,8 @@
 -- Definitions to believe: Agrees (what a store has in step with a state of the flat machine), Turned (what a turn does), with
 -- Hurts (the entries of a turn that hurts or cancels other cores) and Counted (what a history counts), InStep (what holds
--- of every book) with Caused (that each violation has its cause and is of a kind), Ending (that none starts once one is cancelled), Missed (that over caches nobody is passed over), and Driven (turns by a list of core numbers).
+-- of every book) with Caused (that each violation has its cause and is of a kind, and without caches meets in a byte), Ending
+-- (that none starts once one is cancelled), Missed (that over caches nobody is passed over), and Driven (turns by a list of core
+-- numbers).
 pub mod Agrees
 pub mod Hurts
 pub mod Counted

@@ -250,6 +250,7 @@ pub record IsCommit (t : Turn) (v w : StoreView) (out : Outcome) : Type 0 where
 -- all attempts but the core's have ended
 pub record CancelsOthers (old new : StoreView) (by : ℕ) : Type 0 where
   pub shape : new.shape ≡ old.shape
+  pub cached : new.cached ≡ old.cached
   pub committed : (a : ℕ) → new.committed a ≡ old.committed a
   pub own : IsSameCore old new by
   pub others : (k : ℕ) → k ≢ by → new.attempt k ≡ None

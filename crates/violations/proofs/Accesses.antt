@@ -55,6 +55,7 @@ takes_in p by address width a state there taken = record {
   accessed = taken.0;
   in_line = refl;
   outside = ap (λ x. is_some (own_in x a)) there ∙ taken.1;
+  itself = λ alone. refl;
 }
 
 -- the bytes that are guarded then
@@ -88,6 +89,7 @@ loads p by address width value budget state state' hurt none settled runs there 
     let below = settled.there by (attempt_of runs.epoch false) runs.is in
     let now = here p by state' below in record {
       shape = shape_same p (with_state p p.committed by state' budget) (alike_state p p.committed by state' budget refl);
+      cached = refl;
       others = access_others p by budget state' hurt none;
       committed = λ a. refl;
       value_is = is ∙ ap (λ x. number_at (over (own_in x) (committed_of p)) address width) (sym there);
@@ -123,6 +125,7 @@ stores p by address width value budget state state' hurt none settled runs there
     let below = settled.there by (attempt_of runs.epoch false) runs.is in
     let now = here p by state' below in record {
       shape = shape_same p (with_state p p.committed by state' budget) (alike_state p p.committed by state' budget refl);
+      cached = refl;
       others = access_others p by budget state' hurt none;
       committed = λ a. refl;
       attempt = ap attempt_in now ∙ (same ∙ sym (ap attempt_in there));
@@ -137,6 +140,7 @@ stores p by address width value budget state state' hurt none settled runs there
           ∙ ap (λ x. is_some (own_in x a) || is_accessed address width a) (sym there))));
       guarded = λ a. ap (λ x. is_some (guarded_in x a)) now ∙ (ap (λ o. is_some (byte_in o.cells a)) guarded ∙ sym (ap (λ x. is_some (guarded_in x a)) there));
       meets = λ k is. absurd (true≢false (sym is ∙ none k));
+      eager = λ k is. absurd (true≢false (sym is ∙ none k));
       told = λ owns k. none k;
       tells = λ cached untold k other later guards. absurd (true≢false (sym cached));
     }
@@ -149,6 +153,7 @@ pub loads_straight : (p : PlainView) (by address width value : ℕ) (state : Cor
 loads_straight p by address width value state hurt none settled runs there is small =
     let bare = straight_bare p by state settled runs there in record {
       shape = refl;
+      cached = refl;
       others = none_hurt p p by hurt none (λ k other. refl) (λ a. refl);
       committed = λ a. refl;
       small = small;

@@ -228,6 +228,7 @@ stores_straight p by address width value hurt committed states settled runs read
     let q = stored_view p committed states in
     let violates = violates_readers p by (is_accessed address width) hurt settled readers in record {
       shape = shape_same p q (record { code = refl; limits = refl; committed = long; states = dropped.long });
+      cached = refl;
       others = hurts_of p q by runs.epoch true (is_accessed address width) hurt settled readers runs.is (λ k x other at. settled.straight_first by k (attempt_of runs.epoch true) x runs.is refl at other)
           (λ k hurt_k. (out_at hurt p.states states dropped k hurt_k).attempt)
           (λ k other unhurt. dropped.kept k unhurt)

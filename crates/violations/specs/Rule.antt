@@ -80,8 +80,9 @@ AreApart [] = Unit {0}
 AreApart (line ∷ lines) = (list_any (λ other. other == line) lines ≡ false) × AreApart lines
 
 -- its full buffer has no place for the line of this address: it owns a byte there, and one in each of as many other lines as a
--- buffer takes
+-- buffer takes. Caches alone have buffers
 pub record IsCrowded (v : StoreView) (core address : ℕ) : Type 0 where
+  pub cached : v.cached ≡ true
   pub here : OwnsIn v core (line_of v.shape address)
   pub others : List ℕ
   pub full : v.shape.limits.buffer_lines ≤ length others
@@ -100,6 +101,7 @@ pub record IsSameView (old new : StoreView) : Type 0 where
 -- the core has an attempt of the epoch
 pub record Begins (old new : StoreView) (core epoch : ℕ) : Type 0 where
   pub shape : new.shape ≡ old.shape
+  pub cached : new.cached ≡ old.cached
   pub committed : (a : ℕ) → new.committed a ≡ old.committed a
   pub attempt : new.attempt core ≡ Some (attempt_of epoch false)
   pub own : (a : ℕ) → new.own core a ≡ old.own core a
@@ -110,22 +112,25 @@ pub record Begins (old new : StoreView) (core epoch : ℕ) : Type 0 where
 -- the core's attempt ends, and with it all that it kept
 pub record Ends (old new : StoreView) (core : ℕ) : Type 0 where
   pub shape : new.shape ≡ old.shape
+  pub cached : new.cached ≡ old.cached
   pub committed : (a : ℕ) → new.committed a ≡ old.committed a
   pub attempt : new.attempt core ≡ None
   pub clear : IsClear new core
   pub others : (k : ℕ) → k ≢ core → IsSameCore old new k
 
--- a byte of this load, in the line of `a`, is not the core's own
+-- a byte of this load, in the line of `a`, is not the core's own; without caches it is `a` itself
 pub record TakesIn (v : StoreView) (core address width a : ℕ) : Type 0 where
   pub at : ℕ
   pub accessed : is_accessed address width at ≡ true
   pub in_line : line_of v.shape at ≡ line_of v.shape a
   pub outside : v.own core at ≡ false
+  pub itself : v.cached ≡ false → at ≡ a
 
 -- a speculative load gives what the core sees, and guards what it took from outside. It violates those alone whose full
 -- buffers have no place for the line
 pub record Loads (old new : StoreView) (core address width value : ℕ) (hurt : ℕ → Bool) : Type 0 where
   pub shape : new.shape ≡ old.shape
+  pub cached : new.cached ≡ old.cached
   pub others : HurtsLater old new core hurt
   pub committed : (a : ℕ) → new.committed a ≡ old.committed a
   pub value_is : value ≡ number_at (old.sees core) address width
@@ -139,9 +144,11 @@ pub record Loads (old new : StoreView) (core address width value : ℕ) (hurt : 
   pub crowded : (k : ℕ) → hurt k ≡ true → IsCrowded old k address
 
 -- a speculative store is seen by its core alone, and owns its bytes. It violates those alone that guard one of them or whose full
--- buffers have no place for the line. Caches tell all later cores of the first store to a line, and nobody of a further one
+-- buffers have no place for the line, and nobody without caches. Caches tell all later cores of the first store to a line, and nobody of
+-- a further one
 pub record Stores (old new : StoreView) (core address width value : ℕ) (hurt : ℕ → Bool) : Type 0 where
   pub shape : new.shape ≡ old.shape
+  pub cached : new.cached ≡ old.cached
   pub others : HurtsLater old new core hurt
   pub committed : (a : ℕ) → new.committed a ≡ old.committed a
   pub attempt : new.attempt core ≡ old.attempt core
@@ -149,6 +156,7 @@ pub record Stores (old new : StoreView) (core address width value : ℕ) (hurt :
   pub own : (a : ℕ) → new.own core a ≡ (old.own core a || is_accessed address width a)
   pub guarded : (a : ℕ) → new.guarded core a ≡ old.guarded core a
   pub meets : (k : ℕ) → hurt k ≡ true → Guards old k (is_accessed address width) ⊎ IsCrowded old k address
+  pub eager : (k : ℕ) → hurt k ≡ true → old.cached ≡ true
   pub told : OwnsIn old core (line_of old.shape address) → (k : ℕ) → hurt k ≡ false
   pub tells : old.cached ≡ true → ((a : ℕ) → line_of old.shape a ≡ line_of old.shape address → old.own core a ≡ false)
       → (k : ℕ) → k ≢ core → epoch_of (old.attempt core) < epoch_of (old.attempt k) → Guards old k (is_accessed address width) → hurt k ≡ true
@@ -166,6 +174,7 @@ pub record Publishes (old new : StoreView) (core : ℕ) (hurt : ℕ → Bool) : 
 -- a load of a straight attempt gives committed bytes. It violates those alone whose full buffers have no place for the line
 pub record LoadsStraight (old new : StoreView) (core address width value : ℕ) (hurt : ℕ → Bool) : Type 0 where
   pub shape : new.shape ≡ old.shape
+  pub cached : new.cached ≡ old.cached
   pub others : HurtsLater old new core hurt
   pub committed : (a : ℕ) → new.committed a ≡ old.committed a
   pub value_is : value ≡ number_at old.committed address width
@@ -177,6 +186,7 @@ pub record LoadsStraight (old new : StoreView) (core address width value : ℕ) 
 -- alone whose full buffers have no place for the line
 pub record StoresStraight (old new : StoreView) (core address width value : ℕ) (hurt : ℕ → Bool) : Type 0 where
   pub shape : new.shape ≡ old.shape
+  pub cached : new.cached ≡ old.cached
   pub others : HurtsLater old new core hurt
   pub committed : (a : ℕ) → new.committed a ≡ over (stored address width value) old.committed a
   pub attempt : new.attempt core ≡ old.attempt core

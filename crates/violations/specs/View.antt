@@ -34,7 +34,7 @@ pub record StoreView : Type 0 where
   -- the bytes that a core keeps for itself: those that its attempt has stored
   pub own : ℕ → ℕ → Bool
   -- the bytes whose change violates it: those that its attempt has loaded from outside its own, and beside them none but bytes
-  -- of their lines
+  -- of their lines, over caches
   pub guarded : ℕ → ℕ → Bool
 
 -- why a speculative load or store of a core waits, by its address and width; none where it is done

@@ -85,7 +85,7 @@ pub trait EpochStore: Drop + Send {
         ensures budget { budget self.old ≤ budget self.new + 1 };
 
     /// A speculative store of the low `width` bytes of a value, which are the core's own from then on. It gives 0. It violates those
-    /// cores alone that guard one of its bytes or whose full buffers have no place for the line.
+    /// cores alone that guard one of its bytes or whose full buffers have no place for the line, and without caches nobody.
     fn store(&mut self, core: u32, addr: u32, width: u32, value: u32) -> Step
         requires budget { 1 ≤ budget self.old }
         requires runs { view_spec.Runs (view self.old) core false }

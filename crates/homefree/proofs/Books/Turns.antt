@@ -1,5 +1,5 @@
 -- A book's first state, and its turns: from what the parts did to a turn of the book.
-use Rattle.std.proofs.Common.{◌≡◌, ◌≤◌, ◌<◌, ◌*◌, ℕ, ◌+◌, ◌-◌, All, List, [], ◌++◌, length, Option, Some, None, Ok, Err, ◌⊎◌, refl, sym, ap, subst, ◌∙◌, inl, inr, arith, length-append, append-nil, vec_len, vec_capacity}
+use Rattle.std.proofs.Common.{◌≡◌, ◌≤◌, ◌<◌, ◌*◌, Bool, true, false, ℕ, ◌+◌, ◌-◌, All, List, [], ◌++◌, length, Option, Some, None, Ok, Err, ◌⊎◌, refl, sym, ap, subst, ◌∙◌, inl, inr, arith, length-append, append-nil, vec_len, vec_capacity}
 use Rattle.std.proofs.lemmas.List.Elements.{All-nil, All-append}
 use Rattle.rv32_image.proofs.SmallFacts.{one_value, none_and_some}
 use Rattle.rv32_exec.specs.declared.sequential.End.{End}
@@ -28,7 +28,7 @@ use Rattle.homefree.specs.declared.fault.TurnFault.TheVariants.{NoMemory}
 use Rattle.homefree.specs.declared.register.Register.{Register}
 use Rattle.homefree.specs.Agrees.{Agrees}
 use Rattle.homefree.specs.Acted.{Acted, AreFew, MayNote, turn_of}
-use Rattle.homefree.specs.Caused.{HasKinds}
+use Rattle.homefree.specs.Caused.{HasKinds, MeetInBytes}
 use Rattle.homefree.specs.BookInside.{IsBook, IsAsBefore, book_of}
 use Rattle.homefree.specs.Counted.{counted_in, IsNoMore}
 use Rattle.homefree.specs.InStep.{InStep}
@@ -39,7 +39,7 @@ use Rattle.homefree.specs.Turned.{Turned, does}
 use Rattle.homefree.proofs.Violations.Caused.{acts, grown, none_yet}
 use Rattle.homefree.proofs.Violations.Ending.{AddsToEnd, HasNo, cancels_at_exit, exit_starts_none, is_cancel, none_cancelled, none_started, over_grown, starts_grown}
 use Rattle.homefree.proofs.Violations.Explaining.{acts_known}
-use Rattle.homefree.proofs.Violations.Knowing.{no_kinds, no_passes, grown_kinds, grown_passes}
+use Rattle.homefree.proofs.Violations.Knowing.{explained, grown_explained, grown_passes, kinds_of, meetings_of, no_kinds, no_meetings, no_passes}
 use Rattle.homefree.proofs.State.Others.{idle_on, same_at}
 use Rattle.homefree.proofs.Books.Tallies.{few_counts}
 use Rattle.homefree.proofs.Books.Entries.{acts_by, of_cores}
@@ -72,6 +72,7 @@ first_book view r store cores room is count fresh len idle history totals homefr
   over = rw history (none_cancelled r.end);
   starts = rw history none_started;
   kinds = rw history (no_kinds r.image (length r.running.items));
+  meets = λ alone. rw history (no_meetings r.image (length r.running.items));
   passes = λ caches. rw history (no_passes r.image (length r.running.items));
   within = rw history (omega arith);
   most = most;
@@ -89,6 +90,7 @@ in_step view r store room cause b = record {
   by_cores = b.by_cores;
   caused = b.caused;
   kinds = b.kinds;
+  meets = b.meets;
   starts = b.starts;
   passes = b.passes;
   counted = b.fits.counted;
@@ -109,6 +111,7 @@ book_stopped view r store room old cause b full = record {
   over = b.over;
   starts = b.starts;
   kinds = b.kinds;
+  meets = b.meets;
   passes = b.passes;
   within = b.within;
   most = b.most;
@@ -128,7 +131,7 @@ end_of r v s f replays = ap (λ (x : FlatState). x.end) (one_value (replay r.ima
 pub agrees_same : (s : FlatState) (v w : StoreView) → Agrees s v → IsSameView v w → Agrees s w
 agrees_same s v w agrees same = record {
   committed = λ a. same.committed a ∙ agrees.committed a;
-  core = λ going k. same_at s.committed s.committed v w k (s.cores k) same.shape (λ a. refl) (same.cores k) (agrees.core going k);
+  core = λ going k. same_at s.committed s.committed v w k (s.cores k) (same.shape, same.cached) (λ a. refl) (same.cores k) (agrees.core going k);
 }
 
 pub fits_same : (r q : Register) (v w : StoreView) → Fits r v → IsAsBefore r q → IsSameView v w → Fits q w
@@ -157,6 +160,7 @@ book_same view r q store reserved room cause b same seen = record {
   over = rw (same.history, same.end) b.over;
   starts = rw same.history b.starts;
   kinds = rw (same.image, same.running, same.history) b.kinds;
+  meets = λ alone. rw (same.image, same.running, same.history) (b.meets (sym seen.cached ∙ alone));
   passes = λ caches. rw (same.image, same.running, same.history) (b.passes caches);
   within = rw same.history b.within;
   most = b.most;
@@ -210,6 +214,31 @@ module _ {S : Type 0} (view : S → StoreView) (waits : S → Waits) (r q : Regi
         };
         answer_is = refl;
       })
+
+-- ---- caches
+
+published_kind : (v x : StoreView) (by : ℕ) (hurt : ℕ → Bool) (b : Bool) → turn.publishes_unless b v x by hurt → x.cached ≡ v.cached
+published_kind v x by hurt true p = ap (λ (y : StoreView). y.cached) p.0
+published_kind v x by hurt false p = p.cached
+
+follows_kind : (t : turn.Turn) (v w : StoreView) (out : turn.Outcome) → turn.Follows t v w out → w.cached ≡ v.cached
+follows_kind t v w out (turn.loads x) = x.store.cached
+follows_kind t v w out (turn.stores x) = x.store.cached
+follows_kind t v w out (turn.waits x) = ap (λ (y : StoreView). y.cached) x.store
+follows_kind t v w out (turn.loads_straight x) = x.store.cached ∙ published_kind v x.between t.core x.first x.core.straight x.comes.publishes
+follows_kind t v w out (turn.stores_straight x) = x.store.cached ∙ published_kind v x.between t.core x.first x.core.straight x.comes.publishes
+follows_kind t v w out (turn.is_early x) = ap (λ (y : StoreView). y.cached) x.store
+follows_kind t v w out (turn.commits x) = x.store.cached ∙ published_kind v x.between t.core x.hurt x.core.straight x.comes.publishes
+follows_kind t v w out (turn.exits_loop x) = x.store.cached ∙ (x.cancelled.cached ∙ published_kind v x.between t.core x.hurt x.core.straight x.comes.publishes)
+follows_kind t v w out (turn.faults x) = published_kind v w t.core x.hurt x.core.straight x.comes.publishes
+
+-- a store has caches after a turn where it had them before
+acts_kind : (t : turn.Turn) (v w : StoreView) (out : turn.Outcome) → turn.Acts t v w out → w.cached ≡ v.cached
+acts_kind t v w out (turn.starts x) = x.store.cached
+acts_kind t v w out (turn.finds_none x) = ap (λ (y : StoreView). y.cached) x.store
+acts_kind t v w out (turn.restarts x) = x.store.cached
+acts_kind t v w out (turn.is_told x) = ap (λ (y : StoreView). y.cached) x.store
+acts_kind t v w out (turn.follows x) = follows_kind t v w out x
 
 -- ---- what a turn needs, and what it keeps
 
@@ -268,10 +297,10 @@ adds_to_end t v w out end u is going kept agrees goes acted = by_kind (cancels_a
         inr (exit_starts_none t v w out exit, λ none. none_and_some end (Exit exit.core.epoch) none (is ∙ same))
 
 pub book_acts : {S : Type 0} {waits : Waits} (view : S → StoreView) (r q new : Register) (store reserved after : S) (room core : ℕ) (cause : Option StopCause) (shares shares' : Counts) (next : Option Arrival) (answer : Answer) → IsBook view r store room cause → r.end ≡ None → cause ≡ None → IsAsBefore r q
-    → core < length r.running.items → length r.history.items + (limits_of r.image.version).free_entries ≤ room → IsSettled (view reserved) → Fits q (view reserved)
+    → core < length r.running.items → length r.history.items + (limits_of r.image.version).free_entries ≤ room → IsSettled (view reserved) → IsSameView (view store) (view reserved) → Fits q (view reserved)
     → Acted q new waits (view reserved) (view after) shares shares' core next answer
     → IsBook view new after room cause
-book_acts {S} {waits} view r q new store reserved after room core cause shares shares' next answer b going unstopped same there free settled f a =
+book_acts {S} {waits} view r q new store reserved after room core cause shares shares' next answer b going unstopped same there free settled seen f a =
     let cores : length q.running.items ≡ length r.running.items = ap (λ v. length v.items) same.running in
     let few = few_entries r.image.version (length r.running.items) (length a.entries) b.fits.core_count.most (subst (λ n. AreFew (length a.entries) n) cores a.short) in
     let acted = a.acts f.state f.replays in
@@ -289,15 +318,22 @@ book_acts {S} {waits} view r q new store reserved after room core cause shares s
     let still : f.state.end ≡ None = sym f.shows.end ∙ (same.end ∙ going) in
     let kept = ((replayed q.image count q.history.items f.state f.is_image f.replays).going still).kept in
     let adds = adds_to_end here (view reserved) (view after) (does a.entries answer) new.end a.fits.state a.fits.shows.end still kept f.agrees goes acted in
-    let known = acts_known (IsOfCaches view) (turn_of q waits f.state core next) (view reserved) (view after) (does a.entries answer) still kept f.agrees f.is_image.size_allowed.lines f.shape settled (λ caches. caches reserved) acted in record {
+    let meets : (view reserved).cached ≡ false → MeetInBytes q.image (length q.running.items) q.history.items =
+    λ alone. rw (same.image, same.running, same.history) (b.meets (sym seen.cached ∙ alone)) in
+    let kind = acts_kind here (view reserved) (view after) (does a.entries answer) acted in
+    let known = acts_known (IsOfCaches view) (turn_of q waits f.state core next) (view reserved) (view after) (does a.entries answer) still kept f.agrees f.is_image.size_allowed.lines f.shape settled (λ caches. caches reserved) acted in
+    let all = grown_explained ((view reserved).cached ≡ false) (IsOfCaches view) q.image count q.history.items a.entries f.state a.fits.state
+    (explained ((view reserved).cached ≡ false) q.image count q.history.items kinds meets) f.replays goes known in record {
       fits = a.fits;
       by_cores = rw (a.steps.cores, cores, a.steps.history, same.history) all_cores;
       over = rw (a.steps.history, same.history) (over_grown r.history.items a.entries r.end new.end going b.over adds);
       starts = rw (a.steps.history, same.history) (starts_grown r.history.items a.entries r.end new.end going b.over adds b.starts);
       caused = rw (a.steps.history, same.history) (grown r.history.items a.entries b.caused (acts _ (view reserved) (view after) _ acted));
-      kinds = rw (a.steps.image, a.steps.cores, a.steps.history) (grown_kinds (IsOfCaches view) q.image count q.history.items a.entries f.state a.fits.state kinds f.replays goes known);
+      kinds = rw (a.steps.image, a.steps.cores, a.steps.history) (kinds_of ((view reserved).cached ≡ false) q.image count (q.history.items ++ a.entries) all);
+      meets = λ alone. rw (a.steps.image, a.steps.cores, a.steps.history)
+          (meetings_of ((view reserved).cached ≡ false) q.image count (q.history.items ++ a.entries) all (sym kind ∙ alone));
       passes = λ caches. rw (a.steps.image, a.steps.cores, a.steps.history)
-          (grown_passes (IsOfCaches view) q.image count q.history.items a.entries f.state a.fits.state caches (passes caches) f.replays goes known);
+          (grown_passes ((view reserved).cached ≡ false) (IsOfCaches view) q.image count q.history.items a.entries f.state a.fits.state caches (passes caches) f.replays goes known);
       within = rw (a.steps.history, same.history, length-append r.history.items a.entries) (omega (arith, free, few));
       most = b.most;
       full = λ is. absurd (none_and_some cause stop.HistoryFull unstopped is);

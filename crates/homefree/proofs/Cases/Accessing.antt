@@ -56,7 +56,7 @@ loaded old new v w shares shares' core now arrived address width value signed rd
     let at = at_this old core now arrived (stop.Load address width signed rd) a.is_at load in
     let is = is_at old v core now arrived (stop.Load address width signed rd) f st at in
     let free : st.c.straight ≡ false = ap (λ (x : Running). x.straight) st.is ∙ speculates in
-    let comes = arm.loads old.image count s v core st.c st.going st.kept f.agrees st.at st.unhurt w hurt l.shape l.others address width value signed rd free is.event l in
+    let comes = arm.loads old.image count s v core st.c st.going st.kept f.agrees st.at st.unhurt w hurt (l.shape, l.cached) l.others address width value signed rd free is.event l in
     let same = hurts_same old s core hurt f.shows in
     let short = one_more_entry _ core (Load address width value) count (hurts_fewer old core hurt l.others.not_itself runs.there) in
     acted old new v w shares shares' core (Some arrived) (Go hart) (hurts count s core hurt ++ entry core (Load address width value)) (arm.loaded_state old.image (with_hurts hurt s) core st.c address width value) f
@@ -90,7 +90,7 @@ stored old new v w shares shares' core now arrived address width value hurt hart
     let at = at_this old core now arrived (stop.Store address width value) a.is_at store in
     let is = is_at old v core now arrived (stop.Store address width value) f st at in
     let free : st.c.straight ≡ false = ap (λ (x : Running). x.straight) st.is ∙ speculates in
-    let comes = arm.stores old.image count s v core st.c st.going st.kept f.agrees st.at st.unhurt w hurt l.shape l.others address width value free is.event l in
+    let comes = arm.stores old.image count s v core st.c st.going st.kept f.agrees st.at st.unhurt w hurt (l.shape, l.cached) l.others address width value free is.event l in
     let same = hurts_same old s core hurt f.shows in
     let short = one_more_entry _ core (Store address width value) count (hurts_fewer old core hurt l.others.not_itself runs.there) in
     acted old new v w shares shares' core (Some arrived) (Go hart) (hurts count s core hurt ++ entry core (Store address width value)) (arm.stored_state old.image (with_hurts hurt s) core st.c address width value) f

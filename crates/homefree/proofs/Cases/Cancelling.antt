@@ -12,6 +12,7 @@ use Rattle.homefree.specs.Turned.{CancelsOthers}
 -- those below k have ended, but for the core's own
 pub record CancelsBelow (old new : StoreView) (by k : ℕ) : Type 0 where
   pub shape : new.shape ≡ old.shape
+  pub cached : new.cached ≡ old.cached
   pub committed : (a : ℕ) → new.committed a ≡ old.committed a
   pub own : IsSameCore old new by
   pub rest : (j : ℕ) → k ≤ j → new.attempt j ≡ old.attempt j
@@ -20,6 +21,7 @@ pub record CancelsBelow (old new : StoreView) (by k : ℕ) : Type 0 where
 pub none_below : (v : StoreView) (by : ℕ) → CancelsBelow v v by 0
 none_below v by = record {
   shape = refl;
+  cached = refl;
   committed = λ a. refl;
   own = record { attempt = refl; own = λ a. refl; guarded = λ a. refl; sees = λ a. refl };
   rest = λ j from. refl;
@@ -37,6 +39,7 @@ then_same v w x k one two = record {
 pub one_below : (old v w : StoreView) (by k : ℕ) → k ≢ by → CancelsBelow old v by k → EndsAttempt v w k → CancelsBelow old w by (k + 1)
 one_below old v w by k other before one = record {
   shape = one.shape ∙ before.shape;
+  cached = one.cached ∙ before.cached;
   committed = λ a. one.committed a ∙ before.committed a;
   own = then_same old v w by before.own (one.others by (λ same. other (sym same)));
   rest = λ j from. (one.others j (λ same. absurd (omega (arith, from, same)))).attempt ∙ before.rest j (omega (arith, from));
@@ -49,6 +52,7 @@ one_below old v w by k other before one = record {
 pub own_below : (old v : StoreView) (by k : ℕ) → k ≡ by → CancelsBelow old v by k → CancelsBelow old v by (k + 1)
 own_below old v by k same before = record {
   shape = before.shape;
+  cached = before.cached;
   committed = before.committed;
   own = before.own;
   rest = λ j from. before.rest j (omega (arith, from));
@@ -62,6 +66,7 @@ none_past v running k past has = subst (HasAttempt v k) (get_or_past running k N
 pub all_below : (old v : StoreView) (running : List (Option Running)) (by : ℕ) → ((k : ℕ) → k ≢ by → HasAttempt old k (running_at running k)) → CancelsBelow old v by (length running) → CancelsOthers old v by
 all_below old v running by has before = record {
   shape = before.shape;
+  cached = before.cached;
   committed = before.committed;
   own = before.own;
   others = λ k other. elim (cases_lt k (length running)) [

@@ -77,7 +77,7 @@ went_straight old mid v x core now after hurt runs speculates homefree p settled
     let count = length old.running.items in
     let free : st.c.straight ≡ false = ap (λ (y : Running). y.straight) st.is ∙ speculates in
     let t = effect_on old.image (with_hurts hurt s) core st.c Publish in
-    let comes = arm.publishes old.image count s v core st.c st.going st.kept f.agrees st.at st.unhurt x hurt p.shape p.others settled free (homefree_is old v core now f st homefree) p in
+    let comes = arm.publishes old.image count s v core st.c st.going st.kept f.agrees st.at st.unhurt x hurt (p.shape, p.cached) p.others settled free (homefree_is old v core now f st homefree) p in
     let noted = subst (λ xs. Steps old mid no_counts no_counts (xs ++ entry core Publish)) (hurts_same old s core hurt f.shows) (steps no_counts) in
     let shows : Shows mid t = noted.follows s t f.is_image (record { entries = old.history.items; replays = f.replays }) f.shows comes.replays in
     let new : CoreState = record st.c { own = nothing; outside = nothing; straight = true } in record {
@@ -212,7 +212,7 @@ module _ (waits : Waits) (old mid : Register) (v x : StoreView) (core : ℕ) (no
       let at_mid = at_after old mid v x core now after arrived (stop.Load address width signed rd) g at in
       let event = event_is mid core after arrived (stop.Load address width signed rd) then_at.c at_mid then_at.is in
       let comes = arm.loads_straight mid.image (length mid.running.items) g.running.fits.state x core then_at.c then_at.going then_at.kept g.running.fits.agrees then_at.at then_at.unhurt
-      w hurt l.shape l.others address width value signed rd settled is_straight event l in
+      w hurt (l.shape, l.cached) l.others address width value signed rd settled is_straight event l in
       acted_by old new v w shares shares' core (Some arrived) (Go hart) (entries (Some arrived) hurt (Load address width value)) runs.fits
       (steps_both new shares shares' (Some arrived) hurt (Load address width value) steps) (short_both (Some arrived) w hurt (Load address width value) l.others)
       (fits_then mid new x w shares shares' _ _ g.running.fits (later_noted new shares shares' hurt (Load address width value) steps) comes l.shape)
@@ -240,7 +240,7 @@ module _ (waits : Waits) (old mid : Register) (v x : StoreView) (core : ℕ) (no
       let at_mid = at_after old mid v x core now after arrived (stop.Store address width value) g at in
       let event = event_is mid core after arrived (stop.Store address width value) then_at.c at_mid then_at.is in
       let comes = arm.stores_straight mid.image (length mid.running.items) g.running.fits.state x core then_at.c then_at.going then_at.kept g.running.fits.agrees then_at.at then_at.unhurt
-      w hurt l.shape l.others address width value settled is_straight event l in
+      w hurt (l.shape, l.cached) l.others address width value settled is_straight event l in
       acted_by old new v w shares shares' core (Some arrived) (Go hart) (entries (Some arrived) hurt (Store address width value)) runs.fits
       (steps_both new shares shares' (Some arrived) hurt (Store address width value) steps) (short_both (Some arrived) w hurt (Store address width value) l.others)
       (fits_then mid new x w shares shares' _ _ g.running.fits (later_noted new shares shares' hurt (Store address width value) steps) comes l.shape)

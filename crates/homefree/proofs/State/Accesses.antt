@@ -11,7 +11,7 @@ use Rattle.violations.specs.View.{StoreView, IsSettled, attempt_of, is_accessed}
 use Rattle.violations.specs.Rule.{Begins, Loads, Stores}
 use Rattle.violations.proofs.Accesses.{stored_there}
 use Rattle.homefree.specs.Agrees.{HasReadIn, AgreesCore}
-use Rattle.homefree.proofs.State.Others.{in_shape}
+use Rattle.homefree.proofs.State.Others.{still_read}
 
 -- a new attempt keeps nothing of its own yet
 pub begun_agrees : (image : LoadedImage) (m : ℕ → ℕ) (v w : StoreView) (by epoch : ℕ) → IsSettled v → v.attempt by ≡ None → ((a : ℕ) → v.committed a ≡ m a)
@@ -59,10 +59,10 @@ taken_read : (address width at : ℕ) (m : ℕ → ℕ) (c : CoreState) → is_a
 taken_read address width at m c accessed none = reads_by (is_accessed address width at) (c.own at) (m at) accessed none
 
 load_only : (v w : StoreView) (by address width value a : ℕ) (hurt : ℕ → Bool) (m : ℕ → ℕ) (c : CoreState) (hart : HartState) → AgreesCore m v by c → Loads v w by address width value hurt
-    → w.guarded by a ≡ true → (b : Bool) → v.guarded by a ≡ b → HasReadIn v.shape (record c { hart = hart; outside = joined (read_outside address width c.own m) c.outside }) a
+    → w.guarded by a ≡ true → (b : Bool) → v.guarded by a ≡ b → HasReadIn v (record c { hart = hart; outside = joined (read_outside address width c.own m) c.outside }) a
 load_only v w by address width value a hurt m c hart g l is true was =
     let old = g.guards_only a was in
-    record { at = old.at; in_line = old.in_line; read = now_read (read_outside address width c.own m old.at) (c.outside old.at) ∙ or_right _ _ old.read }
+    record { at = old.at; in_line = old.in_line; read = now_read (read_outside address width c.own m old.at) (c.outside old.at) ∙ or_right _ _ old.read; itself = old.itself }
 load_only v w by address width value a hurt m c hart g l is false was =
     let taken = l.guards_only a is was in
     let none = none_of (c.own taken.at) (sym (g.own taken.at) ∙ taken.outside) in
@@ -71,6 +71,7 @@ load_only v w by address width value a hurt m c hart g l is false was =
       in_line = taken.in_line;
       read = now_read (read_outside address width c.own m taken.at) (c.outside taken.at)
           ∙ or_left _ _ (taken_read address width taken.at m c taken.accessed none);
+      itself = taken.itself;
     }
 
 -- the caller after a load
@@ -81,7 +82,7 @@ load_core v w by address width value hurt m c hart g l = record {
   sees = λ a. l.sees a ∙ g.sees a;
   own = λ a. l.own a ∙ g.own a;
   guards_read = λ a byte read. load_guards v w by address width value a byte hurt m c g l (read_outside address width c.own m a) refl read;
-  guards_only = λ a is. in_shape v.shape w.shape (record c { hart = hart; outside = joined (read_outside address width c.own m) c.outside }) a l.shape
+  guards_only = λ a is. still_read v w (record c { hart = hart; outside = joined (read_outside address width c.own m) c.outside }) a (l.shape, l.cached)
       (load_only v w by address width value a hurt m c hart g l is (v.guarded by a) refl);
 }
 
@@ -104,8 +105,8 @@ store_core v w by address width value hurt m c hart g l = record {
   own = λ a. l.own a ∙ (ap (λ b. b || is_accessed address width a) (g.own a)
       ∙ own_or (c.own a) (stored address width value a) (is_accessed address width a) (stored_there address width value a));
   guards_read = λ a byte read. l.guarded a ∙ g.guards_read a byte read;
-  guards_only = λ a is. let old = in_shape v.shape w.shape c a l.shape (g.guards_only a (sym (l.guarded a) ∙ is)) in
-      record { at = old.at; in_line = old.in_line; read = old.read };
+  guards_only = λ a is. let old = still_read v w c a (l.shape, l.cached) (g.guards_only a (sym (l.guarded a) ∙ is)) in
+      record { at = old.at; in_line = old.in_line; read = old.read; itself = old.itself };
 }
 
 -- a straight caller keeps nothing, in the store and in the state

@@ -31,7 +31,7 @@ use Rattle.homefree.specs.Agrees.{AgreesCore, AgreesAt, Agrees}
 use Rattle.homefree.specs.Hurts.{entry, entry_for_each, hurts, with_hurts}
 use Rattle.homefree.proofs.State.Legality.{by_it}
 use Rattle.homefree.proofs.State.HurtsReplay.{CanBeHurt, hurts_replay, still_runs}
-use Rattle.homefree.proofs.State.Others.{same_at, others_agree, others_spared, can_be_hurt_all, agrees_with, runs_on}
+use Rattle.homefree.proofs.State.Others.{IsOfSameKind, same_at, others_agree, others_spared, can_be_hurt_all, agrees_with, runs_on}
 use Rattle.homefree.proofs.State.Accesses.{begun_agrees, load_core, store_core, straight_core}
 
 -- the entries replay from the one state to the other, with which the store agrees
@@ -42,7 +42,7 @@ pub record Comes (image : LoadedImage) (count : ℕ) (s : FlatState) (entries : 
 -- ---- idle and hurt cores
 
 others_same : (m : ℕ → ℕ) (v w : StoreView) (by epoch k : ℕ) (core : Option CoreState) → Begins v w by epoch → k ≢ by → AgreesAt m v k core → AgreesAt m w k core
-others_same m v w by epoch k core begins other f = same_at m m v w k core begins.shape (λ a. refl) (begins.others k other) f
+others_same m v w by epoch k core begins other f = same_at m m v w k core (begins.shape, begins.cached) (λ a. refl) (begins.others k other) f
 
 pub starts : (image : LoadedImage) (count : ℕ) (s : FlatState) (v w : StoreView) (by : ℕ) → s.end ≡ None → Agrees s v → s.cores by ≡ None → by < count
     → s.next_epoch < image.epochs → IsSettled v → Begins v w by s.next_epoch
@@ -175,7 +175,7 @@ module _ (image : LoadedImage) (count : ℕ) (s : FlatState) (v : StoreView) (by
       let same = found.2 in
       omega (arith, homefree, from, same)
 
-  module _ (w : StoreView) (hurt : ℕ → Bool) (shape : w.shape ≡ v.shape) (others : HurtsLater v w by hurt) where
+  module _ (w : StoreView) (hurt : ℕ → Bool) (kind : IsOfSameKind v w) (others : HurtsLater v w by hurt) where
     abbrev t : FlatState
     t = with_hurts hurt s
 
@@ -201,7 +201,7 @@ module _ (image : LoadedImage) (count : ℕ) (s : FlatState) (v : StoreView) (by
     agrees_then u new cores committed free mine = record {
       committed = committed;
       core = λ still k. rw cores (agrees_with u.committed w by (Some new) t.cores (runs_on u.committed w by new free mine)
-          (λ j other. others_agree s u.committed v w by hurt going agrees shape others committed j other) k);
+          (λ j other. others_agree s u.committed v w by hurt going agrees kind others committed j other) k);
     }
 
     spared : (m : ℕ → ℕ) → ((a : ℕ) → w.committed a ≡ m a) → Spares t by m

@@ -52,7 +52,7 @@ module _ (image : LoadedImage) (count : ℕ) (s : FlatState) (v : StoreView) (by
         replays = hurts_replay image count s by c hurt going kept at unhurt p.others.not_itself can;
         at = still_runs image count s by c hurt going kept at unhurt p.others.not_itself can;
         committed = committed;
-        others = λ k other. others_agree s m v x by hurt going agrees p.shape p.others committed k other;
+        others = λ k other. others_agree s m v x by hurt going agrees (p.shape, p.cached) p.others committed k other;
         spares = others_spared s m v x by hurt going agrees p.others committed;
       }
 
@@ -66,7 +66,7 @@ module _ (image : LoadedImage) (count : ℕ) (s : FlatState) (v : StoreView) (by
         replays = ap (replay_from image count s) (none_among by (λ k. Hurt (epoch_on s.cores k)) count) ∙ no_entry image count s;
         at = at;
         committed = λ a. agrees.committed a ∙ sym (all_own is s.committed a);
-        others = λ k other. same_at s.committed m v v k (s.cores k) refl (all_own is s.committed)
+        others = λ k other. same_at s.committed m v v k (s.cores k) (refl, refl) (all_own is s.committed)
             (record { attempt = refl; own = λ a. refl; guarded = λ a. refl; sees = λ a. refl }) (agrees.core going k);
         spares = λ k d at_k other free a byte read. all_own is s.committed a;
       }
@@ -125,7 +125,7 @@ module _ (image : LoadedImage) (count : ℕ) (s : FlatState) (v : StoreView) (by
         then_one Commit y legal (record {
           committed = λ a. l.committed a ∙ p.committed a;
           core = λ still k. agrees_with m y by None t.cores (idle_on m y by l.attempt)
-              (λ j other. same_at m m x y j (t.cores j) l.shape (λ a. refl) (l.others j other) (p.others j other)) k;
+              (λ j other. same_at m m x y j (t.cores j) (l.shape, l.cached) (λ a. refl) (l.others j other) (p.others j other)) k;
         })
 
     -- it faults, and the loop is over

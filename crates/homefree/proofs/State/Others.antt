@@ -8,20 +8,28 @@ use Rattle.spec_history.specs.Effect.{with_core}
 use Rattle.spec_history.specs.Laws.{IsKept}
 use Rattle.spec_history.proofs.OneEntry.Going.{Spares}
 use Rattle.spec_history.proofs.OneEntry.Keeping.{with_core_other, with_core_same}
-use Rattle.violations.specs.View.{Shape, StoreView, attempt_of, epoch_of}
+use Rattle.violations.specs.View.{StoreView, attempt_of, epoch_of, line_of}
 use Rattle.violations.specs.Rule.{IsSameCore, IsSpared, IsHurt, HurtsLater}
 use Rattle.violations.specs.declared.attempt.Attempt.{Attempt}
 use Rattle.homefree.specs.Agrees.{HasReadIn, AgreesCore, AgreesAt, Agrees}
 use Rattle.homefree.specs.Hurts.{hurt_if, with_hurts}
 use Rattle.homefree.proofs.State.HurtsReplay.{CanBeHurt}
 
--- lines are those of the shape
-pub in_shape : (old new : Shape) (c : CoreState) (a : ℕ) → new ≡ old → HasReadIn old c a → HasReadIn new c a
-in_shape old new c a same h = subst (λ shape. HasReadIn shape c a) (sym same) h
+-- the store is made for the same, with caches or without
+abbrev pub IsOfSameKind : StoreView → StoreView → Type 0
+IsOfSameKind v w = (w.shape ≡ v.shape) × (w.cached ≡ v.cached)
+
+pub still_read : (v w : StoreView) (c : CoreState) (a : ℕ) → IsOfSameKind v w → HasReadIn v c a → HasReadIn w c a
+still_read v w c a same h = record {
+  at = h.at;
+  in_line = subst (λ shape. line_of shape h.at ≡ line_of shape a) (sym same.0) h.in_line;
+  read = h.read;
+  itself = λ none. h.itself (sym same.1 ∙ none);
+}
 
 -- a core that shows what it did, over the same committed memory
-pub same_at : (m m' : ℕ → ℕ) (v w : StoreView) (k : ℕ) (core : Option CoreState) → w.shape ≡ v.shape → ((a : ℕ) → m' a ≡ m a) → IsSameCore v w k → AgreesAt m v k core → AgreesAt m' w k core
-same_at m m' v w k core shape committed same f = record {
+pub same_at : (m m' : ℕ → ℕ) (v w : StoreView) (k : ℕ) (core : Option CoreState) → IsOfSameKind v w → ((a : ℕ) → m' a ≡ m a) → IsSameCore v w k → AgreesAt m v k core → AgreesAt m' w k core
+same_at m m' v w k core kind committed same f = record {
   idle = λ is. same.attempt ∙ f.idle is;
   hurt = λ c is hurt. same.attempt ∙ f.hurt c is hurt;
   runs = λ c is unhurt. let g = f.runs c is unhurt in record {
@@ -29,7 +37,7 @@ same_at m m' v w k core shape committed same f = record {
     sees = λ a. same.sees a ∙ (g.sees a ∙ ap (unwrap_or (c.own a)) (sym (committed a)));
     own = λ a. same.own a ∙ g.own a;
     guards_read = λ a byte read. same.guarded a ∙ g.guards_read a byte read;
-    guards_only = λ a is. in_shape v.shape w.shape c a shape (g.guards_only a (sym (same.guarded a) ∙ is));
+    guards_only = λ a is. still_read v w c a kind (g.guards_only a (sym (same.guarded a) ∙ is));
   };
 }
 
@@ -41,22 +49,22 @@ own_by m m' v w k c a None none spared g new = spared.sees_rest a (g.own a ∙ a
 own_by m m' v w k c a (Some byte) some spared g new =
     spared.sees_own a (g.own a ∙ ap (λ o. is_some o) some) ∙ (g.sees a ∙ ap (λ o. unwrap_or o (m a)) some)
 
-pub spared_core : (m m' : ℕ → ℕ) (v w : StoreView) (k : ℕ) (c : CoreState) → w.shape ≡ v.shape → ((a : ℕ) → w.committed a ≡ m' a)
+pub spared_core : (m m' : ℕ → ℕ) (v w : StoreView) (k : ℕ) (c : CoreState) → IsOfSameKind v w → ((a : ℕ) → w.committed a ≡ m' a)
     → IsSpared v w k → AgreesCore m v k c → AgreesCore m' w k c
-spared_core m m' v w k c shape new spared g = record {
+spared_core m m' v w k c kind new spared g = record {
   attempt = spared.attempt ∙ g.attempt;
   sees = λ a. own_by m m' v w k c a (c.own a) refl spared g new;
   own = λ a. spared.own a ∙ g.own a;
   guards_read = λ a byte read. spared.guarded a ∙ g.guards_read a byte read;
-  guards_only = λ a is. in_shape v.shape w.shape c a shape (g.guards_only a (sym (spared.guarded a) ∙ is));
+  guards_only = λ a is. still_read v w c a kind (g.guards_only a (sym (spared.guarded a) ∙ is));
 }
 
-spared_at : (m m' : ℕ → ℕ) (v w : StoreView) (k : ℕ) (core : Option CoreState) → w.shape ≡ v.shape → ((a : ℕ) → w.committed a ≡ m' a)
+spared_at : (m m' : ℕ → ℕ) (v w : StoreView) (k : ℕ) (core : Option CoreState) → IsOfSameKind v w → ((a : ℕ) → w.committed a ≡ m' a)
     → IsSpared v w k → AgreesAt m v k core → AgreesAt m' w k core
-spared_at m m' v w k core shape new spared f = record {
+spared_at m m' v w k core kind new spared f = record {
   idle = λ is. spared.attempt ∙ f.idle is;
   hurt = λ c is hurt. spared.attempt ∙ f.hurt c is hurt;
-  runs = λ c is unhurt. spared_core m m' v w k c shape new spared (f.runs c is unhurt);
+  runs = λ c is unhurt. spared_core m m' v w k c kind new spared (f.runs c is unhurt);
 }
 
 hurt_at_all : (m' : ℕ → ℕ) (w : StoreView) (k : ℕ) (core : Option CoreState) → w.attempt k ≡ None → AgreesAt m' w k (hurt_if true core)
@@ -67,16 +75,16 @@ hurt_at_all m' w k (Some x) none = record {
   runs = λ c is unhurt. let same : (let y : CoreState = record x { hurt = true } in y) ≡ c = cc in absurd (true≢false (ap (λ (y : CoreState). y.hurt) same ∙ unhurt));
 }
 
-others_by : (m m' : ℕ → ℕ) (v w : StoreView) (by k : ℕ) (hurt : ℕ → Bool) (core : Option CoreState) → w.shape ≡ v.shape → ((a : ℕ) → w.committed a ≡ m' a)
+others_by : (m m' : ℕ → ℕ) (v w : StoreView) (by k : ℕ) (hurt : ℕ → Bool) (core : Option CoreState) → IsOfSameKind v w → ((a : ℕ) → w.committed a ≡ m' a)
     → HurtsLater v w by hurt → k ≢ by → AgreesAt m v k core → (b : Bool) → hurt k ≡ b → AgreesAt m' w k (hurt_if b core)
-others_by m m' v w by k hurt core shape new others other f true is = hurt_at_all m' w k core (others.hurts k is).none
-others_by m m' v w by k hurt core shape new others other f false is = spared_at m m' v w k core shape new (others.spares k other is) f
+others_by m m' v w by k hurt core kind new others other f true is = hurt_at_all m' w k core (others.hurts k is).none
+others_by m m' v w by k hurt core kind new others other f false is = spared_at m m' v w k core kind new (others.spares k other is) f
 
 -- each core but the caller agrees after the call, in the state with the hurt ones hurt
-pub others_agree : (s : FlatState) (m' : ℕ → ℕ) (v w : StoreView) (by : ℕ) (hurt : ℕ → Bool) → s.end ≡ None → Agrees s v → w.shape ≡ v.shape → HurtsLater v w by hurt
+pub others_agree : (s : FlatState) (m' : ℕ → ℕ) (v w : StoreView) (by : ℕ) (hurt : ℕ → Bool) → s.end ≡ None → Agrees s v → IsOfSameKind v w → HurtsLater v w by hurt
     → ((a : ℕ) → w.committed a ≡ m' a) → (k : ℕ) → k ≢ by → AgreesAt m' w k (hurt_if (hurt k) (s.cores k))
-others_agree s m' v w by hurt going agrees shape others new k other =
-    others_by s.committed m' v w by k hurt (s.cores k) shape new others other (agrees.core going k) (hurt k) refl
+others_agree s m' v w by hurt going agrees kind others new k other =
+    others_by s.committed m' v w by k hurt (s.cores k) kind new others other (agrees.core going k) (hurt k) refl
 
 -- ---- no byte that another has read changes
 

@@ -30,17 +30,17 @@ use Rattle.homefree.proofs.Violations.Victims.{loads_known, stores_known, straig
 
 -- ---- an entry that is no violation
 
-alone : (C : Type 0) (image : LoadedImage) (by : ℕ) (what : What) (t : FlatState) → ((epoch : ℕ) → what ≢ Hurt epoch) → PassedHere C image t (record { by = by; what = what })
-    → AllKnown C image t (entry by what)
-alone C image by what t isnt passes = (λ k c same runs. absurd (isnt c.epoch same), passes, tt)
+alone : (B C : Type 0) (image : LoadedImage) (by : ℕ) (what : What) (t : FlatState) → ((epoch : ℕ) → what ≢ Hurt epoch) → PassedHere C image t (record { by = by; what = what })
+    → AllKnown B C image t (entry by what)
+alone B C image by what t isnt passes = (λ k c same runs. absurd (isnt c.epoch same), passes, tt)
 
-writing_none : (C : Type 0) (image : LoadedImage) (by : ℕ) (what : What) (t : FlatState) → ((epoch : ℕ) → what ≢ Hurt epoch) → ((core : Option CoreState) (a : ℕ) → written core what a ≡ None)
-    → AllKnown C image t (entry by what)
-writing_none C image by what t isnt none = alone C image by what t isnt (writes_none C image t (record { by = by; what = what }) (λ a. none (t.cores by) a))
+writing_none : (B C : Type 0) (image : LoadedImage) (by : ℕ) (what : What) (t : FlatState) → ((epoch : ℕ) → what ≢ Hurt epoch) → ((core : Option CoreState) (a : ℕ) → written core what a ≡ None)
+    → AllKnown B C image t (entry by what)
+writing_none B C image by what t isnt none = alone B C image by what t isnt (writes_none C image t (record { by = by; what = what }) (λ a. none (t.cores by) a))
 
-outcome : (C : Type 0) (image : LoadedImage) (s : FlatState) (out : Outcome) (entries : List Entry) (answer : Answer) → out ≡ record { entries = entries; answer = answer } → AllKnown C image s entries
-    → AllKnown C image s out.entries
-outcome C image s out entries answer is all = subst (λ (o : Outcome). AllKnown C image s o.entries) (sym is) all
+outcome : (B C : Type 0) (image : LoadedImage) (s : FlatState) (out : Outcome) (entries : List Entry) (answer : Answer) → out ≡ record { entries = entries; answer = answer } → AllKnown B C image s entries
+    → AllKnown B C image s out.entries
+outcome B C image s out entries answer is all = subst (λ (o : Outcome). AllKnown B C image s o.entries) (sym is) all
 
 -- ---- cancellations, and then a commit
 
@@ -71,10 +71,10 @@ cancel_stays : (image : LoadedImage) (t u : FlatState) (by epoch : ℕ) → IsWi
 unfolding effect
 cancel_stays image t u by epoch p = cancel_by image t u by epoch (u.cores by) p
 
-cancelled : (C : Type 0) (image : LoadedImage) (t : FlatState) (by : ℕ) (these : ℕ → Bool) (epochs : ℕ → ℕ) (n : ℕ) (tail : List Entry) (what : What) → next_what by tail ≡ Some what
-    → ((u : FlatState) → IsWithin t u → AllKnown C image u tail) → AllKnown C image t (entry_for_each by these (λ k. Cancel (epochs k)) n ++ tail)
-cancelled C image t by these epochs n tail what later rest =
-    all_known C image by (λ n u. IsWithin t u) these (λ k. Cancel (epochs k)) what (λ j. refl) (λ j u is p. cancel_stays image t u by (epochs j) p) (λ j u isnt p. p)
+cancelled : (B C : Type 0) (image : LoadedImage) (t : FlatState) (by : ℕ) (these : ℕ → Bool) (epochs : ℕ → ℕ) (n : ℕ) (tail : List Entry) (what : What) → next_what by tail ≡ Some what
+    → ((u : FlatState) → IsWithin t u → AllKnown B C image u tail) → AllKnown B C image t (entry_for_each by these (λ k. Cancel (epochs k)) n ++ tail)
+cancelled B C image t by these epochs n tail what later rest =
+    all_known B C image by (λ n u. IsWithin t u) these (λ k. Cancel (epochs k)) what (λ j. refl) (λ j u is p. cancel_stays image t u by (epochs j) p) (λ j u isnt p. p)
     (λ j k u c is p same runs. absurd (no_hurt (epochs j) c.epoch same)) n tail later rest t (λ j e is. is)
   where
     no_hurt : (one other : ℕ) → Cancel one ≡ Hurt other → ⊥
@@ -111,7 +111,7 @@ commit_within C image t u by within passes holds k missed =
 module _ (C : Type 0) (t : Turn) (v w : StoreView) (out : Outcome) (going : t.state.end ≡ None) (kept : IsKept t.image t.cores t.state) (agrees : Agrees t.state v)
     (whole : t.image.size % line_length t.image ≡ 0) (shape : v.shape ≡ shape_of t.image t.cores) (settled : IsSettled v) (cached : C → v.cached ≡ true) where
   abbrev Known : List Entry → Type 0
-  Known entries = AllKnown C t.image t.state entries
+  Known entries = AllKnown (v.cached ≡ false) C t.image t.state entries
 
   store_inside : (core : CoreState) (address width value : ℕ) → (next_event t.image core.hart).at ≡ stop.Store address width value → address < t.image.size
   store_inside core address width value event =
@@ -127,22 +127,22 @@ module _ (C : Type 0) (t : Turn) (v w : StoreView) (out : Outcome) (going : t.st
   loads_known_here x =
       let is = x.comes.is_at in
       let act : What = Load x.address x.width x.value in
-      outcome C t.image t.state out _ _ x.out_is
+      outcome (v.cached ≡ false) C t.image t.state out _ _ x.out_is
       (first_batch C t.image t.cores t.state v t.core x.core going kept agrees is.runs is.unhurt whole shape settled cached w x.hurt act (entry_of t act) x.store.others
       (rw (eq-eqb t.core t.core refl) refl)
       (λ u j k q hurts first f. loads_known C t.image t.cores t.state v t.core x.core going kept agrees is.runs is.unhurt whole shape settled cached v u j k x.address x.width x.value q f (x.store.crowded j hurts))
-      (λ u first. writing_none C t.image t.core act u (λ epoch same. cc) (λ core a. refl)))
+      (λ u first. writing_none (v.cached ≡ false) C t.image t.core act u (λ epoch same. cc) (λ core a. refl)))
 
   stores_known_here : (x : turn.IsStore t v w out) → Known out.entries
   stores_known_here x =
       let is = x.comes.is_at in
       let act : What = Store x.address x.width x.value in
       let inside = store_inside x.core x.address x.width x.value is.event in
-      outcome C t.image t.state out _ _ x.out_is
+      outcome (v.cached ≡ false) C t.image t.state out _ _ x.out_is
       (first_batch C t.image t.cores t.state v t.core x.core going kept agrees is.runs is.unhurt whole shape settled cached w x.hurt act (entry_of t act) x.store.others
       (rw (eq-eqb t.core t.core refl) refl)
       (λ u j k q hurts first f. stores_known C t.image t.cores t.state v t.core x.core going kept agrees is.runs is.unhurt whole shape settled cached w x.hurt u j j k x.address x.width x.value q inside x.store hurts first f)
-      (λ u first. alone C t.image t.core act u (λ epoch same. cc)
+      (λ u first. alone (v.cached ≡ false) C t.image t.core act u (λ epoch same. cc)
       (store_passes C t.image t.cores t.state v t.core x.core going kept agrees is.runs is.unhurt whole shape settled cached w x.hurt u x.address x.width x.value x.comes.speculates x.store first)))
 
   straight_loads_known : (x : turn.IsStraightLoad t v w out) → Known out.entries
@@ -150,44 +150,44 @@ module _ (C : Type 0) (t : Turn) (v w : StoreView) (out : Outcome) (going : t.st
       let is = x.comes.is_at in
       let act : What = Load x.address x.width x.value in
       let victims = publishing C t.image t.cores t.state v t.core x.core going kept agrees is.runs is.unhurt whole shape settled cached x.between w x.first x.hurt x.core.straight x.comes.publishes x.store.others in
-      outcome C t.image t.state out _ _ x.out_is
+      outcome (v.cached ≡ false) C t.image t.state out _ _ x.out_is
       (then_access C t.image t.cores t.state v t.core x.core going kept agrees is.runs is.unhurt whole shape settled cached x.between x.first x.hurt (hurts_of t x.hurt ++ entry_of t act) x.core.straight refl x.comes.publishes
       (second_batch C t.image t.cores t.state v t.core x.core going kept agrees is.runs is.unhurt whole shape settled cached x.between w x.first x.hurt act (entry_of t act) victims x.store.others.not_itself
       (rw (eq-eqb t.core t.core refl) refl)
       (λ u j k q hurts second f. loads_known C t.image t.cores t.state v t.core x.core going kept agrees is.runs is.unhurt whole shape settled cached x.between u j k x.address x.width x.value q f (x.store.crowded j hurts))
-      (λ u second. writing_none C t.image t.core act u (λ epoch same. cc) (λ core a. refl))))
+      (λ u second. writing_none (v.cached ≡ false) C t.image t.core act u (λ epoch same. cc) (λ core a. refl))))
 
   straight_stores_known : (x : turn.IsStraightStore t v w out) → Known out.entries
   straight_stores_known x =
       let is = x.comes.is_at in
       let act : What = Store x.address x.width x.value in
       let victims = publishing C t.image t.cores t.state v t.core x.core going kept agrees is.runs is.unhurt whole shape settled cached x.between w x.first x.hurt x.core.straight x.comes.publishes x.store.others in
-      outcome C t.image t.state out _ _ x.out_is
+      outcome (v.cached ≡ false) C t.image t.state out _ _ x.out_is
       (then_access C t.image t.cores t.state v t.core x.core going kept agrees is.runs is.unhurt whole shape settled cached x.between x.first x.hurt (hurts_of t x.hurt ++ entry_of t act) x.core.straight refl x.comes.publishes
       (second_batch C t.image t.cores t.state v t.core x.core going kept agrees is.runs is.unhurt whole shape settled cached x.between w x.first x.hurt act (entry_of t act) victims x.store.others.not_itself
       (rw (eq-eqb t.core t.core refl) refl)
       (λ u j k q hurts second f. straight_known C t.image t.cores t.state v t.core x.core going kept agrees is.runs is.unhurt whole shape settled cached x.first x.hurt x.between u j j k x.address x.width x.value q second f (x.store.meets j hurts))
-      (λ u second. alone C t.image t.core act u (λ epoch same. cc)
+      (λ u second. alone (v.cached ≡ false) C t.image t.core act u (λ epoch same. cc)
       (straight_passes C t.image t.cores t.state v t.core x.core going kept agrees is.runs is.unhurt whole shape settled cached x.between w x.first x.hurt u x.address x.width x.value x.core.straight x.comes.publishes x.store second))))
 
   commits_known_here : (x : turn.IsCommit t v w out) → Known out.entries
   commits_known_here x =
       let is = x.comes.is_at in
-      outcome C t.image t.state out _ _ x.out_is
+      outcome (v.cached ≡ false) C t.image t.state out _ _ x.out_is
       (commit_batch C t.image t.cores t.state v t.core x.core going kept agrees is.runs is.unhurt whole shape settled cached x.between x.hurt Commit (entry_of t Commit) x.core.straight x.comes.publishes
-      (λ core a. refl) (λ a w n same. cc) (rw (eq-eqb t.core t.core refl) refl)
-      (λ u first. alone C t.image t.core Commit u (λ epoch same. cc)
+      (λ core a. refl) (λ core. refl) (λ a w n same. cc) (rw (eq-eqb t.core t.core refl) refl)
+      (λ u first. alone (v.cached ≡ false) C t.image t.core Commit u (λ epoch same. cc)
       (commit_passes C t.image t.cores t.state v t.core x.core going kept agrees is.runs is.unhurt whole shape settled cached x.between x.hurt u Commit x.core.straight refl x.comes.publishes (λ core a. refl) first)))
 
   exits_known : (x : turn.IsExit t v w out) → Known out.entries
   exits_known x =
       let is = x.comes.is_at in
       let next_is : next_what t.core (entry_of t Commit) ≡ Some Commit = rw (eq-eqb t.core t.core refl) refl in
-      outcome C t.image t.state out _ _ x.out_is
+      outcome (v.cached ≡ false) C t.image t.state out _ _ x.out_is
       (commit_batch C t.image t.cores t.state v t.core x.core going kept agrees is.runs is.unhurt whole shape settled cached x.between x.hurt Commit (cancels t.cores t.state t.core ++ entry_of t Commit) x.core.straight x.comes.publishes
-      (λ core a. refl) (λ a w n same. cc) (cancelled_next t.core (is_other t.state.cores t.core) (epoch_on t.state.cores) t.cores (entry_of t Commit) Commit next_is)
-      (λ u first. cancelled C t.image u t.core (is_other t.state.cores t.core) (epoch_on t.state.cores) t.cores (entry_of t Commit) Commit next_is
-      (λ y within. alone C t.image t.core Commit y (λ epoch same. cc)
+      (λ core a. refl) (λ core. refl) (λ a w n same. cc) (cancelled_next t.core (is_other t.state.cores t.core) (epoch_on t.state.cores) t.cores (entry_of t Commit) Commit next_is)
+      (λ u first. cancelled (v.cached ≡ false) C t.image u t.core (is_other t.state.cores t.core) (epoch_on t.state.cores) t.cores (entry_of t Commit) Commit next_is
+      (λ y within. alone (v.cached ≡ false) C t.image t.core Commit y (λ epoch same. cc)
       (commit_within C t.image u y t.core within
       (commit_passes C t.image t.cores t.state v t.core x.core going kept agrees is.runs is.unhurt whole shape settled cached x.between x.hurt u Commit x.core.straight refl x.comes.publishes (λ core a. refl) first)))))
 
@@ -195,27 +195,27 @@ module _ (C : Type 0) (t : Turn) (v w : StoreView) (out : Outcome) (going : t.st
   faults_known x =
       let is = x.comes.is_at in
       let act : What = Fault x.cause x.pc in
-      outcome C t.image t.state out _ _ x.out_is
+      outcome (v.cached ≡ false) C t.image t.state out _ _ x.out_is
       (commit_batch C t.image t.cores t.state v t.core x.core going kept agrees is.runs is.unhurt whole shape settled cached w x.hurt act (entry_of t act) x.core.straight x.comes.publishes
-      (λ core a. refl) (λ a w n same. cc) (rw (eq-eqb t.core t.core refl) refl)
-      (λ u first. alone C t.image t.core act u (λ epoch same. cc)
+      (λ core a. refl) (λ core. refl) (λ a w n same. cc) (rw (eq-eqb t.core t.core refl) refl)
+      (λ u first. alone (v.cached ≡ false) C t.image t.core act u (λ epoch same. cc)
       (commit_passes C t.image t.cores t.state v t.core x.core going kept agrees is.runs is.unhurt whole shape settled cached w x.hurt u act x.core.straight refl x.comes.publishes (λ core a. refl) first)))
 
   follows_known : Follows t v w out → Known out.entries
   follows_known (turn.loads x) = loads_known_here x
   follows_known (turn.stores x) = stores_known_here x
-  follows_known (turn.waits x) = outcome C t.image t.state out _ _ x.out_is tt
+  follows_known (turn.waits x) = outcome (v.cached ≡ false) C t.image t.state out _ _ x.out_is tt
   follows_known (turn.loads_straight x) = straight_loads_known x
   follows_known (turn.stores_straight x) = straight_stores_known x
-  follows_known (turn.is_early x) = outcome C t.image t.state out _ _ x.out_is tt
+  follows_known (turn.is_early x) = outcome (v.cached ≡ false) C t.image t.state out _ _ x.out_is tt
   follows_known (turn.commits x) = commits_known_here x
   follows_known (turn.exits_loop x) = exits_known x
   follows_known (turn.faults x) = faults_known x
 
   -- what is known of the entries of a turn
   pub acts_known : Acts t v w out → Known out.entries
-  acts_known (turn.starts x) = outcome C t.image t.state out _ _ x.out_is (writing_none C t.image t.core (Start t.state.next_epoch) t.state (λ epoch same. cc) (λ core a. refl))
-  acts_known (turn.finds_none x) = outcome C t.image t.state out _ _ x.out_is tt
-  acts_known (turn.restarts x) = outcome C t.image t.state out _ _ x.out_is (writing_none C t.image t.core Restart t.state (λ epoch same. cc) (λ core a. refl))
-  acts_known (turn.is_told x) = outcome C t.image t.state out _ _ x.out_is tt
+  acts_known (turn.starts x) = outcome (v.cached ≡ false) C t.image t.state out _ _ x.out_is (writing_none (v.cached ≡ false) C t.image t.core (Start t.state.next_epoch) t.state (λ epoch same. cc) (λ core a. refl))
+  acts_known (turn.finds_none x) = outcome (v.cached ≡ false) C t.image t.state out _ _ x.out_is tt
+  acts_known (turn.restarts x) = outcome (v.cached ≡ false) C t.image t.state out _ _ x.out_is (writing_none (v.cached ≡ false) C t.image t.core Restart t.state (λ epoch same. cc) (λ core a. refl))
+  acts_known (turn.is_told x) = outcome (v.cached ≡ false) C t.image t.state out _ _ x.out_is tt
   acts_known (turn.follows x) = follows_known x

@@ -17,7 +17,7 @@ use Rattle.spec_history.proofs.Replay.Reaching.{one_more_entry}
 use Rattle.spec_history.specs.Conflict.{AreKnown, entry_is, passes, is_notice, can_cause, cause_of, what_at}
 use Rattle.spec_history.proofs.Searches.Tests.{first_at}
 use Rattle.spec_history.proofs.Replay.Staying.{stays, there}
-use Rattle.homefree.specs.Caused.{IsKnown, HasKinds}
+use Rattle.homefree.specs.Caused.{IsKnown, HasKinds, MeetsInBytes, MeetInBytes}
 use Rattle.homefree.specs.Missed.{IsMissed, IsFurtherStore, PassesOverNone}
 
 -- ---- what comes after a violation
@@ -137,17 +137,22 @@ module _ (before es : List Entry) (e : Entry) (core : ℕ) (what : What) (n : Ne
 
 -- ---- what is known of each entry
 
+-- what is known of a violation, and that it meets in bytes if that holds
+pub record IsExplained (B : Type 0) (image : LoadedImage) (s : FlatState) (by k : ℕ) (cause : Option What) : Type 0 where
+  pub known : IsKnown image s by k cause
+  pub meets : B → MeetsInBytes image s by k cause
+
 -- of this violation, in this state, with these entries after it
-abbrev pub KnownHere : LoadedImage → FlatState → Entry → List Entry → Type 0
-KnownHere image s e es = (k : ℕ) (c : CoreState) → e.what ≡ Hurt c.epoch → s.cores k ≡ Some c → (what : What) × (next_what e.by es ≡ Some what) × IsKnown image s e.by k (Some what)
+abbrev pub KnownHere : Type 0 → LoadedImage → FlatState → Entry → List Entry → Type 0
+KnownHere B image s e es = (k : ℕ) (c : CoreState) → e.what ≡ Hurt c.epoch → s.cores k ≡ Some c → (what : What) × (next_what e.by es ≡ Some what) × IsExplained B image s e.by k (Some what)
 
 -- it passes over nobody, if that holds
 abbrev pub PassedHere : Type 0 → LoadedImage → FlatState → Entry → Type 0
 PassedHere C image s e = C → (k : ℕ) → IsMissed image s e k → IsFurtherStore image s e
 
-abbrev pub AllKnown : Type 0 → LoadedImage → FlatState → List Entry → Type 0
-AllKnown C image s [] = Unit {0}
-AllKnown C image s (e ∷ es) = KnownHere image s e es × PassedHere C image s e × AllKnown C image (effect image s e) es
+abbrev pub AllKnown : Type 0 → Type 0 → LoadedImage → FlatState → List Entry → Type 0
+AllKnown B C image s [] = Unit {0}
+AllKnown B C image s (e ∷ es) = KnownHere B image s e es × PassedHere C image s e × AllKnown B C image (effect image s e) es
 
 none_some : (r : Illegal) (o : Option FlatState) (t : FlatState) → where_legal (Some r) o ≡ Some t → ⊥
 none_some r o t is = cc
@@ -161,11 +166,11 @@ first_legal : (image : LoadedImage) (count : ℕ) (s t : FlatState) (e : Entry) 
 unfolding replay_from
 first_legal image count s t e es is = legal_first (refusal_of image count s e) (replay_from image count (effect image s e) es) t is
 
-module _ (C : Type 0) (image : LoadedImage) (count : ℕ) where
-  at_first : (before es : List Entry) (e : Entry) (s : FlatState) → replay image count before ≡ Some s → KnownHere image s e es
+module _ (B C : Type 0) (image : LoadedImage) (count : ℕ) where
+  at_first : (before es : List Entry) (e : Entry) (s : FlatState) → replay image count before ≡ Some s → KnownHere B image s e es
       → (by k : ℕ) (t : FlatState) (c : CoreState) → slice_get (before ++ e ∷ es) (length before) ≡ Some (record { by = by; what = Hurt c.epoch })
       → replay image count (take (length before) (before ++ e ∷ es)) ≡ Some t → t.cores k ≡ Some c
-      → IsKnown image t by k (what_at (before ++ e ∷ es) (cause_of (before ++ e ∷ es) (length before) by))
+      → IsExplained B image t by k (what_at (before ++ e ∷ es) (cause_of (before ++ e ∷ es) (length before) by))
   at_first before es e s replays known by k t c at replays_t runs =
       let one : Entry = record { by = by; what = Hurt c.epoch } in
       let entry : e ≡ one = one_value (slice_get (before ++ e ∷ es) (length before)) e one (here before es e) at in
@@ -173,22 +178,22 @@ module _ (C : Type 0) (image : LoadedImage) (count : ℕ) where
       let it = known k c (ap (λ (x : Entry). x.what) entry) (ap (λ (x : FlatState). x.cores k) (sym state) ∙ runs) in
       let mine : e.by ≡ by = ap (λ (x : Entry). x.by) entry in
       let said = says before es e by it.0 (next by it.0 es (ap (λ b. next_what b es) (sym mine) ∙ it.1)) in
-      subst (IsKnown image t by k) (sym said) (subst (λ x. IsKnown image x by k (Some it.0)) (sym state) (subst (λ b. IsKnown image s b k (Some it.0)) mine it.2))
+      subst (IsExplained B image t by k) (sym said) (subst (λ x. IsExplained B image x by k (Some it.0)) (sym state) (subst (λ b. IsExplained B image s b k (Some it.0)) mine it.2))
 
   -- each violation in the entries after a history is known
-  pub known_past : (es before : List Entry) (s u : FlatState) → replay image count before ≡ Some s → replay_from image count s es ≡ Some u → AllKnown C image s es
+  pub known_past : (es before : List Entry) (s u : FlatState) → replay image count before ≡ Some s → replay_from image count s es ≡ Some u → AllKnown B C image s es
       → (place by k : ℕ) (t : FlatState) (c : CoreState) → length before ≤ place → slice_get (before ++ es) place ≡ Some (record { by = by; what = Hurt c.epoch })
-      → replay image count (take place (before ++ es)) ≡ Some t → t.cores k ≡ Some c → IsKnown image t by k (what_at (before ++ es) (cause_of (before ++ es) place by))
+      → replay image count (take place (before ++ es)) ≡ Some t → t.cores k ≡ Some c → IsExplained B image t by k (what_at (before ++ es) (cause_of (before ++ es) place by))
   known_past [] before s u replays more all place by k t c from at replays_t runs =
       absurd (omega (arith, from, slice_get_within before place (record { by = by; what = Hurt c.epoch }) (ap (λ xs. slice_get xs place) (sym (append-nil before)) ∙ at)))
   known_past (e ∷ es) before s u replays more all place by k t c from at replays_t runs = elim (cases_eq place (length before)) [
-    | inl same ↦ subst (λ p. IsKnown image t by k (what_at (before ++ e ∷ es) (cause_of (before ++ e ∷ es) p by))) (sym same)
+    | inl same ↦ subst (λ p. IsExplained B image t by k (what_at (before ++ e ∷ es) (cause_of (before ++ e ∷ es) p by))) (sym same)
         (at_first before es e s replays all.0 by k t c (ap (slice_get (before ++ e ∷ es)) (sym same) ∙ at) (ap (λ p. replay image count (take p (before ++ e ∷ es))) (sym same) ∙ replays_t) runs)
     | inr other ↦
         (let two = first_legal image count s u e es more in
         let joined : (before ++ e ∷ []) ++ es ≡ before ++ e ∷ es = append_assoc before (e ∷ []) es in
         let long = length-append before (e ∷ []) in
-        subst (λ xs. IsKnown image t by k (what_at xs (cause_of xs place by))) joined
+        subst (λ xs. IsExplained B image t by k (what_at xs (cause_of xs place by))) joined
         (known_past es (before ++ e ∷ []) (effect image s e) u (one_more_entry image count before s e replays two.0) two.1 all.2 place by k t c
         (omega (arith, from, other, long)) (ap (λ xs. slice_get xs place) joined ∙ at) (ap (λ xs. replay image count (take place xs)) joined ∙ replays_t) runs))
   ]
@@ -203,7 +208,7 @@ module _ (C : Type 0) (image : LoadedImage) (count : ℕ) where
       now holds k missed
 
   -- each entry after a history passes over nobody
-  pub passed_past : (es before : List Entry) (s u : FlatState) → C → replay image count before ≡ Some s → replay_from image count s es ≡ Some u → AllKnown C image s es
+  pub passed_past : (es before : List Entry) (s u : FlatState) → C → replay image count before ≡ Some s → replay_from image count s es ≡ Some u → AllKnown B C image s es
       → (place k : ℕ) (x : Entry) (t : FlatState) → length before ≤ place → slice_get (before ++ es) place ≡ Some x
       → replay image count (take place (before ++ es)) ≡ Some t → IsMissed image t x k → IsFurtherStore image t x
   passed_past [] before s u holds replays more all place k x t from at replays_t missed =
@@ -239,27 +244,44 @@ said_by : (entries more : List Entry) (place by : ℕ) (what : What) (o : Option
 said_by entries more place by what None at none = absurd cc
 said_by entries more place by what (Some cause) at some = ap (what_at (entries ++ more)) (stays entries more place by cause at) ∙ what_stays entries more cause what some
 
-still_known : (image : LoadedImage) (t : FlatState) (entries more : List Entry) (place by k : ℕ) (o : Option What) → what_at entries (cause_of entries place by) ≡ o
-    → IsKnown image t by k o → IsKnown image t by k (what_at (entries ++ more) (cause_of (entries ++ more) place by))
-still_known image t entries more place by k None at known = absurd (known.kind refl)
-still_known image t entries more place by k (Some what) at known =
-    subst (IsKnown image t by k) (sym (said_by entries more place by what (cause_of entries place by) refl at)) known
+still_known : (B : Type 0) (image : LoadedImage) (t : FlatState) (entries more : List Entry) (place by k : ℕ) (o : Option What) → what_at entries (cause_of entries place by) ≡ o
+    → IsExplained B image t by k o → IsExplained B image t by k (what_at (entries ++ more) (cause_of (entries ++ more) place by))
+still_known B image t entries more place by k None at it = absurd (it.known.kind refl)
+still_known B image t entries more place by k (Some what) at it =
+    subst (IsExplained B image t by k) (sym (said_by entries more place by what (cause_of entries place by) refl at)) it
 
-pub grown_kinds : (C : Type 0) (image : LoadedImage) (count : ℕ) (entries more : List Entry) (s u : FlatState) → HasKinds image count entries → replay image count entries ≡ Some s
-    → replay_from image count s more ≡ Some u → AllKnown C image s more → HasKinds image count (entries ++ more)
-grown_kinds C image count entries more s u kinds replays goes all place by k t c at replays_t runs = elim (cases_lt place (length entries)) [
+-- each violation is explained
+abbrev pub AreExplained : Type 0 → LoadedImage → ℕ → List Entry → Type 0
+AreExplained B image count history =
+    (place by k : ℕ) (s : FlatState) (c : CoreState) → slice_get history place ≡ Some (record { by = by; what = Hurt c.epoch })
+    → replay image count (take place history) ≡ Some s → s.cores k ≡ Some c → IsExplained B image s by k (what_at history (cause_of history place by))
+
+pub explained : (B : Type 0) (image : LoadedImage) (count : ℕ) (history : List Entry) → HasKinds image count history → (B → MeetInBytes image count history)
+    → AreExplained B image count history
+explained B image count history kinds meet place by k s c at replays runs =
+    record { known = kinds place by k s c at replays runs; meets = λ holds. meet holds place by k s c at replays runs }
+
+pub kinds_of : (B : Type 0) (image : LoadedImage) (count : ℕ) (history : List Entry) → AreExplained B image count history → HasKinds image count history
+kinds_of B image count history all place by k s c at replays runs = (all place by k s c at replays runs).known
+
+pub meetings_of : (B : Type 0) (image : LoadedImage) (count : ℕ) (history : List Entry) → AreExplained B image count history → B → MeetInBytes image count history
+meetings_of B image count history all holds place by k s c at replays runs = (all place by k s c at replays runs).meets holds
+
+pub grown_explained : (B C : Type 0) (image : LoadedImage) (count : ℕ) (entries more : List Entry) (s u : FlatState) → AreExplained B image count entries
+    → replay image count entries ≡ Some s → replay_from image count s more ≡ Some u → AllKnown B C image s more → AreExplained B image count (entries ++ more)
+grown_explained B C image count entries more s u before_it replays goes all place by k t c at replays_t runs = elim (cases_lt place (length entries)) [
   | inl before ↦
-      still_known image t entries more place by k (what_at entries (cause_of entries place by)) refl
-      (kinds place by k t c (sym (there entries more place before) ∙ at) (ap (replay image count) (sym (taken_within entries more place (omega (arith, before)))) ∙ replays_t) runs)
-  | inr after ↦ known_past C image count more entries s u replays goes all place by k t c after at replays_t runs
+      still_known B image t entries more place by k (what_at entries (cause_of entries place by)) refl
+      (before_it place by k t c (sym (there entries more place before) ∙ at) (ap (replay image count) (sym (taken_within entries more place (omega (arith, before)))) ∙ replays_t) runs)
+  | inr after ↦ known_past B C image count more entries s u replays goes all place by k t c after at replays_t runs
 ]
 
-pub grown_passes : (C : Type 0) (image : LoadedImage) (count : ℕ) (entries more : List Entry) (s u : FlatState) → C → PassesOverNone image count entries → replay image count entries ≡ Some s
-    → replay_from image count s more ≡ Some u → AllKnown C image s more → PassesOverNone image count (entries ++ more)
-grown_passes C image count entries more s u holds passes replays goes all place k x t at replays_t missed = elim (cases_lt place (length entries)) [
+pub grown_passes : (B C : Type 0) (image : LoadedImage) (count : ℕ) (entries more : List Entry) (s u : FlatState) → C → PassesOverNone image count entries → replay image count entries ≡ Some s
+    → replay_from image count s more ≡ Some u → AllKnown B C image s more → PassesOverNone image count (entries ++ more)
+grown_passes B C image count entries more s u holds passes replays goes all place k x t at replays_t missed = elim (cases_lt place (length entries)) [
   | inl before ↦
       passes place k x t (sym (there entries more place before) ∙ at) (ap (replay image count) (sym (taken_within entries more place (omega (arith, before)))) ∙ replays_t) missed
-  | inr after ↦ passed_past C image count more entries s u holds replays goes all place k x t after at replays_t missed
+  | inr after ↦ passed_past B C image count more entries s u holds replays goes all place k x t after at replays_t missed
 ]
 
 pub no_passes : (image : LoadedImage) (count : ℕ) → PassesOverNone image count []
@@ -267,6 +289,9 @@ no_passes image count place k x t at replays missed = absurd (omega (arith, slic
 
 pub no_kinds : (image : LoadedImage) (count : ℕ) → HasKinds image count []
 no_kinds image count place by k t c at replays runs = absurd (omega (arith, slice_get_within [] place (record { by = by; what = Hurt c.epoch }) at))
+
+pub no_meetings : (image : LoadedImage) (count : ℕ) → MeetInBytes image count []
+no_meetings image count place by k t c at replays runs = absurd (omega (arith, slice_get_within [] place (record { by = by; what = Hurt c.epoch }) at))
 
 pub are_known : (image : LoadedImage) (count : ℕ) (entries : List Entry) → HasKinds image count entries → AreKnown image count entries
 are_known image count entries kinds place by k s c at replays runs = (kinds place by k s c at replays runs).kind

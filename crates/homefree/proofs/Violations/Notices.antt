@@ -16,9 +16,8 @@ use Rattle.spec_history.specs.Refusal.{any_below}
 use Rattle.spec_history.proofs.Replay.Replays.{effect-on}
 use Rattle.spec_history.proofs.Searches.Tests.{all_fail}
 use Rattle.spec_history.specs.Conflict.{is_notice, can_cause, line_number, read_bytes, written}
-use Rattle.homefree.specs.Caused.{IsKnown}
 use Rattle.homefree.specs.Hurts.{entry, entry_for_each}
-use Rattle.homefree.proofs.Violations.Knowing.{next_what, PassedHere, AllKnown}
+use Rattle.homefree.proofs.Violations.Knowing.{next_what, IsExplained, PassedHere, AllKnown}
 
 -- ---- notices, and what comes after them
 
@@ -47,11 +46,11 @@ notice_writes core Commit a is = absurd cc
 notice_writes core (Fault cause pc) a is = absurd cc
 
 -- `P n` holds where the cores below n have been told
-module _ (C : Type 0) (image : LoadedImage) (by : ℕ) (P : ℕ → FlatState → Type 0) (these : ℕ → Bool) (f : ℕ → What) (what : What)
+module _ (B C : Type 0) (image : LoadedImage) (by : ℕ) (P : ℕ → FlatState → Type 0) (these : ℕ → Bool) (f : ℕ → What) (what : What)
     (notice : (j : ℕ) → is_notice (f j) ≡ true)
     (tells : (j : ℕ) (t : FlatState) → these j ≡ true → P j t → P (suc j) (effect image t (record { by = by; what = f j })))
     (skips : (j : ℕ) (t : FlatState) → these j ≡ false → P j t → P (suc j) t)
-    (known : (j k : ℕ) (t : FlatState) (c : CoreState) → these j ≡ true → P j t → f j ≡ Hurt c.epoch → t.cores k ≡ Some c → IsKnown image t by k (Some what)) where
+    (known : (j k : ℕ) (t : FlatState) (c : CoreState) → these j ≡ true → P j t → f j ≡ Hurt c.epoch → t.cores k ≡ Some c → IsExplained B image t by k (Some what)) where
   abbrev one : ℕ → Bool → List Entry
   one j b = if b then entry by (f j) else []
 
@@ -59,8 +58,8 @@ module _ (C : Type 0) (image : LoadedImage) (by : ℕ) (P : ℕ → FlatState �
   one_next j true tail later = next_by by (record { by = by; what = f j }) tail what (notice j) later
   one_next j false tail later = later
 
-  one_known : (j : ℕ) (b : Bool) (tail : List Entry) → these j ≡ b → next_what by tail ≡ Some what → ((t : FlatState) → P (suc j) t → AllKnown C image t tail)
-      → (t : FlatState) → P j t → AllKnown C image t (one j b ++ tail)
+  one_known : (j : ℕ) (b : Bool) (tail : List Entry) → these j ≡ b → next_what by tail ≡ Some what → ((t : FlatState) → P (suc j) t → AllKnown B C image t tail)
+      → (t : FlatState) → P j t → AllKnown B C image t (one j b ++ tail)
   one_known j true tail is later after t p = (
     λ k c hurts runs. (what, later, known j k t c is p hurts runs),
     writes_none C image t (record { by = by; what = f j }) (λ a. notice_writes (t.cores by) (f j) a (notice j)),
@@ -69,11 +68,11 @@ module _ (C : Type 0) (image : LoadedImage) (by : ℕ) (P : ℕ → FlatState �
   one_known j false tail is later after t p = after t (skips j t is p)
 
   -- notices, one for each of these cores, before what is known
-  pub all_known : (n : ℕ) (tail : List Entry) → next_what by tail ≡ Some what → ((t : FlatState) → P n t → AllKnown C image t tail)
-      → (t : FlatState) → P 0 t → AllKnown C image t (entry_for_each by these f n ++ tail)
+  pub all_known : (n : ℕ) (tail : List Entry) → next_what by tail ≡ Some what → ((t : FlatState) → P n t → AllKnown B C image t tail)
+      → (t : FlatState) → P 0 t → AllKnown B C image t (entry_for_each by these f n ++ tail)
   all_known zero tail later after t p = after t p
   all_known (suc n) tail later after t p =
-      subst (AllKnown C image t) (sym (append_assoc (entry_for_each by these f n) (one n (these n)) tail))
+      subst (AllKnown B C image t) (sym (append_assoc (entry_for_each by these f n) (one n (these n)) tail))
       (all_known n (one n (these n) ++ tail) (one_next n (these n) tail later) (one_known n (these n) tail refl later after) t p)
 
 -- ---- what notices leave of the cores

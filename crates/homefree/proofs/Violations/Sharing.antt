@@ -1,5 +1,5 @@
 -- What the rule of the store says of a violation, in the words of the report: its kind is known.
-use Rattle.std.proofs.Common.{◌≡◌, ◌≢◌, ℕ, zero, suc, ◌+◌, ◌*◌, ◌/◌, ◌%◌, ◌<◌, ◌≤◌, ◌==◌, ◌&&◌, ◌||◌, not, Bool, true, false, nat_lt, is_some, List, [], ◌∷◌, length, All, if◌then◌else◌, refl, sym, ap, subst, ◌∙◌, inl, inr, arith, eq-eqb, ne_eqb, lt-ltb, le-leb}
+use Rattle.std.proofs.Common.{◌≡◌, ◌≢◌, ◌⊎◌, ℕ, zero, suc, ◌+◌, ◌*◌, ◌/◌, ◌%◌, ◌<◌, ◌≤◌, ◌==◌, ◌&&◌, ◌||◌, not, Bool, true, false, nat_lt, is_some, List, [], ◌∷◌, length, All, if◌then◌else◌, refl, sym, ap, subst, ◌∙◌, inl, inr, arith, eq-eqb, ne_eqb, lt-ltb, le-leb}
 use Rattle.std.specs.List.{list_any}
 use Rattle.std.proofs.lemmas.Bool.{cases_eq, and_from, or_left, or_right}
 use Rattle.std.proofs.lemmas.List.Elements.{All-nil, All-cons, All-head, All-tail, All-weaker}
@@ -13,6 +13,7 @@ use Rattle.spec_history.specs.declared.entry.What.TheVariants.{Load, Store}
 use Rattle.spec_history.specs.FlatState.{CoreState}
 use Rattle.spec_history.proofs.Searches.Tests.{one_passes}
 use Rattle.spec_history.specs.Refusal.{any_below}
+use Rattle.spec_history.specs.declared.kind.Kind.{Kind}
 use Rattle.spec_history.specs.declared.kind.Kind.TheVariants.{TrueSharing, SilentStore, FalseSharing, FullBuffer, Unexplained}
 use Rattle.spec_history.specs.Conflict.{Meeting, kind_with, is_changed, is_shared, is_beside, is_crowded, is_full_at, holds_line, line_has}
 use Rattle.spec_history.specs.Conflict as conflict
@@ -69,14 +70,30 @@ line_in image count shape a b is same =
 
 -- ---- bytes that meet in a line
 
-pub is_met : (image : LoadedImage) (count : ℕ) (shape : Shape) (m : Meeting) (cause : What) (c : CoreState) (a : ℕ) → shape ≡ shape_of image count
-    → ((x : ℕ) → m.reads x ≡ c.outside x) → ((x : ℕ) → is_some (c.outside x) ≡ true → x < image.size) → is_some (m.writes a) ≡ true → HasReadIn shape c a
+pub is_met : (image : LoadedImage) (count : ℕ) (v : StoreView) (m : Meeting) (cause : What) (c : CoreState) (a : ℕ) → v.shape ≡ shape_of image count
+    → ((x : ℕ) → m.reads x ≡ c.outside x) → ((x : ℕ) → is_some (c.outside x) ≡ true → x < image.size) → is_some (m.writes a) ≡ true → HasReadIn v c a
     → kind_with image m cause ≢ Unexplained
-is_met image count shape m cause c a is reads within written read =
+is_met image count v m cause c a is reads within written read =
     kind_is image m cause (or_left _ (is_crowded image m cause)
     (one_passes image.size (is_beside image m) read.at (within read.at read.read)
     (and_from (is_some (m.reads read.at)) _ (ap (λ o. is_some o) (reads read.at) ∙ read.read)
-    (has_byte image (conflict.line_number image read.at) a (λ b. is_some (m.writes b)) (line_in image count shape read.at a is read.in_line) written))))
+    (has_byte image (conflict.line_number image read.at) a (λ b. is_some (m.writes b)) (line_in image count v.shape read.at a is read.in_line) written))))
+
+shared_kind : (a b : Bool) (rest : Kind) → b ≡ true
+    → ((if a then TrueSharing else if b then SilentStore else rest) ≡ TrueSharing) ⊎ ((if a then TrueSharing else if b then SilentStore else rest) ≡ SilentStore)
+shared_kind true b rest is = inl refl
+shared_kind false true rest is = inr refl
+shared_kind false false rest is = absurd cc
+
+-- without caches they are one byte
+pub is_shared_byte : (image : LoadedImage) (v : StoreView) (m : Meeting) (cause : What) (c : CoreState) (a : ℕ) → v.cached ≡ false
+    → ((x : ℕ) → m.reads x ≡ c.outside x) → ((x : ℕ) → is_some (c.outside x) ≡ true → x < image.size) → is_some (m.writes a) ≡ true → HasReadIn v c a
+    → (kind_with image m cause ≡ TrueSharing) ⊎ (kind_with image m cause ≡ SilentStore)
+is_shared_byte image v m cause c a alone reads within written read =
+    let here : is_some (c.outside a) ≡ true = subst (λ x. is_some (c.outside x) ≡ true) (read.itself alone) read.read in
+    shared_kind (any_below image.size (is_changed m)) (any_below image.size (is_shared m)) _
+    (one_passes image.size (is_shared m) a (within a here)
+    (and_from (is_some (m.writes a)) (is_some (m.reads a)) written (ap (λ o. is_some o) (reads a) ∙ here)))
 
 -- ---- numbers that pass, counted
 

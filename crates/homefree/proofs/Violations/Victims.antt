@@ -26,13 +26,13 @@ use Rattle.violations.specs.View as view
 use Rattle.violations.specs.Rule.{Guards, OwnsIn, IsCrowded, IsHurt, HurtsLater, Stores, Publishes, StoresStraight, shape_of}
 use Rattle.violations.proofs.Accesses.{stored_there}
 use Rattle.homefree.specs.Agrees.{AgreesCore, AgreesAt, Agrees}
-use Rattle.homefree.specs.Caused.{IsKnown}
+use Rattle.homefree.specs.Caused.{MeetsInBytes, commits_bytes}
 use Rattle.homefree.specs.Hurts.{entry, entry_for_each, epoch_on}
 use Rattle.homefree.specs.Missed.{IsMissed, IsFurtherStore}
 use Rattle.homefree.specs.Turned.{publishes_unless}
-use Rattle.homefree.proofs.Violations.Knowing.{next_what, PassedHere, AllKnown}
+use Rattle.homefree.proofs.Violations.Knowing.{next_what, IsExplained, PassedHere, AllKnown}
 use Rattle.homefree.proofs.State.Others.{spared_core}
-use Rattle.homefree.proofs.Violations.Sharing.{line_length, is_met, load_crowded, store_crowded}
+use Rattle.homefree.proofs.Violations.Sharing.{line_length, is_met, is_shared_byte, load_crowded, store_crowded}
 use Rattle.homefree.proofs.Violations.Notices.{writes_none, Bytes, bytes_of, Keeps, hurt_keeps, after, was_there, IsNoLess, IsHurtIn, hurt_here, hurt_still, unhurt_was, hurt_effect, all_known}
 
 -- ---- a core that a call violates
@@ -92,6 +92,7 @@ module _ (C : Type 0) (image : LoadedImage) (count : ℕ) (s : FlatState) (v : S
     pub memory : ℕ → ℕ
     pub keeps : AgreesCore memory x k core
     pub same_shape : x.shape ≡ shape_of image count
+    pub same_kind : x.cached ≡ v.cached
 
   epoch_of_victim : (x : StoreView) (k : ℕ) (q : Victim x k) → epoch_on s.cores k ≡ q.core.epoch
   epoch_of_victim x k q = ap (λ o. by_core o 0 (λ y. y.epoch)) q.runs
@@ -103,6 +104,7 @@ module _ (C : Type 0) (image : LoadedImage) (count : ℕ) (s : FlatState) (v : S
     memory = s.committed;
     keeps = found.2;
     same_shape = shape;
+    same_kind = refl;
   }
 
   read_within : (k : ℕ) (d : CoreState) → s.cores k ≡ Some d → (x : ℕ) → is_some (d.outside x) ≡ true → x < image.size
@@ -261,10 +263,28 @@ module _ (C : Type 0) (image : LoadedImage) (count : ℕ) (s : FlatState) (v : S
 
   -- ---- of what kind it is
 
+  -- what is known of it
+  abbrev Explained : FlatState → ℕ → What → Type 0
+  Explained t k what = IsExplained (v.cached ≡ false) image t by k (Some what)
+
+  some_store : (what other : What) → Some what ≡ Some other → what ≡ other
+  some_store what other is = cc
+
   guards_known : (x : StoreView) (t : FlatState) (j k : ℕ) (what : What) (bytes : ℕ → Bool) (q : Victim x j) → Found t j k q.core → Guards x j bytes
       → ((a : ℕ) → bytes a ≡ true → is_some (written (t.cores by) what a) ≡ true) → kind_of image t by k (Some what) ≢ Unexplained
   guards_known x t j k what bytes q f g writes =
-      is_met image count x.shape (meeting t by what k) what q.core g.at q.same_shape f.reads (read_within j q.core q.runs) (writes g.at g.is_one) (q.keeps.guards_only g.at g.guarded)
+      is_met image count x (meeting t by what k) what q.core g.at q.same_shape f.reads (read_within j q.core q.runs) (writes g.at g.is_one) (q.keeps.guards_only g.at g.guarded)
+
+  -- without caches in a byte that is committed
+  guards_meet : (x : StoreView) (t : FlatState) (j k : ℕ) (what : What) (bytes : ℕ → Bool) (q : Victim x j) → Found t j k q.core → Guards x j bytes
+      → ((a : ℕ) → bytes a ≡ true → is_some (written (t.cores by) what a) ≡ true) → commits_bytes (t.cores by) what ≡ true → v.cached ≡ false → MeetsInBytes image t by k (Some what)
+  guards_meet x t j k what bytes q f g writes commits alone = record {
+    kind = is_shared_byte image x (meeting t by what k) what q.core g.at (q.same_kind ∙ alone) f.reads (read_within j q.core q.runs) (writes g.at g.is_one) (q.keeps.guards_only g.at g.guarded);
+    commits = λ other same. subst (λ w. commits_bytes (t.cores by) w ≡ true) (some_store what other same) commits;
+  }
+
+  never_crowded : (x : StoreView) (j address : ℕ) (q : Victim x j) → IsCrowded x j address → v.cached ≡ false → ⊥
+  never_crowded x j address q crowded alone = true≢false (sym crowded.cached ∙ (q.same_kind ∙ alone))
 
   no_store : (what : What) → ((address width value : ℕ) → what ≢ Store address width value) → (t : FlatState) (other : What) → Some what ≡ Some other
       → IsFurtherStore image t (record { by = by; what = other }) → ⊥
@@ -273,10 +293,13 @@ module _ (C : Type 0) (image : LoadedImage) (count : ℕ) (s : FlatState) (v : S
       some_what : (x y : What) → Some x ≡ Some y → x ≡ y
       some_what x y is = cc
 
-  pub loads_known : (x : StoreView) (t : FlatState) (j k address width value : ℕ) (q : Victim x j) → Found t j k q.core → IsCrowded x j address → IsKnown image t by k (Some (Load address width value))
+  pub loads_known : (x : StoreView) (t : FlatState) (j k address width value : ℕ) (q : Victim x j) → Found t j k q.core → IsCrowded x j address → Explained t k (Load address width value)
   loads_known x t j k address width value q f crowded = record {
-    kind = load_crowded image count x (meeting t by (Load address width value) k) q.core j address q.same_shape whole f.stores q.keeps.own width value crowded;
-    first = no_store (Load address width value) (λ a w n same. cc) t;
+    known = record {
+      kind = load_crowded image count x (meeting t by (Load address width value) k) q.core j address q.same_shape whole f.stores q.keeps.own width value crowded;
+      first = no_store (Load address width value) (λ a w n same. cc) t;
+    };
+    meets = λ alone. absurd (never_crowded x j address q crowded alone);
   }
 
   store_kind : (x : StoreView) (t : FlatState) (j k address width value : ℕ) (q : Victim x j) → Found t j k q.core → Guards x j (is_accessed address width) ⊎ IsCrowded x j address
@@ -288,9 +311,6 @@ module _ (C : Type 0) (image : LoadedImage) (count : ℕ) (s : FlatState) (v : S
 
   store_address : (address width value a w n : ℕ) → Store address width value ≡ Store a w n → address ≡ a
   store_address address width value a w n is = cc
-
-  some_store : (what other : What) → Some what ≡ Some other → what ≡ other
-  some_store what other is = cc
 
   -- a byte of the line is the caller's own
   has_stored : (t : FlatState) (address : ℕ) (d : CoreState) → address < image.size → bytes_of d ≡ bytes_of c → line_has image (line_number image address) (λ a. is_some (d.own a)) ≡ true
@@ -306,22 +326,36 @@ module _ (C : Type 0) (image : LoadedImage) (count : ℕ) (s : FlatState) (v : S
       }
 
   pub stores_known : (w : StoreView) (hurt : ℕ → Bool) (t : FlatState) (n j k address width value : ℕ) (q : Victim v j) → address < image.size → Stores v w by address width value hurt → hurt j ≡ true
-      → First hurt n t → Found t j k q.core → IsKnown image t by k (Some (Store address width value))
+      → First hurt n t → Found t j k q.core → Explained t k (Store address width value)
   stores_known w hurt t n j k address width value q within l is p f = record {
-    kind = store_kind v t j k address width value q f (l.meets j is);
-    first = λ what same further.
-        let me = caller hurt n t p in
-        let which : address ≡ further.address = store_address address width value further.address further.width further.value (some_store (Store address width value) what same ∙ further.stores) in
-        let bytes = ap bytes_of (one_value (t.cores by) further.core me.core further.runs me.at) ∙ me.bytes in
-        let own = has_stored t address further.core within bytes (ap (λ a. line_has image (line_number image a) (λ b. is_some (further.core.own b))) which ∙ further.before) in
-        true≢false (sym is ∙ l.told own j);
+    known = record {
+      kind = store_kind v t j k address width value q f (l.meets j is);
+      first = λ what same further.
+          let me = caller hurt n t p in
+          let which : address ≡ further.address = store_address address width value further.address further.width further.value (some_store (Store address width value) what same ∙ further.stores) in
+          let bytes = ap bytes_of (one_value (t.cores by) further.core me.core further.runs me.at) ∙ me.bytes in
+          let own = has_stored t address further.core within bytes (ap (λ a. line_has image (line_number image a) (λ b. is_some (further.core.own b))) which ∙ further.before) in
+          true≢false (sym is ∙ l.told own j);
+    };
+    meets = λ alone. absurd (true≢false (sym (l.eager j is) ∙ alone));
   }
 
+  -- a straight store commits its bytes
+  straight_meets : (first hurt : ℕ → Bool) (x : StoreView) (t : FlatState) (n j k address width value : ℕ) (q : Victim x j) → Second first hurt n t → Found t j k q.core
+      → Guards x j (is_accessed address width) ⊎ IsCrowded x j address → v.cached ≡ false → MeetsInBytes image t by k (Some (Store address width value))
+  straight_meets first hurt x t n j k address width value q p f (inl g) alone =
+      guards_meet x t j k (Store address width value) (is_accessed address width) q f g (λ a accessed. stored_there address width value a ∙ accessed)
+      (ap (λ o. commits_bytes o (Store address width value)) p.runs ∙ p.straight) alone
+  straight_meets first hurt x t n j k address width value q p f (inr crowded) alone = absurd (never_crowded x j address q crowded alone)
+
   pub straight_known : (first hurt : ℕ → Bool) (x : StoreView) (t : FlatState) (n j k address width value : ℕ) (q : Victim x j) → Second first hurt n t → Found t j k q.core
-      → Guards x j (is_accessed address width) ⊎ IsCrowded x j address → IsKnown image t by k (Some (Store address width value))
+      → Guards x j (is_accessed address width) ⊎ IsCrowded x j address → Explained t k (Store address width value)
   straight_known first hurt x t n j k address width value q p f meets = record {
-    kind = store_kind x t j k address width value q f meets;
-    first = λ what same further. true≢false (sym p.straight ∙ (ap (λ (y : CoreState). y.straight) (one_value (t.cores by) p.core further.core p.runs further.runs) ∙ further.speculates));
+    known = record {
+      kind = store_kind x t j k address width value q f meets;
+      first = λ what same further. true≢false (sym p.straight ∙ (ap (λ (y : CoreState). y.straight) (one_value (t.cores by) p.core further.core p.runs further.runs) ∙ further.speculates));
+    };
+    meets = straight_meets first hurt x t n j k address width value q p f meets;
   }
 
   own_still : (hurt : ℕ → Bool) (n : ℕ) (t : FlatState) → First hurt n t → (a : ℕ) → own_bytes (t.cores by) a ≡ c.own a
@@ -331,12 +365,14 @@ module _ (C : Type 0) (image : LoadedImage) (count : ℕ) (s : FlatState) (v : S
 
   -- an act that commits what the caller owns
   commits_known : (hurt : ℕ → Bool) (t : FlatState) (n j k : ℕ) (what : What) (q : Victim v j) → ((core : Option CoreState) (a : ℕ) → written core what a ≡ own_bytes core a)
-      → ((address width value : ℕ) → what ≢ Store address width value) → First hurt n t → Found t j k q.core → Guards v j (v.own by) → IsKnown image t by k (Some what)
-  commits_known hurt t n j k what q writes isnt p f g = record {
-    kind = guards_known v t j k what (v.own by) q f g
-        (λ a owned. ap (λ o. is_some o) (writes (t.cores by) a ∙ own_still hurt n t p a) ∙ (sym (mine.own a) ∙ owned));
-    first = no_store what isnt t;
-  }
+      → ((core : Option CoreState) → commits_bytes core what ≡ true) → ((address width value : ℕ) → what ≢ Store address width value) → First hurt n t → Found t j k q.core
+      → Guards v j (v.own by) → Explained t k what
+  commits_known hurt t n j k what q writes commits isnt p f g =
+      let all : (a : ℕ) → v.own by a ≡ true → is_some (written (t.cores by) what a) ≡ true =
+      λ a owned. ap (λ o. is_some o) (writes (t.cores by) a ∙ own_still hurt n t p a) ∙ (sym (mine.own a) ∙ owned) in record {
+        known = record { kind = guards_known v t j k what (v.own by) q f g all; first = no_store what isnt t };
+        meets = guards_meet v t j k what (v.own by) q f g all (commits (t.cores by));
+      }
 
   -- ---- who has read in the line
 
@@ -461,20 +497,20 @@ module _ (C : Type 0) (image : LoadedImage) (count : ℕ) (s : FlatState) (v : S
 
   -- the violations of a core's first act, which is the one that this knows of
   pub first_batch : (w : StoreView) (hurt : ℕ → Bool) (what : What) (tail : List Entry) → HurtsLater v w by hurt → next_what by tail ≡ Some what
-      → ((t : FlatState) (j k : ℕ) (q : Victim v j) → hurt j ≡ true → First hurt j t → Found t j k q.core → IsKnown image t by k (Some what))
-      → ((t : FlatState) → First hurt count t → AllKnown C image t tail) → AllKnown C image s (entry_for_each by hurt (λ j. Hurt (epoch_on s.cores j)) count ++ tail)
+      → ((t : FlatState) (j k : ℕ) (q : Victim v j) → hurt j ≡ true → First hurt j t → Found t j k q.core → Explained t k what)
+      → ((t : FlatState) → First hurt count t → AllKnown (v.cached ≡ false) C image t tail) → AllKnown (v.cached ≡ false) C image s (entry_for_each by hurt (λ j. Hurt (epoch_on s.cores j)) count ++ tail)
   first_batch w hurt what tail others later known rest =
       let victim : (j : ℕ) → hurt j ≡ true → Victim v j = λ j is. here w j (others.hurts j is) in
-      all_known C image by (First hurt) hurt (λ j. Hurt (epoch_on s.cores j)) what (λ j. refl) (first_tells v hurt victim) (first_skips hurt)
+      all_known (v.cached ≡ false) C image by (First hurt) hurt (λ j. Hurt (epoch_on s.cores j)) what (λ j. refl) (first_tells v hurt victim) (first_skips hurt)
       (λ j k t e is p same runs. known t j k (victim j is) is p (found_first hurt v t j k e (victim j is) p runs (epoch_is (epoch_on s.cores j) e.epoch same))) count tail later rest s (first_now hurt)
 
   -- those of its second act, from any of the states after the first
   pub second_batch : (x w : StoreView) (first hurt : ℕ → Bool) (what : What) (tail : List Entry) → ((j : ℕ) → hurt j ≡ true → Victim x j) → hurt by ≡ false → next_what by tail ≡ Some what
-      → ((t : FlatState) (j k : ℕ) (q : Victim x j) → hurt j ≡ true → Second first hurt j t → Found t j k q.core → IsKnown image t by k (Some what))
-      → ((t : FlatState) → Second first hurt count t → AllKnown C image t tail) → (t : FlatState) → Second first hurt 0 t
-      → AllKnown C image t (entry_for_each by hurt (λ j. Hurt (epoch_on s.cores j)) count ++ tail)
+      → ((t : FlatState) (j k : ℕ) (q : Victim x j) → hurt j ≡ true → Second first hurt j t → Found t j k q.core → Explained t k what)
+      → ((t : FlatState) → Second first hurt count t → AllKnown (v.cached ≡ false) C image t tail) → (t : FlatState) → Second first hurt 0 t
+      → AllKnown (v.cached ≡ false) C image t (entry_for_each by hurt (λ j. Hurt (epoch_on s.cores j)) count ++ tail)
   second_batch x w first hurt what tail victim itself later known rest =
-      all_known C image by (Second first hurt) hurt (λ j. Hurt (epoch_on s.cores j)) what (λ j. refl) (second_tells x first hurt victim itself) (second_skips first hurt)
+      all_known (v.cached ≡ false) C image by (Second first hurt) hurt (λ j. Hurt (epoch_on s.cores j)) what (λ j. refl) (second_tells x first hurt victim itself) (second_skips first hurt)
       (λ j k t e is p same runs.
       known t j k (victim j is) is p (found_second first hurt x t j k e (victim j is) (λ me. true≢false (sym is ∙ (ap hurt me ∙ itself))) p runs (epoch_is (epoch_on s.cores j) e.epoch same)))
       count tail later rest
@@ -493,8 +529,9 @@ module _ (C : Type 0) (image : LoadedImage) (count : ℕ) (s : FlatState) (v : S
               core = found.0;
               runs = found.1;
               memory = x.committed;
-              keeps = spared_core s.committed x.committed v x j found.0 p.shape (λ a. refl) spared found.2;
+              keeps = spared_core s.committed x.committed v x j found.0 (p.shape, p.cached) (λ a. refl) spared found.2;
               same_shape = p.shape ∙ shape;
+              same_kind = p.cached;
             })
       ]
 
@@ -508,21 +545,22 @@ module _ (C : Type 0) (image : LoadedImage) (count : ℕ) (s : FlatState) (v : S
   -- ---- what the caller commits, and an access after it
 
   pub commit_batch : (x : StoreView) (hurt : ℕ → Bool) (what : What) (tail : List Entry) (b : Bool) → publishes_unless b v x by hurt
-      → ((core : Option CoreState) (a : ℕ) → written core what a ≡ own_bytes core a) → ((address width value : ℕ) → what ≢ Store address width value) → next_what by tail ≡ Some what
-      → ((t : FlatState) → First hurt count t → AllKnown C image t tail) → AllKnown C image s (entry_for_each by hurt (λ j. Hurt (epoch_on s.cores j)) count ++ tail)
-  commit_batch x hurt what tail false p writes isnt later rest =
-      first_batch x hurt what tail p.others later (λ t j k q is first f. commits_known hurt t j j k what q writes isnt first f (p.meets j is)) rest
-  commit_batch x hurt what tail true p writes isnt later rest =
-      all_known C image by (First hurt) hurt (λ j. Hurt (epoch_on s.cores j)) what (λ j. refl) (λ j t is q. absurd (true≢false (sym is ∙ p.1 j))) (first_skips hurt)
+      → ((core : Option CoreState) (a : ℕ) → written core what a ≡ own_bytes core a) → ((core : Option CoreState) → commits_bytes core what ≡ true)
+      → ((address width value : ℕ) → what ≢ Store address width value) → next_what by tail ≡ Some what
+      → ((t : FlatState) → First hurt count t → AllKnown (v.cached ≡ false) C image t tail) → AllKnown (v.cached ≡ false) C image s (entry_for_each by hurt (λ j. Hurt (epoch_on s.cores j)) count ++ tail)
+  commit_batch x hurt what tail false p writes commits isnt later rest =
+      first_batch x hurt what tail p.others later (λ t j k q is first f. commits_known hurt t j j k what q writes commits isnt first f (p.meets j is)) rest
+  commit_batch x hurt what tail true p writes commits isnt later rest =
+      all_known (v.cached ≡ false) C image by (First hurt) hurt (λ j. Hurt (epoch_on s.cores j)) what (λ j. refl) (λ j t is q. absurd (true≢false (sym is ∙ p.1 j))) (first_skips hurt)
       (λ j k t e is q same runs. absurd (true≢false (sym is ∙ p.1 j))) count tail later rest s (first_now hurt)
 
   pub then_access : (x : StoreView) (first hurt : ℕ → Bool) (rest : List Entry) (b : Bool) → c.straight ≡ b → publishes_unless b v x by first
-      → ((t : FlatState) → Second first hurt 0 t → AllKnown C image t rest)
-      → AllKnown C image s ((if b then [] else entry_for_each by first (λ j. Hurt (epoch_on s.cores j)) count ++ entry by Publish) ++ rest)
+      → ((t : FlatState) → Second first hurt 0 t → AllKnown (v.cached ≡ false) C image t rest)
+      → AllKnown (v.cached ≡ false) C image s ((if b then [] else entry_for_each by first (λ j. Hurt (epoch_on s.cores j)) count ++ entry by Publish) ++ rest)
   then_access x first hurt rest true is p known = known s (straight_now first hurt is p.1)
   then_access x first hurt rest false is p known =
-      subst (AllKnown C image s) (sym (append_assoc (entry_for_each by first (λ j. Hurt (epoch_on s.cores j)) count) (entry by Publish) rest))
-      (commit_batch x first Publish (entry by Publish ++ rest) false p (λ core a. refl) (λ a w n same. cc) (rw (eq-eqb by by refl) refl)
+      subst (AllKnown (v.cached ≡ false) C image s) (sym (append_assoc (entry_for_each by first (λ j. Hurt (epoch_on s.cores j)) count) (entry by Publish) rest))
+      (commit_batch x first Publish (entry by Publish ++ rest) false p (λ core a. refl) (λ core. refl) (λ a w n same. cc) (rw (eq-eqb by by refl) refl)
       (λ t q. (
         λ k e same runs. absurd (no_hurt e.epoch same),
         commit_passes x first t Publish false is p (λ core a. refl) q,

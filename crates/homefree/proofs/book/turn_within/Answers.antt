@@ -38,7 +38,7 @@ returns-clause-book g c =
     let q = c.make_room.new.parts in
     let free = has_free p.register c.free_entries-free.result c.args.room c.len.result c.free_entries-free.ensures c.len.ensures c.if-room-len.false c.requires.book.within in
     book_acts g.S.EpochStore.view p.register q.register c.turn-came.new.self.register p.store q.store c.turn-came.new.self.store c.args.room c.args.core c.args.stopped
-    c.args.shares.now c.turn-came.new.shares (option_copied c.args.next) _ c.requires.book c.in_default.is c.in_default-stopped.is c.make_room.ensures.register c.requires.core free c.look.ensures
+    c.args.shares.now c.turn-came.new.shares (option_copied c.args.next) _ c.requires.book c.in_default.is c.in_default-stopped.is c.make_room.ensures.register c.requires.core free c.look.ensures c.make_room.ensures.store
     (fits_same p.register q.register (g.S.EpochStore.view p.store) (g.S.EpochStore.view q.store) c.requires.book.fits c.make_room.ensures.register c.make_room.ensures.store) c.turn-came.ensures.acted
 
 pub returns-clause-turned : goal.returns-clause-turned
