@@ -1,6 +1,6 @@
 //! What no schedule can roll back: each function does nothing, and its contract is the law.
 
-ghost use Rattle.std.specs.Prelude.{◌≡◌, ℕ, ◌<◌, ◌≤◌, List, Option, Some};
+ghost use Rattle.std.specs.Prelude.{◌≡◌, ℕ, ◌<◌, ◌≤◌, false, List, Option, Some};
 ghost use Rattle.rv32_image.specs.Image.{LoadedImage, IsImage};
 ghost use Rattle.spec_history.specs.declared.entry.Entry.{Entry};
 ghost use Rattle.spec_history.specs.FlatState.{FlatState};
@@ -51,6 +51,15 @@ pub fn without_conflict_none_is_hurt()
     ensures { (image : LoadedImage) (cores : ℕ) (history : List Entry) (s : FlatState) → IsImage image → replay image cores history ≡ Some s
         → NoneStartsAfterCancel history → MeetInBytes image cores history → (Conflict image cores → ⊥) → NoneIsHurt history }
 {}
+
+/// Of every book over a store without caches, whatever turns led to it, on one thread or on many: where no two epochs conflict over
+/// bytes, its history has no violation.
+pub fn without_conflict_no_book_is_hurt<S: EpochStore>(book: &Book<S>)
+    ensures { (S.view book.now.store).cached ≡ false → (Conflict book.now.image book.now.cores → ⊥) → NoneIsHurt book.now.history }
+{
+    without_conflict_none_is_hurt();
+    book.look();
+}
 
 /// Where no epoch stores in a line of the caches in which a later one, which so many cores can run beside it, reads a byte from
 /// outside, nor touches a line of which the later one's buffer is too small: no legal history of so many cores has a violation, if
