@@ -72,11 +72,11 @@ DEP = ("dep store 00000014 load 00000004 times {} distance {} at {} first 0 1 st
 FLOWS = [
     (NEVER, "No schedule on up to 8 cores can roll this loop back (proved). What holds it back"),
     (MEETS.format("caches", 2) + "never plain 8\n",
-     "Over caches a schedule rolls it back from 2 cores on; over a plain store of bytes none on up to 8 cores does. In order no "
+     "Over caches a schedule rolls it back from 2 cores on; over a plain store of bytes none on up to 8 cores does (proved). In order no "
      "epoch reads what another one stores: what rolls back are lines that they share."),
     ("open caches 2\nnever plain 8\n",
      "Over caches epochs conflict from 2 cores on, but no schedule that rolls back is known; over a plain store of bytes none on up to "
-     "8 cores does. What holds it back"),
+     "8 cores does (proved). What holds it back"),
     (DEP.format(1, "1 1", "00000040 1", "2 of 4", "1 of 4") + MEETS.format("caches", 2) + MEETS.format("plain", 2),
      "A schedule rolls it back over caches from 2 cores on, and over a plain store of bytes too. What an epoch needs earliest of another: "
      "the load at waits.c:7 reads, after 1 of 4 instructions, what the store at waits.c:4 left after 2 of 4, 1 epoch before; 1 time "
@@ -128,7 +128,7 @@ FLOWING = {
     "padded_counters": ["A schedule rolls it back over caches from 5 cores on, and over a plain store of bytes too."],
     "list_walk": ["after 0 of 200 instructions, what the store at 00000014 left after 5 of 200, 1 epoch before; 4 times in all, at cursor. It looks like "
                   "the walk of a list"],
-    "queens": ["over a plain store of bytes none on up to 8 cores does"],
+    "queens": ["over a plain store of bytes none on up to 8 cores does (proved)"],
 }
 
 
