@@ -69,6 +69,7 @@ takes-sends bus message room next h t =
       victim = t.victim;
       copies = λ a. refl;
       same_length = refl;
+      same_geometry = refl;
       same_limit = entry-limit next.enters message.addr (bus.core message.sender).buffer;
       stays =
           changed-coherent (without_line message.addr room (bus.core message.sender)) message.addr next message.line

@@ -33,6 +33,7 @@ pub record IsOpened (bus : Bus) (image : LoadedImage) (cores : ℕ) : Type 0 whe
   pub length_of : bus.line_length ≡ (limits_of image.version).line_length
   pub whole_lines : bus.shape.size % bus.line_length ≡ 0
   pub lengths : (k : ℕ) → k < bus.shape.cores → (bus.core k).line_length ≡ bus.line_length
+  pub geometries : (k : ℕ) → k < bus.shape.cores → (bus.core k).geometry ≡ bus.geometry
   pub limits : (k : ℕ) → k < bus.shape.cores → (bus.core k).buffer.limit ≡ (limits_of image.version).buffer_lines
   pub idle : (k : ℕ) → IsIdle (bus.core k)
   pub absent : (k : ℕ) → bus.shape.cores ≤ k → bus.core k ≡ no_core
@@ -40,7 +41,7 @@ pub record IsOpened (bus : Bus) (image : LoadedImage) (cores : ℕ) : Type 0 whe
 opened-with : (bus : Bus) (image : LoadedImage) (cores : ℕ) → IsOpened bus image cores
     → IsCoherentWith bus (memory_line bus.line_length bus.memory)
 opened-with bus image cores h =
-    idle-with bus h.length_is (h.length_of ∙ sym (ap (λ (shape : Shape). shape.limits.line_length) h.shape)) h.whole_lines h.lengths
+    idle-with bus h.length_is (h.length_of ∙ sym (ap (λ (shape : Shape). shape.limits.line_length) h.shape)) h.whole_lines h.lengths h.geometries
     (λ k inside. h.limits k inside ∙ sym (ap (λ (shape : Shape). shape.limits.buffer_lines) h.shape)) h.idle h.absent
 
 pub opened-coherent : (bus : Bus) (image : LoadedImage) (cores : ℕ) → IsOpened bus image cores → IsCoherent bus

@@ -21,6 +21,7 @@ pub record IsCoherentWith (bus : Bus) (c : ℕ → ℕ → ℕ) : Type 0 where
   pub length_of : bus.line_length ≡ bus.shape.limits.line_length
   pub whole_lines : bus.shape.size % bus.line_length ≡ 0
   pub lengths : (k : ℕ) → k < bus.shape.cores → (bus.core k).line_length ≡ bus.line_length
+  pub geometries : (k : ℕ) → k < bus.shape.cores → (bus.core k).geometry ≡ bus.geometry
   pub limits : (k : ℕ) → k < bus.shape.cores → (bus.core k).buffer.limit ≡ bus.shape.limits.buffer_lines
   pub lines : (addr : ℕ) → addr % bus.line_length ≡ 0
       → IsCoherentLine (λ k. (bus.core k).copy addr) (memory_line bus.line_length bus.memory addr) (c addr)
@@ -42,6 +43,7 @@ coherent-with bus c h =
       length_of = h.length_of;
       whole_lines = h.whole_lines;
       lengths = h.lengths;
+      geometries = h.geometries;
       limits = h.limits;
       lines =
           λ addr aligned.
@@ -60,6 +62,7 @@ with-itself bus h =
       length_of = h.length_of;
       whole_lines = h.whole_lines;
       lengths = h.lengths;
+      geometries = h.geometries;
       limits = h.limits;
       lines = h.lines;
       cores = h.cores;
@@ -77,6 +80,7 @@ with-same bus c d same h =
       length_of = h.length_of;
       whole_lines = h.whole_lines;
       lengths = h.lengths;
+      geometries = h.geometries;
       limits = h.limits;
       lines =
           λ addr aligned.

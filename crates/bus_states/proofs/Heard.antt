@@ -32,6 +32,11 @@ pub heard-length : (core : CoreState) (addr : ℕ) (v : Bool) (next : Next) (cel
 heard-length core addr true next cell = refl
 heard-length core addr false next cell = refl
 
+pub heard-geometry : (core : CoreState) (addr : ℕ) (v : Bool) (next : Next) (cell : ℕ → ℕ)
+    → (heard addr v next cell core).geometry ≡ core.geometry
+heard-geometry core addr true next cell = refl
+heard-geometry core addr false next cell = refl
+
 -- so many lines as its buffer took
 pub heard-limit : (core : CoreState) (addr : ℕ) (v : Bool) (next : Next) (cell : ℕ → ℕ)
     → (heard addr v next cell core).buffer.limit ≡ core.buffer.limit

@@ -18,15 +18,17 @@ pub record IsIdle (core : CoreState) : Type 0 where
 pub idle-with : (bus : Bus) → is_line_length bus.line_length ≡ true → bus.line_length ≡ bus.shape.limits.line_length
     → bus.shape.size % bus.line_length ≡ 0
     → ((k : ℕ) → k < bus.shape.cores → (bus.core k).line_length ≡ bus.line_length)
+    → ((k : ℕ) → k < bus.shape.cores → (bus.core k).geometry ≡ bus.geometry)
     → ((k : ℕ) → k < bus.shape.cores → (bus.core k).buffer.limit ≡ bus.shape.limits.buffer_lines)
     → ((k : ℕ) → IsIdle (bus.core k)) → ((k : ℕ) → bus.shape.cores ≤ k → bus.core k ≡ no_core)
     → IsCoherentWith bus (memory_line bus.line_length bus.memory)
-idle-with bus length_is length_of whole_lines lengths limits idle absent =
+idle-with bus length_is length_of whole_lines lengths geometries limits idle absent =
     record {
       length_is = length_is;
       length_of = length_of;
       whole_lines = whole_lines;
       lengths = lengths;
+      geometries = geometries;
       limits = limits;
       lines =
           λ addr aligned. record {

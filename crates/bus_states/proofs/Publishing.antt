@@ -115,6 +115,7 @@ publish-sends bus core addr h t =
       victim = none-room (bus.core core);
       copies = λ a. refl;
       same_length = refl;
+      same_geometry = refl;
       same_limit = entry-limit next.enters addr (bus.core core).buffer;
       stays =
           subst (λ (enters : Bool). IsCoherentCore (record (with_copy addr (made next.state next.marks (sees bus core addr)) (bus.core core)) {
@@ -268,6 +269,7 @@ settle-quietly bus core h inside empty =
     record {
       in_cores = inside;
       same_length = refl;
+      same_geometry = refl;
       same_limit = refl;
       stays = record {
         listed = λ a. sym (unrequired (published_copy true ((bus.core core).copy a)).state (published_copy true ((bus.core core).copy a)).marks (unmarked-published true ((bus.core core).copy a)));

@@ -14,6 +14,7 @@ use Rattle.bus_states.proofs.Copies.{itself, not_so, up_to_date-invalid}
 pub record ChangesQuietly (bus : Bus) (core : ℕ) (own : CoreState) (memory : ℕ → ℕ) (c : ℕ → ℕ → ℕ) : Type 0 where
   pub in_cores : core < bus.shape.cores
   pub same_length : own.line_length ≡ (bus.core core).line_length
+  pub same_geometry : own.geometry ≡ (bus.core core).geometry
   pub same_limit : own.buffer.limit ≡ (bus.core core).buffer.limit
   pub stays : IsCoherentCore own
   pub in_place : (a : ℕ) → IsInPlace bus.line_length a (own.copy a)
@@ -85,6 +86,10 @@ quiet-with bus core own memory c h t =
           λ k inside. by_core (λ (k : ℕ). k < bus.shape.cores → ((quietly bus core own memory).core k).line_length ≡ bus.line_length) core k
           (rw (at_own bus core own memory) (λ i. t.same_length ∙ h.lengths core i))
           (λ away. rw (at_other bus core own memory k away) (h.lengths k)) inside;
+      geometries =
+          λ k inside. by_core (λ (k : ℕ). k < bus.shape.cores → ((quietly bus core own memory).core k).geometry ≡ bus.geometry) core k
+          (rw (at_own bus core own memory) (λ i. t.same_geometry ∙ h.geometries core i))
+          (λ away. rw (at_other bus core own memory k away) (h.geometries k)) inside;
       limits =
           λ k inside. by_core (λ (k : ℕ). k < bus.shape.cores → ((quietly bus core own memory).core k).buffer.limit ≡ bus.shape.limits.buffer_lines) core k
           (rw (at_own bus core own memory) (λ i. t.same_limit ∙ h.limits core i))
@@ -113,6 +118,7 @@ quiet-with bus core own memory c h t =
 pub record Fades (bus : Bus) (core : ℕ) (own : CoreState) : Type 0 where
   pub in_cores : core < bus.shape.cores
   pub same_length : own.line_length ≡ (bus.core core).line_length
+  pub same_geometry : own.geometry ≡ (bus.core core).geometry
   pub same_limit : own.buffer.limit ≡ (bus.core core).buffer.limit
   pub stays : IsCoherentCore own
   pub in_place : (a : ℕ) → IsInPlace bus.line_length a (own.copy a)
@@ -127,6 +133,7 @@ fades-quietly bus core own h t =
     record {
       in_cores = t.in_cores;
       same_length = t.same_length;
+      same_geometry = t.same_geometry;
       same_limit = t.same_limit;
       stays = t.stays;
       in_place = t.in_place;

@@ -35,6 +35,7 @@ attempt-fades bus core attempt h inside unmarked =
     record {
       in_cores = inside;
       same_length = refl;
+      same_geometry = refl;
       same_limit = refl;
       stays = record { listed = (h.cores core).listed; buffer = (h.cores core).buffer; unmarked = unmarked };
       in_place = h.in_place core;
@@ -64,6 +65,7 @@ cancel-with bus core h inside =
     (record {
       in_cores = inside;
       same_length = refl;
+      same_geometry = refl;
       same_limit = refl;
       stays = dropped-coherent (bus.core core) (h.cores core);
       in_place = λ a. rolled_back-in_place bus.line_length a ((bus.core core).copy a) (h.in_place core a);
@@ -108,6 +110,7 @@ one-quietly bus core addr copy memory c h t =
     record {
       in_cores = t.in_cores;
       same_length = refl;
+      same_geometry = refl;
       same_limit = refl;
       stays = t.stays;
       in_place = λ a. by_addr (λ (a : ℕ) (copy : LineCopy). IsInPlace bus.line_length a copy) (bus.core core) addr copy a t.in_place (λ e. h.in_place core a);

@@ -49,6 +49,7 @@ pub record Sends (bus : Bus) (message : Message) (room : Option Room) (own : Cor
   pub victim : IsRoom (bus.core message.sender) room
   pub copies : (a : ℕ) → own.copy a ≡ cond (message.addr == a) mine (cond (leaves room a) no_copy ((bus.core message.sender).copy a))
   pub same_length : own.line_length ≡ (bus.core message.sender).line_length
+  pub same_geometry : own.geometry ≡ (bus.core message.sender).geometry
   pub same_limit : own.buffer.limit ≡ (bus.core message.sender).buffer.limit
   pub stays : IsCoherentCore own
   pub up_to_date : IsUpToDate mine message.line
@@ -276,6 +277,10 @@ sent-with bus message room own mine h t =
           λ k inside. by_core (λ (k : ℕ). k < bus.shape.cores → ((sent bus message room own).core k).line_length ≡ bus.line_length) message.sender k
           (rw (at_sender bus message room own) (λ i. t.same_length ∙ h.lengths message.sender i))
           (λ away. rw (at_other bus message room own k away) (λ i. Heard.heard-length (bus.core k) message.addr (violates bus message k) (reply bus message k) _ ∙ h.lengths k i)) inside;
+      geometries =
+          λ k inside. by_core (λ (k : ℕ). k < bus.shape.cores → ((sent bus message room own).core k).geometry ≡ bus.geometry) message.sender k
+          (rw (at_sender bus message room own) (λ i. t.same_geometry ∙ h.geometries message.sender i))
+          (λ away. rw (at_other bus message room own k away) (λ i. Heard.heard-geometry (bus.core k) message.addr (violates bus message k) (reply bus message k) _ ∙ h.geometries k i)) inside;
       limits =
           λ k inside. by_core (λ (k : ℕ). k < bus.shape.cores → ((sent bus message room own).core k).buffer.limit ≡ bus.shape.limits.buffer_lines) message.sender k
           (rw (at_sender bus message room own) (λ i. t.same_limit ∙ h.limits message.sender i))

@@ -5,23 +5,27 @@
 use Rattle.std.specs.Prelude.{ℕ, zero, suc, ◌+◌, ◌*◌, ◌/◌, ◌%◌, ◌||◌, nat_lt, Bool, false, if◌then◌else◌, [], Option, None}
 use Rattle.spec_states.specs.Copies.{LineCopy, no_copy, merged_line}
 use Rattle.spec_states.specs.States.{is_modified}
+use Rattle.cache_lines.specs.Lines.{Geometry}
 use Rattle.orb.specs.Lines.{Buffer}
 use Rattle.violations.specs.declared.attempt.Attempt.{Attempt}
 use Rattle.violations.specs.View.{Shape, epoch_of}
 
--- what a core holds: the bytes of a line of its cache, its copy of the line at each address, the way of its set in which that
--- line stands (none where the core has no copy), its ownership required buffer, its attempt
+-- what a core holds: the bytes of a line of its cache, its sets and ways, its copy of the line at each address, the way of its
+-- set in which that line stands (none where the core has no copy), its ownership required buffer, its attempt
 pub record CoreState : Type 0 where
   pub line_length : ℕ
+  pub geometry : Geometry
   pub copy : ℕ → LineCopy
   pub way : ℕ → Option ℕ
   pub buffer : Buffer
   pub attempt : Option Attempt
 
--- how many cores there are and bytes of memory, the bytes of a line, each core by its number, memory's byte at each address
+-- how many cores there are and bytes of memory, the bytes of a line, the sets and ways of each cache, each core by its number,
+-- memory's byte at each address
 pub record Bus : Type 0 where
   pub shape : Shape
   pub line_length : ℕ
+  pub geometry : Geometry
   pub core : ℕ → CoreState
   pub memory : ℕ → ℕ
 
@@ -30,6 +34,7 @@ abbrev pub no_core : CoreState
 no_core =
     record {
       line_length = 0;
+      geometry = record { sets = 0; ways = 0 };
       copy = λ _. no_copy;
       way = λ _. None;
       buffer = record { limit = 0; lines = [] };

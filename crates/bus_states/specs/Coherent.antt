@@ -36,6 +36,7 @@ pub record IsCoherent (bus : Bus) : Type 0 where
   pub length_of : bus.line_length ≡ bus.shape.limits.line_length
   pub whole_lines : bus.shape.size % bus.line_length ≡ 0
   pub lengths : (k : ℕ) → k < bus.shape.cores → (bus.core k).line_length ≡ bus.line_length
+  pub geometries : (k : ℕ) → k < bus.shape.cores → (bus.core k).geometry ≡ bus.geometry
   -- each core's buffer takes as many lines as the limits say
   pub limits : (k : ℕ) → k < bus.shape.cores → (bus.core k).buffer.limit ≡ bus.shape.limits.buffer_lines
   pub lines : (addr : ℕ) → addr % bus.line_length ≡ 0

@@ -1,6 +1,7 @@
 -- What the calls do to the copies of a cache as the protocol sees them.
-use Rattle.std.proofs.Common.{◌≡◌, ℕ, ◌<◌, ◌==◌, ◌&&◌, Bool, true, false, cond, Option, Some, None, refl, sym, ap, subst, ◌∙◌, arith}
+use Rattle.std.proofs.Common.{◌≡◌, ℕ, ◌%◌, ◌<◌, ◌==◌, ◌&&◌, Bool, true, false, cond, IfSome, IfNone, option_map, Option, Some, None, refl, sym, ap, subst, ◌∙◌, arith}
 use Rattle.std.proofs.Math.Path.{fun_ext}
+use Rattle.std.proofs.lemmas.Nat.{pow_pos}
 use Rattle.std.proofs.lemmas.Bool.{false_from_ne_true}
 use Rattle.std.proofs.lemmas.Bool.Decides.{nat_tests}
 use Rattle.spec_states.specs.declared.line.LineState.{LineState}
@@ -12,21 +13,21 @@ use Rattle.spec_states.proofs.CopyLaws.{IsUpToDate-gone, violation-keeps, settle
 use Rattle.spec_states.proofs.RowLaws.{violation-rolls_back, settlement-settles}
 use Rattle.cache_lines.specs.declared.line.Line.{Line}
 use Rattle.cache_lines.specs.Cells.{cell_of, with_number, line_with_number}
-use Rattle.cache_lines.specs.Changes.{rolled_back_line, published_line, with_each_line, IsFound, CopiesAreFilled, CopiesChange, CopiesAllChange}
-use Rattle.cache_lines.specs.Lines.{Contents, way_count, line_in, with_line, is_copy_of, held_line}
+use Rattle.cache_lines.specs.Changes.{rolled_back_line, published_line, with_each_line, IsFound, IsAbsent, CopiesAreFilled, CopiesChange, CopiesAllChange}
+use Rattle.cache_lines.specs.Lines.{Contents, line_in, with_line, is_copy_of, way_at, held_line}
 use Rattle.cache_lines.specs.Placed.{IsPlaced, MayStand}
-use Rattle.cache_lines.specs.Protocol.{copy_of_line, copy_or_none, copy_at, rolled_back_copy, published_copy, copy_with_number}
-use Rattle.cache_lines.proofs.LineLaws.{is_copy_of-true, is_copy_of-own, held_line-own, held_line-with_line}
+use Rattle.cache_lines.specs.Protocol.{IsInPlace, copy_of_line, copy_or_none, copy_at, rolled_back_copy, published_copy, copy_with_number}
+use Rattle.cache_lines.proofs.LineLaws.{IsPlaced-once, by_way, held_none, is_copy_of-true, is_copy_of-own, held_line-own, held_line-with_line}
 use Rattle.cache_lines.proofs.WholeCache.{changed_held, held_line-each, KeepsAddresses, KeepsAddresses-rolled_back, KeepsAddresses-published}
 
 -- ---- one copy
 
 -- a valid line is the cache's copy at its own address
-pub copy_at-line : (cache : Contents) → IsPlaced cache → (addr way other : ℕ) → way < way_count
+pub copy_at-line : (cache : Contents) → IsPlaced cache → (addr way other : ℕ) → way < cache.geometry.ways
     → is_copy_of (line_in cache addr way) other ≡ true → copy_at cache other ≡ copy_of_line (line_in cache addr way)
 copy_at-line cache h addr way other way_way e = ap copy_or_none (held_line-own cache h addr way other way_way e)
 
-pub copy_at-own : (cache : Contents) → IsPlaced cache → (addr way : ℕ) → way < way_count
+pub copy_at-own : (cache : Contents) → IsPlaced cache → (addr way : ℕ) → way < cache.geometry.ways
     → is_valid (line_in cache addr way).state ≡ true
     → copy_at cache (line_in cache addr way).addr ≡ copy_of_line (line_in cache addr way)
 copy_at-own cache h addr way way_way v =
@@ -35,7 +36,7 @@ copy_at-own cache h addr way way_way v =
 -- ---- where one line is replaced
 
 -- by any line that may stand there
-pub copies-filled : (cache : Contents) (way : ℕ) (line : Line) → IsPlaced cache → way < way_count
+pub copies-filled : (cache : Contents) (way : ℕ) (line : Line) → IsPlaced cache → way < cache.geometry.ways
     → MayStand cache line.addr way line → CopiesAreFilled cache (with_line cache line.addr way line) way line
 copies-filled cache way line h way_way may other =
     ap copy_or_none (held_line-with_line cache line.addr way line h way_way may other)
@@ -53,7 +54,7 @@ shown_line line = cond (is_valid line.state) (copy_of_line line) no_copy
 
 -- by a line of its address, if that is valid only where it was, and is the changed copy
 pub copies-changed : (cache : Contents) (addr way : ℕ) (line : Line) (change : LineCopy → LineCopy) → IsPlaced cache
-    → way < way_count → MayStand cache addr way line → line.addr ≡ (line_in cache addr way).addr
+    → way < cache.geometry.ways → MayStand cache addr way line → line.addr ≡ (line_in cache addr way).addr
     → (is_valid line.state ≡ true → is_valid (line_in cache addr way).state ≡ true)
     → (is_valid (line_in cache addr way).state ≡ true → shown_line line ≡ change (copy_of_line (line_in cache addr way)))
     → CopiesChange cache (with_line cache addr way line) addr way change
@@ -97,7 +98,7 @@ shown_valid line before cell same_state same_marks bytes valid =
 
 -- a store is written into the copy
 pub copies-written : (cache new : Contents) (addr way offset width value : ℕ) (line : Line) → IsPlaced cache
-    → way < way_count → MayStand cache addr way line
+    → way < cache.geometry.ways → MayStand cache addr way line
     → line ≡ line_with_number (line_in cache addr way) offset width value
     → ((x : ℕ) → cell_of line x ≡ with_number (cell_of (line_in cache addr way)) offset width value x)
     → new ≡ with_line cache addr way line → CopiesChange cache new addr way (copy_with_number offset width value)
@@ -135,6 +136,42 @@ copies-each change shown h cache placed addr =
     one : (held : Option Line) → copy_or_none (changed_held change held) ≡ shown (copy_or_none held)
     one None = h.none
     one (Some line) = kept (change line) (is_valid (change line).state) refl ∙ h.seen line
+
+-- ---- what is found
+
+-- the copy of a line is in its place
+pub in_place : (cache : Contents) → IsPlaced cache → (addr : ℕ) → IsInPlace cache.line_length addr (copy_at cache addr)
+in_place cache h addr =
+    by_way cache addr (λ o. IsInPlace cache.line_length addr (copy_or_none (option_map (line_in cache addr) o)))
+    (λ w lt copy.
+    let p = is_copy_of-true (line_in cache addr w) addr copy in
+    let fits = h.fits addr w lt p.0 in
+    record {
+      aligned = λ _. ap (λ a. a % cache.line_length) (sym p.1) ∙ h.aligned addr w lt p.0;
+      mask = fits.mask;
+      cells = fits.cells;
+    })
+    (λ none. record { aligned = λ valid. absurd cc; mask = pow_pos cache.line_length; cells = λ x _. refl })
+
+-- the way of a line has its copy
+pub way-found : (cache : Contents) → IsPlaced cache → (addr : ℕ) → IfSome (way_at cache addr) (IsFound cache addr)
+way-found cache h addr =
+    by_way cache addr (λ o. IfSome o (IsFound cache addr))
+    (λ w lt copy.
+    let p = is_copy_of-true (line_in cache addr w) addr copy in
+    record {
+      in_ways = lt;
+      copy = copy_at-line cache h addr w addr lt copy;
+      copy_of_it = λ other. rw (p.0, p.1) refl;
+      once = λ v v_way apart. IsPlaced-once cache h addr w v lt v_way apart copy;
+      aligned = ap (λ a. a % cache.line_length) (sym p.1) ∙ h.aligned addr w lt p.0;
+    })
+    (λ none. tt)
+
+pub way-absent : (cache : Contents) (addr : ℕ) → IfNone (way_at cache addr) (IsAbsent cache addr)
+way-absent cache addr =
+    by_way cache addr (λ o. IfNone o (IsAbsent cache addr)) (λ w lt copy. tt)
+    (λ none. record { nowhere = none; copy = ap copy_or_none (held_none cache addr none) })
 
 -- ---- the copies after a violation and after a publish
 

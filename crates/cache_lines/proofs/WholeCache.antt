@@ -1,15 +1,16 @@
 -- What a change of every line does to the lines that a cache holds.
-use Rattle.std.proofs.Common.{Option, ◌≡◌, ℕ, ◌*◌, ◌<◌, ◌==◌, ◌&&◌, Bool, true, false, cond, length, Some, None, refl, ◌∙◌, arith}
+use Rattle.std.proofs.Common.{Option, option_map, ◌≡◌, ℕ, ◌<◌, ◌==◌, ◌&&◌, Bool, true, false, cond, Some, None, inl, inr, refl, ap, ◌∙◌, arith}
+use Rattle.std.proofs.lemmas.Bool.{cases_eq}
 use Rattle.std.proofs.lemmas.Bool.Decides.{nat_tests}
 use Rattle.std.proofs.lemmas.List.{get_or-map, length-map}
 use Rattle.std.proofs.lemmas.Nat.{pow_pos}
 use Rattle.spec_states.specs.States.{is_valid}
 use Rattle.spec_states.proofs.RowLaws.{violation-rolls_back, settlement-settles}
 use Rattle.cache_lines.specs.declared.line.Line.{Line}
-use Rattle.cache_lines.specs.Lines.{Contents, set_count, way_count, place, invalid_line, line_in, is_copy_of, held_line}
+use Rattle.cache_lines.specs.Lines.{Contents, place, invalid_line, line_in, is_copy_of, held_line}
 use Rattle.cache_lines.specs.Placed.{IsPlaced, FitsLength}
 use Rattle.cache_lines.specs.Changes.{rolled_back_line, published_line, with_each_line}
-use Rattle.cache_lines.proofs.LineLaws.{IsPlaced-once, place-lt}
+use Rattle.cache_lines.proofs.LineLaws.{IsPlaced-once, place-lt, by_way, held_here, held_none}
 
 -- a change that leaves each line's address, and revives none
 pub record KeepsAddresses (change : Line → Line) : Type 0 where
@@ -28,62 +29,20 @@ is_copy_of-changed change h line x =
     test : (v w : Bool) (m n : ℕ) → m ≡ n → (v ≡ true → w ≡ true) → (v && (m == x)) ≡ (v && (w && (n == x)))
     test v w m n e up = grind (arith, nat_tests)
 
--- the choice among two ways whose lines change: a and b are the lines before, p and q those after, of which v and w say
--- whether they are valid, and j and k whether the lines before are copies
-both_changed : (a b p q : Line) (j k v w : Bool) → (j ≡ true → k ≡ false)
-    → cond (v && j) (Some p) (cond (w && k) (Some q) None) ≡ cond j (cond v (Some p) None) (cond k (cond w (Some q) None) None)
-both_changed a b p q true k true w apart = refl
-both_changed a b p q true k false true apart = rw (apart refl) refl
-both_changed a b p q true k false false apart = refl
-both_changed a b p q false true true true apart = refl
-both_changed a b p q false true true false apart = refl
-both_changed a b p q false true false true apart = refl
-both_changed a b p q false true false false apart = refl
-both_changed a b p q false false true true apart = refl
-both_changed a b p q false false true false apart = refl
-both_changed a b p q false false false true apart = refl
-both_changed a b p q false false false false apart = refl
+never : (b : Bool) → (b && false) ≡ false
+never true = refl
+never false = refl
 
 -- the line that is held, where each line of the cache is changed so
 abbrev pub changed_held : (Line → Line) → Option Line → Option Line
 changed_held change None = None
 changed_held change (Some line) = cond (is_valid (change line).state) (Some (change line)) None
 
--- what a change makes of the copy that a choice gives
-changed_choice : (change : Line → Line) (a b : Line) (j k : Bool)
-    → cond j (cond (is_valid (change a).state) (Some (change a)) None)
-    (cond k (cond (is_valid (change b).state) (Some (change b)) None) None)
-    ≡ changed_held change (cond j (Some a) (cond k (Some b) None))
-changed_choice change a b true k = refl
-changed_choice change a b false true = refl
-changed_choice change a b false false = refl
-
 -- a way of the changed lines
-pub line_in-each : (change : Line → Line) (cache : Contents) → length cache.lines ≡ set_count * way_count
-    → (addr way : ℕ) → way < way_count
+pub line_in-each : (change : Line → Line) (cache : Contents) → IsPlaced cache → (addr way : ℕ) → way < cache.geometry.ways
     → line_in (with_each_line change cache) addr way ≡ change (line_in cache addr way)
-line_in-each change cache size addr way way_way =
-    let lt : place cache.line_length addr way < set_count * way_count = place-lt cache.line_length addr way way_way in
-    get_or-map change cache.lines (place cache.line_length addr way) invalid_line invalid_line (rw size lt)
-
--- where every line is changed, each line that is held is changed, or goes
-pub held_line-each : (change : Line → Line) → KeepsAddresses change → (cache : Contents) → IsPlaced cache → (addr : ℕ)
-    → held_line (with_each_line change cache) addr ≡ changed_held change (held_line cache addr)
-held_line-each change h cache placed addr =
-    let lt0 : 0 < way_count = omega arith in
-    let lt1 : 1 < way_count = omega arith in
-    let a : Line = line_in cache addr 0 in
-    let b : Line = line_in cache addr 1 in
-    rw (
-      line_in-each change cache placed.size addr 0 lt0,
-      line_in-each change cache placed.size addr 1 lt1,
-      is_copy_of-changed change h a addr,
-      is_copy_of-changed change h b addr,
-    )
-    (both_changed a b (change a) (change b) (is_copy_of a addr) (is_copy_of b addr)
-    (is_valid (change a).state) (is_valid (change b).state)
-    (λ t. IsPlaced-once cache placed addr 0 1 lt0 lt1 (omega arith) t)
-    ∙ changed_choice change a b (is_copy_of a addr) (is_copy_of b addr))
+line_in-each change cache h addr way way_way =
+    get_or-map change cache.lines (place cache addr way) invalid_line invalid_line (rw h.size (place-lt cache h.geometry_is addr way way_way))
 
 -- the lines stay in their places where every line is changed
 pub IsPlaced-each : (change : Line → Line) → KeepsAddresses change → (cache : Contents) → IsPlaced cache
@@ -91,32 +50,57 @@ pub IsPlaced-each : (change : Line → Line) → KeepsAddresses change → (cach
 IsPlaced-each change h cache placed =
     record {
       length_is = placed.length_is;
+      geometry_is = placed.geometry_is;
       size = length-map cache.lines change ∙ placed.size;
       aligned =
-          λ a w w_way. rw (line_in-each change cache placed.size a w w_way)
+          λ a w w_way. rw (line_in-each change cache placed a w w_way)
           (λ v. rw (h.addr (line_in cache a w)) (placed.aligned a w w_way (h.no_revival (line_in cache a w) v)));
       in_set =
-          λ a w w_way. rw (line_in-each change cache placed.size a w w_way)
+          λ a w w_way. rw (line_in-each change cache placed a w w_way)
           (λ v. rw (h.addr (line_in cache a w)) (placed.in_set a w w_way (h.no_revival (line_in cache a w) v)));
       once =
-          λ a w w_way. rw (line_in-each change cache placed.size a w w_way)
+          λ a w w_way. rw (line_in-each change cache placed a w w_way)
           (λ v. rw (h.addr (line_in cache a w))
           (λ other other_way apart.
           let addr : ℕ = (line_in cache a w).addr in
           rw (
-            line_in-each change cache placed.size addr other other_way,
+            line_in-each change cache placed addr other other_way,
             is_copy_of-changed change h (line_in cache addr other) addr,
             placed.once a w w_way (h.no_revival (line_in cache a w) v) other other_way apart,
           )
           (never (is_valid (change (line_in cache (line_in cache a w).addr other)).state))));
       fits =
-          λ a w w_way. rw (line_in-each change cache placed.size a w w_way)
+          λ a w w_way. rw (line_in-each change cache placed a w w_way)
           (λ v. h.fits cache.line_length (line_in cache a w) v (placed.fits a w w_way (h.no_revival (line_in cache a w) v)));
     }
+
+-- where every line is changed, each line that is held is changed, or goes
+pub held_line-each : (change : Line → Line) → KeepsAddresses change → (cache : Contents) → IsPlaced cache → (addr : ℕ)
+    → held_line (with_each_line change cache) addr ≡ changed_held change (held_line cache addr)
+held_line-each change h cache placed addr =
+    by_way cache addr (λ o. held_line new addr ≡ changed_held change (option_map (line_in cache addr) o))
+    (λ w lt copy. one w lt copy (is_valid (change (line_in cache addr w)).state) refl)
+    (λ none. held_none new addr (λ w lt. seen w lt ∙ (ap (λ b. is_valid (change (line_in cache addr w)).state && b) (none w lt) ∙ never _)))
   where
-    never : (b : Bool) → (b && false) ≡ false
-    never true = refl
-    never false = refl
+    new : Contents
+    new = with_each_line change cache
+
+    seen : (w : ℕ) → w < cache.geometry.ways
+        → is_copy_of (line_in new addr w) addr ≡ (is_valid (change (line_in cache addr w)).state && is_copy_of (line_in cache addr w) addr)
+    seen w lt =
+        ap (λ (l : Line). is_copy_of l addr) (line_in-each change cache placed addr w lt) ∙ is_copy_of-changed change h (line_in cache addr w) addr
+
+    one : (w : ℕ) → w < cache.geometry.ways → is_copy_of (line_in cache addr w) addr ≡ true
+        → (b : Bool) → is_valid (change (line_in cache addr w)).state ≡ b
+        → held_line new addr ≡ cond b (Some (change (line_in cache addr w))) None
+    one w lt copy true valid =
+        held_here new (IsPlaced-each change h cache placed) addr w lt (seen w lt ∙ rw (valid, copy) refl)
+        ∙ ap (λ (l : Line). Some l) (line_in-each change cache placed addr w lt)
+    one w lt copy false valid =
+        held_none new addr (λ v v_way. seen v v_way ∙ (elim (cases_eq v w) [
+          | inl same ↦ ap (λ u. is_valid (change (line_in cache addr u)).state && is_copy_of (line_in cache addr u) addr) same ∙ rw valid refl
+          | inr apart ↦ rw (IsPlaced-once cache placed addr w v lt v_way apart copy) (never _)
+        ]))
 
 -- a violation leaves each line's address, and revives none
 pub KeepsAddresses-rolled_back : KeepsAddresses rolled_back_line

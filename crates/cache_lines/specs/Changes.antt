@@ -1,23 +1,14 @@
 -- The line that a call picks, and what it makes of a line and of the copies that a cache holds.
-use Rattle.std.specs.Prelude.{◌≡◌, ℕ, ◌%◌, ◌==◌, ◌<◌, Bool, false, not, if◌then◌else◌, map, Option, Some, None}
+use Rattle.std.specs.Prelude.{◌≡◌, ℕ, ◌%◌, ◌==◌, ◌<◌, Bool, false, not, if◌then◌else◌, map, Option, None}
 use Rattle.std.specs.Option.{option_or}
 use Rattle.spec_states.specs.declared.next.Next.{Next}
 use Rattle.spec_states.specs.Copies.{LineCopy, no_copy}
 use Rattle.spec_states.specs.States.{is_valid, is_speculative}
 use Rattle.spec_states.specs.Tables.{violation, settlement}
 use Rattle.cache_lines.specs.declared.line.Line.{Line}
-use Rattle.cache_lines.specs.Lines.{Contents, way_count, line_in, is_copy_of}
+use Rattle.cache_lines.specs.Lines.{Contents, line_in, is_copy_of, lowest_way, way_at}
 use Rattle.cache_lines.specs.Placed.{IsNotElsewhere}
 use Rattle.cache_lines.specs.Protocol.{copy_at, copy_of_line}
-
--- the lowest way of the set of this address whose line passes the test
-abbrev pub lowest_way : (Line → Bool) → Contents → ℕ → Option ℕ
-lowest_way test cache addr =
-    if test (line_in cache addr 0) then Some 0 else (if test (line_in cache addr 1) then Some 1 else None)
-
--- the way in which the cache holds the line at this address; none where it does not hold it
-abbrev pub way_at : Contents → ℕ → Option ℕ
-way_at cache addr = lowest_way (λ line. is_copy_of line addr) cache addr
 
 abbrev pub is_invalid : Line → Bool
 is_invalid line = not (is_valid line.state)
@@ -31,7 +22,7 @@ victim_of cache addr = option_or (lowest_way is_invalid cache addr) (lowest_way 
 
 -- the way has the copy of the line at this address, and no other way has
 pub record IsFound (cache : Contents) (addr way : ℕ) : Type 0 where
-  pub in_ways : way < way_count
+  pub in_ways : way < cache.geometry.ways
   pub copy : copy_at cache addr ≡ copy_of_line (line_in cache addr way)
   pub copy_of_it : (other : ℕ) → is_copy_of (line_in cache addr way) other ≡ (addr == other)
   pub once : IsNotElsewhere cache addr way
@@ -39,7 +30,7 @@ pub record IsFound (cache : Contents) (addr way : ℕ) : Type 0 where
 
 -- no way has a copy of the line at this address
 pub record IsAbsent (cache : Contents) (addr : ℕ) : Type 0 where
-  pub nowhere : (way : ℕ) → way < way_count → is_copy_of (line_in cache addr way) addr ≡ false
+  pub nowhere : (way : ℕ) → way < cache.geometry.ways → is_copy_of (line_in cache addr way) addr ≡ false
   pub copy : copy_at cache addr ≡ no_copy
 
 -- the line with the state and the marks of this change

@@ -4,12 +4,12 @@ use Rattle.spec_states.specs.Mask.{IsWithinLine}
 use Rattle.spec_states.specs.States.{is_valid}
 use Rattle.cache_lines.specs.declared.line.Line.{Line}
 use Rattle.cache_lines.specs.Cells.{cell_of}
-use Rattle.cache_lines.specs.Lines.{Contents, is_line_length, set_count, way_count, set_of, line_in, is_copy_of}
+use Rattle.cache_lines.specs.Lines.{Contents, IsGeometry, is_line_length, set_of, line_in, is_copy_of}
 
 -- no other way of its set has a valid copy of the line at this address
 abbrev pub IsNotElsewhere : Contents → ℕ → ℕ → Type 0
 IsNotElsewhere cache addr way =
-    (other : ℕ) → other < way_count → other ≢ way → is_copy_of (line_in cache addr other) addr ≡ false
+    (other : ℕ) → other < cache.geometry.ways → other ≢ way → is_copy_of (line_in cache addr other) addr ≡ false
 
 -- the line has no mark and no byte past this length
 pub record FitsLength (line_length : ℕ) (line : Line) : Type 0 where
@@ -20,19 +20,20 @@ pub record FitsLength (line_length : ℕ) (line : Line) : Type 0 where
 -- the valid lines, and it has nothing past the line length
 pub record IsPlaced (cache : Contents) : Type 0 where
   pub length_is : is_line_length cache.line_length ≡ true
-  pub size : length cache.lines ≡ set_count * way_count
-  pub aligned : (addr way : ℕ) → way < way_count → is_valid (line_in cache addr way).state ≡ true
+  pub geometry_is : IsGeometry cache.geometry
+  pub size : length cache.lines ≡ cache.geometry.sets * cache.geometry.ways
+  pub aligned : (addr way : ℕ) → way < cache.geometry.ways → is_valid (line_in cache addr way).state ≡ true
       → (line_in cache addr way).addr % cache.line_length ≡ 0
-  pub in_set : (addr way : ℕ) → way < way_count → is_valid (line_in cache addr way).state ≡ true
-      → set_of cache.line_length (line_in cache addr way).addr ≡ set_of cache.line_length addr
-  pub once : (addr way : ℕ) → way < way_count → is_valid (line_in cache addr way).state ≡ true
+  pub in_set : (addr way : ℕ) → way < cache.geometry.ways → is_valid (line_in cache addr way).state ≡ true
+      → set_of cache (line_in cache addr way).addr ≡ set_of cache addr
+  pub once : (addr way : ℕ) → way < cache.geometry.ways → is_valid (line_in cache addr way).state ≡ true
       → IsNotElsewhere cache (line_in cache addr way).addr way
-  pub fits : (addr way : ℕ) → way < way_count → is_valid (line_in cache addr way).state ≡ true
+  pub fits : (addr way : ℕ) → way < cache.geometry.ways → is_valid (line_in cache addr way).state ≡ true
       → FitsLength cache.line_length (line_in cache addr way)
 
 -- the line may stand in this way of the set of that address
 pub record MayStand (cache : Contents) (addr way : ℕ) (line : Line) : Type 0 where
   pub aligned : is_valid line.state ≡ true → line.addr % cache.line_length ≡ 0
-  pub in_set : is_valid line.state ≡ true → set_of cache.line_length line.addr ≡ set_of cache.line_length addr
+  pub in_set : is_valid line.state ≡ true → set_of cache line.addr ≡ set_of cache addr
   pub once : is_valid line.state ≡ true → IsNotElsewhere cache line.addr way
   pub fits : is_valid line.state ≡ true → FitsLength cache.line_length line

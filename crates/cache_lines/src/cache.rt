@@ -1,86 +1,90 @@
-ghost use Rattle.std.specs.Prelude.{◌≡◌, ℕ, ◌+◌, ◌<◌, ◌%◌, ◌*◌, map, true, false, Some, None, if◌then◌else◌, IsTrue, All, IfSome, IfNone};
+ghost use Rattle.std.specs.Prelude.{◌≡◌, ℕ, ◌+◌, ◌*◌, ◌<◌, ◌≤◌, ◌%◌, true, false, Some, None, length, slice_index_or, if◌then◌else◌, IsTrue, All, IfSome, IfNone, IfOk};
 ghost use Rattle.spec_states.specs.declared.line.LineState.TheVariants.{I};
 ghost use Rattle.spec_states.specs.Copies.{no_copy, merged_line, IsUpToDate};
 ghost use Rattle.memory_bytes.specs.Bytes.{IsWidth};
 ghost use Rattle.spec_states.specs.States.{is_valid, is_speculative};
 ghost use Rattle.cache_lines.specs.Cells.{line_with_number};
-ghost use Rattle.cache_lines.specs.Changes.{way_at, victim_of, rolled_back_line, published_line, with_each_line, IsFound, IsAbsent, CopiesAreFilled, CopiesChange, CopiesAllChange, StandIn};
-ghost use Rattle.cache_lines.specs.Lines.{Contents, is_line_length, set_count, way_count, place, line_in, with_line, is_copy_of};
+ghost use Rattle.cache_lines.specs.Changes.{victim_of, rolled_back_line, published_line, with_each_line, IsFound, IsAbsent, CopiesAreFilled, CopiesChange, CopiesAllChange, StandIn};
+ghost use Rattle.cache_lines.specs.Lines.{Contents, IsGeometry, default_geometry, is_line_length, set_of, invalid_line, line_in, with_line, is_copy_of, way_at};
 ghost use Rattle.cache_lines.specs.Placed.{IsNotElsewhere, FitsLength, IsPlaced, MayStand};
 ghost use Rattle.cache_lines.specs.Protocol.{IsInPlace, copy_at, copy_of_line, rolled_back_copy, published_copy, copy_with_number};
 
 use crate::line::Line;
-use spec_states::LONGEST_LINE;
+use crate::stored::Stored;
+use std::alloc::{AllocError, Global};
 use std::marker::Model;
 
-/// The sets of a cache.
+/// The sets of a cache that `Cache::new` makes.
 pub const SETS: usize = 4;
 
-/// The ways of a set.
+/// The ways of its sets.
 pub const WAYS: usize = 2;
-
-/// The lines of a cache.
-const LINES: usize = SETS * WAYS;
 
 /// A core's cache, of lines of 16 or of 32 bytes. Contracts see it as its lines, set by set, and in a set way by way.
 #[derive(Debug, Drop)]
 pub struct Cache {
-    lines: [Line; LINES],
+    stored: Stored,
     line_length: usize,
+    sets: usize,
+    ways: usize,
 }
 
 impl Model for Cache {
+    ghost use Rattle.cache_lines.specs.CacheInside.{contents_of};
+    ghost use Rattle.cache_lines.specs.Lines.{Contents};
+    ghost use Rattle.cache_lines.specs.Placed.{IsPlaced};
+
     ghost Value = { Contents };
 
-    ghost view = { λ cache. record { line_length = cache.line_length; lines = cache.lines } };
+    ghost view = { contents_of };
 
-    ghost invariant = { λ cache. IsPlaced (record { line_length = cache.line_length; lines = cache.lines }) };
-}
-
-/// Where a way of the set of `addr` stands, in a cache of lines of this length.
-fn place(line_length: usize, addr: u32, way: usize) -> usize
-    requires length { IsTrue (is_line_length line_length) }
-    requires in_ways { way < way_count }
-    ensures value { result ≡ place line_length addr way }
-    ensures within { result < set_count * way_count }
-{
-    WAYS * (addr as usize / line_length % SETS) + way
-}
-
-/// Gives every line the state and the marks that the violation of its core's epoch leaves.
-fn roll_back_lines(lines: &mut [Line; LINES])
-    ensures { lines.new ≡ map rolled_back_line lines.old }
-{
-    for place in 0..LINES {
-        let line = lines[place];
-        lines[place] = line.rolled_back();
-    }
-}
-
-/// Gives every line the state and the marks that its core's publish leaves, where no other core holds the line.
-fn settle_lines(lines: &mut [Line; LINES])
-    ensures { lines.new ≡ map (published_line true) lines.old }
-{
-    for place in 0..LINES {
-        let line = lines[place];
-        lines[place] = line.published();
-    }
+    ghost invariant = { λ cache. IsPlaced (contents_of cache) };
 }
 
 impl Cache {
-    /// A cache of lines of `length` bytes, 16 or 32, all of which are invalid.
+    /// A cache of 4 sets of 2 ways, of lines of `length` bytes, 16 or 32, all of which are invalid.
     pub fn new(length: usize) -> Cache
         requires { IsTrue (is_line_length length) }
         ensures line_length { result.line_length ≡ length }
+        ensures geometry { result.geometry ≡ default_geometry }
         ensures invalid { All (λ line. line.state ≡ I) result.lines }
         ensures placed { IsPlaced result }
         ensures copies { (addr : ℕ) → copy_at result addr ≡ no_copy }
         ensures ways { (addr : ℕ) → way_at result addr ≡ None }
     {
         Cache {
-            lines: [Line::INVALID; LINES],
+            stored: Stored::Few([Line::INVALID; SETS * WAYS]),
             line_length: length,
+            sets: SETS,
+            ways: WAYS,
         }
+    }
+
+    /// A cache of so many sets and ways of lines of `line_length` bytes, 16 or 32, all of which are invalid.
+    ///
+    /// `AllocError`: there was no memory for it.
+    pub fn with_geometry(
+        alloc: Global,
+        line_length: usize,
+        sets: usize,
+        ways: usize,
+    ) -> Result<Cache, AllocError>
+        requires length { IsTrue (is_line_length line_length) }
+        requires geometry { IsGeometry (record { sets = sets; ways = ways }) }
+        ensures line_length { IfOk result (λ cache. cache.line_length ≡ line_length) }
+        ensures geometry { IfOk result (λ cache. cache.geometry ≡ record { sets = sets; ways = ways }) }
+        ensures invalid { IfOk result (λ cache. All (λ line. line.state ≡ I) cache.lines) }
+        ensures placed { IfOk result IsPlaced }
+        ensures copies { IfOk result (λ cache. (addr : ℕ) → copy_at cache addr ≡ no_copy) }
+        ensures ways { IfOk result (λ cache. (addr : ℕ) → way_at cache addr ≡ None) }
+    {
+        let lines = vec![in alloc; Line::INVALID; sets * ways]?;
+        Ok(Cache {
+            stored: Stored::Many(lines),
+            line_length,
+            sets,
+            ways,
+        })
     }
 
     /// The bytes of a line.
@@ -91,15 +95,49 @@ impl Cache {
         self.line_length
     }
 
+    /// The sets.
+    pub fn sets(&self) -> usize
+        ensures value { result ≡ self.now.geometry.sets }
+        ensures placed { IsPlaced self.now }
+    {
+        self.sets
+    }
+
+    /// The ways of a set.
+    pub fn ways(&self) -> usize
+        ensures value { result ≡ self.now.geometry.ways }
+        ensures placed { IsPlaced self.now }
+    {
+        self.ways
+    }
+
+    /// Where the lines of the set of `addr` begin.
+    fn first(&self, addr: u32) -> usize
+        ensures value { result ≡ set_of self.now addr * self.now.geometry.ways }
+        ensures within { result + self.now.geometry.ways ≤ length self.now.lines }
+    {
+        addr as usize / self.line_length % self.sets * self.ways
+    }
+
+    /// The lines of the set of `addr`, way by way.
+    fn set(&self, addr: u32) -> &[Line]
+        ensures ways { length result.now ≡ self.now.geometry.ways }
+        ensures lines { (way : ℕ) → way < self.now.geometry.ways → slice_index_or result.now way invalid_line ≡ line_in self.now addr way }
+        ensures placed { IsPlaced self.now }
+    {
+        let first = self.first(addr);
+        &self.stored.lines()[first..first + self.ways]
+    }
+
     /// The line in a way of the set of `addr`.
     pub fn line(&self, addr: u32, way: usize) -> &Line
-        requires { way < way_count }
+        requires { way < self.now.geometry.ways }
         ensures value { result.now ≡ line_in self.now addr way }
         ensures copy { is_valid (line_in self.now addr way).state ≡ true
             → copy_at self.now (line_in self.now addr way).addr ≡ copy_of_line (line_in self.now addr way) }
         ensures placed { IsPlaced self.now }
     {
-        &self.lines[place(self.line_length, addr, way)]
+        &self.stored.lines()[self.first(addr) + way]
     }
 
     /// The way that has a valid copy of the line at `addr`.
@@ -110,42 +148,40 @@ impl Cache {
         ensures in_place { IsInPlace self.now.line_length addr (copy_at self.now addr) }
         ensures placed { IsPlaced self.now }
     {
-        if self.line(addr, 0).is_copy_of(addr) {
-            Some(0)
-        } else if self.line(addr, 1).is_copy_of(addr) {
-            Some(1)
-        } else {
-            None
+        let set = self.set(addr);
+        for way in 0..set.len() {
+            if set[way].is_copy_of(addr) {
+                return Some(way);
+            }
         }
+        None
     }
 
     /// The way that a line at `addr` takes: the lowest invalid one of its set, else the lowest one that carries no marks.
     pub fn victim(&self, addr: u32) -> Option<usize>
         ensures value { result ≡ victim_of self.now addr }
         ensures unmarked { IfSome result (λ way.
-            (way < way_count) × (is_speculative (line_in self.now addr way).state ≡ false)) }
-        ensures full { IfNone result ((way : ℕ) → way < way_count
+            (way < self.now.geometry.ways) × (is_speculative (line_in self.now addr way).state ≡ false)) }
+        ensures full { IfNone result ((way : ℕ) → way < self.now.geometry.ways
             → is_speculative (line_in self.now addr way).state ≡ true) }
     {
-        let first = self.line(addr, 0).state;
-        let second = self.line(addr, 1).state;
-        if !first.is_valid() {
-            Some(0)
-        } else if !second.is_valid() {
-            Some(1)
-        } else if !first.is_speculative() {
-            Some(0)
-        } else if !second.is_speculative() {
-            Some(1)
-        } else {
-            None
+        let set = self.set(addr);
+        let mut unmarked = None;
+        for way in 0..set.len() {
+            let state = set[way].state;
+            if !state.is_valid() {
+                return Some(way);
+            }
+            let free = (!state.is_speculative()).then_some(way);
+            unmarked = unmarked.or(free);
         }
+        unmarked
     }
 
     /// Puts a line, valid or not, into a way of the set of its address. A valid line's address is a multiple of the line
     /// length, no other way has that line, and it has nothing past the line length.
     pub fn fill(&mut self, way: usize, line: Line)
-        requires in_ways { way < way_count }
+        requires in_ways { way < self.old.geometry.ways }
         requires aligned { is_valid line.state ≡ true → line.addr % self.old.line_length ≡ 0 }
         requires once { is_valid line.state ≡ true → IsNotElsewhere self.old line.addr way }
         requires fits { is_valid line.state ≡ true → FitsLength self.old.line_length line }
@@ -159,7 +195,7 @@ impl Cache {
 
     /// Writes the low `width` bytes of `value` into a line's cells at `offset`, the lowest first.
     pub fn write_bytes(&mut self, addr: u32, way: usize, offset: u32, width: u32, value: u32)
-        requires in_ways { way < way_count }
+        requires in_ways { way < self.old.geometry.ways }
         requires in_line { offset < self.old.line_length }
         requires width { IsWidth width }
         requires aligned { offset % width ≡ 0 }
@@ -177,7 +213,7 @@ impl Cache {
     /// Gives every line the state and the marks that the violation of the core's epoch leaves.
     pub fn roll_back_all(&mut self)
         ensures exact { self.new ≡ with_each_line rolled_back_line self.old }
-        ensures lines { (addr way : ℕ) → way < way_count
+        ensures lines { (addr way : ℕ) → way < self.old.geometry.ways
             → line_in self.new addr way ≡ rolled_back_line (line_in self.old addr way) }
         ensures copies { CopiesAllChange self.old self.new rolled_back_copy }
         ensures ways { StandIn self.new (way_at self.old) }
@@ -185,13 +221,13 @@ impl Cache {
         ensures up_to_date { (addr : ℕ) (committed : ℕ → ℕ)
             → IsUpToDate (copy_at self.old addr) committed → IsUpToDate (copy_at self.new addr) committed }
     {
-        roll_back_lines(&mut self.lines);
+        self.stored.roll_back();
     }
 
     /// Gives every line the state and the marks that its core's publish leaves, where no other core holds the line.
     pub fn settle_all(&mut self)
         ensures exact { self.new ≡ with_each_line (published_line true) self.old }
-        ensures lines { (addr way : ℕ) → way < way_count
+        ensures lines { (addr way : ℕ) → way < self.old.geometry.ways
             → line_in self.new addr way ≡ published_line true (line_in self.old addr way) }
         ensures copies { CopiesAllChange self.old self.new (published_copy true) }
         ensures ways { StandIn self.new (way_at self.old) }
@@ -200,17 +236,18 @@ impl Cache {
             → IsUpToDate (copy_at self.new addr)
             (merged_line (copy_at self.old addr).marks.bytes (copy_at self.old addr).cell committed) }
     {
-        settle_lines(&mut self.lines);
+        self.stored.settle();
     }
 
     /// Puts a line into a way of the set of `addr`.
     fn put(&mut self, addr: u32, way: usize, line: Line)
-        requires in_ways { way < way_count }
+        requires in_ways { way < self.old.geometry.ways }
         requires may_stand { MayStand self.old addr way line }
         ensures exact { self.new ≡ with_line self.old addr way line }
         ensures placed { IsPlaced self.old }
         ensures may_stand { MayStand self.old addr way line }
     {
-        self.lines[place(self.line_length, addr, way)] = line;
+        let place = self.first(addr) + way;
+        self.stored.put(place, line);
     }
 }

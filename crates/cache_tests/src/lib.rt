@@ -6,6 +6,8 @@ mod buffers;
 #[cfg(test)]
 mod checks;
 #[cfg(test)]
+mod geometries;
+#[cfg(test)]
 mod lines;
 #[cfg(test)]
 mod play;

@@ -63,17 +63,18 @@ fn counting_line(rt: &impl Abort, length: usize, addr: u32, state: LineState, ma
 }
 
 /// Puts a line into a way, which no other way of its set has.
-fn put(rt: &impl Abort, cache: &mut Cache, way: usize, line: (u32, LineState, Marks)) {
+pub fn put(rt: &impl Abort, cache: &mut Cache, way: usize, line: (u32, LineState, Marks)) {
     let (addr, state, marks) = line;
     let length = cache.line_length();
-    assert!(rt; way < WAYS && addr as usize % length == 0);
-    if way == 0 {
-        assert!(rt; !cache.line(addr, 1).is_copy_of(addr));
-    } else {
-        assert!(rt; !cache.line(addr, 0).is_copy_of(addr));
-    }
+    assert!(rt; way < cache.ways() && addr as usize % length == 0);
     let line = counting_line(rt, length, addr, state, marks);
-    cache.fill(way, line);
+    match cache.find(addr) {
+        Some(held) => {
+            assert!(rt; held == way);
+            cache.fill(way, line);
+        }
+        None => cache.fill(way, line),
+    }
 }
 
 /// A cache of lines of `length` bytes with two lines in the set of `4 * length`: there in way 0, at `8 * length` in way 1.
@@ -99,7 +100,7 @@ fn is_line(
     marks: Marks,
     cells: [u8; 32],
 ) -> bool {
-    way < WAYS
+    way < cache.ways()
         && *cache.line(addr, way)
             == Line {
                 addr,
@@ -167,12 +168,8 @@ SpS SpE -
 ";
 
 /// The way that a word names, if it names one.
-fn way(word: &str) -> Option<usize> {
-    match word {
-        "0" => Some(0),
-        "1" => Some(1),
-        _ => None,
-    }
+pub fn way(word: &str) -> Option<usize> {
+    word.parse().ok()
 }
 
 /// Whether a row of `VICTIMS` holds.
@@ -196,7 +193,7 @@ fn victims(rt: HostRuntime) {
 
 /// Whether no line is found at an address, in whose set all ways are invalid.
 fn is_empty_at(cache: &Cache, addr: u32) -> bool {
-    for way in 0..WAYS {
+    for way in 0..cache.ways() {
         if cache.line(addr, way).state != I {
             return false;
         }
@@ -387,6 +384,7 @@ fn is_refresh(rt: &impl Abort, row: &str) -> Option<bool> {
     let addr = 8 * length as u32;
     let cache = pair(rt, length, (S, NONE), (SpS, stored(mask)));
     let length = cache.line_length();
+    assert!(rt; cache.ways() == WAYS);
     let refreshed = cache.line(addr, 1).refreshed(&counted(100, length));
     Some(
         refreshed
@@ -405,7 +403,8 @@ fn a_refresh_spares_own_bytes(rt: HostRuntime) {
 }
 
 /// The states of the two ways of the set of `addr`, and whether either has marks.
-fn states(cache: &Cache, addr: u32) -> ([LineState; 2], bool) {
+fn states(rt: &impl Abort, cache: &Cache, addr: u32) -> ([LineState; 2], bool) {
+    assert!(rt; cache.ways() == WAYS);
     let (first, second) = (cache.line(addr, 0), cache.line(addr, 1));
     (
         [first.state, second.state],
@@ -434,11 +433,12 @@ fn twice(rt: &impl Abort, length: usize, state: LineState, marks: Marks) -> Cach
 }
 
 /// Whether each copy of the line has this state, the one beside it is E, and none has marks.
-fn are_all(cache: &Cache, length: usize, state: LineState) -> bool
+fn are_all(rt: &impl Abort, cache: &Cache, length: usize, state: LineState) -> bool
     requires { IsTrue (is_line_length length) }
 {
     let unit = length as u32;
-    states(cache, 4 * unit) == ([state, E], false) && states(cache, 7 * unit) == ([I, state], false)
+    states(rt, cache, 4 * unit) == ([state, E], false)
+        && states(rt, cache, 7 * unit) == ([I, state], false)
 }
 
 /// Whether a row of `ROLL_BACKS` holds.
@@ -450,7 +450,7 @@ fn is_roll_back(rt: &impl Abort, row: &str, length: usize) -> Option<bool> {
     rolled_back.roll_back_all();
     let mut settled = twice(rt, length, before, marks);
     settled.settle_all();
-    Some(are_all(&rolled_back, length, back) && are_all(&settled, length, published))
+    Some(are_all(rt, &rolled_back, length, back) && are_all(rt, &settled, length, published))
 }
 
 #[test]

@@ -1,5 +1,7 @@
 -- Memory with the lines over it that are M in a cache.
-use Rattle.std.proofs.Common.{◌≡◌, ℕ, ◌+◌, ◌-◌, ◌*◌, ◌/◌, ◌%◌, ◌<◌, ◌==◌, ◌||◌, ◌&&◌, nat_lt, Bool, true, false, cond, Some, None, length, true≢false, refl, sym, ap, ◌∙◌, arith, add-one}
+use Rattle.std.proofs.Common.{◌≡◌, ℕ, ◌+◌, ◌-◌, ◌*◌, ◌/◌, ◌%◌, ◌<◌, ◌==◌, ◌||◌, ◌&&◌, nat_lt, Bool, true, false, cond, option_map, length, true≢false, refl, sym, ap, ◌∙◌, arith, add-one}
+use Rattle.std.proofs.Math.Nat.{mod-lt, mod-eq_of_lt, mul-div_cancel}
+use Rattle.std.proofs.lemmas.Nat.{div-mul-add, mod-mul-add}
 use Rattle.std.proofs.lemmas.Bool.{false_from_ne_true}
 use Rattle.std.proofs.lemmas.Bool.Decides.{nat_tests}
 use Rattle.spec_states.specs.Copies.{LineCopy}
@@ -8,11 +10,11 @@ use Rattle.spec_states.specs.States.{is_modified}
 use Rattle.spec_states.proofs.RowLaws.{modified-valid}
 use Rattle.cache_lines.specs.declared.line.Line.{Line}
 use Rattle.cache_lines.specs.Cells.{cell_of}
-use Rattle.cache_lines.specs.Lines.{Contents, is_line_length, set_count, way_count, set_of, line_in, is_copy_of}
+use Rattle.cache_lines.specs.Lines.{Contents, is_line_length, set_of, place, line_in, is_copy_of}
 use Rattle.cache_lines.specs.Placed.{IsPlaced}
 use Rattle.cache_lines.specs.Protocol.{copy_at, copy_or_none}
 use Rattle.cache_lines.proofs.CopyLaws.{copy_at-line}
-use Rattle.cache_lines.proofs.LineLaws.{is_copy_of-true, line_in-same_set}
+use Rattle.cache_lines.proofs.LineLaws.{is_copy_of-true, line_in-same_set, by_way, set-lt, place-lt}
 use Rattle.bus_states.specs.Bus.{Bus, CoreState, line_of, offset_of, memory_line, some_core, committed_among}
 use Rattle.bus_states.specs.Coherent.{IsCoherent}
 use Rattle.bus_states.specs.Messages.{with_line}
@@ -32,10 +34,10 @@ byte_offset length addr p h e =
     rw e (omega (arith, both))
 
 -- one line, where it is M
-pub place_written : (cache : Contents) (at : ℕ) (old : ℕ → ℕ) (new p : ℕ) → IsPlaced cache → (at % way_count < way_count)
+pub place_written : (cache : Contents) (at : ℕ) (old : ℕ → ℕ) (new p : ℕ) → IsPlaced cache
     → new ≡ cond (is_modified (line_in_place cache at).state) (with_line cache.line_length (line_in_place cache at).addr (cell_of (line_in_place cache at)) old) old p
     → new ≡ cond (is_modified_in cache (line_of cache.line_length p) at) ((copy_at cache (line_of cache.line_length p)).cell (offset_of cache.line_length p)) (old p)
-place_written cache at old new p h way is = is ∙ one (is_modified line.state) refl
+place_written cache at old new p h is = is ∙ one (is_modified line.state) refl
   where
     n : ℕ
     n = cache.line_length
@@ -43,20 +45,26 @@ place_written cache at old new p h way is = is ∙ one (is_modified line.state) 
     line : Line
     line = line_in_place cache at
 
+    ways : ℕ
+    ways = cache.geometry.ways
+
+    way : at % ways < ways
+    way = mod-lt at h.geometry_is.some_way
+
     here : (b : Bool) → is_modified line.state ≡ true → (line.addr == line_of n p) ≡ b
         → cond b (cell_of line (p - line.addr)) (old p) ≡ cond b ((copy_at cache (line_of n p)).cell (offset_of n p)) (old p)
     here true m e =
         let at_line : line.addr ≡ line_of n p = grind (arith, nat_tests) in
         let valid = modified-valid line.state m in
         let held : is_copy_of line (line_of n p) ≡ true = rw (valid, e) refl in
-        let copy = copy_at-line cache h (at / way_count * n) (at % way_count) (line_of n p) way held in
+        let copy = copy_at-line cache h (at / ways * n) (at % ways) (line_of n p) way held in
         ap (cell_of line) (byte_offset n line.addr p h.length_is at_line) ∙ ap (λ (c : LineCopy). c.cell (offset_of n p)) (sym copy)
     here false m e = refl
 
     one : (m : Bool) → is_modified line.state ≡ m
         → cond m (with_line n line.addr (cell_of line) old) old p ≡ cond (m && (line.addr == line_of n p)) ((copy_at cache (line_of n p)).cell (offset_of n p)) (old p)
     one true m =
-        let aligned = h.aligned (at / way_count * n) (at % way_count) way (modified-valid line.state m) in
+        let aligned = h.aligned (at / ways * n) (at % ways) way (modified-valid line.state m) in
         ap (λ (b : Bool). cond b (cell_of line (p - line.addr)) (old p)) (byte_in_line n line.addr p h.length_is aligned) ∙ here (line.addr == line_of n p) m refl
     one false m = refl
 
@@ -89,19 +97,32 @@ written_more cache n old mid new before step p =
     either false is = is ∙ before p
 
 -- a place of the set of this address
-of_set : (length a w : ℕ) → is_line_length length ≡ true → w < way_count
-    → (set_of length ((way_count * set_of length a + w) / way_count * length) ≡ set_of length a) × ((way_count * set_of length a + w) % way_count ≡ w)
-of_set length a w h =
-    by_length (λ (n : ℕ). w < way_count → (set_of n ((way_count * set_of n a + w) / way_count * n) ≡ set_of n a) × ((way_count * set_of n a + w) % way_count ≡ w)) length h
-    (λ l. (omega arith, omega arith)) (λ l. (omega arith, omega arith))
+of_set : (cache : Contents) (a w : ℕ) → IsPlaced cache → w < cache.geometry.ways
+    → (set_of cache (place cache a w / cache.geometry.ways * cache.line_length) ≡ set_of cache a) × (place cache a w % cache.geometry.ways ≡ w)
+of_set cache a w h way =
+    let n : ℕ = cache.line_length in
+    let set : ℕ = set_of cache a in (
+      ap (λ s. s * n / n % cache.geometry.sets) (div-mul-add set cache.geometry.ways w way)
+          ∙ (ap (λ s. s % cache.geometry.sets) (mul-div_cancel set (positive n h.length_is)) ∙ mod-eq_of_lt (set-lt cache h.geometry_is a)),
+      mod-mul-add set cache.geometry.ways w way,
+    )
+  where
+    positive : (n : ℕ) → is_line_length n ≡ true → 0 < n
+    positive n is = grind (arith, nat_tests)
 
 -- the copy of a line is M just where a line in some place is
 pub some_modified : (cache : Contents) (a : ℕ) → IsPlaced cache
-    → some_core (set_count * way_count) (is_modified_in cache a) ≡ is_modified (copy_at cache a).state
-some_modified cache a h = same (some_core (set_count * way_count) (is_modified_in cache a)) (is_modified (copy_at cache a).state) refl refl
+    → some_core (cache.geometry.sets * cache.geometry.ways) (is_modified_in cache a) ≡ is_modified (copy_at cache a).state
+some_modified cache a h = same (some_core (cache.geometry.sets * cache.geometry.ways) (is_modified_in cache a)) (is_modified (copy_at cache a).state) refl refl
   where
     n : ℕ
     n = cache.line_length
+
+    ways : ℕ
+    ways = cache.geometry.ways
+
+    places : ℕ
+    places = cache.geometry.sets * cache.geometry.ways
 
     -- where the line in a place is M, so is the copy
     up : (at : ℕ) → is_modified_in cache a at ≡ true → is_modified (copy_at cache a).state ≡ true
@@ -110,45 +131,40 @@ some_modified cache a h = same (some_core (set_count * way_count) (is_modified_i
         let m : is_modified line.state ≡ true = grind (arith, nat_tests) in
         let there : (line.addr == a) ≡ true = grind (arith, nat_tests) in
         let held : is_copy_of line a ≡ true = rw (modified-valid line.state m, there) refl in
-        ap (λ (c : LineCopy). is_modified c.state) (copy_at-line cache h (at / way_count * n) (at % way_count) a (omega arith) held) ∙ m
+        ap (λ (c : LineCopy). is_modified c.state) (copy_at-line cache h (at / ways * n) (at % ways) a (mod-lt at h.geometry_is.some_way) held) ∙ m
 
     -- and the other way round
-    down : (w : ℕ) → w < way_count → is_copy_of (line_in cache a w) a ≡ true → is_modified (copy_at cache a).state ≡ true
-        → (at : ℕ) × (at < set_count * way_count) × (is_modified_in cache a at ≡ true)
+    down : (w : ℕ) → w < ways → is_copy_of (line_in cache a w) a ≡ true → is_modified (copy_at cache a).state ≡ true
+        → (at : ℕ) × (at < places) × (is_modified_in cache a at ≡ true)
     down w way held m =
-        let at : ℕ = way_count * set_of n a + w in
-        let place = of_set n a w h.length_is way in
+        let at : ℕ = place cache a w in
+        let there = of_set cache a w h way in
         let is_line : line_in_place cache at ≡ line_in cache a w =
-        ap (λ v. line_in cache (at / way_count * n) v) place.1 ∙ sym (line_in-same_set cache (at / way_count * n) a w place.0) in
+        ap (λ v. line_in cache (at / ways * n) v) there.1 ∙ sym (line_in-same_set cache (at / ways * n) a w there.0) in
         let copy = copy_at-line cache h a w a way held in
         let both = is_copy_of-true (line_in cache a w) a held in
         let modified : is_modified (line_in cache a w).state ≡ true = ap (λ (c : LineCopy). is_modified c.state) (sym copy) ∙ m in
         let own : ((line_in cache a w).addr == a) ≡ true = rw both.1 (itself a) in
-        (at, omega arith, ap (λ (l : Line). is_modified l.state && (l.addr == a)) is_line ∙ rw (modified, own) refl)
+        (at, place-lt cache h.geometry_is a w way, ap (λ (l : Line). is_modified l.state && (l.addr == a)) is_line ∙ rw (modified, own) refl)
       where
         itself : (x : ℕ) → (x == x) ≡ true
         itself x = grind (arith, nat_tests)
 
-    somewhere : is_modified (copy_at cache a).state ≡ true → (at : ℕ) × (at < set_count * way_count) × (is_modified_in cache a at ≡ true)
+    somewhere : is_modified (copy_at cache a).state ≡ true → (at : ℕ) × (at < places) × (is_modified_in cache a at ≡ true)
     somewhere m =
-        elim (is_copy_of (line_in cache a 0) a) as (λ b. is_copy_of (line_in cache a 0) a ≡ b → is_modified (copy_or_none (cond b (Some (line_in cache a 0)) (cond (is_copy_of (line_in cache a 1) a) (Some (line_in cache a 1)) None))).state ≡ true → (at : ℕ) × (at < set_count * way_count) × (is_modified_in cache a at ≡ true)) [
-          | true ↦ λ e _. down 0 (omega arith) e m
-          | false ↦ λ _.
-              elim (is_copy_of (line_in cache a 1) a) as (λ b. is_copy_of (line_in cache a 1) a ≡ b → is_modified (copy_or_none (cond b (Some (line_in cache a 1)) None)).state ≡ true → (at : ℕ) × (at < set_count * way_count) × (is_modified_in cache a at ≡ true)) [
-                | true ↦ λ e _. down 1 (omega arith) e m
-                | false ↦ λ _ none. absurd (true≢false (sym none))
-              ] refl
-        ] refl m
+        by_way cache a (λ o. is_modified (copy_or_none (option_map (line_in cache a) o)).state ≡ true → (at : ℕ) × (at < places) × (is_modified_in cache a at ≡ true))
+        (λ w way held _. down w way held m)
+        (λ none never. absurd (true≢false (sym never))) m
 
-    same : (b c : Bool) → some_core (set_count * way_count) (is_modified_in cache a) ≡ b → is_modified (copy_at cache a).state ≡ c → b ≡ c
+    same : (b c : Bool) → some_core (cache.geometry.sets * cache.geometry.ways) (is_modified_in cache a) ≡ b → is_modified (copy_at cache a).state ≡ c → b ≡ c
     same true true e f = refl
     same false false e f = refl
     same true false e f =
-        let none = none_at_all (set_count * way_count) (is_modified_in cache a) (λ at _. false_from_ne_true (is_modified_in cache a at) (λ t. true≢false (sym (up at t) ∙ f))) in
+        let none = none_at_all places (is_modified_in cache a) (λ at _. false_from_ne_true (is_modified_in cache a at) (λ t. true≢false (sym (up at t) ∙ f))) in
         sym e ∙ none
     same false true e f =
         let found = somewhere f in
-        let none = none_below (set_count * way_count) (is_modified_in cache a) e found.0 found.1 in
+        let none = none_below places (is_modified_in cache a) e found.0 found.1 in
         sym none ∙ found.2
 
 -- ---- all cores

@@ -5,8 +5,8 @@ use Rattle.std.proofs.lemmas.Bool.Decides.{nat_tests}
 use Rattle.spec_states.specs.declared.next.Next.{Next}
 use Rattle.spec_states.specs.Copies.{LineCopy, no_copy}
 use Rattle.spec_states.specs.States.{is_valid}
-use Rattle.cache_lines.specs.Changes.{way_at, IsFound, IsAbsent, CopiesAreFilled, CopiesChange, StandIn}
-use Rattle.cache_lines.specs.Lines.{Contents, is_copy_of}
+use Rattle.cache_lines.specs.Changes.{IsFound, IsAbsent, CopiesAreFilled, CopiesChange, StandIn}
+use Rattle.cache_lines.specs.Lines.{Contents, Geometry, is_copy_of, way_at}
 use Rattle.cache_lines.specs.Protocol.{copy_at, copy_with_number}
 use Rattle.cache_lines.proofs.CopyLaws.{copies-refilled, copies-found}
 use Rattle.orb.specs.Lines.{Buffer}
@@ -22,20 +22,21 @@ use Rattle.spec_bus.specs.Parts.{room_in, state_or_none, core_at, line_or_none, 
 use Rattle.bus_states.specs.Messages.{changed_core, without_line, leaves, way_with}
 use Rattle.bus_states.proofs.Copies.{made}
 
-abbrev pub state_record : ℕ → (ℕ → LineCopy) → (ℕ → Option ℕ) → Buffer → Option Attempt → CoreState
-state_record line_length copy way buffer attempt =
-    record { line_length = line_length; copy = copy; way = way; buffer = buffer; attempt = attempt }
+abbrev pub state_record : ℕ → Geometry → (ℕ → LineCopy) → (ℕ → Option ℕ) → Buffer → Option Attempt → CoreState
+state_record line_length geometry copy way buffer attempt =
+    record { line_length = line_length; geometry = geometry; copy = copy; way = way; buffer = buffer; attempt = attempt }
 
 -- the lines that are held stand in these ways
 abbrev pub standing : (ℕ → LineCopy) → (ℕ → Option ℕ) → ℕ → Option ℕ
 standing copy way a = cond (is_valid (copy a).state) (way a) None
 
-pub same_state : (length length2 : ℕ) (copy copy2 : ℕ → LineCopy) (way way2 : ℕ → Option ℕ) (buffer buffer2 : Buffer) (attempt attempt2 : Option Attempt)
-    → length ≡ length2 → ((a : ℕ) → copy a ≡ copy2 a) → ((a : ℕ) → way a ≡ standing copy way2 a) → buffer ≡ buffer2 → attempt ≡ attempt2
-    → state_record length copy way buffer attempt ≡ state_record length2 copy2 (λ a. standing copy2 way2 a) buffer2 attempt2
-same_state length length2 copy copy2 way way2 buffer buffer2 attempt attempt2 e f w g h =
+pub same_state : (length length2 : ℕ) (geometry geometry2 : Geometry) (copy copy2 : ℕ → LineCopy) (way way2 : ℕ → Option ℕ) (buffer buffer2 : Buffer) (attempt attempt2 : Option Attempt)
+    → length ≡ length2 → geometry ≡ geometry2 → ((a : ℕ) → copy a ≡ copy2 a) → ((a : ℕ) → way a ≡ standing copy way2 a) → buffer ≡ buffer2 → attempt ≡ attempt2
+    → state_record length geometry copy way buffer attempt ≡ state_record length2 geometry2 copy2 (λ a. standing copy2 way2 a) buffer2 attempt2
+same_state length length2 geometry geometry2 copy copy2 way way2 buffer buffer2 attempt attempt2 e s f w g h =
     rw (
       e,
+      s,
       g,
       h,
       fun_ext (λ a. w a ∙ ap (λ (copy : LineCopy). cond (is_valid copy.state) (way2 a) None) (f a)),

@@ -86,6 +86,7 @@ fresh_opened image count h =
       length_of = refl;
       whole_lines = h.size_allowed.lines;
       lengths = λ k lt. let inside : nat_lt k count ≡ true = grind (arith, nat_tests) in rw inside refl;
+      geometries = λ k lt. let inside : nat_lt k count ≡ true = grind (arith, nat_tests) in rw inside refl;
       limits = λ k lt. let inside : nat_lt k count ≡ true = grind (arith, nat_tests) in rw inside refl;
       idle = λ k. pick (nat_lt k count);
       absent = λ k le. let outside : nat_lt k count ≡ false = grind (arith, nat_tests) in rw outside refl;

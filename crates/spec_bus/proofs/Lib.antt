@@ -1,5 +1,6 @@
 mod CoreCopies
 mod CommittedMemory
+mod Rooms
 mod SameRooms
 mod Making
 pub mod Bytes

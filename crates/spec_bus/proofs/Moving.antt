@@ -7,6 +7,7 @@ use Rattle.spec_states.specs.States.{is_valid, is_modified}
 use Rattle.spec_states.proofs.RowLaws.{modified-valid}
 use Rattle.rv32_image.specs.declared.version.Limits.{Limits}
 use Rattle.cache_lines.specs.declared.line.Line.{Line}
+use Rattle.cache_lines.specs.Lines.{default_geometry}
 use Rattle.cache_lines.specs.Protocol.{copy_at, copy_of_line}
 use Rattle.bus_states.specs.Bus.{CoreState, Bus, sees, committed}
 use Rattle.bus_states.proofs.Coherence.{sees-unmodified}
@@ -21,7 +22,7 @@ use Rattle.spec_bus.specs.Parts.{bus_of, bus_in, core_at, line_at, state_or_none
 
 abbrev pub bus_record : ℕ → ℕ → ℕ → Limits → (ℕ → CoreState) → (ℕ → ℕ) → Bus
 bus_record cores size code limits core memory =
-    record { shape = record { cores = cores; size = size; code = code; limits = limits }; line_length = limits.line_length; core = core; memory = memory }
+    record { shape = record { cores = cores; size = size; code = code; limits = limits }; line_length = limits.line_length; geometry = default_geometry; core = core; memory = memory }
 
 -- two buses that hold the same
 pub same_bus : (cores cores2 size size2 code code2 : ℕ) (limits limits2 : Limits) (core core2 : ℕ → CoreState) (memory memory2 : ℕ → ℕ)

@@ -1,6 +1,7 @@
 -- Two caches that hold the same copies in the same ways have the same room for each line, so the same calls make the same of
 -- their buses.
-use Rattle.std.proofs.Common.{◌≡◌, ℕ, ◌<◌, ◌==◌, ◌&&◌, Bool, true, false, cond, not, List, [], ◌∷◌, Option, Some, None, option_map, slice_get, true≢false, refl, sym, ap, subst, ◌∙◌, arith}
+use Rattle.std.proofs.Common.{◌≡◌, ℕ, ◌/◌, ◌%◌, ◌<◌, ◌==◌, ◌&&◌, Bool, true, false, cond, not, List, [], ◌∷◌, Option, Some, None, IfSome, option_map, slice_get, true≢false, refl, sym, ap, subst, ◌∙◌}
+use Rattle.std.specs.List.{find, range_with_len}
 use Rattle.std.specs.Option.{option_or}
 use Rattle.spec_states.specs.declared.line.LineState.{LineState}
 use Rattle.spec_states.specs.declared.line.LineState.TheVariants.{I, S, E, M, SpS, SpE}
@@ -9,13 +10,15 @@ use Rattle.spec_states.specs.Copies.{LineCopy, no_copy}
 use Rattle.spec_states.specs.States.{is_valid, is_modified, is_speculative}
 use Rattle.cache_lines.specs.declared.line.Line.{Line}
 use Rattle.cache_lines.specs.Cells.{cell_of}
-use Rattle.cache_lines.specs.Changes.{way_at, victim_of, is_invalid, is_unmarked}
-use Rattle.cache_lines.specs.Lines.{Contents, is_line_length, way_count, set_of, line_in, is_copy_of}
+use Rattle.cache_lines.specs.Changes.{victim_of, is_invalid, is_unmarked}
+use Rattle.cache_lines.specs.Lines.{Contents, Geometry, is_line_length, set_of, line_in, is_copy_of, lowest_way, way_at}
 use Rattle.cache_lines.specs.Placed.{IsPlaced}
 use Rattle.cache_lines.specs.Protocol.{copy_at, copy_of_line, changed_copy, copy_with_number}
 use Rattle.cache_lines.proofs.CopyLaws.{copy_at-line, copy_at-own}
 use Rattle.cache_lines.proofs.LineLaws.{is_copy_of-true, is_copy_of-own, line_in-same_set}
-use Rattle.cache_lines.proofs.Ways.{way_at-own}
+use Rattle.cache_lines.proofs.LineLaws.{way_at-own}
+use Rattle.cache_lines.proofs.Firsts.{find_same, found_first}
+use Rattle.cache_lines.proofs.Victims.{victim-unmarked}
 use Rattle.violations.specs.declared.step.WaitCause.TheVariants.{NoWay, OrbFull, OrbBusy}
 use Rattle.orb.specs.Lines.{is_full}
 use Rattle.bus_states.specs.declared.notice.Notice.TheVariants as notice
@@ -45,48 +48,47 @@ pub record IsOneLine (l m : Line) : Type 0 where
 
 -- a way of a line has its copy
 way_is : (cache : Contents) (x w : ℕ) → way_at cache x ≡ Some w → is_copy_of (line_in cache x w) x ≡ true
-way_is cache x w = pick (is_copy_of (line_in cache x 0) x) (is_copy_of (line_in cache x 1) x) refl refl
-  where
-    pick : (j k : Bool) → is_copy_of (line_in cache x 0) x ≡ j → is_copy_of (line_in cache x 1) x ≡ k
-        → cond j (Some 0) (cond k (Some 1) None) ≡ Some w → is_copy_of (line_in cache x w) x ≡ true
-    pick true k e f found = let is : 0 ≡ w = cc in subst (λ (v : ℕ). is_copy_of (line_in cache x v) x ≡ true) is e
-    pick false true e f found = let is : 1 ≡ w = cc in subst (λ (v : ℕ). is_copy_of (line_in cache x v) x ≡ true) is f
-    pick false false e f found = absurd cc
+way_is cache x w e = (found_first 0 cache.geometry.ways (λ v. is_copy_of (line_in cache x v) x) w e).passes
 
-module _ (c d : Contents) (placed : IsPlaced c) (placed2 : IsPlaced d) (length : c.line_length ≡ d.line_length)
+module _ (c d : Contents) (placed : IsPlaced c) (placed2 : IsPlaced d) (length : c.line_length ≡ d.line_length) (geometry : c.geometry ≡ d.geometry)
     (copies : (x : ℕ) → copy_at c x ≡ copy_at d x) (ways : (x : ℕ) → way_at c x ≡ way_at d x) where
   -- a valid line stands in the other cache too
-  there : (a w : ℕ) → w < way_count → is_valid (line_in c a w).state ≡ true → is_copy_of (line_in d a w) (line_in c a w).addr ≡ true
+  there : (a w : ℕ) → w < c.geometry.ways → is_valid (line_in c a w).state ≡ true → is_copy_of (line_in d a w) (line_in c a w).addr ≡ true
   there a w lt valid =
       let x : ℕ = (line_in c a w).addr in
-      let set : set_of c.line_length x ≡ set_of c.line_length a = placed.in_set a w lt valid in
-      let set2 : set_of d.line_length x ≡ set_of d.line_length a = subst (λ (n : ℕ). set_of n x ≡ set_of n a) length set in
+      let set : set_of c x ≡ set_of c a = placed.in_set a w lt valid in
+      let set2 : set_of d x ≡ set_of d a =
+      subst (λ (g : Geometry). x / d.line_length % g.sets ≡ a / d.line_length % g.sets) geometry
+      (subst (λ (n : ℕ). x / n % c.geometry.sets ≡ a / n % c.geometry.sets) length set) in
       let here : is_copy_of (line_in c x w) x ≡ true =
       ap (λ (l : Line). is_copy_of l x) (sym (line_in-same_set c x a w set)) ∙ is_copy_of-own (line_in c a w) valid in
       let found = way_is d x w (sym (ways x) ∙ way_at-own c placed x w lt here) in
       ap (λ (l : Line). is_copy_of l x) (line_in-same_set d x a w set2) ∙ found
 
-  pub same_copy : (a w : ℕ) → w < way_count → is_valid (line_in c a w).state ≡ true → copy_of_line (line_in c a w) ≡ copy_of_line (line_in d a w)
+  in_other : (w : ℕ) → w < c.geometry.ways → w < d.geometry.ways
+  in_other w lt = subst (λ (g : Geometry). w < g.ways) geometry lt
+
+  pub same_copy : (a w : ℕ) → w < c.geometry.ways → is_valid (line_in c a w).state ≡ true → copy_of_line (line_in c a w) ≡ copy_of_line (line_in d a w)
   same_copy a w lt valid =
       sym (copy_at-own c placed a w lt valid)
-      ∙ (copies (line_in c a w).addr ∙ copy_at-line d placed2 a w (line_in c a w).addr lt (there a w lt valid))
+      ∙ (copies (line_in c a w).addr ∙ copy_at-line d placed2 a w (line_in c a w).addr (in_other w lt) (there a w lt valid))
 
-one_line : (c d : Contents) → IsPlaced c → IsPlaced d → c.line_length ≡ d.line_length → ((x : ℕ) → copy_at c x ≡ copy_at d x)
-    → ((x : ℕ) → way_at c x ≡ way_at d x) → (a w : ℕ) → w < way_count → IsOneLine (line_in c a w) (line_in d a w)
-one_line c d p q length copies ways a w lt = record {
+one_line : (c d : Contents) → IsPlaced c → IsPlaced d → c.line_length ≡ d.line_length → c.geometry ≡ d.geometry → ((x : ℕ) → copy_at c x ≡ copy_at d x)
+    → ((x : ℕ) → way_at c x ≡ way_at d x) → (a w : ℕ) → w < c.geometry.ways → IsOneLine (line_in c a w) (line_in d a w)
+one_line c d p q length geometry copies ways a w lt = record {
   valid = both (is_valid (line_in c a w).state) (is_valid (line_in d a w).state) refl refl;
-  addr = λ v. sym (is_copy_of-true (line_in d a w) (line_in c a w).addr (there c d p q length copies ways a w lt v)).1;
-  copy = same_copy c d p q length copies ways a w lt;
+  addr = λ v. sym (is_copy_of-true (line_in d a w) (line_in c a w).addr (there c d p q length geometry copies ways a w lt v)).1;
+  copy = same_copy c d p q length geometry copies ways a w lt;
 }
   where
     both : (j k : Bool) → is_valid (line_in c a w).state ≡ j → is_valid (line_in d a w).state ≡ k → j ≡ k
     both true true e f = refl
     both false false e f = refl
     both true false e f =
-        let valid = (is_copy_of-true (line_in d a w) (line_in c a w).addr (there c d p q length copies ways a w lt e)).0 in
+        let valid = (is_copy_of-true (line_in d a w) (line_in c a w).addr (there c d p q length geometry copies ways a w lt e)).0 in
         absurd (true≢false (sym valid ∙ f))
     both false true e f =
-        let valid = (is_copy_of-true (line_in c a w) (line_in d a w).addr (there d c q p (sym length) (λ x. sym (copies x)) (λ x. sym (ways x)) a w lt f)).0 in
+        let valid = (is_copy_of-true (line_in c a w) (line_in d a w).addr (there d c q p (sym length) (sym geometry) (λ x. sym (copies x)) (λ x. sym (ways x)) a w (in_other c d p q length geometry copies ways w lt) f)).0 in
         absurd (true≢false (sym valid ∙ e))
 
 invalid_unmodified : (s : LineState) → is_valid s ≡ false → is_modified s ≡ false
@@ -119,30 +121,27 @@ IsOneRoom None (Some s) = ⊥
 IsOneRoom (Some r) None = ⊥
 IsOneRoom (Some r) (Some s) = (r.way ≡ s.way) × IsOneLine r.line s.line
 
--- the victim, by what the two lines of a set are
-abbrev pub picked : Bool → Bool → Bool → Bool → Option ℕ
-picked i j u v = option_or (cond i (Some 0) (cond j (Some 1) None)) (cond u (Some 0) (cond v (Some 1) None))
-
-picked_lt : (i j u v : Bool) (w : ℕ) → picked i j u v ≡ Some w → w < way_count
-picked_lt true j u v w e = let is : 0 ≡ w = cc in omega (arith, is)
-picked_lt false true u v w e = let is : 1 ≡ w = cc in omega (arith, is)
-picked_lt false false true v w e = let is : 0 ≡ w = cc in omega (arith, is)
-picked_lt false false false true w e = let is : 1 ≡ w = cc in omega (arith, is)
-picked_lt false false false false w e = absurd cc
-
-cache_room : (c d : Contents) → IsPlaced c → IsPlaced d → c.line_length ≡ d.line_length → ((x : ℕ) → copy_at c x ≡ copy_at d x)
+cache_room : (c d : Contents) → IsPlaced c → IsPlaced d → c.line_length ≡ d.line_length → c.geometry ≡ d.geometry → ((x : ℕ) → copy_at c x ≡ copy_at d x)
     → ((x : ℕ) → way_at c x ≡ way_at d x) → (a : ℕ) → IsOneRoom (option_map (room_in c a) (victim_of c a)) (option_map (room_in d a) (victim_of d a))
-cache_room c d p q length copies ways a =
-    let first = one_line c d p q length copies ways a 0 (omega arith) in
-    let second = one_line c d p q length copies ways a 1 (omega arith) in
+cache_room c d p q length geometry copies ways a =
     let victims : victim_of c a ≡ victim_of d a =
-    (λ i. picked (not (first.valid i)) (not (second.valid i)) (not (same_marked (line_in c a 0) (line_in d a 0) first i)) (not (same_marked (line_in c a 1) (line_in d a 1) second i))) in
+    (λ i. option_or (lowest is_invalid (λ w lt. ap not (one w lt).valid) i) (lowest is_unmarked (λ w lt. ap not (same_marked (line_in c a w) (line_in d a w) (one w lt))) i)) in
     subst (λ (o : Option ℕ). IsOneRoom (option_map (room_in c a) (victim_of c a)) (option_map (room_in d a) o)) victims
-    (of_way (victim_of c a) (λ w e. picked_lt (is_invalid (line_in c a 0)) (is_invalid (line_in c a 1)) (is_unmarked (line_in c a 0)) (is_unmarked (line_in c a 1)) w e))
+    (of_way (victim_of c a) (victim-unmarked c a))
   where
-    of_way : (o : Option ℕ) → ((w : ℕ) → o ≡ Some w → w < way_count) → IsOneRoom (option_map (room_in c a) o) (option_map (room_in d a) o)
+    one : (w : ℕ) → w < c.geometry.ways → IsOneLine (line_in c a w) (line_in d a w)
+    one w lt = one_line c d p q length geometry copies ways a w lt
+
+    lowest : (test : Line → Bool) → ((w : ℕ) → w < c.geometry.ways → test (line_in c a w) ≡ test (line_in d a w))
+        → lowest_way test c a ≡ lowest_way test d a
+    lowest test same =
+        find_same c.geometry.ways (λ w. test (line_in c a w)) (λ w. test (line_in d a w)) same
+        ∙ ap (λ (g : Geometry). find (λ w. test (line_in d a w)) (range_with_len 0 g.ways)) geometry
+
+    of_way : (o : Option ℕ) → IfSome o (λ w. (w < c.geometry.ways) × (is_speculative (line_in c a w).state ≡ false))
+        → IsOneRoom (option_map (room_in c a) o) (option_map (room_in d a) o)
     of_way None within = tt
-    of_way (Some w) within = (refl, one_line c d p q length copies ways a w (within w refl))
+    of_way (Some w) within = (refl, one w within.0)
 
 no_length : (n : ℕ) → is_line_length n ≡ true → n ≡ 0 → ⊥
 no_length n is none = true≢false (sym is ∙ ap is_line_length none)
@@ -153,7 +152,7 @@ core_room None None p q same a = tt
 core_room (Some c) None p q same a = absurd (no_length c.cache.line_length (p c refl).length_is (ap (λ (s : CoreState). s.line_length) same))
 core_room None (Some d) p q same a = absurd (no_length d.cache.line_length (q d refl).length_is (sym (ap (λ (s : CoreState). s.line_length) same)))
 core_room (Some c) (Some d) p q same a =
-    cache_room c.cache d.cache (p c refl) (q d refl) (ap (λ (s : CoreState). s.line_length) same) (λ x. ap (λ (s : CoreState). s.copy x) same)
+    cache_room c.cache d.cache (p c refl) (q d refl) (ap (λ (s : CoreState). s.line_length) same) (ap (λ (s : CoreState). s.geometry) same) (λ x. ap (λ (s : CoreState). s.copy x) same)
     (λ x. ap (λ (s : CoreState). s.way x) same) a
 
 -- ---- what depends on the room

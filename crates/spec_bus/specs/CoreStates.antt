@@ -4,8 +4,7 @@ use Rattle.spec_states.specs.declared.next.Next.{Next}
 use Rattle.spec_states.specs.Copies.{no_copy, IsMarked}
 use Rattle.spec_states.specs.States.{is_speculative, is_modified}
 use Rattle.cache_lines.specs.declared.line.Line.{Line}
-use Rattle.cache_lines.specs.Changes.{way_at}
-use Rattle.cache_lines.specs.Lines.{Contents, way_count, line_in}
+use Rattle.cache_lines.specs.Lines.{Contents, line_in, way_at}
 use Rattle.cache_lines.specs.Protocol.{copy_at}
 use Rattle.orb.specs.Lines.{holds, is_full}
 use Rattle.bus_states.specs.Bus.{CoreState}
@@ -16,6 +15,7 @@ abbrev pub state_of : Core → CoreState
 state_of core =
     record {
       line_length = core.cache.line_length;
+      geometry = core.cache.geometry;
       copy = copy_at core.cache;
       way = way_at core.cache;
       buffer = core.orb;
@@ -36,7 +36,7 @@ pub record MayHear (core : CoreState) (addr : ℕ) (violated : Bool) (next : Nex
 
 -- the line in this place of a cache, counted set by set, and in a set way by way
 abbrev pub line_in_place : Contents → ℕ → Line
-line_in_place cache place = line_in cache (place / way_count * cache.line_length) (place % way_count)
+line_in_place cache place = line_in cache (place / cache.geometry.ways * cache.line_length) (place % cache.geometry.ways)
 
 -- is the line in this place M, and the one at this address?
 abbrev pub is_modified_in : Contents → ℕ → ℕ → Bool

@@ -6,7 +6,7 @@ use Rattle.bus_states.specs.Coherent.{IsCoherent}
 use Rattle.std.specs.Prelude.{◌+◌, ◌%◌, ◌<◌, ◌≤◌, ◌≡◌, ◌==◌, if◌then◌else◌, ℕ, Bool, false, List, length, Option, Some, None, option_map, slice_get, slice_index}
 use Rattle.rv32_image.specs.declared.version.Limits.{Limits}
 use Rattle.cache_lines.specs.Changes.{victim_of}
-use Rattle.cache_lines.specs.Lines.{Contents, line_in}
+use Rattle.cache_lines.specs.Lines.{Contents, default_geometry, line_in}
 use Rattle.bus_states.specs.Bus.{CoreState, Bus, no_core}
 use Rattle.bus_states.specs.Messages.{Room, Message, heard_core, is_busy, message_of, violates}
 use Rattle.spec_bus.specs.declared.bus_core.Core.{Core}
@@ -25,6 +25,7 @@ bus_of code limits cores memory =
     record {
       shape = record { cores = length cores; size = length memory; code = code; limits = limits };
       line_length = limits.line_length;
+      geometry = default_geometry;
       core = core_at cores;
       memory = slice_index memory;
     }

@@ -3,7 +3,7 @@ ghost use Rattle.memory_bytes.specs.Bytes.{IsWidth};
 ghost use Rattle.spec_states.specs.Copies.{IsMarked, no_copy};
 ghost use Rattle.spec_states.specs.Mask.{IsWithinLine};
 ghost use Rattle.spec_states.specs.States.{is_valid, is_speculative};
-ghost use Rattle.cache_lines.specs.Lines.{way_count, is_line_length};
+ghost use Rattle.cache_lines.specs.Lines.{is_line_length};
 ghost use Rattle.cache_lines.specs.Protocol.{IsInPlace, copy_at, copy_with_number};
 ghost use Rattle.orb.specs.Lines.{holds, is_full, without, IsLimit};
 ghost use Rattle.bus_states.specs.Messages.{with_copy, with_entry, dropped_core, changed_core, without_line, order, reply_to, bytes_after};
@@ -108,7 +108,7 @@ impl Core {
 
     /// A line at `addr`, which the core does not hold, comes into this way of its set, changed so and with these bytes.
     pub(crate) fn fill(&mut self, addr: u32, way: usize, next: Next, cells: [u8; LONGEST_LINE])
-        requires way { way < way_count }
+        requires way { way < self.old.cache.geometry.ways }
         requires aligned { addr % self.old.cache.line_length ≡ 0 }
         requires absent { is_valid (copy_at self.old.cache addr).state ≡ false }
         requires valid { is_valid next.state ≡ true }

@@ -3,7 +3,6 @@ ghost use Rattle.violations.specs.View as view_spec;
 ghost use Rattle.violations.specs.Rule as rule;
 ghost use Rattle.violations.specs.Answers.{MatchStep, wait_of};
 ghost use Rattle.violations.specs.CoreSet.{is_in};
-ghost use Rattle.cache_lines.specs.Lines.{way_count};
 ghost use Rattle.bus_states.specs.Attempts as attempts;
 ghost use Rattle.bus_states.specs.Coherent.{IsCoherent};
 ghost use Rattle.bus_states.specs.Speculative as speculative;
@@ -103,7 +102,7 @@ impl CachedBus {
     /// The line that stands in a way of a core's cache, in the set of this address.
     pub fn line_in(&self, core: u32, addr: u32, way: usize) -> &Line
         requires core { core < (spec.bus self.now).shape.cores }
-        requires way { way < way_count }
+        requires way { way < (spec.bus self.now).geometry.ways }
         ensures { result.now ≡ spec.line_in self.now core addr way }
     {
         self.parts.core(core as usize).cache.line(addr, way)
@@ -122,7 +121,7 @@ impl CachedBus {
         requires { core < (spec.bus self.now).shape.cores }
         ensures { IsPlacedCore self.now.cores core }
     {
-        let _first = self.parts.core(core as usize).cache.line(0, 0);
+        let _ways = self.parts.core(core as usize).cache.ways();
     }
 }
 

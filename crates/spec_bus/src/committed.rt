@@ -1,7 +1,6 @@
 //! Committed memory: the bus's memory, and over it the lines that are M in a cache.
 ghost use Rattle.std.specs.Prelude.{◌≡◌, ℕ, ◌+◌, ◌<◌, ◌≤◌, ◌*◌, true, if◌then◌else◌, length, slice_index, IfOk};
 ghost use Rattle.spec_states.specs.States.{is_modified};
-ghost use Rattle.cache_lines.specs.Lines.{set_count, way_count};
 ghost use Rattle.cache_lines.specs.Protocol.{copy_at};
 ghost use Rattle.violations.specs.View.{IsCommitted};
 ghost use Rattle.bus_states.specs.Bus.{line_of, offset_of};
@@ -13,13 +12,12 @@ ghost use Rattle.spec_bus.specs.Parts.{bus_in};
 use crate::bus_core::Core;
 use crate::messages::write_back;
 use crate::parts::Parts;
-use cache_lines::{SETS, WAYS};
 use std::alloc::{AllocError, Global};
 
 impl Core {
     /// Puts the line in a place of the cache into memory, where it is M. The places are counted set by set, and in a set way by way.
     fn write_place(&self, place: usize, memory: &mut Vec<u8>)
-        requires place { place < set_count * way_count }
+        requires place { place < self.now.cache.geometry.sets * self.now.cache.geometry.ways }
         requires fits { FitsMemory self.now.cache (length memory.old.items) }
         ensures size { length memory.new.items ≡ length memory.old.items }
         ensures bytes { (p : ℕ) → slice_index memory.new.items p
@@ -28,9 +26,9 @@ impl Core {
             else slice_index memory.old.items p) }
     {
         let line_length = self.cache.line_length();
-        let line = *self
-            .cache
-            .line((place / WAYS * line_length) as u32, place % WAYS);
+        let ways = self.cache.ways();
+        let first = (place / ways * line_length) as u32;
+        let line = *self.cache.line(first, place % ways);
         write_back(memory, line_length, line);
     }
 
@@ -43,8 +41,8 @@ impl Core {
             (copy_at self.now.cache (line_of self.now.cache.line_length p)).cell (offset_of self.now.cache.line_length p)
             else slice_index memory.old.items p) }
     {
-        let _first = self.cache.line(0, 0);
-        for place in 0..SETS * WAYS {
+        let places = self.cache.sets() * self.cache.ways();
+        for place in 0..places {
             self.write_place(place, memory);
         }
     }

@@ -2,7 +2,7 @@
 ghost use Rattle.std.specs.Prelude.{◌≡◌, ◌≢◌, ℕ, ◌<◌, ◌≤◌, ◌%◌, ◌==◌, ◌&&◌, true, false, length, slice_get, slice_index, Some, None, if◌then◌else◌, IsTrue, IfOk};
 ghost use Rattle.spec_states.specs.declared.line.TheConstants.{LONGEST_LINE};
 ghost use Rattle.spec_states.specs.States.{is_valid};
-ghost use Rattle.cache_lines.specs.Lines.{way_count, is_line_length};
+ghost use Rattle.cache_lines.specs.Lines.{is_line_length};
 ghost use Rattle.orb.specs.Lines.{is_full, holds, without, IsLimit};
 ghost use Rattle.memory_bytes.specs.Bytes.{IsWidth};
 ghost use Rattle.spec_states.specs.Mask.{IsWithinLine};
@@ -100,7 +100,7 @@ pub(crate) fn fill(
     cells: [u8; LONGEST_LINE],
 )
     requires k { k < length cores.old.items }
-    requires way { way < way_count }
+    requires way { way < (core_at cores.old.items k).geometry.ways }
     requires aligned { addr % (core_at cores.old.items k).line_length ≡ 0 }
     requires absent { is_valid ((core_at cores.old.items k).copy addr).state ≡ false }
     requires valid { is_valid next.state ≡ true }

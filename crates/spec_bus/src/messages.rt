@@ -2,7 +2,6 @@
 ghost use Rattle.std.specs.Prelude.{if◌then◌else◌, ◌≡◌, ℕ, ◌+◌, ◌<◌, ◌≤◌, ◌&&◌, true, false, length, slice_get, slice_index, Some, None};
 ghost use Rattle.spec_states.specs.declared.line.TheConstants.{LONGEST_LINE};
 ghost use Rattle.spec_states.specs.States.{is_valid, is_modified};
-ghost use Rattle.cache_lines.specs.Lines.{way_count};
 ghost use Rattle.orb.specs.Lines.{is_full, holds};
 ghost use Rattle.violations.specs.CoreSet.{is_in};
 ghost use Rattle.bus_states.specs.Coherent.{IsCoherent};
@@ -88,7 +87,7 @@ impl Parts {
     )
         requires place { IsAtLine self.old core addr }
         requires short { self.old.limits.line_length ≤ LONGEST_LINE }
-        requires way { way < way_count }
+        requires way { way < ((bus_in self.old).core core).geometry.ways }
         requires inside { addr + self.old.limits.line_length ≤ length self.old.memory.items }
         requires past { (x : ℕ) → self.old.limits.line_length ≤ x → slice_index line.now x ≡ 0 }
         requires may { MaySend self.old notice core addr (is_in hurt) }

@@ -183,13 +183,6 @@ impl Parts {
         ensures room { IsRoom ((bus_in self.now).core core) (room_at self.now.cores.items core addr) }
         ensures placed { IsPlacedCore self.now.cores.items core }
     {
-        let cache = &self.core(core).cache;
-        let _first = cache.line(addr, 0);
-        match cache.victim(addr) {
-            Some(way) => {
-                let _line = cache.line(addr, way);
-            }
-            None => (),
-        }
+        let _ways = self.core(core).cache.ways();
     }
 }

@@ -1,7 +1,6 @@
 //! Speculative loads and stores.
 ghost use Rattle.std.specs.Prelude.{◌≡◌, ◌+◌, ◌<◌, ◌≤◌, ◌^◌, ◌&&◌, true, false, length, Some, IfOk, IfErr};
 ghost use Rattle.spec_states.specs.States.{is_valid};
-ghost use Rattle.cache_lines.specs.Lines.{way_count};
 ghost use Rattle.violations.specs.CoreSet.{is_in};
 ghost use Rattle.bus_states.specs.Bus.{sees};
 ghost use Rattle.bus_states.specs.Messages as message_spec;
@@ -58,7 +57,7 @@ impl Parts {
     ) -> u32
         requires access { IsAccessIn self.old core addr offset width }
         requires few { length self.old.cores.items ≤ 16 }
-        requires way { way < way_count }
+        requires way { way < ((bus_in self.old).core core).geometry.ways }
         requires inside { addr + self.old.limits.line_length ≤ length self.old.memory.items }
         requires absent { is_valid (((bus_in self.old).core core).copy addr).state ≡ false }
         requires may { MaySend self.old Load core addr (is_in survey.hurt) }

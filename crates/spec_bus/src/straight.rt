@@ -1,7 +1,6 @@
 //! Loads and stores of a core whose attempt is straight.
 ghost use Rattle.std.specs.Prelude.{if◌then◌else◌, ◌≡◌, ℕ, ◌+◌, ◌<◌, ◌≤◌, ◌^◌, false, length, Some, None};
 ghost use Rattle.spec_states.specs.declared.line.TheConstants.{LONGEST_LINE};
-ghost use Rattle.cache_lines.specs.Lines.{way_count};
 ghost use Rattle.violations.specs.CoreSet.{is_in};
 ghost use Rattle.bus_states.specs.Bus.{sees};
 ghost use Rattle.bus_states.specs.Coherent.{IsCoherent, speculates};
@@ -52,7 +51,7 @@ impl Parts {
         requires core { core < length self.now.cores.items }
         requires straight { speculates ((bus_in self.now).core core).attempt ≡ false }
         requires coherent { IsCoherent (bus_in self.now) }
-        ensures way { result < way_count }
+        ensures way { result < ((bus_in self.now).core core).geometry.ways }
         ensures room { room_at self.now.cores.items core addr ≡ line_at self.now.cores.items core addr (Some result) }
     {
         let cache = &self.core(core).cache;

@@ -1,5 +1,5 @@
 -- The rows in which a core on the bus has stored bytes.
-use Rattle.std.proofs.Common.{◌≡◌, ◌⊎◌, ℕ, ◌+◌, ◌*◌, ◌/◌, ◌%◌, ◌<◌, zero, suc, true, false, List, [], ◌∷◌, cond, length, slice_get, IsTrue, Option, Some, None, inl, inr, refl, sym, ap, subst, ◌∙◌, arith, true≢false}
+use Rattle.std.proofs.Common.{◌≡◌, ◌⊎◌, ℕ, ◌+◌, ◌*◌, ◌/◌, ◌%◌, ◌<◌, zero, suc, true, false, List, [], ◌∷◌, option_map, length, slice_get, IsTrue, Option, Some, None, inl, inr, refl, sym, ap, subst, ◌∙◌, arith, true≢false}
 use Rattle.std.specs.BTreeSet.{BTreeSet, contains}
 use Rattle.std.specs.List.{slice_index_or}
 use Rattle.std.specs.Ordering.{nat_cmp}
@@ -9,10 +9,10 @@ use Rattle.rv32_image.proofs.SmallFacts.{one_value}
 use Rattle.spec_states.specs.Mask.{has}
 use Rattle.spec_states.proofs.MaskLaws.{has-zero}
 use Rattle.cache_lines.specs.declared.line.Line.{Line}
-use Rattle.cache_lines.specs.Lines.{Contents, invalid_line, is_copy_of, is_line_length}
+use Rattle.cache_lines.specs.Lines.{Contents, Geometry, default_geometry, invalid_line, is_line_length}
 use Rattle.cache_lines.specs.Lines as lines
 use Rattle.cache_lines.specs.Protocol.{copy_or_none, copy_at}
-use Rattle.cache_lines.proofs.LineLaws.{is_copy_of-true}
+use Rattle.cache_lines.proofs.LineLaws.{is_copy_of-true, by_way}
 use Rattle.bus_states.specs.Coherent.{IsCoherent}
 use Rattle.bus_states.proofs.Addresses.{either_length}
 use Rattle.spec_bus.specs.declared.bus_core.Core.{Core}
@@ -39,20 +39,12 @@ set_at size set (inr is) below = rw is (omega (arith, below))
 
 -- a stored byte of the copy of a line is one of a way of the line's set
 in_a_way : (cache : Contents) (addr x : ℕ) → has (copy_at cache addr).marks.bytes x ≡ true
-    → (way : ℕ) × (way < 2) × ((lines.line_in cache addr way).addr ≡ addr) × (has (lines.line_in cache addr way).marks.bytes x ≡ true)
+    → (way : ℕ) × (way < cache.geometry.ways) × ((lines.line_in cache addr way).addr ≡ addr) × (has (lines.line_in cache addr way).marks.bytes x ≡ true)
 in_a_way cache addr x stored =
-    elim (is_copy_of (lines.line_in cache addr 0) addr) as (λ b. is_copy_of (lines.line_in cache addr 0) addr ≡ b
-    → has (copy_or_none (cond b (Some (lines.line_in cache addr 0)) (cond (is_copy_of (lines.line_in cache addr 1) addr) (Some (lines.line_in cache addr 1)) None))).marks.bytes x ≡ true
-    → (way : ℕ) × (way < 2) × ((lines.line_in cache addr way).addr ≡ addr) × (has (lines.line_in cache addr way).marks.bytes x ≡ true)) [
-      | true ↦ λ e s. (0, omega arith, (is_copy_of-true (lines.line_in cache addr 0) addr e).1, s)
-      | false ↦ λ _.
-          elim (is_copy_of (lines.line_in cache addr 1) addr) as (λ b. is_copy_of (lines.line_in cache addr 1) addr ≡ b
-          → has (copy_or_none (cond b (Some (lines.line_in cache addr 1)) None)).marks.bytes x ≡ true
-          → (way : ℕ) × (way < 2) × ((lines.line_in cache addr way).addr ≡ addr) × (has (lines.line_in cache addr way).marks.bytes x ≡ true)) [
-            | true ↦ λ e s. (1, omega arith, (is_copy_of-true (lines.line_in cache addr 1) addr e).1, s)
-            | false ↦ λ _ s. absurd (true≢false (sym s ∙ has-zero x))
-          ] refl
-    ] refl stored
+    by_way cache addr (λ o. has (copy_or_none (option_map (lines.line_in cache addr) o)).marks.bytes x ≡ true
+    → (way : ℕ) × (way < cache.geometry.ways) × ((lines.line_in cache addr way).addr ≡ addr) × (has (lines.line_in cache addr way).marks.bytes x ≡ true))
+    (λ way below copy s. (way, below, (is_copy_of-true (lines.line_in cache addr way) addr copy).1, s))
+    (λ _ s. absurd (true≢false (sym s ∙ has-zero x))) stored
 
 -- where that way stands among all of the cache
 at_place : (size : ℕ) (v : CachedView) (core set way : ℕ) → set < 4 → way < 2 → slice_index_or (ways_of size v core) (2 * set + way) no_line ≡ line_in v core (set * size) way
@@ -66,6 +58,10 @@ at_place size v core (suc (suc (suc zero))) zero _ _ = refl
 at_place size v core (suc (suc (suc zero))) (suc zero) _ _ = refl
 at_place size v core (suc (suc (suc (suc set)))) way below _ = absurd (omega (arith, below))
 at_place size v core set (suc (suc way)) _ below = absurd (omega (arith, below))
+
+-- the line in this way of the set of that address, in a cache of such lines, sets and ways
+abbrev in_place : Contents → ℕ → Geometry → ℕ → ℕ → Line
+in_place cache size geometry addr way = slice_index_or cache.lines (addr / size % geometry.sets * geometry.ways + way) invalid_line
 
 module _ (v : CachedView) (size core a : ℕ) (rows : BTreeSet ℕ) (size_is : size ≡ (bus v).line_length) (coherent : IsCoherent (bus v))
     (own : (place : ℕ) → place < 8 → HasOwnRows size (slice_index_or (ways_of size v core) place no_line) rows) where
@@ -102,14 +98,18 @@ module _ (v : CachedView) (size core a : ℕ) (rows : BTreeSet ℕ) (size_is : s
       let found = in_a_way c.cache (size * (a / size)) (a % size) stored in
       let below : core < length v.cores = slice_get_within v.cores core c is in
       let length_is : c.cache.line_length ≡ size = ap (λ (o : Option Core). (state_or_none o).line_length) (sym is) ∙ (coherent.lengths core below ∙ sym size_is) in
+      let geometry_is : c.cache.geometry ≡ default_geometry = ap (λ (o : Option Core). (state_or_none o).geometry) (sym is) ∙ coherent.geometries core below in
       let set = size * (a / size) / size % 4 in
       let set_below : set < 4 = omega arith in
+      let way_below : found.0 < 2 = subst (λ (g : Geometry). found.0 < g.ways) geometry_is found.1 in
       let same : lines.line_in c.cache (size * (a / size)) found.0 ≡ line_in v core (set * size) found.0 =
-      ap (λ n. slice_index_or c.cache.lines (2 * (size * (a / size) / n % 4) + found.0) invalid_line) length_is
-      ∙ (ap (λ n. slice_index_or c.cache.lines (2 * n + found.0) invalid_line) (sym (set_at size set allowed set_below))
-      ∙ (ap (λ n. slice_index_or c.cache.lines (2 * (set * size / n % 4) + found.0) invalid_line) (sym length_is)
-      ∙ ap (λ (o : Option Core). line_of_core o (set * size) found.0) (sym is))) in
-      in_way set found.0 set_below found.1 (ap (λ (l : Line). l.addr) (sym same) ∙ found.2) (ap (λ (l : Line). has l.marks.bytes (a % size)) (sym same) ∙ found.3)
+      ap (λ n. in_place c.cache n c.cache.geometry (size * (a / size)) found.0) length_is
+      ∙ (ap (λ g. in_place c.cache size g (size * (a / size)) found.0) geometry_is
+      ∙ (ap (λ n. slice_index_or c.cache.lines (n * 2 + found.0) invalid_line) (sym (set_at size set allowed set_below))
+      ∙ (ap (λ g. in_place c.cache size g (set * size) found.0) (sym geometry_is)
+      ∙ (ap (λ n. in_place c.cache n c.cache.geometry (set * size) found.0) (sym length_is)
+      ∙ ap (λ (o : Option Core). line_of_core o (set * size) found.0) (sym is))))) in
+      in_way set found.0 set_below way_below (ap (λ (l : Line). l.addr) (sym same) ∙ found.2) (ap (λ (l : Line). has l.marks.bytes (a % size)) (sym same) ∙ found.3)
 
   -- the set has the row of a byte that the core has stored
   pub has_own_row : has ((state_or_none (slice_get v.cores core)).copy (size * (a / size))).marks.bytes (a % size) ≡ true → contains nat_cmp rows (a / 16) ≡ true

@@ -11,7 +11,7 @@ use Rattle.spec_states.specs.declared.line.LineState.TheVariants.{I, S, E, M, Sp
 use Rattle.spec_states.specs.States.{is_valid}
 use Rattle.spec_states.specs.Tables.{no_marks}
 use Rattle.cache_lines.specs.declared.line.Line.{Line}
-use Rattle.cache_lines.specs.Lines.{way_count}
+use Rattle.cache_lines.specs.Lines.{default_geometry}
 use Rattle.trace_text.specs.Printing.{hex_word}
 
 -- a text where it isn't as it was
@@ -44,7 +44,7 @@ copy_text size line = hex_word line.addr ++ codes " " ++ state_name line.state +
 
 -- the core, the set and the way of a place; a cache's places are counted set by set, and in a set way by way
 abbrev pub place_text : ℕ → ℕ → List ℕ
-place_text core place = decimal core ++ codes " " ++ decimal (place / way_count) ++ codes " " ++ decimal (place % way_count) ++ codes " "
+place_text core place = decimal core ++ codes " " ++ decimal (place / default_geometry.ways) ++ codes " " ++ decimal (place % default_geometry.ways) ++ codes " "
 
 -- `line CORE SET WAY -`, or the copy that stands there
 unfoldable pub way_line : ℕ → ℕ → ℕ → Line → List ℕ

@@ -1,6 +1,5 @@
 use Rattle.std.proofs.Common.{◌≡◌, ◌∙◌, ◌*◌, arith, cond, refl, ap, slice_index}
 use Rattle.bus_states.specs.Bus.{line_of, offset_of, some_core}
-use Rattle.cache_lines.specs.Lines.{set_count, way_count}
 use Rattle.cache_lines.specs.Protocol.{copy_at}
 use Rattle.spec_bus.specs.CoreStates.{is_modified_in}
 use Rattle.spec_bus.proofs.CommittedMemory.{written_none, written_more, some_modified}
@@ -23,7 +22,10 @@ pub returns-clause-bytes : goal.returns-clause-bytes
 returns-clause-bytes c p =
     let n = c.args.self.now.cache.line_length in
     let cache = c.args.self.now.cache in
-    let all : c.loop-place.place ≡ set_count * way_count = omega arith in
+    let places : c.sets.result * c.ways.result ≡ cache.geometry.sets * cache.geometry.ways = rw (c.sets.ensures.value, c.ways.ensures.value) refl in
+    let past = c.loop-place-test.false in
+    let within = c.loop-place.auto.place-end in
+    let all : c.loop-place.place ≡ cache.geometry.sets * cache.geometry.ways = omega (arith, places, past, within) in
     c.loop-place.invariant.1 p
     ∙ ap (λ at. cond (some_core at (is_modified_in cache (line_of n p))) ((copy_at cache (line_of n p)).cell (offset_of n p)) (slice_index c.args.memory.now.items p)) all
-    ∙ ap (λ b. cond b ((copy_at cache (line_of n p)).cell (offset_of n p)) (slice_index c.args.memory.now.items p)) (some_modified cache (line_of n p) c.line-first.ensures.placed)
+    ∙ ap (λ b. cond b ((copy_at cache (line_of n p)).cell (offset_of n p)) (slice_index c.args.memory.now.items p)) (some_modified cache (line_of n p) c.sets.ensures.placed)

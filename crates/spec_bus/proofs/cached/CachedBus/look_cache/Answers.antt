@@ -7,4 +7,4 @@ pub returns : goal.returns
 returns c = rw (← c.self.view_is) (λ core at.
     let one : Some c.core.result.now ≡ Some core = sym c.core.ensures.is ∙ at in
     let same : c.core.result.now ≡ core = cc in
-    subst (λ (x : Core). IsPlaced x.cache) same c.line-first.ensures.placed)
+    subst (λ (x : Core). IsPlaced x.cache) same c.ways-ways.ensures.placed)

@@ -1,0 +1,86 @@
+//! Where the lines of a cache stand.
+ghost use Rattle.std.specs.Prelude.{◌≡◌, ◌<◌, map, true, length, slice_set};
+ghost use Rattle.cache_lines.specs.Changes.{rolled_back_line, published_line};
+ghost use Rattle.cache_lines.specs.Stored.{stored_lines};
+
+use crate::line::Line;
+
+/// How many lines a cache has in itself.
+pub(crate) const FEW: usize = 8;
+
+/// The lines of a cache: in the cache itself, or in memory that it took.
+#[derive(Debug, Drop)]
+pub(crate) enum Stored {
+    Few([Line; FEW]),
+    Many(Vec<Line>),
+}
+
+/// Gives every line the state and the marks that the violation of its core's epoch leaves.
+fn roll_back_lines(lines: &mut [Line])
+    ensures { lines.new ≡ map rolled_back_line lines.old }
+{
+    for place in 0..lines.len() {
+        let line = lines[place];
+        lines[place] = line.rolled_back();
+    }
+}
+
+/// Gives every line the state and the marks that its core's publish leaves, where no other core holds the line.
+fn settle_lines(lines: &mut [Line])
+    ensures { lines.new ≡ map (published_line true) lines.old }
+{
+    for place in 0..lines.len() {
+        let line = lines[place];
+        lines[place] = line.published();
+    }
+}
+
+fn put_line(lines: &mut [Line], place: usize, line: Line)
+    requires { place < length lines.old }
+    ensures { lines.new ≡ slice_set lines.old place line }
+{
+    lines[place] = line;
+}
+
+impl Stored {
+    /// All lines, set by set, and in a set way by way.
+    pub(crate) fn lines(&self) -> &[Line]
+        ensures { result.now ≡ stored_lines self.now }
+    {
+        match self {
+            Stored::Few(lines) => lines,
+            Stored::Many(lines) => lines.as_slice(),
+        }
+    }
+
+    /// Puts a line into a place.
+    pub(crate) fn put(&mut self, place: usize, line: Line)
+        requires { place < length (stored_lines self.old) }
+        ensures { stored_lines self.new ≡ slice_set (stored_lines self.old) place line }
+    {
+        match self {
+            Stored::Few(lines) => put_line(lines, place, line),
+            Stored::Many(lines) => put_line(lines.as_mut_slice(), place, line),
+        }
+    }
+
+    /// Gives every line the state and the marks that the violation of its core's epoch leaves.
+    pub(crate) fn roll_back(&mut self)
+        ensures { stored_lines self.new ≡ map rolled_back_line (stored_lines self.old) }
+    {
+        match self {
+            Stored::Few(lines) => roll_back_lines(lines),
+            Stored::Many(lines) => roll_back_lines(lines.as_mut_slice()),
+        }
+    }
+
+    /// Gives every line the state and the marks that its core's publish leaves, where no other core holds the line.
+    pub(crate) fn settle(&mut self)
+        ensures { stored_lines self.new ≡ map (published_line true) (stored_lines self.old) }
+    {
+        match self {
+            Stored::Few(lines) => settle_lines(lines),
+            Stored::Many(lines) => settle_lines(lines.as_mut_slice()),
+        }
+    }
+}
