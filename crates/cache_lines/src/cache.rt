@@ -116,7 +116,8 @@ impl Cache {
         ensures value { result ≡ set_of self.now addr * self.now.geometry.ways }
         ensures within { result + self.now.geometry.ways ≤ length self.now.lines }
     {
-        addr as usize / self.line_length % self.sets * self.ways
+        let set = addr / self.line_length as u32 % self.sets as u32;
+        set as usize * self.ways
     }
 
     /// The lines of the set of `addr`, way by way.
@@ -137,7 +138,7 @@ impl Cache {
             → copy_at self.now (line_in self.now addr way).addr ≡ copy_of_line (line_in self.now addr way) }
         ensures placed { IsPlaced self.now }
     {
-        &self.stored.lines()[self.first(addr) + way]
+        &self.set(addr)[way]
     }
 
     /// The way that has a valid copy of the line at `addr`.
