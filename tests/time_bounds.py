@@ -5,7 +5,8 @@ Usage: tests/time_bounds.py [COMMAND ..]
 
 COMMAND is a command of `trace_cli` that ends with the word `seq`, such as crates/trace_cli/out/trace_cli seq; `why`, `replay` and `depends` are the programs that were built
 beside it. Without it those of this repository are tested. Where one isn't built its rows are left out, and a line says so. A time is that of one process, by what the system
-counts of it, the least of ROUNDS; the two calls of a row take turns. The traces on which `why` is held to the audit are those of `bench/audit/hard.py`. Exits with 1
+counts of it, the least of ROUNDS; the two calls of a row take turns. Other work disturbs times: a row that is past its bound has as many rounds again, at most TRIES times.
+The traces on which `why` is held to the audit are those of `bench/audit/hard.py`. Exits with 1
 where a ratio is past its bound, or a call fails.
 """
 
@@ -24,7 +25,7 @@ sys.path.insert(0, str(ROOT / "bench" / "audit"))
 
 import hard  # noqa: E402
 
-ROUNDS = 5
+ROUNDS, TRIES = 5, 4
 # No call of these takes a second of one processor; one that takes so many is ended.
 LONGEST = 60
 ENTRIES = 50_000
@@ -123,14 +124,25 @@ def seconds(call: Call, program: str, given: Path) -> float:
     return used.ru_utime + used.ru_stime
 
 
-def ratio(row: Bound, programs: dict[str, str], folder: Path) -> float:
-    """The least time of the slow call to the least one of the quick call."""
+def least_times(row: Bound, programs: dict[str, str], folder: Path) -> tuple[float, float]:
+    """The least time of the slow call and that of the quick call."""
     files = []
     for call, name in ((row.slow, "slow"), (row.quick, "quick")):
         files.append((call, folder / name))
         files[-1][1].write_text(call.text, encoding="ascii")
     times = [[seconds(call, programs[call.program], file) for call, file in files] for _ in range(ROUNDS)]
     slow, quick = (min(those) for those in zip(*times))
+    return slow, quick
+
+
+def ratio(row: Bound, programs: dict[str, str], folder: Path) -> float:
+    """The least time of the slow call to the least one of the quick call; of more rounds where it is past the bound."""
+    slow, quick = least_times(row, programs, folder)
+    for _ in range(TRIES - 1):
+        if slow <= row.most * quick:
+            break
+        more = least_times(row, programs, folder)
+        slow, quick = min(slow, more[0]), min(quick, more[1])
     return slow / quick
 
 
