@@ -10,7 +10,6 @@ blanks, and variables far larger than memory, are tried too. What isn't installe
 
 import argparse
 import contextlib
-import importlib.util
 import io
 import os
 import random
@@ -24,7 +23,6 @@ import tempfile
 import time
 from collections.abc import Iterator
 from dataclasses import dataclass
-from importlib.machinery import SourceFileLoader
 from pathlib import Path
 from types import ModuleType
 
@@ -81,21 +79,17 @@ class Answer:
 
 def tool() -> ModuleType:
     """tools/image-of as a module."""
-    loader = SourceFileLoader("image_of_tool", str(TOOLS / "image-of"))
-    spec = importlib.util.spec_from_loader("image_of_tool", loader)
-    assert spec is not None
-    module = importlib.util.module_from_spec(spec)
-    loader.exec_module(module)
-    return module
+    from loops.commands import image_of
+    return image_of
 
 
 def answer_of(module: ModuleType, words: list[str]) -> Answer:
-    """Calls the tool's main."""
+    """Calls the tool with these words."""
     out, err = io.TextIOWrapper(io.BytesIO(), encoding="utf-8"), io.StringIO()
     begun, status, raised = time.process_time(), None, None
     with contextlib.redirect_stdout(out), contextlib.redirect_stderr(err):
         try:
-            status = module.main(words)
+            status = module.answer(words)
         except Exception as wrong:      # what a person would see as a traceback
             raised = f"{type(wrong).__name__}: {wrong}"
     out.flush()
@@ -277,9 +271,9 @@ def main() -> int:
         print(f"left out: tools/image-of on damaged ELF files, since {' and '.join(lacking())} isn't installed")
         return 0
     module = tool()
-    module.PROGRAM = "image-of"
-    from image_of import limits
-    from image_of.elf import ELFFile
+    module.CALLED = "image-of"
+    from loops.image_of import limits
+    from loops.image_of.elf import ELFFile
     if ELFFile is None:
         print("left out: tools/image-of on damaged ELF files, since python3-pyelftools isn't installed")
         return 0

@@ -34,7 +34,7 @@ except ImportError:
 
 # What a shell tells of a program that SIGPIPE ends.
 UNREAD = 141
-TOOLS = ["build", "definitions", "picture", "named", "trace", "json", "image-of", "plot", "verdict", "study", "view"]
+TOOLS = ["build", "definitions", "picture", "named", "trace", "json", "image-of", "loops-of", "plot", "verdict", "study", "view"]
 HURT = ("hurt 4 true epoch 1 try 1 core 1 lost 3 entered 2 since 2 by 0 core 0 cause 5 commit load 3 00000004 store 2 00000014 at 00000040 4\n"
         "also 4 silent load 3 00000004 store 2 00000014 at 00000080 4\nlater 4 store 7 00000014\nvain 4 hurt\nmoot 4\n")
 TOTAL = "total epochs 2 committed 2 useful 8 rollbacks 1 lost 3 cancelled 0 dropped 0 open 0 unsettled 0\n"
@@ -215,11 +215,15 @@ def by_hand():
 
 
 def packages():
-    """`pip install .` installs each package of tools/, in the version that the changelog released last."""
+    """`pip install .` installs each package of tools/, and the tools, in the version that the changelog released last."""
     project = (ROOT / "pyproject.toml").read_text()
     told = json.loads(re.search(r"(?m)^packages = (.*)$", project)[1])
-    there = sorted(path.parent.name for path in (ROOT / "tools").glob("*/__init__.py"))
+    there = sorted(".".join(path.parent.relative_to(ROOT / "tools").parts) for path in (ROOT / "tools").rglob("__init__.py"))
     yield "the packages that are installed", None if sorted(told) == there else f"{told}, there are {there}"
+    told = re.findall(r'(?m)^(loops-[\w-]+) = "loops\.commands\.(\w+):main"$', project)
+    names = {path.stem: path.stem.replace("_", "-") for path in (ROOT / "tools" / "loops" / "commands").glob("[a-z]*.py")}
+    there = [(name if name.startswith("loops-") else f"loops-{name}", module) for module, name in names.items()]
+    yield "the tools that are installed", None if sorted(told) == sorted(there) else f"{told}, there are {there}"
     version = re.search(r'(?m)^version = "(.*)"$', project)[1]
     released = re.search(r"(?m)^## \[(\d.*?)\]", (ROOT / "CHANGELOG.md").read_text())[1]
     yield "the version", None if version == released else f"{version} of the packages, {released} released last"

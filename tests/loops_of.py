@@ -94,8 +94,8 @@ def native(source: Path, folder: Path, words: list[str], given: bytes,
 def emulated(source: Path, folder: Path, words: list[str], given: bytes,
              flags: list[str] | None = None) -> tuple[bytes, int | None]:
     """The same as the tool runs it."""
-    from loops_of.build import Builder, Layout, kit_of
-    from loops_of.emulator import Given, Run
+    from loops.loops_of.build import Builder, Layout, kit_of
+    from loops.loops_of.emulator import Given, Run
     builder = Builder([source], flags or [], Layout(262_144, 65_536), folder, kit_of())
     run = Run(builder.plain(), Given(words, given)).whole()
     return bytes(run.output), run.status
@@ -115,7 +115,7 @@ def natives(folder: Path) -> Iterator[Check]:
 
 def same(folder: Path) -> Iterator[Check]:
     """Each loop's image is `same`, but for those that the program says are refused."""
-    from studies.plans import read_plan
+    from loops.studies.plans import read_plan
     for source in SOURCES:
         kinds = {"refused": "refused", "not": "not"}        # the first words of what isn't an image
         expected = {line: kinds.get(told.split()[0], "same:") for line, told in expected_of(source).items()}
@@ -281,11 +281,11 @@ def gains() -> Iterator[Check]:
 
 def answer_of(source: Path, line: str, folder: Path, kit: object = None, **choice: int) -> str:
     """What is told of a loop, by this plug-in or by another; of its iterations from 2 on, or as chosen."""
-    from loops_of.build import Builder, Layout, kit_of
-    from loops_of.emulator import Given
-    from loops_of.making import Choice, Maker
-    from loops_of.reasons import Otherwise, Refused, Unusable
-    from loops_of.starts import ROOM, ROOM_OF_CHUNKS
+    from loops.loops_of.build import Builder, Layout, kit_of
+    from loops.loops_of.emulator import Given
+    from loops.loops_of.making import Choice, Maker
+    from loops.loops_of.reasons import Otherwise, Refused, Unusable
+    from loops.loops_of.starts import ROOM, ROOM_OF_CHUNKS
     try:
         layout = Layout(65_536, 65_536, ROOM_OF_CHUNKS if "chunk" in choice else ROOM)
         builder = Builder([source], [], layout, folder, kit or kit_of())
@@ -299,7 +299,7 @@ def wrong_plugins(folder: Path) -> Iterator[Check]:
     """The plug-in with mistakes, of which the environment of one that is built for that chooses one. Those that LLVM's
     verifier or the pass itself sees make no image; an array that doesn't go along changes no memory, but is told, and
     isn't called an iteration's own any more."""
-    from loops_of.build import Kit, build_part, join_parts, kit_of
+    from loops.loops_of.build import Kit, build_part, join_parts, kit_of
     kit = Kit(Path(shutil.copytree(kit_of().folder, folder / "wrong")))
     for part in ("carried", "outline"):
         build_part(kit, part, ("-DPLANTS",))
@@ -340,7 +340,7 @@ def patched(where: object, name: str, other: object, source: str, line: str, fol
 
 def wrong_images(folder: Path) -> Iterator[Check]:
     """Images and emulators with mistakes."""
-    from loops_of import check, emulator, images, making
+    from loops.loops_of import check, emulator, images, making
 
     def without(pattern: str) -> object:
         return lambda *given: re.sub(pattern, "", images.image_text(*given))
@@ -369,7 +369,7 @@ def wrong_images(folder: Path) -> Iterator[Check]:
 def wrong_passes(folder: Path) -> Iterator[Check]:
     """Loads that are joined before loops are rotated carry a value around the loop; without marks of where arrays live
     none is an iteration's own."""
-    from loops_of import build
+    from loops.loops_of import build
     for name, other, line, right in (("BEFORE", build.BEFORE.replace("sroa,", "sroa,early-cse<memssa>,"), 32,
                                       "computed i"), ("FRONT", build.FRONT[3:], 35, "own tmp")):
         was = getattr(build, name)
@@ -397,7 +397,7 @@ def furnished(folder: Path, command: list[str]) -> None:
 
 def lacking() -> str | None:
     """Why nothing can be tested."""
-    from loops_of import build, emulator
+    from loops.loops_of import build, emulator
     missing = build.lacking() + ([] if emulator.unicorn else ["python3-unicorn"])
     return ", ".join(missing) or None
 

@@ -257,7 +257,7 @@ def on_a_cluster(folder: Path, programs: Path) -> Results:
         path.chmod(0o755)
     (folder / "plan.toml").write_text(SEEDS.format("1, 2"))
     env = {**os.environ, "LOOPS_PROGRAMS": str(programs), "PATH": f"{folder / 'bin'}:{os.environ['PATH']}", "CALLS": str(folder / "calls"), "CI": "true"}
-    words = [*words_of(Path("plan.toml"), Path("the out"), "--chunk", "5"), "--", "--profile", os.path.relpath(ROOT / "tools" / "studies" / "profiles" / "slurm", folder)]
+    words = [*words_of(Path("plan.toml"), Path("the out"), "--chunk", "5"), "--", "--profile", os.path.relpath(ROOT / "tools" / "loops" / "studies" / "profiles" / "slurm", folder)]
     done = subprocess.run(words, cwd=folder, env=env, capture_output=True, text=True, timeout=SECONDS, check=False)
     jobs = (folder / "calls").read_text().splitlines() if (folder / "calls").exists() else []
     yield "by the profile for Slurm", None if (without_progress(done.stderr), done.returncode, len(jobs)) == ("", 0, 3) else f"{done}, {jobs}"

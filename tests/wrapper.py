@@ -77,8 +77,9 @@ class Tree:
         self.write("HANDLES", "none")
         self.write("crates/trace_cli/src/main.rt", "program")
         self.write("crates/bench/src/main.rt", "bench")
-        for name in ("trace_cli", "tools/build", "tools/crates.py", "tools/endings.py", "tools/help/trace_cli"):
+        for name in ("trace_cli", "tools/build", "tools/crates.py", "tools/help/trace_cli"):
             self.write(name, (TOP / name).read_text()).chmod(0o755)
+        shutil.copytree(TOP / "tools" / "loops", self.top / "tools" / "loops", ignore=shutil.ignore_patterns("__pycache__"))
         for path, text in ((self.bin / "rt", RT), (self.kit / "bin/rattle", CHECKER), (self.kit / "bin/rattle-link", LINKER)):
             path.parent.mkdir(parents=True, exist_ok=True)
             path.write_text(text)
@@ -169,7 +170,6 @@ def rows() -> list[tuple[str, Check]]:
 
     def from_python(tree: Tree) -> str | None:
         """A script that calls the program builds nothing unasked. Asked, it shows how far the build is, and calls what was built."""
-        shutil.copytree(TOP / "tools" / "loops", tree.top / "tools" / "loops")
         script = "import sys; from loops.programs import TREE, call; print(call(TREE / 'trace_cli', ['seq', sys.argv[1]], 'given\\n', (3,)), end='')"
         tree.calls.write_text("")
         env = {"PATH": f"{tree.bin}:/usr/bin:/bin", "CALLS": str(tree.calls), "KIT": str(tree.kit), "PYTHONPATH": str(tree.top / "tools"), "REFUSED": "", "NOTHING": "", "SLOW": ""}

@@ -24,6 +24,8 @@ ILLEGAL = 4
 NOT_BUILT = 126
 MAY_BUILD = "LOOPS_BUILD"
 TREE = Path(__file__).resolve().parents[2]
+# Whether that is the tree of the project: a package that is installed stands in none, and takes nothing from where it is
+IN_TREE = (TREE / "trace_cli").is_file() and TREE / "tools" / "loops" == Path(__file__).resolve().parent
 
 
 class Stopped(Exception):

@@ -1,6 +1,12 @@
 """Why there is no image, and what to do about it."""
 
 import re
+from pathlib import Path
+
+from loops.programs import IN_TREE
+
+# Where the sources are that take the place of a library, as they are told
+SOURCES = "tools" if IN_TREE else str(Path(__file__).resolve().with_name("sources"))
 
 
 class Refused(Exception):
@@ -14,7 +20,7 @@ COPIES = "memcpy memset memmove memcmp strlen"
 FLAGS_OF_OBJECTS = "-march=rv32i -mabi=ilp32"
 # What an instruction needs that the machine hasn't, and what to do.
 EXTENSIONS = {
-    "M": "compile it for RV32I, with -march=rv32i, and add tools/arithmetic.c with --stack 64",
+    "M": f"compile it for RV32I, with -march=rv32i, and add {SOURCES}/arithmetic.c with --stack 64",
     "A": "compile it without atomics, with -march=rv32i; epochs are ordered without them",
     "F": "compile it with -march=rv32i -mabi=ilp32, and count in integers",
     "C": "compile it without compressed instructions, with -march=rv32i",
@@ -38,21 +44,20 @@ def advice(name: str, entry: str, exits: bool, has_library: bool) -> str:
         return "the machine has no float or double; count in integers, as in hundredths"
     if re.fullmatch(r"__u?(mul|div|mod)\w*", name):
         return ("RV32I has no multiplication or division, which an index into rows may need too; add --stack 64 and "
-                "the source "
-                "tools/arithmetic.c" + (", and a division of 64 bits of your own"
+                f"the source {SOURCES}/arithmetic.c" + (", and a division of 64 bits of your own"
                                         if re.match(r"__u?(div|mod)\w*di", name) else ""))
     if re.fullmatch(r"__(ashl|ashr|lshr)di3", name):
-        return "RV32I has no 64-bit shift by a variable; add --stack 64 and the source tools/arithmetic.c"
+        return f"RV32I has no 64-bit shift by a variable; add --stack 64 and the source {SOURCES}/arithmetic.c"
     if name in ("__heap_start", "__heap_end"):
         return "malloc has no memory to give; --heap BYTES gives it some"
     if has_library and (name in ("stdin", "stdout", "stderr") or re.fullmatch(SYSTEM, name)):
         return "there is no system to call; leave out what reads, writes or ends a program"
     if name in COPIES.split():
         return ("there is no C library; the compiler calls some of these to copy or fill whole objects too; add "
-                "--stack 64 and the source tools/memory.c, "
-                "or --libc picolibc")
+                f"--stack 64 and the source {SOURCES}/memory.c, or --libc picolibc")
     if name in ("malloc", "free"):
-        return "there is no C library; add --stack 64 and the source tools/allocator.c, or --libc picolibc --heap 4096"
+        return (f"there is no C library; add --stack 64 and the source {SOURCES}/allocator.c, or --libc picolibc "
+                "--heap 4096")
     if re.match(r"__cxa_|_Unwind_|__gxx_|_ZT[VIS]|_Zn[wa]|_Zd[la]", name):
         return "there is no C++ library; do without exceptions, run-time types, new and delete"
     if re.match(r"__atomic_|__sync_", name):

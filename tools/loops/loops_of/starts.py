@@ -6,7 +6,7 @@ Registers that are the same in all epochs are set by the image, so the instructi
 
 from dataclasses import dataclass
 
-from image_of.start import SLOTS, Instruction, assembled, label, times
+from loops.image_of.start import SLOTS, Instruction, assembled, label, times
 
 BODY = "body"
 RETURN, STACK, SLOT_END, FIRST, CHUNK, EPOCH, END = 1, 2, 5, 6, 7, 10, 28

@@ -4,7 +4,7 @@ from functools import cached_property
 
 from loops import Entry, Image, Violation
 from loops.runs import entry_of
-from pictures.attempts import Pairs, pairs_of
+from loops.pictures.attempts import Pairs, pairs_of
 
 
 class Entries:

@@ -5,8 +5,8 @@ from dataclasses import dataclass
 from loops import Dependences, Report, Violation
 from loops.gains import Gain
 from loops.images import there
-from pictures.attempts import Blamed
-from pictures.words import advice, listed as places_listed, plural
+from loops.pictures.attempts import Blamed
+from loops.pictures.words import advice, listed as places_listed, plural
 
 from .chunks import Chunk, Measured, maker_of
 from .flow import earliest, flow

@@ -6,7 +6,7 @@ from dataclasses import dataclass, field
 from functools import cached_property
 from typing import Any, NamedTuple
 
-from image_of.elf import ELFFile, reading
+from loops.image_of.elf import ELFFile, reading
 from loops.names import word
 
 from .build import Linked

@@ -9,8 +9,8 @@ from pathlib import Path
 from types import ModuleType
 from typing import Any
 
-from image_of.reasons import Refused as NoUnicorn
-from image_of.setup import unicorn_module
+from loops.image_of.reasons import Refused as NoUnicorn
+from loops.image_of.setup import unicorn_module
 from loops.images import there
 
 from .build import MEMORY, PAGE, Linked

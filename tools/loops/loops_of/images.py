@@ -2,9 +2,9 @@
 
 from dataclasses import dataclass
 
-from image_of.start import SLOTS
-from image_of.texts import LARGEST_SIZE, LINE, LONGEST_TEXT, at_lines
-from image_of.words import uses_register
+from loops.image_of.start import SLOTS
+from loops.image_of.texts import LARGEST_SIZE, LINE, LONGEST_TEXT, at_lines
+from loops.image_of.words import uses_register
 
 from .build import Linked, Loop
 from .emulator import Window

@@ -6,7 +6,7 @@ from dataclasses import dataclass
 
 from loops import Image
 from loops.gains import Gain
-from pictures.words import stored_at
+from loops.pictures.words import stored_at
 
 from .losses import Losses
 

@@ -1,7 +1,7 @@
 """What epochs need of one another in order, and whether anything can roll back at all, in English: from what `depends` prints."""
 
 from loops import Dependences, Image, Joined, OverStore
-from pictures.words import listed, plural
+from loops.pictures.words import listed, plural
 
 from .registers import Way, is_at_once, way_of
 

@@ -9,7 +9,7 @@ from pathlib import Path
 
 from loops.gains import Gain, Gains, read_gains
 from loops.images import MOST_CORES, read_image
-from loops.programs import TREE
+from loops.programs import IN_TREE, TREE
 from loops.texts import shown, text_in
 
 from .kept import USES, Kept, Row, Work
@@ -109,6 +109,8 @@ def gains_in(text: str) -> Gains:
 
 def commit() -> str:
     """The commit of the tree that this file stands in, or nothing."""
+    if not IN_TREE:
+        return ""
     try:
         return subprocess.run(["git", "-C", str(TREE), "rev-parse", "HEAD"], capture_output=True, text=True, check=False).stdout.strip()
     except OSError:

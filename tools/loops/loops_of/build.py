@@ -3,6 +3,7 @@ function."""
 
 import bisect
 import hashlib
+import os
 import re
 import shutil
 import subprocess
@@ -13,13 +14,13 @@ from dataclasses import dataclass, field
 from functools import cached_property
 from pathlib import Path
 
-from image_of.elf import Program
-from image_of.lines import Lines, lines_of
+from loops.image_of.elf import Program
+from loops.image_of.lines import Lines, lines_of
+from loops.programs import IN_TREE, TREE
 
 from .reasons import Refused, Unusable, too_large, unlinked
 
 HERE = Path(__file__).resolve().parent
-TREE = HERE.parents[1]
 LLVM = Path("/usr/lib/llvm-14")
 PICOLIBC = Path("/usr/lib/picolibc/riscv64-unknown-elf")
 LIBGCC = ("/usr/lib/gcc/riscv64-unknown-elf", "*/rv32i/ilp32/libgcc.a")
@@ -120,13 +121,21 @@ def build_runtime(kit: Kit) -> None:
         run(llvm("llvm-objcopy"), "--strip-debug", path, made)
 
 
-def kit_of(folder: Path = TREE / "out" / "loops-of") -> Kit:
+def folder_of_kits() -> Path:
+    """Where what is built once is kept: in the tree, or where the package is installed, in the user's cache."""
+    if IN_TREE:
+        return TREE / "out" / "loops-of"
+    return Path(os.environ.get("XDG_CACHE_HOME") or Path.home() / ".cache") / "loops-of"
+
+
+def kit_of() -> Kit:
     """The plug-in and the runtime of these sources, which are built where they aren't there yet."""
     if lacking():
         raise Unusable("not installed, of Debian's packages: " + ", ".join(lacking()))
     sources = sorted([*(HERE / "pass").iterdir(), *(HERE / "runtime").iterdir()])
     stamps = [f"{path} {path.stat().st_size} {path.stat().st_mtime_ns}" for path in archives()]
     told = hashlib.sha256(b"".join(path.read_bytes() for path in sources) + "".join(stamps).encode()).hexdigest()
+    folder = folder_of_kits()
     made = Kit(folder / told[:16])
     if not made.plugin.is_file():
         print("loops-of: builds its plug-in for LLVM, once, in a minute", file=sys.stderr)

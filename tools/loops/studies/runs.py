@@ -3,6 +3,7 @@
 import json
 import os
 import signal
+import sys
 from collections.abc import Iterable, Iterator
 from dataclasses import asdict
 from functools import lru_cache
@@ -124,8 +125,8 @@ def run_chunk(path: Path) -> int:
         return sum(not good for good in made(runner, left, file, reasons))
 
 
-def main(words: list[str]) -> int:
-    """The program that a job calls, with the file of its chunk."""
+def main() -> int:
+    """What a job calls, with the file of its chunk."""
     os.chdir("/")
     signal.signal(signal.SIGINT, signal.SIG_DFL)
-    return 1 if run_chunk(Path(words[0])) else 0
+    return 1 if run_chunk(Path(sys.argv[1])) else 0

@@ -4,7 +4,7 @@ from collections.abc import Mapping
 
 from loops import Entry, Image, Step, Violation
 from loops.images import there
-from pictures.words import Lost, plural, sentence
+from loops.pictures.words import Lost, plural, sentence
 
 CAUSES = {
     "NoEpoch": "no epoch is left for it",

@@ -1,0 +1,124 @@
+"""Says in English what a loop gains at even speed on so many cores, what holds it back, at which lines of the source,
+and what usually helps.
+
+Usage: tools/verdict IMAGE [--cores N] [--max-lost PERCENT] [--min-gain G] [--build] [-- WORD ..]
+
+What it gains is what `gain` says, of one instruction a step on each core and no latency; what holds it back is what
+`why` says of the runs that `replay even plain N` and `replay even caches N` print: over the plain store first, since
+waiting for the caches may hide what epochs need of one another. Where `depends` is built it says whether anything can
+roll back at all, on any schedule, and what an epoch needs earliest of another. Where neighbours of an array share lines it proposes
+--chunk of the tool that made the image, tools/image-of or tools/loops-of; the words behind `--` are those by which it
+did, and with them it measures what that gains. Limits are of the run over caches: how many hundredths of the steps of
+all cores may be lost, and what the loop has to gain. The status is 0 within the limits, 5 past them, and 6 where the
+loop ends in a fault; where a program refuses the image or is stopped, its line comes on standard error, and its status
+is that of this program. It builds no program unless `--build` says so.
+"""
+
+import argparse
+import subprocess
+import sys
+import textwrap
+from dataclasses import dataclass
+from pathlib import Path
+
+from loops.endings import tool
+from loops import Image, Programs, Report, Stopped, read_image
+from loops.programs import add_build
+from loops.runs import read_report
+from loops.start import words_of
+from loops.texts import shown, text_in
+from loops.verdicts.chunks import Measured, maker_of, proposal
+from loops.verdicts.losses import Losses
+from loops.verdicts.words import Findings, faulted, paragraph, past
+
+PAST, FAULT = 5, 6
+COLUMNS = 100
+
+
+@dataclass
+class Ran:
+    """A run at even speed: how it ended, and what it lost."""
+    report: Report
+    losses: Losses
+
+
+def ran(programs: Programs, text: str, image: Image, store: str, cores: int) -> Ran:
+    """The run over a store, and why it was rolled back. Its trace is long, so no more of it is read than is asked
+    for."""
+    above, head, below = programs.even_text(text, store, cores).partition("\ntrace ")
+    kept = [line for line in above.split("\n") if not line.startswith(("turns ", "counts "))]
+    trace = head[1:] + below
+    return Ran(read_report("\n".join(kept)),
+               Losses(image, programs.why(text.removesuffix("\n") + "\n" + trace).violations, trace.split("\n")[1:-1]))
+
+
+def measured(programs: Programs, maker: str, words: list[str], size: int, cores: int) -> Measured:
+    """What the loop gains when the tool that made it makes it with so many iterations an epoch."""
+    done = subprocess.run([*words_of(f"commands.{maker.replace('-', '_')}"), "--chunk", str(size), *words],
+                          stdin=subprocess.DEVNULL, capture_output=True, check=False)
+    if done.returncode:
+        raise Stopped(done.returncode, text_in(done.stderr))
+    runs = {run.cores: run for run in programs.gain(text_in(done.stdout), cores).runs if run.store == "caches"}
+    return Measured(size, runs[1], runs[cores])
+
+
+def findings(programs: Programs, path: Path, cores: int, words: list[str]) -> Findings | str:
+    """What the programs say of the loop, or what is told where it ends in a fault."""
+    text = text_in(path.read_bytes())
+    runs = {(run.store, run.cores): run for run in programs.gain(text, cores).runs}
+    caches, plain = runs["caches", cores], runs["plain", cores]
+    if caches.full:
+        raise Stopped(3, "stopped HistoryFull\n")
+    image = read_image(text)
+    over_caches = ran(programs, text, image, "caches", cores)
+    if over_caches.report.ending == "fault":
+        return faulted(shown(path.stem), over_caches.losses, over_caches.report)
+    over_plain = None if plain.full else ran(programs, text, image, "plain", cores).losses
+    chunk = proposal(over_caches.losses)
+    tried = measured(programs, maker_of(image), words, chunk.size, cores) if chunk and words else None
+    flow = programs.depends(text, image.most_cores) if programs.has_depends() else None
+    return Findings(shown(path.stem), runs["caches", 1], caches, plain, over_caches.losses, over_plain, chunk, tried, flow)
+
+
+def options_of(words: list[str]) -> tuple[argparse.Namespace, list[str]]:
+    """The options, and the words behind `--`."""
+    own, further = (words[:words.index("--")], words[words.index("--") + 1:]) if "--" in words else (words, [])
+    parser = argparse.ArgumentParser(description="Says in English what a loop gains at even speed, and what holds it "
+                                                 "back; advice is no claim.",
+                                     epilog="Behind -- may stand the words of tools/image-of or tools/loops-of that "
+                                            "made the image, by which --chunk is measured "
+                                            "where it is proposed.")
+    parser.add_argument("image", type=Path, metavar="IMAGE",
+                        help="the text of the loop; made with -g it names lines of the source")
+    parser.add_argument("--cores", type=int, default=4, metavar="N", help="1 to 16, in version 1 of an image to 8 (4)")
+    parser.add_argument("--max-lost", type=float, metavar="PERCENT",
+                        help="the status is 5 where more of the steps of all cores are lost")
+    parser.add_argument("--min-gain", type=float, metavar="G", help="the status is 5 where the loop gains less")
+    add_build(parser)
+    return parser.parse_args(own), further
+
+
+def answer(words: list[str]) -> int:
+    """What the tool does with the words of its command line, and its status."""
+    given, further = options_of(words)
+    try:
+        found = findings(Programs(), given.image, given.cores, further)
+    except OSError as wrong:
+        print(f"verdict: {wrong}", file=sys.stderr)
+        return 2
+    except Stopped as stopped:
+        sys.stderr.write(stopped.line)
+        return stopped.status
+    if isinstance(found, str):
+        print(textwrap.fill(found, COLUMNS, break_long_words=False, break_on_hyphens=False))
+        return FAULT
+    beyond = past(found, given.max_lost, given.min_gain)
+    limits = ("" if given.max_lost is None and given.min_gain is None else f" Past the limits: {'; '.join(beyond)}."
+              if beyond else " Within the limits.")
+    print(textwrap.fill(paragraph(found) + limits, COLUMNS, break_long_words=False, break_on_hyphens=False))
+    return PAST if beyond else 0
+
+
+@tool
+def main() -> int:
+    return answer(sys.argv[1:])
