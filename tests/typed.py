@@ -17,8 +17,6 @@ from pathlib import Path
 # What a check is of, and what is wrong or None
 Results = Iterator[tuple[str, str | None]]
 ROOT = Path(__file__).resolve().parent.parent
-# A program whose functions have no types yet.
-UNTYPED = {"build"}
 # A function without types, and a field that isn't there: each has to be found.
 WRONG = "from loops import read_image\n\n\ndef size(text):\n    return read_image(text).length\n"
 
@@ -45,7 +43,7 @@ def packages() -> list[str]:
 def programs() -> list[Path]:
     """The programs of tools/ that are Python, and the modules beside them."""
     files = sorted(path for path in (ROOT / "tools").rglob("*") if path.is_file() and not path.suffix)
-    found = [path for path in files if b"python3" in path.read_bytes().partition(b"\n")[0] and path.name not in UNTYPED]
+    found = [path for path in files if b"python3" in path.read_bytes().partition(b"\n")[0]]
     return [*sorted((ROOT / "tools").glob("*.py")), *found]
 
 
