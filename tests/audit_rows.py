@@ -10,8 +10,11 @@ the format of a trace, never from a program. Exits with 1 where a row differs.
 """
 
 import sys
+from collections.abc import Iterator
+from functools import partial
 
-from seq_rows import COUNTER, ROOT, image, run
+from common import Check, Script, differs
+from seq_rows import COUNTER, Outcome, image, run
 
 # Epoch 1 waits for the word that epoch 0 stores, so it is hurt where it has read it before.
 WAIT = image("6308050083220004e38e02fe67800000930210002320500467800000", epochs=2, limit=50)
@@ -30,36 +33,36 @@ LEGAL_LOADS = [line for epoch in range(60_000) for line in [f"0 start {epoch}", 
 LONGEST = 33_554_432
 
 
-def traced(above, entries, head="trace 2"):
+def traced(above: str, entries: list[str], head: str = "trace 2") -> str:
     """An input: an image, the head of a trace, and a line for each entry."""
     return above + "".join(line + "\n" for line in [head, *entries])
 
 
-def legal(entries, homefree):
+def legal(entries: int, homefree: int) -> Outcome:
     return f"legal {entries} {homefree}\n", "", 0
 
 
-def illegal(place, name):
+def illegal(place: int, name: str) -> Outcome:
     return f"illegal {place} {name}\n", "", 4
 
 
-def image_refused(line, name):
+def image_refused(line: int, name: str) -> Outcome:
     return "", f"image {line} {name}\n", 2
 
 
-def trace_refused(line, name):
+def trace_refused(line: int, name: str) -> Outcome:
     return "", f"trace {line} {name}\n", 2
 
 
-def changed(entries, place, line):
+def changed(entries: list[str], place: int, line: str) -> list[str]:
     return entries[:place] + [line] + entries[place + 1:]
 
 
-def without(entries, place):
+def without(entries: list[str], place: int) -> list[str]:
     return entries[:place] + entries[place + 1:]
 
 
-def padded(text, length):
+def padded(text: str, length: int) -> str:
     """A text with a remark at its end, so many bytes long."""
     return text + "#" * (length - len(text))
 
@@ -172,16 +175,15 @@ REFUSALS = [
 ]
 
 
-def main():
-    command = sys.argv[1:] or [str(ROOT / "trace_cli"), "seq"]
-    failed = 0
+def rows(program: list[str]) -> Iterator[Check]:
     for name, text, expected in VERDICTS + REFUSALS:
-        got = run(command[:-1], ["audit"], text.encode("latin-1"))
-        if got != expected:
-            failed += 1
-            print(f"FAILED {name}\n  expected {expected}\n  got      {got}")
-    print(f"{len(VERDICTS) + len(REFUSALS) - failed} rows passed, {failed} failed")
-    return 1 if failed else 0
+        yield name, differs(run(program, ["audit"], text.encode("latin-1")), expected)
+
+
+def main() -> int:
+    script = Script()
+    script.run(partial(rows, script.command()[:-1]))
+    return script.ended("rows")
 
 
 if __name__ == "__main__":

@@ -15,15 +15,16 @@ compiler was left out. `--make` writes the lines and the images anew. Exits with
 
 import re
 import shutil
-import subprocess
 import sys
 import tempfile
 from collections.abc import Iterator
+from functools import partial
 from pathlib import Path
 
+from common import ROOT, Check, Script, called, called_bytes, called_well, left_out
+
 # What a check is of, and what is wrong or None
-Results = Iterator[tuple[str, str | None]]
-ROOT = Path(__file__).resolve().parent.parent
+Results = Iterator[Check]
 TOOL = ROOT / "tools" / "image-of"
 PROGRAMS = ROOT / "tests" / "c"
 ARITHMETIC = ROOT / "tools" / "arithmetic.c"
@@ -64,9 +65,8 @@ def native(source: Path, further: list[Path]) -> tuple[str, dict[str, bytes]]:
         objects = []
         for part in [source, *(one for one in further if one != ARITHMETIC)]:
             objects.append(str(Path(folder, part.stem + ".o")))
-            subprocess.run(["cc", "-w", "-std=c11", "-O1", "-funsigned-char", "-fno-common", "-ffreestanding", "-c",
-                            "-o", objects[-1], str(part)], check=True)
-        listed = subprocess.run(["nm", "-S", *objects], capture_output=True, text=True, check=True).stdout
+            called_well(["cc", "-w", "-std=c11", "-O1", "-funsigned-char", "-fno-common", "-ffreestanding", "-c", "-o", objects[-1], str(part)])
+        listed = called_well(["nm", "-S", *objects])
         variables = re.findall(r"(?m)^[0-9a-f]+ ([0-9a-f]+) [BD] (\w+)$", listed)
         harness = HARNESS.format(
             declarations=("unsigned" if exits else "void") + " body(unsigned);\n"
@@ -74,8 +74,8 @@ def native(source: Path, further: list[Path]) -> tuple[str, dict[str, bytes]]:
             epochs=epochs, call="exited = body(epoch)" if exits else "body(epoch)",
             prints="\n".join(PRINT.format(name=name, length=int(length, 16)) for length, name in variables))
         Path(folder, "main.c").write_text(harness)
-        subprocess.run(["cc", "-w", "-o", str(Path(folder, "main")), str(Path(folder, "main.c")), *objects], check=True)
-        printed = subprocess.run([str(Path(folder, "main"))], capture_output=True, text=True, check=True).stdout
+        called_well(["cc", "-w", "-o", str(Path(folder, "main")), str(Path(folder, "main.c")), *objects])
+        printed = called_well([Path(folder, "main")])
     end, *lines = printed.splitlines()
     return end, {name: bytes.fromhex(digits) for name, digits in map(str.split, lines)}
 
@@ -132,7 +132,7 @@ def report_of(image: str, lines: list[str]) -> tuple[list[str], int]:
 def wrong_report(command: list[str], image: str, lines: list[str]) -> str | None:
     """What is wrong with the report of an image, or None."""
     expected, stacks = report_of(image, lines)
-    done = subprocess.run(command, input=image.encode(), capture_output=True, check=False)
+    done = called_bytes(command, image.encode())
     got = [line for line in done.stdout.decode("latin-1").splitlines()
            if not line.startswith("at ") or int(line.split()[1], 16) < stacks]
     if (got, done.stderr, done.returncode) == (expected, b"", 0):
@@ -141,7 +141,7 @@ def wrong_report(command: list[str], image: str, lines: list[str]) -> str | None
 
 
 def image_of(words: list[str | Path]) -> tuple[str, str, int]:
-    done = subprocess.run([sys.executable, str(TOOL), *map(str, words)], capture_output=True, text=True, check=False)
+    done = called([sys.executable, str(TOOL), *map(str, words)])
     return done.stdout, done.stderr, done.returncode
 
 
@@ -261,31 +261,38 @@ def make() -> None:
         (PROGRAMS / f"{name}.image").write_text(text)
 
 
-def main() -> int:
-    words = sys.argv[1:]
-    if words == ["--make"]:
-        make()
-        return 0
-    command = words or [str(ROOT / "trace_cli"), "seq"]
-    checks = [*as_they_stand(command), *help_text()]
-    with_cc = shutil.which("cc") is not None and shutil.which("nm") is not None
-    if with_cc:
-        checks += natively()
+def on_this_machine() -> Iterator[Check]:
+    """The programs by the compiler of this machine."""
+    if has_cc():
+        yield from natively()
     else:
-        print("left out: the programs of tests/c on this machine, since cc or nm isn't installed")
+        left_out("the programs of tests/c on this machine", "cc or nm isn't installed")
+
+
+def by_compilers(command: list[str]) -> Iterator[Check]:
+    """The programs by each compiler for RISC-V that is there."""
     for compiler, packages in (("gcc", "gcc-riscv64-unknown-elf isn't"), ("clang", "clang and lld aren't")):
         missing = image_of(["--compiler", compiler, PROGRAMS / "search.c"])[1]
         if " is not installed" in missing:
-            print(f"left out: C sources to images by {compiler}, since {missing.strip()}")
+            left_out(f"C sources to images by {compiler}", missing.strip())
         elif "no compiler is installed" in missing:
-            print(f"left out: C sources to images by {compiler}, since {packages} installed")
+            left_out(f"C sources to images by {compiler}", f"{packages} installed")
         else:
-            checks += [*compiled_anew(command, with_cc, compiler), *refusals(compiler), *warnings(compiler)]
-    failed = [(name, wrong) for name, wrong in checks if wrong]
-    for name, wrong in failed:
-        print(f"FAILED {name}\n  {wrong}")
-    print(f"{len(checks) - len(failed)} checks passed, {len(failed)} failed")
-    return 1 if failed else 0
+            yield from [*compiled_anew(command, has_cc(), compiler), *refusals(compiler), *warnings(compiler)]
+
+
+def has_cc() -> bool:
+    return shutil.which("cc") is not None and shutil.which("nm") is not None
+
+
+def main() -> int:
+    script = Script()
+    if script.words == ["--make"]:
+        make()
+        return 0
+    command = script.command()
+    script.run(partial(as_they_stand, command), help_text, on_this_machine, partial(by_compilers, command))
+    return script.ended()
 
 
 if __name__ == "__main__":

@@ -12,14 +12,14 @@ outcome differs.
 
 import argparse
 import random
-import subprocess
 import sys
 from collections import Counter
-from pathlib import Path
+from collections.abc import Iterable, Iterator
+from functools import partial
 from typing import NamedTuple
 
-from memory import beside
-from seq_rows import ROOT, image, run
+from common import ROOT, Row, Script, beside, called, comparing, left_out
+from seq_rows import image, run
 
 sys.path.insert(0, str(ROOT / "tests" / "model"))
 
@@ -41,6 +41,10 @@ ROWS = [
 ]
 
 
+# The lines `dep`, and of each store its line and that of turns
+Told = tuple[list[str], dict[str, tuple[str, str | None]]]
+
+
 class Programs(NamedTuple):
     """The commands of the programs."""
     depends: list[str]
@@ -48,21 +52,15 @@ class Programs(NamedTuple):
     why: list[str]
 
 
-failures = []
 # How often a random loop was told so of a store, and what else is told.
-seen = Counter()
-
-
-def expect(what, got, want):
-    if got != want:
-        failures.append(f"{what}: got {got!r}, not {want!r}")
+seen: Counter[str] = Counter()
 
 
 # --- What a schedule shows ---------------------------------------------------
 
-def violated(traced):
+def violated(traced: str) -> Iterator[tuple[int, int]]:
     """Of each `hurt` of a trace the epoch that is violated, and the one whose core did it."""
-    running = {}
+    running: dict[str, int] = {}
     for line in traced.partition("\ntrace ")[2].splitlines()[1:]:
         core, what, *rest = line.split()
         if what == "start":
@@ -71,32 +69,32 @@ def violated(traced):
             yield int(rest[0]), running[core]
 
 
-def check_shown(at, programs, text, told, turns):
+def check_shown(at: str, programs: Programs, text: str, told: str, turns: str) -> Iterator[Row]:
     """A line `from`: its turns make one violation, at the last of them, and `why` says of it what the line says."""
     words = told.split()
     output, errors, status = run(programs.replay, words[1:3], f"{text}\n{turns}\n")
-    expect(f"{at}: replay", (errors, status in (0, 1)), ("", True))
+    yield (f"{at}: replay", (errors, status in (0, 1)), ("", True))
     first = next(violated(output), None)
     said = run(programs.why, [], f"{text}\ntrace {output.partition(chr(10) + 'trace ')[2]}")[0].split()
     load, store = (["load", said[24]], ["store", said[27]]) if said[22:23] == ["load"] else (["buffer"], [])
-    expect(f"{at}: what the turns show", words[3:], ["epoch", str(first and first[0]), *load, "by", "epoch", str(first and first[1]), *store])
+    yield (f"{at}: what the turns show", words[3:], ["epoch", str(first and first[0]), *load, "by", "epoch", str(first and first[1]), *store])
     output = run(programs.replay, words[1:3], f"{text}\n{turns.rpartition(' ')[0]}\n")[0]
-    expect(f"{at}: a turn less", list(violated(output)), [])
+    yield (f"{at}: a turn less", list(violated(output)), [])
 
 
-def check_never(at, replay, text, store, cores, seeds):
+def check_never(at: str, replay: list[str], text: str, store: str, cores: int, seeds: Iterable[int]) -> Iterator[Row]:
     """Where never is told: no seed and no short schedule violates anything."""
     if cores < 2:
         return
     for seed in seeds:
         output, errors, _ = run(replay, ["seeded", str(seed), store, str(cores)], text)
-        expect(f"{at}: seed {seed}", (errors, list(violated(output))), ("", []))
+        yield (f"{at}: seed {seed}", (errors, list(violated(output))), ("", []))
     output, errors, _ = run(replay, ["all", store, "2", "8"], text)
     most = next((line for line in output.splitlines() if line.startswith("most ")), "most 0")
-    expect(f"{at}: each schedule of 8 turns", (errors, most), ("", "most 0"))
+    yield (f"{at}: each schedule of 8 turns", (errors, most), ("", "most 0"))
 
 
-def conflicting(loop, store, cores):
+def conflicting(loop: model.Loop, store: str, cores: int) -> set[tuple[int, int]]:
     """The pairs of epochs, the later one first, that conflict on so many cores by the model."""
     pairs = {(later, earlier) for later, _, earlier, _ in model.MET[store](loop, cores)}
     return pairs | set(model.overflows(loop, cores) if store == "caches" else [])
@@ -104,11 +102,12 @@ def conflicting(loop, store, cores):
 
 # --- One loop ------------------------------------------------------------------
 
-def told_of(output, stores):
+def told_of(output: str, stores: list[str]) -> Told | None:
     """The lines `dep`, and for each store its line and the line of turns, or None where they aren't that."""
     lines = output.splitlines()
     deps = [line for line in lines if line.startswith("dep ")]
-    rest, found = lines[len(deps):], {}
+    rest = lines[len(deps):]
+    found: dict[str, tuple[str, str | None]] = {}
     for store in stores:
         line = rest.pop(0) if rest else ""
         turns = rest.pop(0) if line.startswith("from ") and rest else None
@@ -118,32 +117,35 @@ def told_of(output, stores):
     return None if rest or lines[:len(deps)] != deps else (deps, found)
 
 
-def check_loop(programs, name, text, cores, deps, leasts, seeds):
+def check_loop(programs: Programs, name: str, text: str, cores: int, deps: list[str], leasts: dict[str, int | None], seeds: Iterable[int]) -> Iterator[Row]:
     """What is told of a loop on up to so many cores. `leasts` has for each store the least number with a conflict, or None."""
     printed = run(programs.depends, [str(cores)], text)
-    expect(f"{name}: again", run(programs.depends, [str(cores)], text), printed)
+    yield (f"{name}: again", run(programs.depends, [str(cores)], text), printed)
     told = told_of(printed[0], STORES)
-    expect(f"{name}: status, lines", (printed[1:], told is None), (("", 0), False))
+    yield (f"{name}: status, lines", (printed[1:], told is None), (("", 0), False))
     if told is None:
         return
-    expect(f"{name}: dependences", told[0], deps)
+    yield (f"{name}: dependences", told[0], deps)
     loop = model.Loop(rv32_seq.image_of(text.encode("latin-1")))
     for store in STORES:
         line, turns = told[1][store]
         at, words, least = f"{name} {store}", line.split(), leasts[store]
-        expect(f"{at}: from how many cores", words[2] if words[0] != "never" else line, str(least) if least else f"never {store} {cores}")
+        yield (f"{at}: from how many cores", words[2] if words[0] != "never" else line, str(least) if least else f"never {store} {cores}")
         seen[f"{words[0]} {store}"] += 1
         if words[0] == "never":
-            check_never(at, programs.replay, text, store, cores, seeds)
+            yield from check_never(at, programs.replay, text, store, cores, seeds)
         if turns is not None:
-            expect(f"{at}: a conflict {line}", (int(words[4]), int(words[9 if "load" in words else 8])) in conflicting(loop, store, int(words[2])), True)
-            check_shown(at, programs, text, line, turns)
+            yield (f"{at}: a conflict {line}", (int(words[4]), int(words[9 if "load" in words else 8])) in conflicting(loop, store, int(words[2])), True)
+            yield from check_shown(at, programs, text, line, turns)
 
 
 # --- Examples and rows -----------------------------------------------------------
 
-def check_examples(programs):
-    deps, leasts, coarser = {}, {}, set()
+@comparing
+def check_examples(programs: Programs) -> Iterator[Row]:
+    deps: dict[str, list[str]] = {}
+    leasts: dict[str, dict[str, int | None]] = {}
+    coarser: set[tuple[str, str]] = set()
     for row in (ROOT / "tests/depends.txt").read_text().splitlines():
         name, kind, *rest = row.split()
         if kind == "dep":
@@ -152,35 +154,37 @@ def check_examples(programs):
             leasts.setdefault(name, {})[kind] = None if rest == ["never"] else int(rest[1])
             coarser |= {(name, kind)} if rest[0] == "coarser" else set()
     files = {path.stem: path.read_text() for path in (ROOT / "examples").glob("*.image")}
-    expect("the examples of depends.txt", sorted(leasts), sorted(files))
+    yield ("the examples of depends.txt", sorted(leasts), sorted(files))
     for name in sorted(leasts):
         cores = 16 if "\nversion 2\n" in f"\n{files[name]}" else 8
-        check_loop(programs, name, files[name], cores, deps.get(name, []), leasts[name], [1, 2])
+        yield from check_loop(programs, name, files[name], cores, deps.get(name, []), leasts[name], [1, 2])
     for name, store in sorted(coarser):
         print(f"known: {name} over {store} is told as a conflict on {leasts[name][store]} cores, where another program finds none: the definition is coarser than the machine")
 
 
-def check_rows(programs):
+@comparing
+def check_rows(programs: Programs) -> Iterator[Row]:
     for name, cores, stores, wanted in ROWS:
         output, errors, status = run(programs.depends, [cores, *stores], (ROOT / f"examples/{name}.image").read_text())
         got = [line for line in output.splitlines() if not line.startswith(("dep ", "turns "))]
-        expect(f"{name} on {cores} cores over {stores}", (got, errors, status), (wanted, "", 0))
+        yield (f"{name} on {cores} cores over {stores}", (got, errors, status), (wanted, "", 0))
 
 
-def check_words(depends):
+@comparing
+def check_words(depends: list[str]) -> Iterator[Row]:
     for words in (["0"], ["17"], ["x"], ["2", "other"], ["-1"], ["2", "caches", "2"], ["2", "plain", "caches", "plain"], ["caches"]):
-        expect(f"words {words}", run(depends, words, COUNTER), ("", "usage\n", 2))
-    expect("more cores than version 1 allows", run(depends, ["9"], COUNTER), ("", "usage\n", 2))
-    expect("an image that is refused", run(depends, ["2"], "size 1\n"), ("", "image 1 Range\n", 2))
-    expect("no epochs", run(depends, ["2"], image("67800000", epochs=0)), ("never caches 2\nnever plain 2\n", "", 0))
+        yield (f"words {words}", run(depends, words, COUNTER), ("", "usage\n", 2))
+    yield ("more cores than version 1 allows", run(depends, ["9"], COUNTER), ("", "usage\n", 2))
+    yield ("an image that is refused", run(depends, ["2"], "size 1\n"), ("", "image 1 Range\n", 2))
+    yield ("no epochs", run(depends, ["2"], image("67800000", epochs=0)), ("never caches 2\nnever plain 2\n", "", 0))
     with open("/dev/full", "w", encoding="ascii") as full:
-        done = subprocess.run([*depends, "2"], input=COUNTER, stdout=full, stderr=subprocess.PIPE, text=True, check=False)
-    expect("a write that fails", (done.stderr, done.returncode), ("stopped Write\n", 3))
+        done = called([*depends, "2"], COUNTER, stdout=full)
+    yield ("a write that fails", (done.stderr, done.returncode), ("stopped Write\n", 3))
 
 
 # --- Random loops ------------------------------------------------------------------
 
-def access(rng, places):
+def access(rng: random.Random, places: list[int]) -> list[int]:
     """A load or store of a place that epochs share, or that follows from the epoch's number; sometimes one at an address from memory."""
     base, at = rng.choice([0, 0, 0, 5, 5]), rng.choice(places)
     narrow = at % 4 != 0 or rng.random() < 0.15
@@ -193,7 +197,7 @@ def access(rng, places):
     return [word_of_s(MATCH["sb" if narrow else "sw"], base, rng.choice([6, 10, 5, 0]), at)]
 
 
-def small(rng):
+def small(rng: random.Random) -> tuple[bytes, int]:
     """The text of a loop of a few accesses, and on how many cores it is looked at."""
     wide = rng.random() < 0.2
     places = [64, 80, 96, 112, 128, 144, 192] if wide else [64, 68, 65, 72, 76, 80, 84, 128, 192]
@@ -215,43 +219,45 @@ def small(rng):
     return ("\n".join(lines) + "\n").encode("ascii"), rng.choice([2, 3, 4, 8])
 
 
-def check_random(programs, count):
+@comparing
+def check_random(programs: Programs, count: int) -> Iterator[Row]:
     for index in range(count):
         rng = random.Random(f"depends/{index}")
         text, cores = small(rng) if rng.random() < 0.5 else loop_of(rng)
         try:
             image_read = rv32_seq.image_of(text)
         except rv32_seq.Refused as refused:
-            expect(f"random {index}", run(programs.depends, [str(cores)], text), ("", f"image {refused.line} {refused.name}\n", 2))
+            yield (f"random {index}", run(programs.depends, [str(cores)], text), ("", f"image {refused.line} {refused.name}\n", 2))
             continue
         loop = model.Loop(image_read)
         told = {store: model.store_line(loop, store, cores).split() for store in STORES}
         leasts = {store: None if words[0] == "never" else int(words[2]) for store, words in told.items()}
-        check_loop(programs, f"random {index}", text.decode("latin-1"), cores, list(model.dep_lines(loop)), leasts, range(3))
+        yield from check_loop(programs, f"random {index}", text.decode("latin-1"), cores, list(model.dep_lines(loop)), leasts, range(3))
 
 
-def main():
+@comparing
+def no_words(depends: list[str]) -> Iterator[Row]:
+    """In the place of which ./depends prints its page of help."""
+    yield "no words", run(depends, [], COUNTER), ("", "usage\n", 2)
+
+
+def main() -> int:
+    script = Script()
     parser = argparse.ArgumentParser(description="Tests the program depends.")
     parser.add_argument("--many", type=int, default=60, help="how many random loops are tried")
     parser.add_argument("command", nargs=argparse.REMAINDER)
-    given = parser.parse_args()
-    found = [beside(given.command, name) if given.command else ROOT / name for name in Programs._fields]
-    if not all(path and Path(path).exists() for path in found):
-        print("left out: depends, since it, replay and why weren't built beside the program that is tested")
+    given = parser.parse_args(script.words)
+    found = [beside(given.command or [str(ROOT / "trace_cli")], name) for name in Programs._fields]
+    if not all(path and path.exists() for path in found):
+        left_out("depends", "it, replay and why weren't built beside the program that is tested")
         return 0
     programs = Programs(*([str(path)] for path in found))
-    if given.command:
-        expect("no words", run(programs.depends, [], COUNTER), ("", "usage\n", 2))      # in the place of which ./depends prints its page of help
-    check_words(programs.depends)
-    check_rows(programs)
-    check_examples(programs)
+    script.run(*([partial(no_words, programs.depends)] if given.command else []), partial(check_words, programs.depends),
+               partial(check_rows, programs), partial(check_examples, programs))
     seen.clear()
-    check_random(programs, given.many)
-    for failure in failures:
-        print("FAILED", failure)
+    script.run(partial(check_random, programs, given.many))
     print("random loops:", ", ".join(f"{count} {told}" for told, count in sorted(seen.items())))
-    print(f"{len(failures)} failed")
-    return 1 if failures else 0
+    return script.ended()
 
 
 if __name__ == "__main__":

@@ -11,11 +11,10 @@ there no crate that nothing of it names. Needs Python 3 alone. Exits with 1 wher
 """
 
 import re
-import subprocess
 import sys
-from pathlib import Path
 
-ROOT = Path(__file__).resolve().parent.parent
+from common import ROOT, Script, called
+
 DOCS = ROOT / "docs"
 MOST_WORDS = 34_000
 LONGEST_LINE = 120
@@ -128,7 +127,7 @@ def definitions():
 # --- Reading lists -----------------------------------------------------------
 
 def printed(*words):
-    return subprocess.run([sys.executable, ROOT / "tools/definitions", *words], capture_output=True, text=True, check=False).stdout
+    return called([sys.executable, ROOT / "tools/definitions", *words]).stdout
 
 
 def reading():
@@ -192,8 +191,7 @@ def dependencies():
 # --- Links and lengths ------------------------------------------------------
 
 def pages():
-    listed = subprocess.run(["git", "ls-files", "-z", "--cached", "--others", "--exclude-standard", "*.md"], cwd=ROOT,
-                            capture_output=True, text=True, check=False).stdout.split("\0")
+    listed = called(["git", "ls-files", "-z", "--cached", "--others", "--exclude-standard", "*.md"], cwd=ROOT).stdout.split("\0")
     names = [name for name in listed if name and (ROOT / name).is_file()]
     return sorted(ROOT / name for name in names) or sorted(ROOT.glob("**/*.md"))
 
@@ -272,17 +270,14 @@ def counts():
     yield "minutes on processors", None if len(timed) <= 1 else f"stand on {', '.join(map(str, timed))}: one page is their home"
 
 
-def main():
-    if sys.argv[1:] == ["--list"]:
+def main() -> int:
+    script = Script()
+    if script.words == ["--list"]:
         for name, wrong in definitions():
             print(name, wrong or "")
         return 0
-    checks = [*definitions(), *reading(), *architecture(), *dependencies(), *links(), *lengths(), *counts()]
-    failed = [(name, wrong) for name, wrong in checks if wrong]
-    for name, wrong in failed:
-        print(f"FAILED {name} {wrong}")
-    print(f"{len(checks) - len(failed)} checks passed, {len(failed)} failed")
-    return 1 if failed else 0
+    script.run(definitions, reading, architecture, dependencies, links, lengths, counts)
+    return script.ended()
 
 
 if __name__ == "__main__":

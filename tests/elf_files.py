@@ -23,8 +23,11 @@ import tempfile
 import time
 from collections.abc import Iterator
 from dataclasses import dataclass
+from functools import partial
 from pathlib import Path
 from types import ModuleType
+
+from common import Check, Script, called_well, left_out
 
 TOOLS = Path(__file__).resolve().parent.parent / "tools"
 sys.path.insert(0, str(TOOLS))
@@ -46,7 +49,7 @@ WORDS = (0, 1, 0x7F, 0xFFFF, 0x10000, 0x7FFFFFFF, 0x80000000, 0xFFFFFFFF)
 
 
 def do(*command: str, cwd: Path) -> None:
-    subprocess.run([str(one) for one in command], cwd=cwd, check=True, capture_output=True)
+    called_well([str(one) for one in command], cwd=cwd)
 
 
 def furnish(folder: Path) -> None:
@@ -188,7 +191,7 @@ def wrong_answer(answer: Answer, name: str, data: bytes) -> str | None:
     return None
 
 
-def mutations(module: ModuleType, folder: Path, count: int, seed: int) -> Iterator[tuple[str, str | None]]:
+def mutations(module: ModuleType, folder: Path, count: int, seed: int) -> Iterator[Check]:
     """The changed files, and how the tool took them."""
     draw, images, begun = random.Random(seed), 0, time.process_time()
     for name, share in SHARES.items():
@@ -215,7 +218,7 @@ def mutations(module: ModuleType, folder: Path, count: int, seed: int) -> Iterat
 
 # --- Names and sizes ------------------------------------------------------------
 
-def names(module: ModuleType, folder: Path) -> Iterator[tuple[str, str | None]]:
+def names(module: ModuleType, folder: Path) -> Iterator[Check]:
     """A name writes nothing into an image but itself."""
     evil = "kept 00000000 4\nexit\n#"
     do("riscv64-unknown-elf-objcopy", "--redefine-sym", f"kept={evil}", "alone.o", "named.o", cwd=folder)
@@ -244,7 +247,7 @@ def in_own_process(folder: Path, *words: str) -> tuple[str, float, int]:
     return told, used.ru_utime + used.ru_stime, used.ru_maxrss
 
 
-def sizes(folder: Path) -> Iterator[tuple[str, str | None]]:
+def sizes(folder: Path) -> Iterator[Check]:
     """What is far larger than memory is refused before it is taken."""
     huge = "unsigned a[200000000]{};\nunsigned b = 1;\nvoid body(unsigned e) {{ a[e] = b; }}\n"
     (folder / "zeros.c").write_text(huge.format(""))
@@ -263,32 +266,28 @@ def lacking() -> list[str]:
 
 
 def main() -> int:
+    script = Script()
     parser = argparse.ArgumentParser(description="Damaged and misleading ELF files by tools/image-of.")
     parser.add_argument("--count", type=int, default=2000, metavar="N", help="how many changed files (2000)")
     parser.add_argument("--seed", type=int, default=58, metavar="S", help="from which the changes are drawn (58)")
-    given = parser.parse_args()
+    given = parser.parse_args(script.words)
     if lacking():
-        print(f"left out: tools/image-of on damaged ELF files, since {' and '.join(lacking())} isn't installed")
+        left_out("tools/image-of on damaged ELF files", f"{' and '.join(lacking())} isn't installed")
         return 0
     module = tool()
     module.CALLED = "image-of"
     from loops.image_of import limits
     from loops.image_of.elf import ELFFile
     if ELFFile is None:
-        print("left out: tools/image-of on damaged ELF files, since python3-pyelftools isn't installed")
+        left_out("tools/image-of on damaged ELF files", "python3-pyelftools isn't installed")
         return 0
     limits.SECONDS = MOST_SECONDS / 4
     resource.setrlimit(resource.RLIMIT_CORE, (0, 0))
     with tempfile.TemporaryDirectory() as name:
         folder = Path(name)
         furnish(folder)
-        results = [*names(module, folder), *sizes(folder), *mutations(module, folder, given.count, given.seed)]
-    for what, wrong in results:
-        if wrong:
-            print(f"FAILED {what}\n  {wrong}")
-    failed = sum(wrong is not None for _, wrong in results)
-    print(f"{len(results) - failed} checks passed, {failed} failed")
-    return 1 if failed else 0
+        script.run(partial(names, module, folder), partial(sizes, folder), partial(mutations, module, folder, given.count, given.seed))
+    return script.ended()
 
 
 if __name__ == "__main__":

@@ -15,12 +15,14 @@ are left out, and a line says so. Exits with 1 where a check failed.
 """
 
 import shutil
-import subprocess
 import sys
 import tempfile
+from collections.abc import Iterator
+from functools import partial
 from pathlib import Path
 
-ROOT = Path(__file__).resolve().parent.parent
+from common import ROOT, Check, Script, called_bytes, called_well, left_out
+
 EXAMPLES = ROOT / "examples"
 IMAGE_OF = ROOT / "tools" / "image-of"
 TOOL = "riscv64-unknown-elf-"
@@ -35,7 +37,7 @@ def cut_out(text, mark):
 def differences(command, text, expected):
     """What is wrong with the output for an image text, or None."""
     status = 1 if expected.startswith("end fault ") else 0
-    result = subprocess.run(command, input=text.encode(), capture_output=True, check=False)
+    result = called_bytes(command, text.encode())
     got = result.stdout.decode("latin-1")
     if (got, result.stderr, result.returncode) == (expected, b"", status):
         return None
@@ -59,7 +61,7 @@ def assembled(listing):
         for words in (["as", "-march=rv32i", "-mabi=ilp32", "-mno-relax", "-o", made, source],
                       ["ld", "-m", "elf32lriscv", "-Ttext=0", "-e", "0", "-o", linked, made],
                       ["objcopy", "-O", "binary", "-j", ".text", linked, raw]):
-            subprocess.run([TOOL + words[0], *map(str, words[1:])], check=True)
+            called_well([TOOL + words[0], *map(str, words[1:])])
         return raw.read_bytes().hex()
 
 
@@ -75,7 +77,7 @@ def listings():
 
 
 def image_of(source):
-    done = subprocess.run([sys.executable, str(IMAGE_OF), str(source)], capture_output=True, check=False)
+    done = called_bytes([sys.executable, str(IMAGE_OF), str(source)])
     return done.stdout.decode(), done.stderr.decode()
 
 
@@ -97,24 +99,31 @@ def compiled(command):
         print("NOTE: made by another compiler than the one here: " + ", ".join(others))
 
 
-def main():
-    command = sys.argv[1:] or [str(ROOT / "trace_cli"), "seq"]
+def all_reports(command: list[str]) -> Iterator[Check]:
     checks = list(reports(command))
-    if len(checks) < FEWEST:
-        checks.append(("number of examples", f"{len(checks)}, fewer than {FEWEST}"))
+    yield from checks
+    yield "the number of examples", None if len(checks) >= FEWEST else f"is {len(checks)}, fewer than {FEWEST}"
+
+
+def all_listings() -> Iterator[Check]:
     if all(shutil.which(TOOL + name) for name in ("gcc", "as", "ld", "objcopy")):
-        checks += listings()
+        yield from listings()
     else:
-        print(f"left out: listings, since {TOOL}gcc isn't installed")
-    if " is not installed" in image_of(EXAMPLES / "c" / "histogram.c")[1] or "no compiler is installed" in image_of(EXAMPLES / "c" / "histogram.c")[1]:
-        print("left out: sources, since no compiler for RISC-V is installed, or no python3-pyelftools")
+        left_out("listings", f"{TOOL}gcc isn't installed")
+
+
+def sources(command: list[str]) -> Iterator[Check]:
+    said = image_of(EXAMPLES / "c" / "histogram.c")[1]
+    if " is not installed" in said or "no compiler is installed" in said:
+        left_out("sources", "no compiler for RISC-V is installed, or no python3-pyelftools")
     else:
-        checks += compiled(command)
-    failed = [(name, wrong) for name, wrong in checks if wrong]
-    for name, wrong in failed:
-        print(f"FAILED {name}\n  {wrong}")
-    print(f"{len(checks) - len(failed)} checks passed, {len(failed)} failed")
-    return 1 if failed else 0
+        yield from compiled(command)
+
+
+def main() -> int:
+    script = Script()
+    script.run(partial(all_reports, script.command()), all_listings, partial(sources, script.command()))
+    return script.ended()
 
 
 if __name__ == "__main__":

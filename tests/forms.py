@@ -15,9 +15,11 @@ import subprocess
 import sys
 import tempfile
 from collections.abc import Iterator
+from functools import partial
 from pathlib import Path
 
-ROOT = Path(__file__).resolve().parent.parent
+from common import ROOT, Check, Script, beside, called, left_out
+
 sys.path.insert(0, str(ROOT / "tools"))
 
 from loops import Programs, Stopped, pieces, read_conflicts, read_image, with_trace  # noqa: E402
@@ -126,7 +128,7 @@ def turned(value: object) -> object:
     return [turned(one) for one in value] if isinstance(value, list) else value
 
 
-def in_pieces() -> Iterator[tuple[str, str | None]]:
+def in_pieces() -> Iterator[Check]:
     """Documents of which few bytes are read at once, in other orders and without blanks. The last text has characters of several bytes, and a byte that is no UTF-8."""
     usual = pieces.CHUNK
     texts = [text for _, text in TEXTS] + ["# \u00e9\u20ac\U0001f600\udcff\n" + TEXTS[1][1]]
@@ -145,7 +147,7 @@ def in_pieces() -> Iterator[tuple[str, str | None]]:
                 yield f"{text[:30]!r}, {name}", None if back(order) == text else "is another"
 
 
-def refused_back() -> Iterator[tuple[str, str | None]]:
+def refused_back() -> Iterator[Check]:
     """Documents with which something is wrong: nothing is written, and what is said is what Python says of the whole document."""
     good = to_json(TEXTS[1][1])
     for name, told, said in (
@@ -166,7 +168,7 @@ def refused_back() -> Iterator[tuple[str, str | None]]:
 
 
 def tool(name, text, *words):
-    done = subprocess.run([ROOT / "tools" / name, *words], input=text, capture_output=True, text=True, check=False)
+    done = called([ROOT / "tools" / name, *words], text)
     return done.stdout, done.stderr, done.returncode
 
 
@@ -175,7 +177,7 @@ def unread(name, *words):
     reader, writer = os.pipe()
     os.close(reader)
     with open(writer, "wb") as nowhere:
-        done = subprocess.run([ROOT / "tools" / name, *words], stdin=subprocess.DEVNULL, stdout=nowhere, stderr=subprocess.PIPE, text=True, check=False)
+        done = called([ROOT / "tools" / name, *words], stdin=subprocess.DEVNULL, stdout=nowhere)
     return done.stderr, done.returncode
 
 
@@ -232,7 +234,7 @@ def packages():
 def schema():
     """The schema refuses what isn't a document."""
     if Draft202012Validator is None:
-        print("left out: the schema, since python3-jsonschema isn't installed")
+        left_out("the schema", "python3-jsonschema isn't installed")
         return
     checker = Draft202012Validator(json.loads(SCHEMA.read_text(encoding="utf-8")))
     Draft202012Validator.check_schema(checker.schema)
@@ -257,10 +259,11 @@ def printed(program, words, text):
 
 def examples(command):
     """All examples, and what the programs print of them."""
-    programs = beside(command)
+    found = {name: beside(command, name) for name in ("why", "replay", "gain", "depends")}
+    programs = {name: path for name, path in found.items() if path and path.is_file()}
     for name in ("why", "replay", "gain", "depends"):
         if name not in programs:
-            print(f"left out: what {name} prints, since it wasn't built beside the program that is tested")
+            left_out(f"what {name} prints", "it wasn't built beside the program that is tested")
     for path in sorted((ROOT / "examples").glob("*.image")):
         text = path.read_text()
         image = read_image(text)
@@ -291,23 +294,10 @@ def examples(command):
             yield f"{path.name}: its dependences", wrong_with("dependences", printed(programs["depends"], ["4"], text))
 
 
-def beside(command):
-    """The programs that were built beside a command of `trace_cli`."""
-    given = Path(command[0]).resolve()
-    folder = ROOT if given == ROOT / "trace_cli" else given.parents[2] if len(given.parents) > 2 else given.parent
-    found = {name: ROOT / name if folder == ROOT else folder / name / "out" / name for name in ("why", "replay", "gain", "depends")}
-    return {name: path for name, path in found.items() if path.is_file()}
-
-
-def main():
-    command = sys.argv[1:] or [str(ROOT / "trace_cli"), "seq"]
-    results = [*by_hand(), *in_pieces(), *refused_back(), *packages(), *schema(), *examples(command)]
-    for name, wrong in results:
-        if wrong:
-            print(f"FAILED {name}: {wrong}")
-    failed = sum(wrong is not None for _, wrong in results)
-    print(f"{len(results) - failed} checks passed, {failed} failed")
-    return 1 if failed else 0
+def main() -> int:
+    script = Script()
+    script.run(by_hand, in_pieces, refused_back, packages, schema, partial(examples, script.command()))
+    return script.ended()
 
 
 if __name__ == "__main__":

@@ -11,12 +11,13 @@ test is left out, and a line says so. N random images are tried, 40 without it. 
 
 import argparse
 import random
-import subprocess
 import sys
 from collections import Counter
+from collections.abc import Iterator
+from functools import partial
 
-from memory import beside
-from seq_rows import ROOT, image, run
+from common import ROOT, Row, Script, beside, called, comparing, left_out
+from seq_rows import image, run
 from stress import MATCH, RETURN, loop_of, word_of_i, word_of_s
 
 FIGURES = "steps useful lost dropped waiting idle restarts".split()
@@ -25,17 +26,11 @@ KINDS = "true silent false buffer".split()
 COUNTER = image("83220004938212002320500467800000", epochs=4, limit=50)
 # Epoch 0 counts down from 409,600 and then sets a word, for which three others look again and again: on four cores a history is full.
 COUNT_DOWN = image("631e0500b74206009382f2ffe39e02fe13031000232060046780000003230004e30e03fe67800000", epochs=4, limit=1_000_000)
-failures = []
 # How often a random image came to each kind, cause and end.
-seen = Counter()
+seen: Counter[str] = Counter()
 
 
-def expect(what, got, want):
-    if got != want:
-        failures.append(f"{what}: got {got!r}, not {want!r}")
-
-
-def lines_of(text):
+def lines_of(text: str) -> list[dict[str, str]]:
     rows = []
     for line in text.splitlines():
         words = line.split()
@@ -43,22 +38,23 @@ def lines_of(text):
     return rows
 
 
-def check_sums(name, rows):
+def check_sums(name: str, rows: list[dict[str, str]]) -> Iterator[Row]:
     """Each step of each core is counted once; one core loses and waits nothing."""
     first = {row["store"]: int(row["steps"]) for row in rows if row["cores"] == "1"}
     for row in rows:
         n = {key: int(row[key]) for key in [*FIGURES, *CAUSES]}
         at = f"{name} {row['store']} {row['cores']}"
-        expect(f"{at}: the sum", n["useful"] + n["lost"] + n["dropped"] + n["waiting"] + n["idle"], int(row["cores"]) * n["steps"])
-        expect(f"{at}: waiting", sum(n[cause] for cause in CAUSES), n["waiting"])
+        yield (f"{at}: the sum", n["useful"] + n["lost"] + n["dropped"] + n["waiting"] + n["idle"], int(row["cores"]) * n["steps"])
+        yield (f"{at}: waiting", sum(n[cause] for cause in CAUSES), n["waiting"])
         hundredths = first[row["store"]] * 100 // n["steps"]
-        expect(f"{at}: gain", row["gain"], f"{hundredths // 100}.{hundredths % 100:02}")
+        yield (f"{at}: gain", row["gain"], f"{hundredths // 100}.{hundredths % 100:02}")
         if row["cores"] == "1":
-            expect(f"{at}: one core", (n["lost"], n["dropped"], n["waiting"]), (0, 0, 0))
+            yield (f"{at}: one core", (n["lost"], n["dropped"], n["waiting"]), (0, 0, 0))
 
 
-def check_examples(program):
-    known = {}
+@comparing
+def check_examples(program: list[str]) -> Iterator[Row]:
+    known: dict[tuple[str, str, str], list[str]] = {}
     for line in (ROOT / "tests/gain.txt").read_text().splitlines():
         if not line.startswith("#"):
             name, store, cores, *figures = line.split()
@@ -67,47 +63,50 @@ def check_examples(program):
     for name in names:
         text = (ROOT / f"examples/{name}.image").read_bytes()
         first, second = run(program, ["8"], text), run(program, ["8"], text)
-        expect(f"{name}: again", second, first)
+        yield (f"{name}: again", second, first)
         rows = lines_of(first[0])
-        expect(f"{name}: lines", [(row["store"], row["cores"]) for row in rows], [(s, c) for s in ("caches", "plain") for c in "1248"])
+        yield (f"{name}: lines", [(row["store"], row["cores"]) for row in rows], [(s, c) for s in ("caches", "plain") for c in "1248"])
         for row in rows:
-            expect(f"{name} {row['store']} {row['cores']}", [row[key] for key in FIGURES], known[name, row["store"], row["cores"]])
-        check_sums(name, rows)
+            yield (f"{name} {row['store']} {row['cores']}", [row[key] for key in FIGURES], known[name, row["store"], row["cores"]])
+        yield from check_sums(name, rows)
 
 
-def check_words(program):
+@comparing
+def check_words(program: list[str]) -> Iterator[Row]:
     for words in ([], ["0"], ["17"], ["x"], ["2", "2"], ["-1"]):
-        expect(f"words {words}", run(program, words, COUNTER), ("", "usage\n", 2))
-    expect("an image that is refused", run(program, ["2"], "size 1\n"), ("", "image 1 Range\n", 2))
+        yield (f"words {words}", run(program, words, COUNTER), ("", "usage\n", 2))
+    yield ("an image that is refused", run(program, ["2"], "size 1\n"), ("", "image 1 Range\n", 2))
     rows = lines_of(run(program, ["3"], COUNTER)[0])
-    expect("the numbers of cores", [row["cores"] for row in rows], ["1", "2", "3"] * 2)
-    check_sums("counter", rows)
+    yield ("the numbers of cores", [row["cores"] for row in rows], ["1", "2", "3"] * 2)
+    yield from check_sums("counter", rows)
 
 
-def check_full(program):
+@comparing
+def check_full(program: list[str]) -> Iterator[Row]:
     """The lines of a loop whose history is full on four cores: an epoch takes a step to begin, one for each instruction, and one to commit."""
     output, errors, status = run(program, ["4"], COUNT_DOWN)
-    expect("full: status", (errors, status), ("", 0))
+    yield ("full: status", (errors, status), ("", 0))
     lines = output.splitlines()
     for first, store in ((0, "caches"), (3, "plain")):
-        expect(f"full: {store} 1", lines[first].split()[:10], f"store {store} cores 1 steps {2 * 409_600 + 7 + 3 * 6} gain 1.00 useful {2 * 409_600 + 7 + 3 * 6}".split())
-        expect(f"full: {store} 2", lines[first + 1].split()[9], str(2 * 409_600 + 7 + 3 * 6))
-        expect(f"full: {store} 4", lines[first + 2], f"store {store} cores 4 full")
+        yield (f"full: {store} 1", lines[first].split()[:10], f"store {store} cores 1 steps {2 * 409_600 + 7 + 3 * 6} gain 1.00 useful {2 * 409_600 + 7 + 3 * 6}".split())
+        yield (f"full: {store} 2", lines[first + 1].split()[9], str(2 * 409_600 + 7 + 3 * 6))
+        yield (f"full: {store} 4", lines[first + 2], f"store {store} cores 4 full")
 
 
-def check_write(program):
+@comparing
+def check_write(program: list[str]) -> Iterator[Row]:
     with open("/dev/full", "w", encoding="ascii") as full:
-        done = subprocess.run([*program, "2"], input=COUNTER, stdout=full, stderr=subprocess.PIPE, text=True, check=False)
-    expect("a write that fails", (done.stderr, done.returncode), ("stopped Write\n", 3))
+        done = called([*program, "2"], COUNTER, stdout=full)
+    yield ("a write that fails", (done.stderr, done.returncode), ("stopped Write\n", 3))
 
 
-def below_end(output):
+def below_end(output: str) -> str:
     """The end of the loop that `replay even` printed, and the cause of a fault."""
     words = output.split("\nend ")[1].split("\n")[0].split()
     return " ".join([words[0], *words[2:3]])
 
 
-def wide(rng):
+def wide(rng: random.Random) -> tuple[bytes, int]:
     """The text of an image whose epochs write in many lines, some of the same, and on how many cores it runs."""
     version, step = rng.choice([1, 2]), rng.choice([16, 32, 64])
     words = [word_of_i(MATCH["andi"], 5, 10, rng.choice([0, 1, 3, 7])), MATCH["slli"] | 5 << 7 | 5 << 15 | rng.choice([4, 7, 9]) << 20]
@@ -117,16 +116,16 @@ def wide(rng):
     return f"version {version}\nsize 8192\nepochs {rng.choice([3, 9, 20])}\nlimit 100\ncode {code}\n".encode("ascii"), rng.randint(2, 16 if version == 2 else 8)
 
 
-def check_even(gain, replay, name, text, cores):
+def check_even(gain: list[str], replay: list[str], name: str, text: bytes, cores: int) -> Iterator[Row]:
     """The turns of `replay even` make what it shows below them, and that is the run that `gain` counts."""
     printed = run(gain, [str(cores)], text)
-    expect(f"{name}: again", run(gain, [str(cores)], text), printed)
+    yield (f"{name}: again", run(gain, [str(cores)], text), printed)
     if printed[2]:
         for store in ("caches", "plain"):
-            expect(f"{name} {store}: refused", run(replay, ["even", store, str(cores)], text), printed)
+            yield (f"{name} {store}: refused", run(replay, ["even", store, str(cores)], text), printed)
         return
     rows = lines_of(printed[0])
-    check_sums(name, rows)
+    yield from check_sums(name, rows)
     for row in rows:
         seen.update(key for key in [*KINDS, *CAUSES, "dropped"] if row[key] != "0")
     for store in ("caches", "plain"):
@@ -134,47 +133,41 @@ def check_even(gain, replay, name, text, cores):
         seen[below_end(output)] += 1
         turns, _, below = output.partition("\n")
         replayed = run(replay, [store, str(cores)], text + b"\n" + turns.encode("ascii") + b"\n")
-        expect(f"{name} {store} {cores}: replayed", replayed, (below, errors, status))
+        yield (f"{name} {store} {cores}: replayed", replayed, (below, errors, status))
         row = next(row for row in rows if (row["store"], row["cores"]) == (store, str(cores)))
         counts = next(line.split() for line in below.splitlines() if line.startswith("counts "))
-        expect(f"{name} {store} {cores}: restarts", row["restarts"], counts[3])
+        yield (f"{name} {store} {cores}: restarts", row["restarts"], counts[3])
         if below.startswith("end done") and not below.startswith("end done 0\n"):
             first = next(row for row in rows if (row["store"], row["cores"]) == (store, "1"))
-            expect(f"{name} {store} {cores}: useful", row["useful"], first["steps"])
+            yield (f"{name} {store} {cores}: useful", row["useful"], first["steps"])
 
 
-def check_runs(gain, replay, count):
+@comparing
+def check_runs(gain: list[str], replay: list[str], count: int) -> Iterator[Row]:
     for name in ("counter", "own_counters"):
-        check_even(gain, replay, name, (ROOT / f"examples/{name}.image").read_bytes(), 4)
+        yield from check_even(gain, replay, name, (ROOT / f"examples/{name}.image").read_bytes(), 4)
     for index in range(count):
         rng = random.Random(f"gain/{index}")
         text, cores = wide(rng) if rng.random() < 0.2 else loop_of(rng)
-        check_even(gain, replay, f"random {index}", text, cores)
+        yield from check_even(gain, replay, f"random {index}", text, cores)
     for words in (["even"], ["even", "caches"], ["even", "other", "2"], ["even", "caches", "17"]):
-        expect(f"replay {words}", run(replay, words, COUNTER), ("", "usage\n", 2))
+        yield (f"replay {words}", run(replay, words, COUNTER), ("", "usage\n", 2))
 
 
-def main():
+def main() -> int:
+    script = Script()
     parser = argparse.ArgumentParser(description="Tests the program gain, and replay even.")
     parser.add_argument("--random", type=int, default=40, help="how many random images are tried")
     parser.add_argument("command", nargs=argparse.REMAINDER)
-    given = parser.parse_args()
-    command = given.command
-    found = [beside(command, name) if command else ROOT / name for name in ("gain", "replay")]
-    if None in found:
-        print("left out: gain, since it and replay weren't built beside the program that is tested")
+    given = parser.parse_args(script.words)
+    gain, replay = (beside(given.command or [str(ROOT / "trace_cli")], name) for name in ("gain", "replay"))
+    if gain is None or replay is None:
+        left_out("gain", "it and replay weren't built beside the program that is tested")
         return 0
-    gain, replay = ([str(it)] for it in found)
-    check_words(gain)
-    check_examples(gain)
-    check_full(gain)
-    check_write(gain)
-    check_runs(gain, replay, given.random)
-    for failure in failures:
-        print("FAILED", failure)
+    script.run(*[partial(part, [str(gain)]) for part in (check_words, check_examples, check_full, check_write)],
+               partial(check_runs, [str(gain)], [str(replay)], given.random))
     print("random images:", ", ".join(f"{seen[key]} {key}" for key in sorted(seen)))
-    print(f"{len(failures)} failed")
-    return 1 if failures else 0
+    return script.ended()
 
 
 if __name__ == "__main__":

@@ -9,7 +9,10 @@ import subprocess
 import sys
 import tempfile
 import time
+from collections.abc import Iterator
 from pathlib import Path
+
+from common import Check, Script, called, differs
 
 TOOL = Path(__file__).resolve().parent / "gate-time"
 # Works until it has used so much processor time.
@@ -33,7 +36,7 @@ processor minutes: all 3.4
 """
 
 
-def noted(folder):
+def noted(folder: str) -> tuple[dict[tuple[str, str], float], int]:
     """What is noted of three processes of the checker, one of each kind, and the status."""
     rattle, file = Path(folder, "rattle"), Path(folder, "out", "gate.tsv")
     script = Path(folder, "work.py")
@@ -46,7 +49,7 @@ def noted(folder):
     return {(part, crate): float(seconds) for part, crate, seconds in rows}, ran.returncode
 
 
-def runs(pid):
+def runs(pid: str) -> bool:
     """Whether a process runs."""
     try:
         return Path("/proc", pid, "stat").read_text().rpartition(")")[2].split()[0] != "Z"
@@ -54,7 +57,7 @@ def runs(pid):
         return False
 
 
-def goes_on():
+def goes_on() -> bool:
     """Whether what a command started still runs once a SIGTERM has ended it."""
     command = [TOOL, "note", "/dev/null", "bash", "-c", "sleep 60 & echo $!; wait"]
     with subprocess.Popen(command, stdout=subprocess.PIPE, text=True) as it:
@@ -67,29 +70,31 @@ def goes_on():
     return True
 
 
-def main():
-    failed = []
+def works() -> Iterator[Check]:
+    """What is noted of processes that work, what is shown of notes, and other words."""
     with tempfile.TemporaryDirectory() as folder:
         rows, status = noted(folder)
         wanted = {("proofs", "low"), ("tests", "low"), ("wrong bodies", "high"), ("the rest", "bash")}
-        if rows.keys() != wanted or status != 7:
-            failed.append(f"noted {rows}, status {status}")
-        elif not all(0.4 <= rows[it] <= 1.6 for it in wanted - {("the rest", "bash")}) or not 3.5 <= sum(rows.values()) <= 6:
-            failed.append(f"noted {rows}: each process works 1.3 seconds")
+        close = (rows.keys() == wanted and all(0.4 <= rows[it] <= 1.6 for it in wanted - {("the rest", "bash")})
+                 and 3.5 <= sum(rows.values()) <= 6)
+        yield "processes that work 1.3 seconds each", None if close and status == 7 else f"noted {rows}, status {status}"
         file = Path(folder, "noted.tsv")
         file.write_text(NOTED)
-        shown = subprocess.run([TOOL, file], capture_output=True, text=True, check=False)
-        if (shown.stdout, shown.returncode) != (SHOWN, 0):
-            failed.append(f"shown {shown.stdout!r}, status {shown.returncode}")
-        wrong = subprocess.run([TOOL, "note"], capture_output=True, text=True, check=False)
-        if wrong.stdout or "tests/gate-time FILE" not in wrong.stderr or wrong.returncode != 2:
-            failed.append(f"other words: {wrong.stdout!r}, status {wrong.returncode}")
-    if goes_on():
-        failed.append("what the command started goes on after a SIGTERM")
-    for text in failed:
-        print(f"FAILED {text}")
-    print(f"{4 - len(failed)} checks passed, {len(failed)} failed")
-    return 1 if failed else 0
+        shown = called([TOOL, file])
+        yield "what is shown", differs((shown.stdout, shown.returncode), (SHOWN, 0))
+        wrong = called([TOOL, "note"])
+        right = not wrong.stdout and "tests/gate-time FILE" in wrong.stderr and wrong.returncode == 2
+        yield "other words", None if right else f"{wrong.stdout!r}, status {wrong.returncode}"
+
+
+def ends() -> Iterator[Check]:
+    yield "a SIGTERM", "what the command started goes on after it" if goes_on() else None
+
+
+def main() -> int:
+    script = Script()
+    script.run(works, ends)
+    return script.ended()
 
 
 if __name__ == "__main__":

@@ -14,17 +14,18 @@ check failed.
 import re
 import shutil
 import struct
-import subprocess
 import sys
 import tempfile
 from collections.abc import Iterator
+from functools import partial
 from pathlib import Path
+
+from common import ROOT, Check, Script, beside, called, called_bytes, left_out
 
 # What a check is of, and what is wrong or None; the words of a command line, how the loop ends, and the bytes of its
 # variables then
-Results = Iterator[tuple[str, str | None]]
+Results = Iterator[Check]
 Row = tuple[list[str | Path], str, dict[str, bytes]]
-ROOT = Path(__file__).resolve().parent.parent
 TOOLS = ROOT / "tools"
 GCC = ["riscv64-unknown-elf-gcc", "-march=rv32i", "-mabi=ilp32", "-O2", "-ffreestanding", "-msmall-data-limit=0"]
 # What each compiler needs.
@@ -116,14 +117,13 @@ LINES = "volatile unsigned a, b;\nvoid body(unsigned epoch)\n{\n    a = epoch;\n
 
 
 def do(*command: str | Path, cwd: Path) -> None:
-    done = subprocess.run([str(word) for word in command], cwd=cwd, capture_output=True, text=True, check=False)
+    done = called([str(word) for word in command], cwd=cwd)
     if done.returncode:
         raise RuntimeError(f"{' '.join(map(str, command))}: {done.stderr}")
 
 
 def image_of(folder: Path, *given: str | Path) -> tuple[str, str, int]:
-    done = subprocess.run([sys.executable, TOOLS / "image-of", *map(str, given)], cwd=folder, capture_output=True,
-                          text=True, check=False)
+    done = called([sys.executable, TOOLS / "image-of", *map(str, given)], cwd=folder)
     return done.stdout, done.stderr, done.returncode
 
 
@@ -206,7 +206,7 @@ def programs(compiler: str) -> Iterator[Row]:
 def has_unicorn() -> bool:
     """Whether the emulator of --setup is there, for the Python that runs tools or Debian's."""
     script = "import sys; sys.path.append('/usr/lib/python3/dist-packages'); import unicorn"
-    return subprocess.run([sys.executable, "-c", script], capture_output=True, check=False).returncode == 0
+    return called_bytes([sys.executable, "-c", script]).returncode == 0
 
 
 def further_programs(compiler: str, by: list[str], some: list[str]) -> Iterator[Row]:
@@ -223,7 +223,7 @@ def further_programs(compiler: str, by: list[str], some: list[str]) -> Iterator[
                {"out": words(14, 15, 16, 17), "errno": words(3)})
     for name, there in (("libgcc", LIBGCC), ("picolibc-riscv64-unknown-elf", PICOLIBC.is_file())):
         if not there:
-            print(f"left out: programs with {name} by {compiler}, since {name} isn't installed")
+            left_out(f"programs with {name} by {compiler}", f"{name} isn't installed")
     if LIBGCC and has_unicorn():
         prepared = {"out": words(1495, 865, 588, 415, 295, 211, 157, 130), "given": words(5)}
         yield ([*by, "--epochs", "8", "--stack", "128", "--data", "given=five.bin", "--setup", "prepare", "prepared.c"],
@@ -254,7 +254,7 @@ def cells(text: str) -> dict[int, int]:
 
 
 def run(command: list[str], image: str) -> tuple[str, str, int]:
-    done = subprocess.run(command, input=image, capture_output=True, text=True, check=False)
+    done = called(command, image)
     return done.stdout, done.stderr, done.returncode
 
 
@@ -374,20 +374,12 @@ def lines_told(folder: Path) -> Results:
             yield f"the lines of the stores by {compiler}", None if got == {"lines.c:4", "lines.c:6"} else f"got {got}"
 
 
-def beside(command: list[str], name: str) -> Path | None:
-    """A program that was built beside the one that is tested, or None."""
-    given = Path(command[0])
-    path = (ROOT / name if given == ROOT / "trace_cli" else given.parents[2] / name / "out" / name
-            if len(given.parents) > 2 else given.with_name(name))
-    return path if path.is_file() else None
-
-
 def whole_way(command: list[str], folder: Path) -> Results:
     """From C to what tools/named and tools/picture tell of a schedule: the load and the store to blame, at their lines
     of the source."""
     why, replay = beside(command, "why"), beside(command, "replay")
     if why is None or replay is None:
-        print("left out: from C to a picture, since why and replay weren't built beside the program that is tested")
+        left_out("from C to a picture", "why and replay weren't built beside the program that is tested")
         return
     source = ROOT / "examples" / "c" / "own_counters.c"
     lines = source.read_text().splitlines()
@@ -399,11 +391,9 @@ def whole_way(command: list[str], folder: Path) -> Results:
         image = image_of(folder, "--compiler", compiler, "-g", source)[0]
         made = re.search(r"(?m)^# Made from own_counters\.c by image-of, with (.+) -O2 -g\.$", image)
         yield f"what it was made with, by {compiler}", None if made and compiler in made[1] else f"got {made}"
-        done = subprocess.run([replay, "caches", "2"], input=image + "turns" + " 0 1" * 200 + "\n", capture_output=True,
-                              text=True, check=False)
+        done = called([replay, "caches", "2"], image + "turns" + " 0 1" * 200 + "\n")
         traced = image + done.stdout[re.search(r"(?m)^trace ", done.stdout).start():]
-        told = [subprocess.run([TOOLS / name, "--why", why], input=traced, capture_output=True, text=True,
-                               check=False).stdout for name in ("named", "picture")]
+        told = [called([TOOLS / name, "--why", why], traced).stdout for name in ("named", "picture")]
         found = set(re.findall(r"(?m)^pc .* (\S+:\d+) [ls]w ", told[0]))
         yield (f"the lines in the report, by {compiler}",
                None if found == {f"own_counters.c:{load}", f"own_counters.c:{store}"} else f"got {found}")
@@ -495,7 +485,7 @@ def bad_inputs(folder: Path) -> Iterator[tuple[list[str], str]]:
         yield (["--setup", "none", "wrongly.c"],
                r"there is no function none for --setup; the global functions are: body, gives_up, leaves, writes")
     else:
-        print("left out: --setup, since python3-unicorn isn't installed")
+        left_out("--setup", "python3-unicorn isn't installed")
     yield ["--chunk", "0", "rows.c"], r"--chunk takes 1 to 65535"
     yield ["--heap", "64", "rows.c"], r"--heap is for the malloc of --libc"
     if LIBGCC:
@@ -555,7 +545,7 @@ def checks(command: list[str], folder: Path) -> Results:
     furnish(folder)
     for compiler in NEEDED:
         if lacks := lacking(compiler):
-            print(f"left out: programs by {compiler}, since {' and '.join(lacks)} isn't installed")
+            left_out(f"programs by {compiler}", f"{' and '.join(lacks)} isn't installed")
             continue
         made(folder, compiler)
         if compiler == "clang":
@@ -571,25 +561,21 @@ def checks(command: list[str], folder: Path) -> Results:
     if shutil.which(GCC[0]):
         yield from refused(folder)
     else:
-        print(f"left out: what is refused, since {GCC[0]} isn't installed")
+        left_out("what is refused", f"{GCC[0]} isn't installed")
 
 
 def main() -> int:
-    command = sys.argv[1:] or [str(ROOT / "trace_cli"), "seq"]
+    script = Script()
+    command = script.command()
     command[0] = str(Path(command[0]).resolve())
     with tempfile.TemporaryDirectory() as folder:
         Path(folder, "none.c").write_text("void body(unsigned e) { (void)e; }\n")
         missing = image_of(Path(folder), "--epochs", "1", "none.c")[1]
         if "is not installed" in missing or "no compiler is installed" in missing:
-            print(f"left out: tools/image-of, since {missing.strip()}")
+            left_out("tools/image-of", missing.strip())
             return 0
-        results = list(checks(command, Path(folder)))
-    for name, wrong in results:
-        if wrong:
-            print(f"FAILED {name}\n  {wrong}")
-    failed = sum(wrong is not None for _, wrong in results)
-    print(f"{len(results) - failed} checks passed, {failed} failed")
-    return 1 if failed else 0
+        script.run(partial(checks, command, Path(folder)))
+    return script.ended()
 
 
 if __name__ == "__main__":

@@ -9,16 +9,13 @@ Nothing has to be built. Exits with 1 where a check failed.
 import os
 import re
 import shutil
-import subprocess
 import sys
 import tempfile
 from collections.abc import Iterator
 from pathlib import Path
 
-ROOT = Path(__file__).resolve().parent.parent
-Results = Iterator[tuple[str, str | None]]
-# What a test that leaves something out prints, in the one spelling.
-TOLD = re.compile(r'print\(f?"left out: [^"]*, since [^"]*"\)')
+from common import ROOT, Check, Script, called, differs
+
 # The last lines of tests/run: what stubs say, what is left out, how many fail, and its status, also with --strict.
 LINES = [
     ("nothing is left out", {}, "0 left out", 0, 0, 0),
@@ -40,34 +37,36 @@ def stubs(folder: Path, says: dict[str, str]) -> Path:
     return folder / "run"
 
 
-def runs() -> Results:
+def runs() -> Iterator[Check]:
     """(what it shows, what is wrong or None)"""
     for name, says, wanted, failed, status, strictly in LINES:
         with tempfile.TemporaryDirectory() as folder:
             program = stubs(Path(folder), says)
             for words, right in ([], status), (["--strict"], strictly):
-                done = subprocess.run([program, *words, "false", "seq"], capture_output=True, text=True, check=False)
+                done = called([program, *words, "false", "seq"])
                 ends = f"\n{wanted}\n{done.stdout.count('== ') - failed} passed, {failed} failed\n"
                 good = done.stdout.endswith(ends) and done.returncode == right and done.stdout.count("== ") > 20
                 yield f"tests/run {' '.join(words)}: {name}", None if good else f"{done.stdout[-200:]!r}, {done.returncode}"
 
 
-def spelled() -> Results:
-    """Each test that leaves something out says so in that spelling."""
+def spelled() -> Iterator[Check]:
+    """Each test that leaves something out says so by the one function, which has that spelling."""
     for path in sorted([*(ROOT / "tests").glob("*.py"), *(ROOT / "tests" / "model").glob("*.py")]):
         for line in path.read_text(encoding="utf-8").splitlines():
-            if "print(" in line and re.search(r"left out: |(?i:skipped)", line) and path != Path(__file__).resolve():
-                yield f"{path.name}: {line.strip()[:70]}", None if TOLD.search(line) else "isn't `left out: WHAT, since WHY`"
+            if re.search(r"print\(.*(left out: |(?i:skipped))", line) and path.name not in ("common.py", Path(__file__).name):
+                yield f"{path.name}: {line.strip()[:70]}", "isn't left_out(WHAT, WHY) of common.py"
+    said = called([sys.executable, "-c", "from common import left_out; left_out('two; three', 'why, as told')"], cwd=ROOT / "tests").stdout
+    yield "what left_out prints", differs(said, "left out: two; three, since why, as told\n")
 
 
-def packages() -> Results:
+def packages() -> Iterator[Check]:
     """What is missing is said, and the README installs all."""
     program = ROOT / "tests" / "packages.py"
-    whole = subprocess.run([program], capture_output=True, text=True, check=False)
+    whole = called([program])
     with tempfile.TemporaryDirectory() as folder:
         for name in ("env", "python3"):
             Path(folder, name).symlink_to(sys.executable if name == "python3" else shutil.which(name))
-        bare = subprocess.run([program], capture_output=True, text=True, env={**os.environ, "PATH": folder}, check=False)
+        bare = called([program], env={**os.environ, "PATH": folder})
     right = whole.returncode == bare.returncode == 0 and bare.stdout.startswith("not installed: chromium chromium-driver clang csmith ")
     yield "tests/packages.py", None if right else f"{whole}, {bare}"
     command = bare.stdout.rpartition(". ")[2].split()
@@ -76,13 +75,9 @@ def packages() -> Results:
 
 
 def main() -> int:
-    results = [*runs(), *spelled(), *packages()]
-    for name, wrong in results:
-        if wrong:
-            print(f"FAILED {name}: {wrong}")
-    failed = sum(wrong is not None for _, wrong in results)
-    print(f"{len(results) - failed} checks passed, {failed} failed")
-    return 1 if failed else 0
+    script = Script()
+    script.run(runs, spelled, packages)
+    return script.ended()
 
 
 if __name__ == "__main__":

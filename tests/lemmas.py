@@ -8,10 +8,13 @@ Exits with 1 where there is such a lemma.
 """
 import re
 import sys
+from collections.abc import Iterator
 from dataclasses import dataclass, field
+from functools import partial
 from pathlib import Path
 
-TOP = Path(__file__).resolve().parent.parent
+from common import ROOT, Check, Script
+
 TOKEN = re.compile(r"[^\s(){}\[\],;⟨⟩\"]+")
 PARTS = re.compile(r"::|[.◌]")
 KINDS = r"(?:(?:pub|abbrev|unfoldable|private|opaque|data|record|codata) +)*"
@@ -69,8 +72,8 @@ def definitions_of(file: Path, roots: set[str]) -> list[Definition]:
     return [*found.values()]
 
 
-def unreached(folder: Path) -> tuple[list[Definition], int]:
-    """The definitions that nothing reaches, and how many there are in all."""
+def unreached(folder: Path) -> tuple[list[Definition], list[Definition]]:
+    """The definitions that nothing reaches, and all."""
     roots: set[str] = set()
     all_of_them = []
     for file in sorted(folder.glob("crates/*/proofs/**/*.antt")):
@@ -90,16 +93,20 @@ def unreached(folder: Path) -> tuple[list[Definition], int]:
     while new:
         seen |= new
         new = {word for name in new for it in by_name[name] for word in it.words if word in by_name} - seen
-    return [it for it in all_of_them if it.name not in seen], len(all_of_them)
+    return [it for it in all_of_them if it.name not in seen], all_of_them
+
+
+def reached(folder: Path) -> Iterator[Check]:
+    """Each definition of the folder's proofs."""
+    left, every = unreached(folder)
+    for it in every:
+        yield f"{it.file.relative_to(folder)}:{it.line}", f"nothing reaches {it.name}" if it in left else None
 
 
 def main() -> int:
-    folder = Path(sys.argv[1]) if len(sys.argv) > 1 else TOP
-    left, count = unreached(folder)
-    for it in left:
-        print(f"FAILED {it.file.relative_to(folder)}:{it.line}: nothing reaches {it.name}")
-    print(f"{count - len(left)} checks passed, {len(left)} failed")
-    return 1 if left else 0
+    script = Script()
+    script.run(partial(reached, Path(script.words[0]) if script.words else ROOT))
+    return script.ended()
 
 
 if __name__ == "__main__":

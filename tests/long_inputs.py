@@ -11,13 +11,14 @@ of a tool and of all that it started (`getrusage`). Where a program isn't built,
 import itertools
 import json
 import os
-import subprocess
 import sys
 import tempfile
 from collections.abc import Callable, Iterable, Iterator
+from functools import partial
 from pathlib import Path
 
-ROOT = Path(__file__).resolve().parent.parent
+from common import ROOT, Script, beside, called_bytes, left_out
+
 sys.path.insert(0, str(ROOT / "tools"))
 sys.dont_write_bytecode = True
 
@@ -56,7 +57,7 @@ def measured(room: Path, name: str, source: Path, *words: str, **environment: st
     most = room / "most"
     call = [sys.executable, "-c", MEASURED, most, sys.executable, ROOT / "tools" / name, *words]
     with source.open("rb") as given:
-        done = subprocess.run(call, stdin=given, capture_output=True, env={**os.environ, **environment}, check=False)
+        done = called_bytes(call, stdin=given, env={**os.environ, **environment})
     return done.stdout.decode("utf-8"), done.stderr.decode("utf-8"), done.returncode, int(most.read_text()) * 1024
 
 
@@ -183,33 +184,19 @@ def line_ends(room: Path, programs: Programs) -> Checks:
         yield f"{name} in a remark", None if (run.get("epochs"), errors) == (2, "") else f"{status}, {errors[-300:]!r}"
 
 
-def beside(command: list[str]) -> list[Path]:
-    """Where `why` and `replay` are, if they were built beside a command of `trace_cli`."""
-    given = Path(command[0]).resolve()
-    built = ROOT if given == ROOT / "trace_cli" else given.parents[2] if len(given.parents) > 2 else given.parent
-    return [built / name if built == ROOT else built / name / "out" / name for name in ("why", "replay")]
-
-
 def main() -> int:
-    command = sys.argv[1:] or [str(ROOT / "trace_cli"), "seq"]
-    results = list(iterators())
+    script = Script()
     with tempfile.TemporaryDirectory() as folder:
         room = Path(folder)
-        results += documents(room)
-        found = beside(command)
-        if all(path.is_file() for path in found):
-            for path in found:
+        script.run(iterators, partial(documents, room))
+        found = [beside(script.command(), name) for name in ("why", "replay")]
+        if all(path and path.is_file() for path in found):
+            for path in filter(None, found):
                 (room / path.name).symlink_to(path)
-            programs = Programs(room)
-            results += [*streams(room, programs), *pages(room, programs), *line_ends(room, programs)]
+            script.run(*[partial(part, room, Programs(room)) for part in (streams, pages, line_ends)])
         else:
-            print("left out: pages of long runs, since why and replay weren't built beside the program that is tested")
-    for name, wrong in results:
-        if wrong:
-            print(f"FAILED {name}: {wrong}")
-    failed = sum(wrong is not None for _, wrong in results)
-    print(f"{len(results) - failed} checks passed, {failed} failed")
-    return 1 if failed else 0
+            left_out("pages of long runs", "why and replay weren't built beside the program that is tested")
+    return script.ended()
 
 
 if __name__ == "__main__":

@@ -16,29 +16,25 @@ import os
 import re
 import shlex
 import shutil
-import subprocess
 import sys
 import tempfile
 from collections.abc import Iterator
+from functools import partial
 from pathlib import Path
 
-ROOT = Path(__file__).resolve().parent.parent
+from common import ROOT, Check, Script, beside, called, called_bytes, called_well, differs, left_out
+
 sys.path.insert(0, str(ROOT / "tools"))
 PROGRAMS = Path(__file__).with_suffix("")
 EXAMPLES = ROOT / "examples" / "programs"
 SOURCES = [*sorted(PROGRAMS.glob("*.c")), *sorted(PROGRAMS.glob("*.cpp")), *sorted(EXAMPLES.glob("*.c"))]
 TOOL = ROOT / "tools" / "loops-of"
 SEEDS = (1, 2, 3, 5, 6, 9, 11, 12, 13, 14)                  # of random programs
-Check = tuple[str, str | None]                              # what it shows, and what is wrong or None
 
 
-def differs(got: object, expected: object) -> str | None:
-    return None if got == expected else f"got {got!r}\n  expected {expected!r}"
-
-
-def called(*words: object, seconds: int = 120) -> tuple[str, str, int]:
+def loops_of(*words: object, seconds: int = 120) -> tuple[str, str, int]:
     """What the tool prints, what it says on standard error, and its status."""
-    done = subprocess.run([TOOL, *map(str, words)], capture_output=True, text=True, timeout=seconds, check=False)
+    done = called([TOOL, *map(str, words)], seconds=seconds)
     return done.stdout, done.stderr, done.returncode
 
 
@@ -74,7 +70,7 @@ def listings() -> Iterator[Check]:
     for source in SOURCES:
         expected = expected_of(source)
         if expected:
-            out, errors, status = called(source)
+            out, errors, status = loops_of(source)
             yield (f"the loops of {source.name}", differs(said_of(out, source), expected)
                    or (f"{errors}, {status}" if status > 1 else None))
 
@@ -86,8 +82,8 @@ def native(source: Path, folder: Path, words: list[str], given: bytes,
     """Output and status by the compiler of this machine."""
     made = folder / "native"
     compiler = "c++" if source.suffix == ".cpp" else "cc"
-    subprocess.run([compiler, "-O1", "-w", *(flags or []), "-o", made, source, "-lm"], check=True)
-    done = subprocess.run([made, *words], input=given, capture_output=True, check=False)
+    called_well([compiler, "-O1", "-w", *(flags or []), "-o", made, source, "-lm"])
+    done = called_bytes([made, *words], given)
     return done.stdout, done.returncode & 0xFF if done.returncode >= 0 else 128 - done.returncode
 
 
@@ -104,7 +100,7 @@ def emulated(source: Path, folder: Path, words: list[str], given: bytes,
 def natives(folder: Path) -> Iterator[Check]:
     """Programs print and end as those of the native compiler do."""
     if not shutil.which("cc"):
-        print("left out: output beside the native compiler, since there is no cc")
+        left_out("output beside the native compiler", "there is no cc")
         return
     for source, words, given in [*((source, [], b"") for source in SOURCES),
                                  (PROGRAMS / "words.c", ["-n", "3"], b"one two\nthree\n\nfour"),
@@ -121,7 +117,7 @@ def same(folder: Path) -> Iterator[Check]:
         expected = {line: kinds.get(told.split()[0], "same:") for line, told in expected_of(source).items()}
         if not expected:
             continue
-        out, errors, status = called("--loop", "all", "--out", folder / source.stem, "--heap", 65_536, source)
+        out, errors, status = loops_of("--loop", "all", "--out", folder / source.stem, "--heap", 65_536, source)
         got = {line.partition(" ")[0].rpartition(":")[2]: line.split(" ")[2] for line in out.splitlines()}
         yield (f"the images of {source.name}",
                differs((got, status), (expected, 1 if set(expected.values()) != {"same:"} else 0))
@@ -133,15 +129,13 @@ def same(folder: Path) -> Iterator[Check]:
 def random_programs(folder: Path) -> Iterator[Check]:
     """Programs that csmith makes of fixed seeds: output beside the native compiler's, and no image that is wrong."""
     if not shutil.which("csmith") or not shutil.which("cc") or not Path("/usr/include/csmith/csmith.h").is_file():
-        print("left out: random programs, since there is no csmith, no libcsmith-dev or no cc")
+        left_out("random programs", "there is no csmith, no libcsmith-dev or no cc")
         return
     for seed in SEEDS:
         source = folder / f"random{seed}.c"
-        done = subprocess.run(["csmith", "--seed", str(seed), "--max-funcs", "2", "--max-block-depth", "2",
-                               "--no-argc"], capture_output=True, check=True)
-        source.write_bytes(done.stdout)
+        source.write_text(called_well(["csmith", "--seed", str(seed), "--max-funcs", "2", "--max-block-depth", "2", "--no-argc"]))
         expected = native(source, folder, [], b"", ["-I/usr/include/csmith"])
-        out, errors, status = called("--cflags=-I/usr/include/csmith", "--loop", "all", "--out", folder / "random",
+        out, errors, status = loops_of("--cflags=-I/usr/include/csmith", "--loop", "all", "--out", folder / "random",
                                      source, seconds=600)
         wrong = [line for line in out.splitlines() if not re.search(r" (same:|refused|not entered)", line)]
         yield f"the loops of csmith's seed {seed}", f"{wrong}{errors}{status}" if wrong or status > 1 else None
@@ -160,7 +154,7 @@ def refusals(folder: Path) -> Iterator[Check]:
             beside = [source.with_name("main_again_other.c")] if source.stem == "main_again" else []
             options = re.search(r"(?m)^// options: (.*)$", source.read_text())
             words = shlex.split(options[1]) if options else []
-            out, errors, status = called("--loop", "all", "--out", folder / "refused", *words, source, *beside)
+            out, errors, status = loops_of("--loop", "all", "--out", folder / "refused", *words, source, *beside)
             told = (re.search(rf"(?m) (refused|not entered)(?: {reason})?$", out) if mark == "//:"
                     else re.search(rf"(?m)^loops-of: {reason}", errors))
             right = told and status == (1 if mark == "//:" else 2) and "WRONG" not in out
@@ -194,7 +188,7 @@ def requests(folder: Path) -> Iterator[Check]:
              r"needs \d+ bytes of memory, and 65536 is the most"),
             (["--loop", "all", small], 2, "", "--loop all needs --out FOLDER"),
             (["--first", -1, small], 2, "", "--first takes 0 to"), ([folder / "none.c"], 2, "", "is not a file")):
-        out, errors, got = called(*given)
+        out, errors, got = loops_of(*given)
         yield (f"asked: {' '.join(map(str, given[:-1]))}", None if got == status and head in out
                and bool(out) == bool(head) and re.search(told, errors) else f"{out[:300]}{errors}{got}")
 
@@ -214,7 +208,7 @@ def chunks() -> Iterator[Check]:
             ("small.c:24", small, [2, "--first", 10, "--epochs", 5], "5 of 20 iterations, 2 an epoch", 3),
             ("forms.c:35", forms, [7, "--first", 3], "97 of 100 iterations, 7 an epoch", 14),
             ("sieve.c:13", sieve, [1000], "200000 of 200000 iterations, 1000 an epoch", 200)):
-        out, errors, status = called("--loop", place, "--chunk", *words, source)
+        out, errors, status = loops_of("--loop", place, "--chunk", *words, source)
         got = (read_image(out).epochs, status)
         yield (f"{words[0]} iterations an epoch of {place}", differs(got, (epochs, 0))
                or (None if told in errors else errors))
@@ -224,7 +218,7 @@ def names() -> Iterator[Check]:
     """What an image's remarks name: variables, what is carried, blocks of the heap by the line of malloc, arrays of the
     frame; lines of the loop's instructions alone."""
     from loops import read_image
-    image = read_image(called("--loop", "lines.c:18", PROGRAMS / "lines.c")[0])
+    image = read_image(loops_of("--loop", "lines.c:18", PROGRAMS / "lines.c")[0])
     lengths = {one.name: one.length for one in image.variables}
     yield ("what is named",
            differs({name: lengths.get(name) for name in ("table", "seen", "malloc:lines.c:15", "frame", "carried.sum")},
@@ -252,7 +246,7 @@ def frames() -> Iterator[Check]:
                                                      "main:table": squares}),
                                  ("frames.c:39", 3, {"tree:kept": [0, 3, 0, 0], "tree:kept.2": [1, 3, 0, 0],
                                                      "tree:kept.3": [2, 3, 0, 0], "main:table": squares})):
-        image = read_image(called("--loop", place, "--entry", entry, PROGRAMS / "frames.c")[0])
+        image = read_image(loops_of("--loop", place, "--entry", entry, PROGRAMS / "frames.c")[0])
         yield f"arrays of the frames above {place}", differs({name: words_at(image, name) for name in wanted}, wanted)
 
 
@@ -263,13 +257,13 @@ def gains() -> Iterator[Check]:
     node is one of the values that go around."""
     from loops import Programs
     if not (Programs().folder / "gain").exists():
-        print("left out: the gains of plain loops, since gain wasn't built beside the program that is tested")
+        left_out("the gains of plain loops", "gain wasn't built beside the program that is tested")
         return
     source = PROGRAMS / "plain.c"
     for number, line in enumerate(source.read_text().splitlines(), 1):
         name = line.partition(" // ")[2]
         if name:
-            image, errors, _ = called("--version", 1, "--heap", 0, "--stack", 4096, "--loop", f"plain.c:{number}",
+            image, errors, _ = loops_of("--version", 1, "--heap", 0, "--stack", 4096, "--loop", f"plain.c:{number}",
                                       source)
             by_hand, plain = ({run.store: run.gain for run in Programs().gain(text, 4).runs if run.cores == 4}
                               for text in ((ROOT / "examples" / f"{name}.image").read_text(), image))
@@ -385,12 +379,8 @@ def wrong_passes(folder: Path) -> Iterator[Check]:
 
 def furnished(folder: Path, command: list[str]) -> None:
     """A folder with the programs that the tools call, as LOOPS_PROGRAMS names it."""
-    given = Path(command[0]).resolve()
-    for name in ("trace_cli", "gain"):
-        beside = given.parents[2] / name / "out" / name if len(given.parents) > 2 else None
-        path = (ROOT / name if given == ROOT / "trace_cli" else given if name == "trace_cli"
-                else beside if beside and beside.parents[1].is_dir() else given.with_name(name))
-        if path.is_file():
+    for name, path in (("trace_cli", Path(command[0]).resolve()), ("gain", beside(command, "gain"))):
+        if path and path.is_file():
             (folder / name).symlink_to(path)
     os.environ["LOOPS_PROGRAMS"] = str(folder)
 
@@ -402,37 +392,18 @@ def lacking() -> str | None:
     return ", ".join(missing) or None
 
 
-def checks(folder: Path) -> Iterator[Check]:
-    yield from listings()
-    yield from natives(folder)
-    yield from same(folder)
-    yield from random_programs(folder)
-    yield from refusals(folder)
-    yield from requests(folder)
-    yield from chunks()
-    yield from names()
-    yield from frames()
-    yield from gains()
-    yield from wrong_plugins(folder)
-    yield from wrong_passes(folder)
-    yield from wrong_images(folder)
-
-
 def main() -> int:
-    command = sys.argv[1:] or [str(ROOT / "trace_cli"), "seq"]
+    script = Script()
     missing = lacking()
     if missing:
-        print(f"left out: tools/loops-of, since of Debian's packages there isn't: {missing}")
+        left_out("tools/loops-of", f"of Debian's packages there isn't: {missing}")
         return 0
     with tempfile.TemporaryDirectory() as folder, tempfile.TemporaryDirectory() as room:
-        furnished(Path(room), command)
-        results = list(checks(Path(folder)))
-    for name, wrong in results:
-        if wrong:
-            print(f"FAILED {name}\n  {wrong}")
-    failed = sum(wrong is not None for _, wrong in results)
-    print(f"{len(results) - failed} checks passed, {failed} failed")
-    return 1 if failed else 0
+        furnished(Path(room), script.command())
+        own, shared = (natives, same, random_programs, refusals, requests), (chunks, names, frames, gains)
+        script.run(listings, *[partial(part, Path(folder)) for part in own], *shared,
+                   *[partial(part, Path(folder)) for part in (wrong_plugins, wrong_passes, wrong_images)])
+    return script.ended()
 
 
 if __name__ == "__main__":

@@ -12,11 +12,12 @@ the folder on. It fetches nothing. `tests/run` doesn't run it. It ends with 1 wh
 import re
 import resource
 import shlex
-import subprocess
 import sys
 import tempfile
 from collections import Counter
 from pathlib import Path
+
+from common import called
 
 TOOL = Path(__file__).resolve().parents[1] / "tools" / "loops-of"
 KINDS = {"same": r" same:", "refused": r" refused ", "not entered": r" not entered$", "wrong": r" (WRONG|DIFFERENT) "}
@@ -46,8 +47,7 @@ def tabled(folder: Path, name: str, sources: list[Path], options: list[str]) -> 
     """How many loops of a program are of each kind, and the lines of those that aren't the same."""
     began = processor_seconds()
     with tempfile.TemporaryDirectory() as out:
-        done = subprocess.run([TOOL, "--loop", "all", "--out", out, *options, *sources], cwd=folder,
-                              capture_output=True, text=True, check=False)
+        done = called([TOOL, "--loop", "all", "--out", out, *options, *sources], cwd=folder)
     lines = done.stdout.splitlines()
     counts = Counter(kind for line in lines for kind, form in KINDS.items() if re.search(form, line))
     told = [line for line in lines if not re.search(f"{KINDS['same']}|{KINDS['not entered']}", line)]

@@ -18,16 +18,17 @@ with 1 where a run differs.
 
 import os
 import shutil
-import subprocess
 import sys
 import tempfile
+from collections.abc import Iterator, Sequence
+from functools import partial
 from pathlib import Path
 
 from audit_rows import EXIT, NINE, SIX, WAIT, illegal, legal, traced, trace_refused, without
-from seq_rows import COUNTER, FOUR, MOST_SECONDS, SEARCH, at, done, exited, fault, image, refused
+from common import Check, ROOT, Script, beside, called_bytes, called_well, left_out
+from seq_rows import COUNTER, FOUR, MOST_SECONDS, SEARCH, Outcome, at, done, exited, fault, image, refused
 from steps_rows import COUNTED_CACHES, COUNTED_PLAIN, steps
 
-ROOT = Path(__file__).resolve().parent.parent
 STOPPED = ("", "stopped NoMemory\n", 3)
 NO_THREAD = ("", "stopped NoThread\n", 3)
 
@@ -96,7 +97,7 @@ AUDITS = [
 ]
 
 # the same, of runs: (what it shows, words, image text, what is printed)
-ON_THREADS = [
+ON_THREADS: list[tuple[str, list[str], str, Outcome]] = [
     ("four epochs on four cores", ["run", "--cores", "4"], FOUR, done(4, at(0x40, "06"))),
     ("a word for each epoch", ["run", "--cores", "4"], image("9312250023a0a20467800000", epochs=4),
      done(4, at(0x40, "00000000010000000200000003000000"))),
@@ -107,7 +108,7 @@ ON_THREADS = [
 
 # the same, of the other programs: (what it shows, program, words, input, what is printed)
 CRATES = ROOT / "crates"
-OTHERS = [
+OTHERS: list[tuple[str, str, list[str], str, Outcome]] = [
     ("why of a worked history", "why", [], (CRATES / "why" / "stdin").read_text(), ((CRATES / "why" / "stdout").read_text(), "", 0)),
     ("a worked schedule", "replay", ["caches", "2"], (CRATES / "replay" / "stdin").read_text(), ((CRATES / "replay" / "stdout").read_text(), "", 0)),
     # A start, a load, an addition, a store, a return and a commit. The second core has no epoch.
@@ -130,20 +131,21 @@ OTHERS = [
 ]
 
 
-def run(command, shim, text, kind, number):
+def run(command: list[str], shim: Path, text: str, kind: str, number: int) -> tuple[Outcome, bool]:
     """The outcome with the allocation or thread of this number refused, and whether there was such a one."""
     reader, writer = os.pipe()
     os.dup2(writer, 9)
     os.close(writer)
     environment = {**os.environ, "LD_PRELOAD": str(shim), "KIND": kind, "REFUSED": str(number)}
-    result = subprocess.run(command, input=text.encode(), capture_output=True, check=False, env=environment, pass_fds=[9], timeout=MOST_SECONDS)
+    result = called_bytes(command, text.encode(), MOST_SECONDS, env=environment, pass_fds=[9])
     os.close(9)
     with os.fdopen(reader, "rb") as told:
         met = told.read() != b""
     return (result.stdout.decode("latin-1"), result.stderr.decode("latin-1"), result.returncode), met
 
 
-def differences(command, shim, name, text, expected, refused_too=(STOPPED,), kind="allocation"):
+def differences(command: list[str], shim: Path, text: str, expected: Outcome, refused_too: Sequence[Outcome] = (STOPPED,),
+                kind: str = "allocation") -> tuple[str | None, int]:
     """What is wrong with the runs of a row, and how many there were."""
     for number in range(1, 1000):
         got, met = run(command, shim, text, kind, number)
@@ -151,57 +153,64 @@ def differences(command, shim, name, text, expected, refused_too=(STOPPED,), kin
         if met and kind == "thread" and number == 1:
             wanted = refused_too[:1]
         if got not in wanted:
-            return f"{name}, {kind} {number}\n  expected {wanted}\n  got      {got}", number
+            return f"{kind} {number}\n  expected {wanted}\n  got      {got}", number
         if not met:
             return None, number
-    return f"{name}: still an {kind} after 1000", 1000
+    return f"still an {kind} after 1000", 1000
 
 
-def without_the_wrapper(command):
+def without_the_wrapper(command: list[str]) -> list[str]:
     """The command with the built program in the place of ./trace_cli, whose shell would meet the refused allocations."""
     if Path(command[0]).resolve() != ROOT / "trace_cli":
         return command
-    subprocess.run(command, input=b"", capture_output=True, check=False)
+    called_bytes(command, b"")
     return [str(ROOT / "crates" / "trace_cli" / "out" / "trace_cli"), *command[1:]]
 
 
-def beside(command, name):
-    """The program of this name that was built beside the one that is tested, or None."""
-    crates = Path(command[0]).resolve().parents
-    program = crates[2] / name / "out" / name if len(crates) > 2 else None
-    return program if program and program.is_file() else None
+def in_order(command: list[str], shim: Path) -> Iterator[Check]:
+    for name, text, expected in RUNS:
+        yield name, differences(command, shim, text, expected)[0]
 
 
-def main():
-    command = without_the_wrapper(sys.argv[1:] or [str(ROOT / "trace_cli"), "seq"])
+def audits(command: list[str], shim: Path) -> Iterator[Check]:
+    for name, text, expected in AUDITS:
+        yield name, differences([*command[:-1], "audit"], shim, text, expected)[0]
+
+
+def on_threads(command: list[str], shim: Path) -> Iterator[Check]:
+    """Allocations of runs on threads, and the threads themselves."""
+    for name, words, text, expected in ON_THREADS:
+        starts = (NO_THREAD, expected) if expected[0] else ()
+        yield name, differences([*command[:-1], *words], shim, text, expected, (STOPPED, *starts))[0]
+        wrong, number = differences([*command[:-1], *words], shim, text, expected, starts, "thread")
+        threads = int(words[2]) if starts else 0
+        if not wrong and number != threads + 1:
+            wrong = f"{number - 1} threads were started, not {threads}"
+        yield f"{name}, threads", wrong
+
+
+def others(command: list[str], shim: Path) -> Iterator[Check]:
+    """The other programs."""
+    built = [(row, beside(command, row[1])) for row in OTHERS]
+    for (name, _, words, text, expected), program in built:
+        if program:
+            yield name, differences([str(program), *words], shim, text, expected)[0]
+    for name in sorted({row[1] for row, program in built if program is None}):
+        left_out(f"refused allocations of {name}", "no such program was built beside the one that is tested")
+
+
+def main() -> int:
+    script = Script()
+    command = without_the_wrapper(script.command())
     if shutil.which("cc") is None:
-        print("left out: refused allocations, since cc isn't installed")
+        left_out("refused allocations", "cc isn't installed")
         return 0
     with tempfile.TemporaryDirectory() as directory:
         source, shim = Path(directory, "shim.c"), Path(directory, "shim.so")
         source.write_text(SHIM)
-        subprocess.run(["cc", "-shared", "-fPIC", "-O1", "-o", shim, source, "-ldl"], check=True)
-        results = [differences(command, shim, *row) for row in RUNS]
-        results += [differences(command[:-1] + ["audit"], shim, *row) for row in AUDITS]
-        for name, words, text, expected in ON_THREADS:
-            starts = (NO_THREAD, expected) if expected[0] else ()
-            results.append(differences(command[:-1] + words, shim, name, text, expected, (STOPPED, *starts)))
-            wrong, number = differences(command[:-1] + words, shim, name, text, expected, starts, "thread")
-            threads = int(words[2]) if starts else 0
-            if not wrong and number != threads + 1:
-                wrong = f"{name}: {number - 1} threads were started, not {threads}"
-            results.append((wrong, number))
-        built = [(row, beside(command, row[1])) for row in OTHERS]
-        results += [differences([program, *words], shim, name, text, expected)
-                    for (name, _, words, text, expected), program in built if program]
-    for name in sorted({row[1] for row, program in built if program is None}):
-        print(f"left out: refused allocations of {name}, since no such program was built beside the one that is tested")
-    wrong = [text for text, _ in results if text]
-    for text in wrong:
-        print(f"FAILED {text}")
-    rows = len(RUNS + AUDITS + ON_THREADS) + sum(program is not None for _, program in built)
-    print(f"{sum(number for _, number in results)} runs of {rows} rows, {len(wrong)} failed")
-    return 1 if wrong else 0
+        called_well(["cc", "-shared", "-fPIC", "-O1", "-o", shim, source, "-ldl"])
+        script.run(*[partial(part, command, shim) for part in (in_order, audits, on_threads, others)])
+    return script.ended("rows")
 
 
 if __name__ == "__main__":

@@ -19,11 +19,12 @@ import subprocess
 import sys
 import tempfile
 from collections.abc import Iterator
+from functools import partial
 from pathlib import Path
 
+from common import ROOT, TOO_LONG, Check, Script, called, called_bytes
 from packages import has_module
 
-ROOT = Path(__file__).resolve().parent.parent
 # A command, and what stands below it.
 Command = tuple[str, str]
 COMPILER = "riscv64-unknown-elf-gcc"
@@ -64,22 +65,22 @@ def programs(command: list[str]) -> dict[str, Path]:
 @functools.cache
 def can_compile() -> bool:
     """Whether tools/image-of finds what it needs."""
-    done = subprocess.run([sys.executable, ROOT / "tools" / "image-of", ROOT / "examples" / "c" / "histogram.c"], capture_output=True, check=False)
+    done = called_bytes([sys.executable, ROOT / "tools" / "image-of", ROOT / "examples" / "c" / "histogram.c"])
     return done.returncode == 0
 
 
 @functools.cache
 def can_outline() -> bool:
     """Whether tools/loops-of finds what it needs. It has built its plug-in then."""
-    done = subprocess.run([sys.executable, ROOT / "tools" / "loops-of", ROOT / "examples" / "programs" / "heat.c"], capture_output=True, check=False)
+    done = called_bytes([sys.executable, ROOT / "tools" / "loops-of", ROOT / "examples" / "programs" / "heat.c"])
     return done.returncode == 0
 
 
 def lacks(command: str, found: dict[str, Path]) -> str | None:
     """What a command needs that isn't there, or None."""
-    called = [name for name in PROGRAMS if re.search(rf"\./{name}\b", command)]
-    called += [name for tool, names in TOOLS.items() if f"tools/{tool} " in command for name in names]
-    for name in called:
+    needs = [name for name in PROGRAMS if re.search(rf"\./{name}\b", command)]
+    needs += [name for tool, names in TOOLS.items() if f"tools/{tool} " in command for name in names]
+    for name in needs:
         if not (name in found if name in PROGRAMS else shutil.which(name)):
             return f"the program {name}"
     module = next((name for tool, names in MODULES.items() for name in names if f"tools/{tool} " in command and not has_module(name)), None)
@@ -125,10 +126,8 @@ def furnish(room: Path, found: dict[str, Path]) -> None:
 
 def failure_of(command: str, wanted: str, room: str) -> str | None:
     """Why a command isn't what its page says, or None."""
-    try:
-        ran = subprocess.run(["bash", "-c", command], cwd=room, capture_output=True, text=True, timeout=SECONDS, stdin=subprocess.DEVNULL,
-                             env={**os.environ, "LOOPS_PROGRAMS": str(room)}, check=False)
-    except subprocess.TimeoutExpired:
+    ran = called(["bash", "-c", command], seconds=SECONDS, cwd=room, stdin=subprocess.DEVNULL, env={**os.environ, "LOOPS_PROGRAMS": str(room)})
+    if ran.returncode == TOO_LONG:
         return f"is still running after {SECONDS} seconds"
     if wanted and ran.stdout != wanted:
         return f"prints {ran.stdout[:500]!r}"
@@ -137,31 +136,34 @@ def failure_of(command: str, wanted: str, room: str) -> str | None:
     return None
 
 
-def tried(page: Path, found: dict[str, Path], told: set[str]) -> Iterator[tuple[str, str | None]]:
-    """(where, its failure or None) of each command of a page; what was left out is added to what is told."""
-    name, unmade = page.relative_to(ROOT), set()
+def tried(page: Path, found: dict[str, Path], told: set[str]) -> Iterator[Check]:
+    """Each command of a page; what was left out is added to what is told."""
+    name = page.relative_to(ROOT)
+    unmade: set[str] = set()
     with tempfile.TemporaryDirectory(prefix="pages-") as folder:
         furnish(Path(folder), found)
         for line, above, commands in blocks(page):
             yield from ((f"{name}, line {line}: {it}", "has no `$ `") for it in OWN.findall(above))
             reason, unmade = left_out(commands, found, unmade)
-            told |= {reason} - {None}
+            told |= {reason} if reason else set()
             for command, wanted in [] if reason else commands:
                 yield f"{name}, line {line}: {command}", failure_of(command, wanted, folder)
 
 
-def main(words: list[str]) -> int:
-    found, told = programs(words[:-1] if words[-1:] == ["seq"] else words), set()
-    pages = sorted(page for form in PAGES for page in ROOT.glob(form))
-    results = [result for page in pages for result in tried(page, found, told)]
-    failed = [(where, why) for where, why in results if why]
-    for where, why in failed:
-        print(f"FAILED {where}: {why}")
+def pages(found: dict[str, Path], told: set[str]) -> Iterator[Check]:
+    """The commands of each page."""
+    for page in sorted(page for form in PAGES for page in ROOT.glob(form)):
+        yield from tried(page, found, told)
+
+
+def main() -> int:
+    script = Script()
+    told: set[str] = set()
+    script.run(partial(pages, programs(script.words[:-1] if script.words[-1:] == ["seq"] else script.words), told))
     for it in sorted(told):
         print(it)
-    print(f"{len(results) - len(failed)} commands passed, {len(failed)} failed")
-    return 1 if failed or not results else 0
+    return script.ended("commands")
 
 
 if __name__ == "__main__":
-    sys.exit(main(sys.argv[1:]))
+    sys.exit(main())

@@ -12,10 +12,13 @@ import subprocess
 import sys
 import tempfile
 import xml.etree.ElementTree as xml
-from collections.abc import Iterator
+from collections.abc import Callable, Iterator
+from functools import partial, wraps
 from pathlib import Path
+from typing import Any
 
-ROOT = Path(__file__).resolve().parent.parent
+from common import ROOT, Check, Script, called
+
 SVG = "{http://www.w3.org/2000/svg}"
 # Epoch 1 loads the word at 40 before epoch 0 stores it; epoch 0 publishes by its commit.
 IMAGE = ("# Two epochs, of which one waits. And more.\n# flag 00000040 4\n# code 00000004 waits.c:7\nsize 256\nepochs 2\nlimit 50\n"
@@ -34,10 +37,20 @@ HURT, KIND, TOTAL = REPORT.splitlines(True)
 NAMED = (HURT.replace(" 4\n", " 4 flag\n") + "also 4 silent load 3 00000004 store 2 00000014 at 00000080 4 -\nvain 4 hurt\n# " + SENTENCE + "; in vain, since that epoch was undone itself\n"
          + SUMS.replace("00000040 4\n", "00000040 4 flag\n").replace("buffer 0\npc", "buffer 0\nname flag rollbacks 1 lost 3 true 1 silent 0 false 0 buffer 0\npc", 1)
          .replace("causer 0 0\n", "causer 0 0 waits.c:7 lw x5,64(x0)\n").replace("causer 1 3\n", "causer 1 3 - sw x5,64(x0)\n") + KIND + TOTAL)
+# What it shows, and whether it holds
+Claim = tuple[str, bool]
 BARE = REPORT.replace("true", "other").replace("load 3 00000004 store 2 00000014 at 00000040 4", "load - - store - - at - -")
 
 
-def stub(folder, name, output, error="", status=0):
+def claims(part: Callable[[str], Iterator[Claim]]) -> Callable[[str], Iterator[Check]]:
+    """Makes a part of a function of claims."""
+    @wraps(part)
+    def checks(folder: str) -> Iterator[Check]:
+        return ((name, None if holds else "it isn't so") for name, holds in part(folder))
+    return checks
+
+
+def stub(folder: str | Path, name: str, output: str, error: str = "", status: int = 0) -> Path:
     """A program that prints this, whatever it is given."""
     path = Path(folder, name)
     path.write_text(f"#!/bin/sh\ncat >/dev/null\ncat <<'END'\n{output}END\n" + (f"echo '{error}' >&2\n" if error else "") + f"exit {status}\n")
@@ -45,20 +58,20 @@ def stub(folder, name, output, error="", status=0):
     return path
 
 
-def picture(folder, report, *words, text=IMAGE + TRACE, **more):
+def picture(folder: str, report: str, *words: str, text: str = IMAGE + TRACE, **more: Any) -> subprocess.CompletedProcess[str]:
     why = stub(folder, "why", report, **more)
-    return subprocess.run([ROOT / "tools" / "picture", "--why", why, *words], input=text, capture_output=True, text=True, check=False)
+    return called([ROOT / "tools" / "picture", "--why", why, *words], text)
 
 
-def svg(folder, report, *words, text=IMAGE + TRACE):
+def svg(folder: str, report: str, *words: str, text: str = IMAGE + TRACE) -> tuple[list[str], list[str]]:
     """All texts of a picture, and all its hover texts."""
     done = picture(folder, report, *words, text=text)
     root = xml.fromstring(done.stdout)
-    return [text.text or "" for text in root.iter(f"{SVG}text")], [tip.text for tip in root.iter(f"{SVG}title")]
+    return [text.text or "" for text in root.iter(f"{SVG}text")], [tip.text or "" for tip in root.iter(f"{SVG}title")]
 
 
-def rows(folder):
-    """(what it shows, whether it holds)"""
+@claims
+def rows(folder: str) -> Iterator[Claim]:
     texts, tips = svg(folder, REPORT)
     yield "the heading", "2 epochs on 2 cores: 1 rollback, 2 committed" in texts and "Two epochs, of which one waits." in texts
     yield "what was lost", "3 attempts; 3 instructions lost to rollbacks" in texts
@@ -102,7 +115,8 @@ def signs(root: xml.Element) -> set[tuple[int, bool]]:
     return {(len(one) // 2, one[1:2] == one[3:4]) for one in corners}
 
 
-def kinds(folder: str) -> Iterator[tuple[str, bool]]:
+@claims
+def kinds(folder: str) -> Iterator[Claim]:
     """Each kind is told by its hatch, its dashes and its sign, not by its colour alone."""
     reports = [REPORT, REPORT.replace("true", "silent"), BESIDE, FULL, BARE]
     drawn = [[xml.fromstring(picture(folder, report, *words).stdout) for report in reports] for words in ([], ["--overview"])]
@@ -112,7 +126,7 @@ def kinds(folder: str) -> Iterator[tuple[str, bool]]:
         yield f"a sign for each kind at {name}", len({frozenset(signs(root)) for root in roots}) == 5 and all(len(signs(root)) == 1 for root in roots)
 
 
-def long_run(pairs, cores=2):
+def long_run(pairs: int, cores: int = 2) -> tuple[str, str]:
     """So many pairs of epochs, each as the two above, on two cores after two: the text of the trace, and the lines of its violations, one of ten of them false sharing."""
     trace, hurts = [f"trace {cores}"], []
     for pair in range(pairs):
@@ -126,7 +140,8 @@ def long_run(pairs, cores=2):
     return IMAGE.replace("epochs 2", f"epochs {2 * pairs}") + "\n".join(trace) + "\n", "".join(hurts) + KIND + TOTAL
 
 
-def gathered(folder):
+@claims
+def gathered(folder: str) -> Iterator[Claim]:
     """A run of 20,000 epochs: its picture and its events are small, and leave out no rollback."""
     text, report = long_run(10_000)
     drawn = picture(folder, report, text=text).stdout
@@ -152,11 +167,12 @@ def gathered(folder):
     yield "the events of eighty turns", sum(one["name"].startswith("rollback") for one in part) == 10 and all(800 <= one.get("ts", 800) <= 879 or one["ph"] in "MX" for one in part)
 
 
-def names(folder):
+@claims
+def names(folder: str) -> Iterator[Claim]:
     """The same of tools/named."""
-    def named(report, *words, **more):
+    def named(report: str, *words: str, **more: Any) -> subprocess.CompletedProcess[str]:
         why = stub(folder, "why", report, **more)
-        return subprocess.run([ROOT / "tools" / "named", "--why", why, *words], input=IMAGE + TRACE, capture_output=True, text=True, check=False)
+        return called([ROOT / "tools" / "named", "--why", why, *words], IMAGE + TRACE)
 
     report = HURT + "also 4 silent load 3 00000004 store 2 00000014 at 00000080 4\nvain 4 hurt\n" + SUMS + KIND + TOTAL
     yield "names, and what a violation says", named(report, "--say").stdout == NAMED
@@ -166,19 +182,19 @@ def names(folder):
     yield "a refused trace is not named", (refused.stdout, refused.stderr, refused.returncode) == ("", "trace 3 Line\n", 2)
     text, report = long_run(1_000)
     command = f"{ROOT}/tools/named --why {stub(folder, 'why', report)} | head -1; echo ${{PIPESTATUS[0]}}"
-    read = subprocess.run(["bash", "-c", command], input=text, capture_output=True, text=True, check=False)
+    read = called(["bash", "-c", command], text)
     yield "of a long report one line is read", (read.stdout, read.stderr) == (HURT.replace("true", "false").replace(" 4\n", " 4 flag\n") + "141\n", "")
 
 
-def dependences(folder):
+@claims
+def dependences(folder: str) -> Iterator[Claim]:
     """The same of tools/named --depends, with a stub in the place of `depends`."""
     programs = Path(folder, "depends")
     programs.mkdir()
 
-    def named(output, *words, **more):
+    def named(output: str, *words: str, **more: Any) -> tuple[str, str, int]:
         stub(programs, "depends", output, **more)
-        done = subprocess.run([ROOT / "tools" / "named", "--depends", *words], input=IMAGE, capture_output=True, text=True,
-                              env={**os.environ, "LOOPS_PROGRAMS": str(programs)}, check=False)
+        done = called([ROOT / "tools" / "named", "--depends", *words], IMAGE, env={**os.environ, "LOOPS_PROGRAMS": str(programs)})
         return done.stdout, done.stderr, done.returncode
 
     dep = "dep store 00000014 load 00000004 times 1 distance 1 1 at 00000040 1 first 0 1 stored 2 of 4 loaded 1 of 4"
@@ -191,14 +207,15 @@ def dependences(folder):
     yield "another line", named("depends\n")[1:] == ("named: 'depends' is no line of depends\n", 2)
 
 
-def traces(folder):
+@claims
+def traces(folder: str) -> Iterator[Claim]:
     """The same of tools/trace, with a stub in the place of the program."""
     programs, image = Path(folder, "programs"), Path(folder, "waits.image")
     programs.mkdir()
     image.write_text(IMAGE)
 
-    def traced(*words):
-        done = subprocess.run([ROOT / "tools" / "trace", image, *words], capture_output=True, text=True, env={**os.environ, "LOOPS_PROGRAMS": str(programs)}, check=False)
+    def traced(*words: str) -> tuple[str, str, int]:
+        done = called([ROOT / "tools" / "trace", image, *words], env={**os.environ, "LOOPS_PROGRAMS": str(programs)})
         return done.stdout, done.stderr, done.returncode
 
     stub(programs, "trace_cli", "end done 2\ncounts 2 1 1 2\n" + TRACE)
@@ -207,15 +224,11 @@ def traces(folder):
     yield "a refused run", traced("99") == ("", "usage\n", 2)
 
 
-def main():
+def main() -> int:
+    script = Script()
     with tempfile.TemporaryDirectory() as folder:
-        results = [*rows(folder), *kinds(folder), *gathered(folder), *names(folder), *dependences(folder), *traces(folder)]
-    for name, holds in results:
-        if not holds:
-            print(f"FAILED {name}")
-    failed = sum(not holds for _, holds in results)
-    print(f"{len(results) - failed} checks passed, {failed} failed")
-    return 1 if failed else 0
+        script.run(*[partial(part, folder) for part in (rows, kinds, gathered, names, dependences, traces)])
+    return script.ended()
 
 
 if __name__ == "__main__":

@@ -10,13 +10,14 @@ where a check failed.
 import csv
 import io
 import re
-import subprocess
 import sys
 import tempfile
 import xml.etree.ElementTree as xml
+from functools import partial
 from pathlib import Path
 
-ROOT = Path(__file__).resolve().parent.parent
+from common import ROOT, Script, called, left_out
+
 SVG = "{http://www.w3.org/2000/svg}"
 NAMES = "store cores steps gain useful lost dropped waiting idle restarts true silent false buffer nothomefree noway orbfull orbbusy".split()
 # Of own_counters all violations are false sharing; of queens all waiting is for a way; of the histogram one of nine is made up to be false sharing.
@@ -58,7 +59,7 @@ def text_of(rows):
 
 
 def plot(*words, text=""):
-    done = subprocess.run([ROOT / "tools" / "plot", *words], input=text, capture_output=True, text=True, check=False)
+    done = called([ROOT / "tools" / "plot", *words], text)
     return done.stdout, done.stderr, done.returncode
 
 
@@ -96,7 +97,7 @@ def plots(words):
     """(what it shows, what is wrong or None) of the plot of all inputs."""
     out, errors, status = plot(*words)
     if "is not installed" in errors:
-        print("left out: plots, since python3-matplotlib isn't installed")
+        left_out("plots", "python3-matplotlib isn't installed")
         return
     yield "a plot", None if (errors, status) == ("", 0) else f"{errors!r}, {status}"
     root = xml.fromstring(out)
@@ -153,7 +154,7 @@ def depends(folder):
     yield "refused: lines of both programs", None if got[0] == "" and "is no line of gain" in got[1] and got[2] == 2 else f"{got}"
     out, errors, status = plot("--images", folder, *words)
     if "is not installed" in errors:
-        print("left out: plots of dependences, since python3-matplotlib isn't installed")
+        left_out("plots of dependences", "python3-matplotlib isn't installed")
         return
     yield "a plot of dependences", None if (errors, status) == ("", 0) else f"{errors!r}, {status}"
     root = xml.fromstring(out)
@@ -169,16 +170,12 @@ def depends(folder):
     yield "the same bytes of dependences again", None if plot("--images", folder, *words)[0] == out else "others"
 
 
-def main():
+def main() -> int:
+    script = Script()
     with tempfile.TemporaryDirectory() as folder:
         words = list(files(folder))
-        results = [*plots(words), *tables(words, folder), *depends(folder)]
-    for name, wrong in results:
-        if wrong:
-            print(f"FAILED {name}: {wrong}")
-    failed = sum(wrong is not None for _, wrong in results)
-    print(f"{len(results) - failed} checks passed, {failed} failed")
-    return 1 if failed else 0
+        script.run(partial(plots, words), partial(tables, words, folder), partial(depends, folder))
+    return script.ended()
 
 
 if __name__ == "__main__":

@@ -8,11 +8,13 @@ each. A new file has no name yet: it has to stand beside one that is named. So d
 is not there, or a touched one is not named.
 """
 import re
-import subprocess
 import sys
+from collections.abc import Iterator
+from functools import partial
 from pathlib import Path
 
-TOP = Path(__file__).resolve().parent.parent
+from common import ROOT, Check, Script, called_well
+
 TITLE = re.compile(r"(?m)^\*\*(?:An? )?(.*?)\.\*\* ")
 NAMED = re.compile(r"`([^`]+)`|\[[^\]]*\]\(([^)]+)\)")
 
@@ -38,8 +40,8 @@ def files_of(text: str, top: Path) -> list[str]:
 
 def touched(revision: str, base: str) -> dict[str, bool]:
     """The files that a revision has otherwise than its base, each with whether it is new there; wrong bodies aside."""
-    words = ["git", "-C", str(TOP), "diff", "--name-status", "--no-renames", f"{base}...{revision}" if base == "main" else f"{base}..{revision}"]
-    lines = subprocess.run(words, capture_output=True, text=True, check=True).stdout.splitlines()
+    words = ["git", "-C", str(ROOT), "diff", "--name-status", "--no-renames", f"{base}...{revision}" if base == "main" else f"{base}..{revision}"]
+    lines = called_well(words).splitlines()
     files = [line.split("\t") for line in lines]
     return {name: how == "A" for how, name in files if not name.startswith("tests/wrong-bodies/")}
 
@@ -57,24 +59,28 @@ def compare(title: str, named: set[str], of_all: set[str], revision: str, base: 
     return len(lacks)
 
 
-def main(words: list[str]) -> int:
-    above, found = recipes((TOP / "CONTRIBUTING.md").read_text(encoding="utf-8"))
-    if len(words) in (2, 3):
-        titles = [it for it in found if it.startswith(words[0])]
-        if len(titles) != 1:
-            print(f"tests/recipes.py: the recipes are {', '.join(found)}", file=sys.stderr)
-            return 2
-        named, of_all = set(files_of(found[titles[0]], TOP)), set(files_of(above, TOP))
-        return 1 if compare(titles[0], named, of_all, words[1], words[2] if words[2:] else "main") else 0
-    checks = [(title, it) for title, text in {"all recipes": above, **found}.items() for it in files_of(text, TOP)]
-    missing = [it for it in checks if not (TOP / it[1]).is_file()]
-    for title, it in missing:
-        print(f"FAILED {title}: there is no {it}")
-    if len(found) != 5:
-        print(f"FAILED there are {len(found)} recipes")
-    print(f"{len(checks) - len(missing)} checks passed, {len(missing) + (len(found) != 5)} failed")
-    return 1 if missing or len(found) != 5 else 0
+def named(above: str, found: dict[str, str]) -> Iterator[Check]:
+    """Each file that a recipe names is there."""
+    for title, text in {"all recipes": above, **found}.items():
+        for it in files_of(text, ROOT):
+            yield f"{title}: {it}", None if (ROOT / it).is_file() else "isn't there"
+    yield "the recipes", None if len(found) == 5 else f"are {len(found)}"
+
+
+def main() -> int:
+    script = Script()
+    words = script.words
+    above, found = recipes((ROOT / "CONTRIBUTING.md").read_text(encoding="utf-8"))
+    if len(words) not in (2, 3):
+        script.run(partial(named, above, found))
+        return script.ended()
+    titles = [it for it in found if it.startswith(words[0])]
+    if len(titles) != 1:
+        print(f"tests/recipes.py: the recipes are {', '.join(found)}", file=sys.stderr)
+        return 2
+    of_recipe, of_all = set(files_of(found[titles[0]], ROOT)), set(files_of(above, ROOT))
+    return 1 if compare(titles[0], of_recipe, of_all, words[1], words[2] if words[2:] else "main") else 0
 
 
 if __name__ == "__main__":
-    sys.exit(main(sys.argv[1:]))
+    sys.exit(main())

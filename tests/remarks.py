@@ -7,14 +7,15 @@ What the options do is compared with the command line, where a compiler for RISC
 """
 
 import os
-import subprocess
 import sys
 import tempfile
 from collections.abc import Iterator
+from functools import partial
 from pathlib import Path
 
-ROOT = Path(__file__).resolve().parent.parent
-Results = Iterator[tuple[str, str | None]]
+from common import ROOT, Check, Script, called, left_out
+
+Results = Iterator[Check]
 BODY = "#ifndef STEP\n#define STEP 1\n#endif\nunsigned sums[4];\nvoid body(unsigned epoch) { sums[epoch & 3] += STEP; }\nvoid loop(unsigned epoch) { sums[0] = epoch; }\n"
 REMARK = {"b.c": "//", "b.s": "#", "b.ll": ";", "b.cpp": "//"}
 # A remark, and words of the reason.
@@ -35,7 +36,7 @@ TAKEN = [
 
 
 def image_of(folder: Path, *words: str) -> tuple[str, str, int]:
-    done = subprocess.run([str(ROOT / "tools" / "image-of"), *words], cwd=folder, capture_output=True, text=True, env={**os.environ, "PYTHONUTF8": "1"}, check=False)
+    done = called([str(ROOT / "tools" / "image-of"), *words], cwd=folder, env={**os.environ, "PYTHONUTF8": "1"})
     return done.stdout, done.stderr, done.returncode
 
 
@@ -54,7 +55,7 @@ def taken(folder: Path) -> Results:
     (folder / "c.c").write_text("// image: --epochs 4\n" + BODY)
     missing = image_of(folder, "c.c")[1]
     if "is not installed" in missing or "no compiler is installed" in missing:
-        print(f"left out: what remarks say, since {missing.strip()}")
+        left_out("what remarks say", missing.strip())
         return
     for remark, words in TAKEN:
         (folder / "b.c").write_text(f"// image: --epochs 4\n// image: {remark}\n{BODY}")
@@ -76,14 +77,10 @@ def named(folder: Path) -> Results:
 
 
 def main() -> int:
+    script = Script()
     with tempfile.TemporaryDirectory() as folder:
-        results = [result for check in (refused, taken, named) for result in check(Path(folder))]
-    for name, wrong in results:
-        if wrong:
-            print(f"FAILED {name}: {wrong}")
-    failed = sum(wrong is not None for _, wrong in results)
-    print(f"{len(results) - failed} checks passed, {failed} failed")
-    return 1 if failed else 0
+        script.run(*[partial(part, Path(folder)) for part in (refused, taken, named)])
+    return script.ended()
 
 
 if __name__ == "__main__":

@@ -17,14 +17,15 @@ import os
 import random
 import resource
 import shutil
-import subprocess
 import sys
 import tempfile
+from collections.abc import Iterator
+from functools import partial
 from pathlib import Path
 
-from memory import beside
+from common import Check, ROOT, Row, Script, beside, called_bytes, called_well, comparing, differs, left_out
 from run_rows import loads
-from seq_rows import ROOT, image, run
+from seq_rows import image, run
 from steps_rows import (BYTES_PLAIN, FAULTED_CACHES, FAULTED_PLAIN, NOT_VIOLATED_CACHES, NOT_VIOLATED_PLAIN, OVER_AT_ONCE, VIOLATED_CACHES,
                         VIOLATED_PLAIN, answers, buffer, copies, entries, standing, steps, turns_of)
 from streams import piecewise
@@ -221,13 +222,13 @@ TRACES = [
 ]
 
 
-def trace_of(printed):
+def trace_of(printed: str) -> str:
     """The trace in what was printed."""
     return printed[printed.index("trace "):]
 
 
 # (words, image, the lines below it, status, standard output, standard error)
-ROWS = [
+ROWS: list[tuple[list[str], str, str, int, str, str]] = [
     (PLAIN, SIGNAL, "turns 0 1 0 1 0 1 1 1\n", 0, VIOLATED, ""),
     (CACHES, SIGNAL, "turns 0 1 0 1 0 1 1 1\n", 0, VIOLATED, ""),
     (PLAIN, LOAD_FIRST, "turns 0 1 0 1 0 1\n", 0, NOT_VIOLATED, ""),
@@ -272,7 +273,7 @@ ROWS = [
     (["all", "caches", "3", "11"], NOTHING, "", 2, "", "usage\n"),
     # traces: what a schedule made is made again, over the store that it was made over
     *[([store, *cores], image_text, trace_of(printed), status, printed, "")
-      for store, image_text, printed, status in TRACES for cores in ([], [trace_of(printed).split()[1]])],
+      for store, image_text, printed, status in TRACES for cores in (list[str](), [trace_of(printed).split()[1]])],
     (CACHES, ONE_SET, trace_of(NOT_PUBLISHED), 4, "", "differs 4\n"),
     (PLAIN, ONE_SET, trace_of(PUBLISHED), 4, "", "differs 6\n"),
     (CACHES, FIVE_LOADS_FIRST, trace_of(NOT_WAITED), 4, "", "differs 11\n"),
@@ -318,7 +319,7 @@ STEPS = [
 ]
 
 # Over caches on two cores: (image, turns, the answers, and of some cores what stands after so many turns: copies, buffer)
-STANDING = [
+STANDING: list[tuple[str, str, list[str], list[tuple[int, str, list[str], list[str]]]]] = [
     (BYTES, "0 1 0 1 0 1", ["go"] * 4 + ["left", "over done 2"], [
         (4, "0", ["00000040 SpS - 00000001"], ["00000040"]), (4, "1", ["00000040 SpS - 00000002"], ["00000040"])]),
     (ONE_SET, "0 1 1 1 1 0 0 0", ["go"] * 4 + ["again NoWay"] + ["go"] * 3, [
@@ -335,7 +336,7 @@ STANDING = [
 ]
 
 # Words below `steps` that ask for nothing.
-NO_STEPS = [[], ["bus", "2"], ["plain", "9"], ["plain", "02"], ["all", "plain", "2", "2"], ["seeded", "1", "plain", "2"], ["steps", "plain", "2"]]
+NO_STEPS: list[list[str]] = [[], ["bus", "2"], ["plain", "9"], ["plain", "02"], ["all", "plain", "2", "2"], ["seeded", "1", "plain", "2"], ["steps", "plain", "2"]]
 
 # The bytes that an image and lines of turns may have together.
 LONGEST = 33_554_432
@@ -374,7 +375,7 @@ ssize_t write(int to, const void *bytes, size_t count) { return some(SYS_write, 
 DRAWS = [6457827717110365317, 3203168211198807973, 9817491932198370423, 4593380528125082431, 16408922859458223821]
 
 
-def draws(seed):
+def draws(seed: int) -> Iterator[int]:
     """SplitMix64, by its authors' C code."""
     while True:
         seed = (seed + 0x9E3779B97F4A7C15) % 2**64
@@ -383,8 +384,9 @@ def draws(seed):
         yield mixed ^ mixed >> 31
 
 
-def seeded(program, command):
-    """(what it shows, outcome, expected outcome) of seeds: the turns are those that the seed draws, `replay` makes the same of them, and
+@comparing
+def seeded(program: Path, command: list[str]) -> Iterator[Row]:
+    """Seeds: the turns are those that the seed draws, `replay` makes the same of them, and
     the report is that of the sequential loop."""
     yield "the draws of 1234567", [*itertools.islice(draws(1234567), 5)], DRAWS
     for file in sorted((ROOT / "examples").glob("*.image")):
@@ -400,8 +402,9 @@ def seeded(program, command):
             yield f"{name}, in order", (below.partition("counts ")[0], errors, status), in_order
 
 
-def traced(program, command):
-    """(what it shows, outcome, expected outcome) of runs on threads: the schedule of their traces makes the same bytes, and that of a trace
+@comparing
+def traced(program: Path, command: list[str]) -> Iterator[Row]:
+    """Runs on threads: the schedule of their traces makes the same bytes, and that of a trace
     with another value differs there."""
     chance = random.Random(5)
     for file, cores in itertools.product(sorted((ROOT / "examples").glob("*.image")), [2, 8]):
@@ -415,8 +418,9 @@ def traced(program, command):
         yield f"{name}, another {lines[place]}", run([str(program)], ["caches"], "\n".join([text, *lines])), ("", f"differs {place - 1}\n", 4)
 
 
-def stepped(program):
-    """(what it shows, outcome, expected outcome) of steps: worked outputs; what stands after turns, worked out too; and words that are
+@comparing
+def stepped(program: Path) -> Iterator[Row]:
+    """Steps: worked outputs; what stands after turns, worked out too; and words that are
     refused."""
     for words, text, turns, above, below, status in STEPS:
         outcome = run([str(program)], ["steps", *words], f"{text}turns {turns}\n")
@@ -431,8 +435,9 @@ def stepped(program):
         yield f"steps {words}", run([str(program)], ["steps", *words], SIGNAL + "turns 0\n"), ("", "usage\n", 2)
 
 
-def summed_up(program):
-    """(what it shows, outcome, expected outcome) of steps: below the line `end` is what is printed without them, which the entries and the
+@comparing
+def summed_up(program: Path) -> Iterator[Row]:
+    """Steps: below the line `end` is what is printed without them, which the entries and the
     committed bytes above it come to."""
     for words, text, below, status, output, errors in ROWS:
         if words[0] in ("all", "seeded"):
@@ -447,65 +452,59 @@ def summed_up(program):
             yield f"{name}: committed bytes", rows, {line for line in lines if line.startswith("at ")}
 
 
-def program_of(command):
+def program_of(command: list[str]) -> Path | None:
     """The built program `replay` that belongs to a command of `trace_cli`, or None."""
     if Path(command[0]).resolve() != ROOT / "trace_cli":
         return beside(command, "replay")
-    subprocess.run([ROOT / "replay"], input=b"", capture_output=True, check=False)
+    called_bytes([ROOT / "replay"], b"")
     return ROOT / "crates" / "replay" / "out" / "replay"
 
 
-def full_history(program):
-    """What is wrong with schedules that have just room for their entries, and one turn more."""
+def full_history(program: Path) -> Iterator[Check]:
+    """Schedules that have just room for their entries, and one turn more."""
     for count, expected in (JUST_ROOM, (OPEN, JUST_ROOM, "", 0)), (JUST_ROOM + 1, ([], 0, "stopped HistoryFull\n", 3)):
         output, errors, status = run([str(program)], PLAIN, loads(15) + "turns" + " 0" * count + "\n")
         lines = output.splitlines()
-        if (lines[:3], len(lines[3:]), errors, status) != expected:
-            yield f"{count} turns\n  expected {expected}\n  got      {(lines[:3], len(lines[3:]), errors, status)}"
+        yield f"{count} turns", differs((lines[:3], len(lines[3:]), errors, status), expected)
 
 
-def longest(program):
-    """What is wrong with the longest input, and with one that is a byte longer."""
+def longest(program: Path) -> Iterator[Check]:
+    """The longest input, and one that is a byte longer."""
     text = SIGNAL + "turns 0 1 0 1 0\n"
     for count, expected in (LONGEST, (COMMITTED, "", 0)), (LONGEST + 1, ("", "turns 0 TooLong\n", 2)):
-        outcome = run([str(program)], PLAIN, text + "#" * (count - len(text)))
-        if outcome != expected:
-            yield f"{count} bytes\n  expected {expected}\n  got      {outcome}"
+        yield f"{count} bytes", differs(run([str(program)], PLAIN, text + "#" * (count - len(text))), expected)
 
 
-def read_fails(program, words, given):
+def read_fails(program: Path, words: list[str], given: bytes) -> tuple[bytes, bytes, int]:
     """The outcome where the input gives these bytes, 3 a call, and has no more, though it hasn't ended."""
     reader, writer = os.pipe2(os.O_DIRECT | os.O_NONBLOCK)
     fcntl.fcntl(writer, fcntl.F_SETPIPE_SZ, 4096 * (len(given) // 3 + 1))
     for place in range(0, len(given), 3):
         os.write(writer, given[place:place + 3])
-    done = subprocess.run([program, *words], stdin=reader, capture_output=True, check=False)
+    done = called_bytes([program, *words], stdin=reader)
     os.close(reader)
     os.close(writer)
     return done.stdout, done.stderr, done.returncode
 
 
-def write_fails(program, words, text, room):
+def write_fails(program: Path, words: list[str], text: bytes, room: int) -> tuple[bytes, bytes, int]:
     """The outcome where the output is a file that may have so many bytes."""
     with tempfile.TemporaryFile() as taken:
-        done = subprocess.run([program, *words], input=text, stdout=taken, stderr=subprocess.PIPE, check=False, restore_signals=False,
-                              preexec_fn=lambda: resource.setrlimit(resource.RLIMIT_FSIZE, (room, room)))
+        done = called_bytes([program, *words], text, stdout=taken, restore_signals=False,
+                            preexec_fn=lambda: resource.setrlimit(resource.RLIMIT_FSIZE, (room, room)))
         taken.seek(0)
         return taken.read(), done.stderr, done.returncode
 
 
-def cut(program, shim, words, text, given, taken):
+def cut(program: Path, shim: Path, words: list[str], text: bytes, given: int, taken: int) -> tuple[bytes, bytes, int]:
     """The outcome where the shim cuts input and output."""
     environment = {**os.environ, "LD_PRELOAD": str(shim), "GIVEN": str(given), "TAKEN": str(taken)}
-    try:
-        done = subprocess.run([program, *words], input=text, capture_output=True, check=False, env=environment, timeout=SECONDS)
-    except subprocess.TimeoutExpired:
-        return f"no end within {SECONDS} seconds"
+    done = called_bytes([program, *words], text, SECONDS, env=environment)
     return done.stdout, done.stderr, done.returncode
 
 
 # (words, input, output, what is said of a read that fails)
-STREAMS = [
+STREAMS: list[tuple[list[str], str, str, str]] = [
     (PLAIN, SIGNAL, NOT_BEGUN, "turns 0 Read\n"),
     (CACHES, SIGNAL, NOT_BEGUN, "turns 0 Read\n"),
     (["seeded", "1234567", "plain", "2"], NOTHING, DRAWN, "image 0 Read\n"),
@@ -514,10 +513,11 @@ STREAMS = [
 ]
 
 
-def streams(program, shim):
-    """(what it shows, outcome, expected outcome) of streams that are slow or fail."""
+@comparing
+def streams(program: Path, shim: Path | None) -> Iterator[Row]:
+    """Streams that are slow or fail."""
     schedule = SIGNAL.encode() + b"turns 0 1 0 1 0 1 1 1\n"
-    yield "text byte by byte", piecewise([program, *CACHES], schedule, 1), (VIOLATED.encode(), b"", 0)
+    yield "text byte by byte", piecewise([str(program), *CACHES], schedule, 1), (VIOLATED.encode(), b"", 0)
     for words, *three in STREAMS:
         text, output, refused = (it.encode() for it in three)
         for given in range(len(text) + 1):
@@ -532,29 +532,29 @@ def streams(program, shim):
                 yield f"{words}: a pipe that breaks after {room} bytes", cut(program, shim, words, text, 999, room), failed
 
 
-def main():
-    command = sys.argv[1:] or [str(ROOT / "trace_cli"), "seq"]
+def rows(program: Path) -> Iterator[Check]:
+    for words, text, below, status, output, errors in ROWS:
+        yield f"{words} on {len(text)} bytes and {below!r}", differs(run([str(program)], words, text + below), (output, errors, status))
+
+
+def main() -> int:
+    script = Script()
+    command = script.command()
     program = program_of(command)
     if not program or not program.is_file():
-        print("left out: replay, since no such program was built beside the one that is tested")
+        left_out("replay", "no such program was built beside the one that is tested")
         return 0
-    results = [(f"{words} on {len(text)} bytes and {below!r}", run([str(program)], words, text + below), (output, errors, status))
-               for words, text, below, status, output, errors in ROWS]
     with tempfile.TemporaryDirectory() as directory:
         shim = None
         if shutil.which("cc"):
             source, shim = Path(directory, "shim.c"), Path(directory, "shim.so")
             source.write_text(SHIM)
-            subprocess.run(["cc", "-shared", "-fPIC", "-O1", "-o", shim, source], check=True)
+            called_well(["cc", "-shared", "-fPIC", "-O1", "-o", shim, source])
         else:
-            print("left out: interrupted reads of replay, since cc isn't installed")
-        results += [*stepped(program), *summed_up(program), *streams(program, shim), *seeded(program, command), *traced(program, command)]
-    wrong = [f"{name}\n  expected {expected}\n  got      {got}" for name, got, expected in results if got != expected]
-    wrong += [*full_history(program), *longest(program)]
-    for text in wrong:
-        print(f"FAILED {text}")
-    print(f"{len(results) + 4 - len(wrong)} rows passed, {len(wrong)} failed")
-    return 1 if wrong else 0
+            left_out("interrupted reads of replay", "cc isn't installed")
+        script.run(partial(rows, program), *[partial(part, program) for part in (stepped, summed_up, full_history, longest)],
+                   partial(streams, program, shim), partial(seeded, program, command), partial(traced, program, command))
+    return script.ended("rows")
 
 
 if __name__ == "__main__":

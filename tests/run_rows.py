@@ -11,9 +11,12 @@ history to its counts, and gives it to `audit`. Exits with 1 where a row differs
 """
 
 import sys
+from collections.abc import Iterator
+from functools import partial
 
 from audit_rows import EXIT, FAULTS, ONE, WAIT
-from seq_rows import COUNTER, FOUR, ROOT, SEARCH, at, done, exited, fault, image, refused, run
+from common import Check, Script, differs
+from seq_rows import COUNTER, FOUR, SEARCH, at, done, exited, fault, image, refused, run
 
 # Each epoch stores its number to its own word.
 OWN_WORDS = "9312250023a0a20467800000"
@@ -73,7 +76,7 @@ FIRST_EPOCH = ["", "6314050083220004", "631605008322000483220004"]
 
 # One core makes as many entries of an epoch as it loads, and two: of 14 loads each 1,048,560 in all, where 1,048,576 have room and
 # a turn asks for 16. The first epoch may load once more, and not twice. In order there is no such limit.
-def loads(count, first=0):
+def loads(count: int, first: int = 0) -> str:
     return image(FIRST_EPOCH[first] + "83220004" * count + "67800000", epochs=65_535)
 
 
@@ -84,13 +87,13 @@ LONG = [
 ]
 
 
-def traced_differs(program, name, cores, text):
+def traced_differs(program: list[str], cores: int, text: str) -> str | None:
     """What is wrong with a run that prints its trace: it ends as without one, and `audit` finds as many entries as are counted."""
     plain = run(program, ["run", "--cores", str(cores)], text)
     output, errors, status = run(program, ["run", "--cores", str(cores), "--trace"], text)
     report, below = output[:len(plain[0])], output[len(plain[0]):]
     if (report, errors, status) != plain:
-        return f"{name}: with a trace {(report, errors, status)}, without one {plain}"
+        return f"with a trace {(report, errors, status)}, without one {plain}"
     if status > 1:
         return None
     counts, _, trace = below.partition("\n")
@@ -98,30 +101,34 @@ def traced_differs(program, name, cores, text):
     words = [line.split()[1] for line in lines[1:]]
     wanted = "counts " + " ".join(str(words.count(word)) for word in ("load", "store", "restart", "commit"))
     if counts != wanted or lines[0] != f"trace {cores}":
-        return f"{name}: {counts!r} above {lines[0]!r}, whose entries give {wanted!r}"
+        return f"{counts!r} above {lines[0]!r}, whose entries give {wanted!r}"
     verdict = run(program, ["audit"], text + trace)
     if verdict[0].split()[:2] != ["legal", str(len(words))]:
-        return f"{name}: the audit of the trace says {verdict}"
+        return f"the audit of the trace says {verdict}"
     return None
 
 
-def main():
-    command = sys.argv[1:] or [str(ROOT / "trace_cli"), "seq"]
-    program = command[:-1]
-    rows = [(name, ["run", "--cores", str(cores)], text, expected) for name, cores, text, expected in RUNS]
-    rows += [("the trace of " + name, ["run", "--cores", str(cores), "--trace"], text, (printed, "", 1 if "fault" in printed else 0))
-             for name, cores, text, printed in TRACES]
-    rows += [("words " + " ".join(words), words, FOUR, USAGE) for words in WORDS] + LONG
-    wrong = []
-    for name, words, text, expected in rows:
-        got = run(program, words, text)
-        if got != expected:
-            wrong.append(f"{name}\n  expected {expected}\n  got      {got}")
-    wrong += [differs for name, cores, text, _ in RUNS if (differs := traced_differs(program, name, cores, text))]
-    for text in wrong:
-        print(f"FAILED {text}")
-    print(f"{len(rows) + len(RUNS) - len(wrong)} rows passed, {len(wrong)} failed")
-    return 1 if wrong else 0
+def rows(program: list[str]) -> Iterator[Check]:
+    for name, cores, text, expected in RUNS:
+        yield name, differs(run(program, ["run", "--cores", str(cores)], text), expected)
+    for name, cores, text, printed in TRACES:
+        got = run(program, ["run", "--cores", str(cores), "--trace"], text)
+        yield f"the trace of {name}", differs(got, (printed, "", 1 if "fault" in printed else 0))
+    for words in WORDS:
+        yield f"words {' '.join(words)}", differs(run(program, words, FOUR), USAGE)
+    for name, words, text, expected in LONG:
+        yield name, differs(run(program, words, text), expected)
+
+
+def with_traces(program: list[str]) -> Iterator[Check]:
+    for name, cores, text, _ in RUNS:
+        yield f"{name}, with a trace", traced_differs(program, cores, text)
+
+
+def main() -> int:
+    script = Script()
+    script.run(*[partial(part, script.command()[:-1]) for part in (rows, with_traces)])
+    return script.ended("rows")
 
 
 if __name__ == "__main__":

@@ -10,11 +10,16 @@ RISC-V Unprivileged ISA manual and from the format of image and report, never
 from a program. Exits with 1 where a row differs.
 """
 
-import subprocess
 import sys
-from pathlib import Path
+from collections.abc import Iterator, Sequence
+from functools import partial
 
-ROOT = Path(__file__).resolve().parent.parent
+from common import Check, Script, called_bytes, differs
+
+# Standard output, standard error and status
+Outcome = tuple[str, str, int]
+# What it shows, the text, what has to come
+Row = tuple[str, str | bytes, Outcome]
 
 COUNTER = "83220004b382a2002320500467800000"
 STORE_X5_RETURN = "2320500467800000"
@@ -23,7 +28,7 @@ RETURN = "67800000"
 SEARCH = "9312250023a0a204134525001335150067800000"
 
 
-def image(code, epochs=1, limit=100, size=256, more=""):
+def image(code: str, epochs: int = 1, limit: int = 100, size: int = 256, more: str = "") -> str:
     """An image text with the usual four lines and further lines after them."""
     return f"size {size}\nepochs {epochs}\nlimit {limit}\ncode {code}\n{more}"
 
@@ -31,29 +36,29 @@ def image(code, epochs=1, limit=100, size=256, more=""):
 FOUR = image(COUNTER, epochs=4)
 
 
-def at(address, digits):
+def at(address: int, digits: str) -> str:
     """The report line of one row of memory, its rest filled with zeros."""
     return f"at {address:08x} {digits.ljust(32, '0')}\n"
 
 
-def done(epochs, *lines):
+def done(epochs: int, *lines: str) -> Outcome:
     return f"end done {epochs}\n" + "".join(lines), "", 0
 
 
-def exited(epoch, *lines):
+def exited(epoch: int, *lines: str) -> Outcome:
     return f"end exit {epoch}\n" + "".join(lines), "", 0
 
 
-def fault(epoch, cause, pc, *lines):
+def fault(epoch: int, cause: int, pc: int, *lines: str) -> Outcome:
     return f"end fault {epoch} {cause} {pc:08x}\n" + "".join(lines), "", 1
 
 
-def refused(line, name):
+def refused(line: int, name: str) -> Outcome:
     return "", f"image {line} {name}\n", 2
 
 
 # (what it shows, image text, (standard output, standard error, status))
-RUNS = [
+RUNS: list[Row] = [
     ("four epochs add their numbers to one word", FOUR, done(4, at(0x40, "06"))),
     ("no epochs", image(COUNTER, epochs=0), done(0)),
     ("no epochs, code never decoded", image("00000000", epochs=0), done(0)),
@@ -140,7 +145,7 @@ RUNS = [
      done(2, at(0x40, "01"), at(0x60, "0000000001"))),
 ]
 
-REFUSALS = [
+REFUSALS: list[Row] = [
     ("empty input", "", refused(0, "MissingOrRepeated")),
     ("odd number of digits in code", "size 256\nepochs 4\nlimit 100\ncode 8322000\n", refused(4, "Hex")),
     ("epochs too large", "size 256\nepochs 65536\n", refused(2, "Range")),
@@ -227,7 +232,7 @@ REFUSALS = [
     ("text just short enough", "#" * 1_048_576, refused(0, "MissingOrRepeated")),
 ]
 
-ACCEPTED = [
+ACCEPTED: list[Row] = [
     ("no line feed at the end", FOUR[:-1], done(4, at(0x40, "06"))),
     ("empty lines and remarks", "\n# a remark\n\n" + FOUR.replace("\n", "\n\n#\n"), done(4, at(0x40, "06"))),
     ("digits of either case", image(COUNTER.upper(), epochs=4), done(4, at(0x40, "06"))),
@@ -237,40 +242,37 @@ ACCEPTED = [
     ("at up to the last byte", FOUR + "at 000000ff 01\n", done(4, at(0x40, "06"))),
 ]
 
-USAGE = [["x"], [], ["help"], ["audit", "x"], ["audit", "--help"], ["AUDIT"], ["seq", "audit"], ["seq", "--help"], ["seq", "x"], ["SEQ"], ["--help"], ["--version"], ["run"], ["run", "--cores", "9"],
+USAGE: list[list[str | bytes]] = [["x"], [], ["help"], ["audit", "x"], ["audit", "--help"], ["AUDIT"], ["seq", "audit"], ["seq", "--help"], ["seq", "x"], ["SEQ"], ["--help"], ["--version"], ["run"], ["run", "--cores", "9"],
          # words that are no UTF-8
          [b"\xff"], [b"seq\xff"], ["seq", b"\xc3"]]
 
 # Words that ./trace_cli answers itself, with a page of help.
-WRAPPERS_OWN = [[], ["--help"]]
+WRAPPERS_OWN: list[list[str | bytes]] = [[], ["--help"]]
 # No run of the tests takes a minute; one that has no answer after so many seconds hangs.
 MOST_SECONDS = 600
 
 
-def run(command, words, text):
-    """Standard output, standard error and status of a call; of one that hangs, what it didn't write and no status."""
+def run(command: Sequence[str], words: Sequence[str | bytes], text: str | bytes) -> Outcome:
+    """Standard output, standard error and status of a call."""
     data = text if isinstance(text, bytes) else text.encode("ascii")
-    try:
-        result = subprocess.run(command + words, input=data, capture_output=True, check=False, timeout=MOST_SECONDS)
-    except subprocess.TimeoutExpired:
-        return "", f"no answer after {MOST_SECONDS} seconds", None
+    result = called_bytes([*command, *words], data, MOST_SECONDS)
     return result.stdout.decode("latin-1"), result.stderr.decode("latin-1"), result.returncode
 
 
-def main():
-    command = sys.argv[1:] or [str(ROOT / "trace_cli"), "seq"]
-    program = command[:-1]
-    rows = [(name, ["seq"], text, expected) for name, text, expected in RUNS + REFUSALS + ACCEPTED]
-    own = [] if sys.argv[1:] else WRAPPERS_OWN
-    rows += [(f"words {words}", words, FOUR, ("", "usage\n", 2)) for words in USAGE if words not in own]
-    failed = 0
-    for name, words, text, expected in rows:
-        got = run(program, words, text)
-        if got != expected:
-            failed += 1
-            print(f"FAILED {name}\n  expected {expected}\n  got      {got}")
-    print(f"{len(rows) - failed} rows passed, {failed} failed")
-    return 1 if failed else 0
+def rows(script: Script) -> Iterator[Check]:
+    """Rows of runs, and words that ask for none."""
+    program = script.command()[:-1]
+    for name, text, expected in RUNS + REFUSALS + ACCEPTED:
+        yield name, differs(run(program, ["seq"], text), expected)
+    own = [] if script.words else WRAPPERS_OWN
+    for words in (words for words in USAGE if words not in own):
+        yield f"words {words}", differs(run(program, words, FOUR), ("", "usage\n", 2))
+
+
+def main() -> int:
+    script = Script()
+    script.run(partial(rows, script))
+    return script.ended("rows")
 
 
 if __name__ == "__main__":

@@ -267,18 +267,20 @@ kept 0 00000040 0000 0000 {00}
 OVER_AT_ONCE = "turn 0 0 over done 0\n"
 
 
-def steps(above, below):
+def steps(above: str, below: str) -> str:
     """All that is printed: the first with its bytes filled up, and the other below a line `end`."""
     return re.sub(r"{(\w+)}", lambda found: found[1].ljust(32, "0"), above) + "end\n" + below
 
 
 # How many words name a place.
 NAMED = {"attempt": 2, "hart": 2, "line": 4, "orb": 2, "kept": 3, "at": 2}
+# The words of a turn, its entries and its changes
+Turn = tuple[list[str], list[str], list[str]]
 
 
-def turns_of(output):
-    """(head, entries, changes) of each turn."""
-    turns = []
+def turns_of(output: str) -> list[Turn]:
+    """The turns of an output."""
+    turns: list[Turn] = []
     for line in output.partition("end\n")[0].splitlines():
         word, _, rest = line.partition(" ")
         if word == "turn":
@@ -290,27 +292,27 @@ def turns_of(output):
     return turns
 
 
-def answers(turns):
+def answers(turns: list[Turn]) -> list[str]:
     """What the turns were answered."""
     return [" ".join(head[2:]) for head, _, _ in turns]
 
 
-def entries(turns):
+def entries(turns: list[Turn]) -> list[str]:
     """The entries of all turns."""
     return [entry for _, those, _ in turns for entry in those]
 
 
-def standing(turns):
+def standing(turns: list[Turn]) -> dict[tuple[str, ...], list[str]]:
     """What stands at each place after these turns: the words below the name of the place."""
     words = [line.split() for _, _, changes in turns for line in changes]
     return {tuple(line[:NAMED[line[0]]]): line[NAMED[line[0]]:] for line in words}
 
 
-def copies(turns, core):
+def copies(turns: list[Turn], core: str) -> list[str]:
     """The core's copies after these turns: address, state, mark and mask of each."""
     return sorted(" ".join(copy[:4]) for place, copy in standing(turns).items() if place[:2] == ("line", core) and copy != ["-"])
 
 
-def buffer(turns, core):
+def buffer(turns: list[Turn], core: str) -> list[str]:
     """The addresses in the core's buffer after these turns."""
     return standing(turns).get(("orb", core), [])

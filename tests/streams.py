@@ -15,9 +15,12 @@ import subprocess
 import sys
 import tempfile
 import time
-from pathlib import Path
+from collections.abc import Iterator
+from functools import partial
+from typing import Any
 
-ROOT = Path(__file__).resolve().parent.parent
+from common import Row, Script, called_bytes, comparing
+
 COUNTER = b"size 256\nepochs 4\nlimit 100\ncode 83220004b382a2002320500467800000\n"
 FAULT = b"size 256\nepochs 1\nlimit 100\ncode 00000000\n"
 TRACED = b"size 256\nepochs 1\nlimit 100\ncode 83220004b382a2002320500467800000\ntrace 1\n0 start 0\n"
@@ -28,16 +31,16 @@ ONE_TRACED = (b"end done 1\ncounts 1 1 0 1\ntrace 1\n0 start 0\n0 load 00000040 
 REPORT = b"end done 4\nat 00000040 06000000000000000000000000000000\n"
 
 
-def outcome(command, text, **streams):
+def outcome(command: list[str], text: bytes, **streams: Any) -> tuple[bytes | None, bytes | None, int]:
     """Standard output, standard error and status; a stream that is given is not read back."""
-    places = {"stdout": subprocess.PIPE, "stderr": subprocess.PIPE, **streams}
-    done = subprocess.run(command, input=text, check=False, **places)
+    done = called_bytes(command, text, **streams)
     return done.stdout, done.stderr, done.returncode
 
 
-def piecewise(command, text, length):
+def piecewise(command: list[str], text: bytes, length: int) -> tuple[bytes, bytes, int]:
     """The outcome where the text comes in pieces of this length."""
     with subprocess.Popen(command, stdin=subprocess.PIPE, stdout=subprocess.PIPE, stderr=subprocess.PIPE) as child:
+        assert child.stdin
         for place in range(0, len(text), length):
             child.stdin.write(text[place:place + length])
             child.stdin.flush()
@@ -46,27 +49,27 @@ def piecewise(command, text, length):
     return out, err, child.returncode
 
 
-def failing_read(command):
+def failing_read(command: list[str]) -> tuple[bytes, bytes, int]:
     """The outcome where each read fails: address 0 of this process has no memory."""
     descriptor = os.open("/proc/self/mem", os.O_RDONLY)
     try:
-        done = subprocess.run(command, stdin=descriptor, capture_output=True, check=False)
+        done = called_bytes(command, stdin=descriptor)
     finally:
         os.close(descriptor)
     return done.stdout, done.stderr, done.returncode
 
 
-def taken_from_file(command, text):
+def taken_from_file(command: list[str], text: bytes) -> tuple[bytes, bytes, int, int]:
     """The outcome where the input is a file, and how many of its bytes were read."""
     with tempfile.TemporaryFile(buffering=0) as given:
         given.write(text)
         given.seek(0)
-        done = subprocess.run(command, stdin=given, capture_output=True, check=False)
+        done = called_bytes(command, stdin=given)
         return done.stdout, done.stderr, done.returncode, given.tell()
 
 
-def checks(command):
-    """(what it shows, outcome, expected outcome)"""
+@comparing
+def checks(command: list[str]) -> Iterator[Row]:
     yield "text byte by byte", piecewise(command, COUNTER, 1), (REPORT, b"", 0)
     yield "text in pieces of 7", piecewise(command, COUNTER, 7), (REPORT, b"", 0)
     yield "failed read", failing_read(command), (b"", b"image 0 Read\n", 2)
@@ -98,14 +101,10 @@ def checks(command):
         yield f"{name} nothing", taken_from_file(more, COUNTER), (b"", b"usage\n", 2, 0)
 
 
-def main():
-    command = sys.argv[1:] or [str(ROOT / "trace_cli"), "seq"]
-    results = list(checks(command))
-    failed = [row for row in results if row[1] != row[2]]
-    for name, got, expected in failed:
-        print(f"FAILED {name}\n  expected {expected}\n  got      {got}")
-    print(f"{len(results) - len(failed)} checks passed, {len(failed)} failed")
-    return 1 if failed else 0
+def main() -> int:
+    script = Script()
+    script.run(partial(checks, script.command()))
+    return script.ended()
 
 
 if __name__ == "__main__":

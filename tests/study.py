@@ -19,15 +19,15 @@ import sys
 import tempfile
 import time
 from collections.abc import Callable, Iterator
+from functools import wraps
 from pathlib import Path
 from xml.etree import ElementTree
 
-from memory import beside
+from common import ROOT, Check, Script, beside, called, called_well, left_out
 from packages import has_module
 from view import driver, find_selenium
 
-ROOT = Path(__file__).resolve().parent.parent
-Results = Iterator[tuple[str, str | None]]
+Results = Iterator[Check]
 NAMES = ("trace_cli", "why", "replay", "gain")
 PLAN = 'cores = [1]\nschedules = ["threads"]\nversions = [1, 2]\n[loops]\ncounter = "counter.image"\nown_counters = "own_counters.image"\n'
 # Loop and version: how many epochs committed, how many instructions these are by hand (4 of counter; 27 of own_counters), and the trace's entries, which on one core
@@ -78,7 +78,7 @@ def study(folder: Path, text: str, programs: Path | None, *further: str, out: st
     plan = folder / "plan.toml"
     plan.write_text(text, encoding="utf-8")
     env = {**os.environ, **({"LOOPS_PROGRAMS": str(programs)} if programs else {})}
-    done = subprocess.run(words_of(plan, folder / out, *further), capture_output=True, text=True, env=env, cwd=folder, check=False)
+    done = called(words_of(plan, folder / out, *further), env=env, cwd=folder)
     return without_progress(done.stdout + done.stderr), done.returncode
 
 
@@ -134,8 +134,8 @@ def studied(folder: Path, programs: Path) -> Results:
         and "own_counters.c" in told["made"]["own_counters"] and "clang version 14" in told["made"]["own_counters"] else f"{told}"
     wanted = {"image_sha256": told["images"], "runner_sha256": told["programs"]["trace_cli"], "why_sha256": told["programs"]["why"]}
     wrong = [row for row in rows for name, one in wanted.items() if row[name] != (one[row["loop"]] if isinstance(one, dict) else one)]
-    yield "each row carries its digests", None if not wrong and told["images"]["counter"] == subprocess.run(
-        ["sha256sum", folder / "counter.image"], capture_output=True, text=True, check=True).stdout.split()[0] else f"{wrong}"
+    yield "each row carries its digests", None if not wrong and told["images"]["counter"] == called_well(
+        ["sha256sum", folder / "counter.image"]).split()[0] else f"{wrong}"
     page = (out / "page.html").read_text()
     cells = ElementTree.fromstring("<table>" + page.partition("<tbody>")[2].partition("</tbody>")[0] + "</table>").findall("tr/td")
     yield "its page", None if len(cells) == 4 * 18 and "runs.csv" in page else f"{len(cells)} cells"
@@ -160,7 +160,7 @@ def grown(folder: Path, programs: Path) -> Results:
     for row in rows:
         if row["schedule"] == "seeded":
             words = [programs / "replay", "seeded", row["seed"], row["store"], row["cores"]]
-            turns = len(subprocess.run(words, input=(folder / "own_counters.image").read_bytes(), capture_output=True, check=True).stdout.split(b"\n")[0].split()) - 1
+            turns = len(called_well(words, (folder / "own_counters.image").read_text()).split("\n")[0].split()) - 1
             cores = int(row["cores"])
             wanted = (str(turns), str((turns + cores - 1) // cores), f"{int(100 * 64 * cores / turns) / 100:.2f}")
             wrong += [] if (row["turns"], row["steps"], row["gain"]) == wanted else [(row, wanted)]
@@ -195,7 +195,7 @@ def begun(folder: Path, programs: Path, text: str, rows: int, sign: int) -> str 
         wait_for(out, rows, run)
         there = sum(rows_made(out).values())
         if sign == signal.SIGKILL:
-            for pid in subprocess.run(["ps", "-o", "pid=", "--ppid", str(run.pid)], capture_output=True, text=True, check=False).stdout.split():
+            for pid in called(["ps", "-o", "pid=", "--ppid", str(run.pid)]).stdout.split():
                 os.killpg(int(pid), sign)       # snakemake, which has a session of its own
         run.send_signal(sign)
         said = run.stderr.read()
@@ -243,8 +243,7 @@ def misused(folder: Path, programs: Path) -> Results:
     there = [path for path in folder.rglob("X")]
     yield "names that are commands, and modules beside the data", None if (said, status, there) == ("", 0, []) else f"{said!r}, {status}, {there}"
     yield "and their rows", None if [row["steps"] for row in table(room / "the out")] else "none"
-    last = subprocess.run([str(ROOT / "tools" / "study"), "--out", "the out", "--chunk", "2", "plan.toml", "--", "--cores", "1"], cwd=room, capture_output=True, text=True,
-                          env={**os.environ, "LOOPS_PROGRAMS": str(programs)}, check=False)
+    last = called([str(ROOT / "tools" / "study"), "--out", "the out", "--chunk", "2", "plan.toml", "--", "--cores", "1"], cwd=room, env={**os.environ, "LOOPS_PROGRAMS": str(programs)})
     yield "words in another order", None if (without_progress(last.stderr), last.returncode) == ("", 0) else f"{last}"
 
 
@@ -258,7 +257,7 @@ def on_a_cluster(folder: Path, programs: Path) -> Results:
     (folder / "plan.toml").write_text(SEEDS.format("1, 2"))
     env = {**os.environ, "LOOPS_PROGRAMS": str(programs), "PATH": f"{folder / 'bin'}:{os.environ['PATH']}", "CALLS": str(folder / "calls"), "CI": "true"}
     words = [*words_of(Path("plan.toml"), Path("the out"), "--chunk", "5"), "--", "--profile", os.path.relpath(ROOT / "tools" / "loops" / "studies" / "profiles" / "slurm", folder)]
-    done = subprocess.run(words, cwd=folder, env=env, capture_output=True, text=True, timeout=SECONDS, check=False)
+    done = called(words, cwd=folder, env=env, seconds=SECONDS)
     jobs = (folder / "calls").read_text().splitlines() if (folder / "calls").exists() else []
     yield "by the profile for Slurm", None if (without_progress(done.stderr), done.returncode, len(jobs)) == ("", 0, 3) else f"{done}, {jobs}"
     said, status = study(folder, SEEDS.format("1, 2"), programs)
@@ -291,7 +290,7 @@ def sorted_page(folder: Path) -> Results:
     """The order of a column after a click on its head, and after another."""
     browser = driver()
     if browser is None:
-        print("left out: the order of a study's page, since chromium, chromium-driver and python3-selenium aren't all installed")
+        left_out("the order of a study's page", "chromium, chromium-driver and python3-selenium aren't all installed")
         return
     try:
         browser.get((folder / "out" / "page.html").as_uri())
@@ -306,14 +305,17 @@ def sorted_page(folder: Path) -> Results:
         browser.quit()
 
 
-def in_a_folder(check: Callable[[Path, Path], Results], programs: Path) -> Results:
-    """The results of a check, which has a folder with images for itself."""
-    with tempfile.TemporaryDirectory() as room:
-        for name in ("counter", "own_counters"):
-            shutil.copy(ROOT / "examples" / f"{name}.image", room)
-        yield from check(Path(room), programs)
-        if check is grown:
-            yield from sorted_page(Path(room))
+def in_a_folder(part: Callable[[Path, Path | None], Results], programs: Path | None) -> Callable[[], Results]:
+    """A part that has a folder with images for itself."""
+    @wraps(part)
+    def alone() -> Results:
+        with tempfile.TemporaryDirectory() as room:
+            for name in ("counter", "own_counters"):
+                shutil.copy(ROOT / "examples" / f"{name}.image", room)
+            yield from part(Path(room), programs)
+            if part is grown:
+                yield from sorted_page(Path(room))
+    return alone
 
 
 def lacking(programs: Path | None) -> str | None:
@@ -325,23 +327,22 @@ def lacking(programs: Path | None) -> str | None:
     return f"{' and '.join(missing)} isn't installed" if missing else None
 
 
+def plans(folder: Path, _: Path | None) -> Iterator[Check]:
+    return refused(folder)
+
+
 def main() -> int:
     find_selenium()
-    command = sys.argv[1:] or [str(ROOT / "trace_cli"), "seq"]
+    script = Script()
     with tempfile.TemporaryDirectory() as room:
-        programs = furnished(Path(room), command)
-        checks = [lambda folder, _: refused(folder), studied, grown, stopped, misused, on_a_cluster, failing]
+        programs = furnished(Path(room), script.command())
+        parts = [plans, studied, grown, stopped, misused, on_a_cluster, failing]
         lacks = lacking(programs)
         if lacks:
-            print(f"left out: studies, since {lacks}")
-            checks = checks[:1] if has_module("jsonschema") else []
-        results = [result for check in checks for result in in_a_folder(check, programs)]
-    for name, wrong in results:
-        if wrong:
-            print(f"FAILED {name}: {wrong}")
-    failed = sum(wrong is not None for _, wrong in results)
-    print(f"{len(results) - failed} checks passed, {failed} failed")
-    return 1 if failed else 0
+            left_out("studies", lacks)
+            parts = parts[:1] if has_module("jsonschema") else []
+        script.run(*[in_a_folder(part, programs) for part in parts])
+    return script.ended()
 
 
 if __name__ == "__main__":

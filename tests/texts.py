@@ -9,16 +9,17 @@ says so. Exits with 1 where a check failed.
 
 import json
 import os
-import subprocess
 import sys
 import tempfile
 import unicodedata
 import xml.etree.ElementTree as xml
 from collections.abc import Iterator
+from functools import partial
 from pathlib import Path
 
-ROOT = Path(__file__).resolve().parent.parent
-Results = Iterator[tuple[str, str | None]]
+from common import ROOT, Check, Script, called_bytes, left_out
+
+Results = Iterator[Check]
 WHY = "hurt 4 true epoch 1 try 1 core 1 lost 3 entered 2 since 2 by 0 core 0 cause 5 commit load 3 00000004 store 2 00000014 at 00000040 4\n" \
       "epoch 1 rollbacks 1 lost 3\npair store 00000014 load 00000004 rollbacks 1 lost 3 true 1 silent 0 false 0 buffer 0 stale 1 vain 0 later 0 distance 1 1 at 00000040 4\n" \
       "line 00000040 rollbacks 1 lost 3 true 1 silent 0 false 0 buffer 0\npc 00000004 victim 1 3 causer 0 0\npc 00000014 victim 0 0 causer 1 3\nkind true rollbacks 1 lost 3\n" \
@@ -37,7 +38,7 @@ def traced(about: bytes, name: bytes) -> bytes:
 
 
 def tool(words: list[str], text: bytes, **environment: str) -> tuple[bytes, bytes, int]:
-    done = subprocess.run([str(ROOT / "tools" / words[0]), *words[1:]], input=text, capture_output=True, env={**os.environ, **environment}, check=False)
+    done = called_bytes([str(ROOT / "tools" / words[0]), *words[1:]], text, env={**os.environ, **environment})
     return done.stdout, done.stderr, done.returncode
 
 
@@ -90,7 +91,7 @@ def plots(folder: Path) -> Results:
         path.write_text(GAIN)
         out, errors, status = tool(["plot", f"{name}={path}"], b"")
         if b"is not installed" in errors:
-            print("left out: names in plots, since python3-matplotlib isn't installed")
+            left_out("names in plots", "python3-matplotlib isn't installed")
             return
         texts = ["".join(text.itertext()) for text in xml.fromstring(out).iter("{http://www.w3.org/2000/svg}text")] if status == 0 else []
         wanted = name.translate({0x1b: "\ufffd", 0x202e: "\ufffd", 0x0c: "\ufffd"})
@@ -98,14 +99,10 @@ def plots(folder: Path) -> Results:
 
 
 def main() -> int:
+    script = Script()
     with tempfile.TemporaryDirectory() as folder:
-        results = [result for check in (tools, forms, plots) for result in check(Path(folder))]
-    for name, wrong in results:
-        if wrong:
-            print(f"FAILED {name}: {wrong}")
-    failed = sum(wrong is not None for _, wrong in results)
-    print(f"{len(results) - failed} checks passed, {failed} failed")
-    return 1 if failed else 0
+        script.run(*[partial(part, Path(folder)) for part in (tools, forms, plots)])
+    return script.ended()
 
 
 if __name__ == "__main__":

@@ -18,11 +18,13 @@ import os
 import subprocess
 import sys
 import time
+from collections.abc import Iterator
+from functools import partial
 from pathlib import Path
 
+from common import Check, Script, left_out
 from memory import without_the_wrapper
 
-ROOT = Path(__file__).resolve().parent.parent
 # lui x5,122; addi x5,x5,-1; bne x5,x0,-4; andi x6,x10,255; slli x6,x6,2; sw x10,64(x6); jalr x0,0(x1)
 CODE = "b7a207009382f2ffe39e02fe1373f50f131323002320a30467800000"
 IMAGE = f"size 2048\nepochs 20000\nlimit 1000000\ncode {CODE}\n"
@@ -40,18 +42,18 @@ class NotAllowed(Exception):
     """The machine has no `ptrace` for this program."""
 
 
-def ptrace(request, thread):
+def ptrace(request: int, thread: int) -> None:
     if libc.ptrace(request, thread, None, None) == -1:
         raise NotAllowed(os.strerror(ctypes.get_errno()))
 
 
-def state_of(process, thread):
+def state_of(process: subprocess.Popen[str], thread: int) -> tuple[str, int]:
     """The state of a thread, and the ticks of processor time that it has used."""
     words = Path(f"/proc/{process.pid}/task/{thread}/stat").read_text(encoding="ascii").rsplit(")", 1)[1].split()
     return words[0], int(words[11]) + int(words[12])
 
 
-def goes_on(process, other):
+def goes_on(process: subprocess.Popen[str], other: int) -> bool:
     """Whether the other core goes on, while the first is stopped."""
     _, before = state_of(process, other)
     asleep = 0
@@ -64,7 +66,7 @@ def goes_on(process, other):
     return False
 
 
-def cores_of(process):
+def cores_of(process: subprocess.Popen[str]) -> list[int] | None:
     """The threads of the two cores, once both are started; None where they aren't within ten seconds."""
     for _ in range(1000):
         threads = [int(entry.name) for entry in Path(f"/proc/{process.pid}/task").iterdir()]
@@ -75,10 +77,11 @@ def cores_of(process):
     return None
 
 
-def went_on(command):
+def went_on(command: list[str]) -> int:
     """How many times the other core went on; 0 where there were no two threads beside the first."""
     with subprocess.Popen(command, stdin=subprocess.PIPE, stdout=subprocess.DEVNULL, text=True) as process:
         try:
+            assert process.stdin
             process.stdin.write(IMAGE)
             process.stdin.close()
             cores = cores_of(process)
@@ -98,18 +101,20 @@ def went_on(command):
             process.kill()
 
 
-def main():
-    command = without_the_wrapper(sys.argv[1:] or [str(ROOT / "trace_cli"), "seq"])
+def stopped(command: list[str]) -> Iterator[Check]:
+    """While one core is stopped the other goes on."""
     try:
-        count = went_on(command[:-1] + ["run", "--cores", "2"])
+        count = went_on([*command[:-1], "run", "--cores", "2"])
     except NotAllowed as refused:
-        print(f"left out: a core that is stopped while it executes, since ptrace answers: {refused}")
-        return 0
-    failed = int(count < LEAST)
-    if failed:
-        print(f"FAILED: while one core was stopped the other went on {count} times of {STOPS}")
-    print(f"1 run with {STOPS} stops, {failed} failed")
-    return failed
+        left_out("a core that is stopped while it executes", f"ptrace answers: {refused}")
+        return
+    yield f"a run with {STOPS} stops", None if count >= LEAST else f"while one core was stopped the other went on {count} times"
+
+
+def main() -> int:
+    script = Script()
+    script.run(partial(stopped, without_the_wrapper(script.command())))
+    return script.ended()
 
 
 if __name__ == "__main__":

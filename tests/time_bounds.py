@@ -15,10 +15,13 @@ import resource
 import subprocess
 import sys
 import tempfile
+from collections.abc import Iterator
 from dataclasses import dataclass
+from functools import partial
 from pathlib import Path
 
-from seq_rows import ROOT, image
+from common import ROOT, Check, Script, left_out
+from seq_rows import image
 from true_length import program_of
 
 sys.path.insert(0, str(ROOT / "bench" / "audit"))
@@ -146,26 +149,30 @@ def ratio(row: Bound, programs: dict[str, str], folder: Path) -> float:
     return slow / quick
 
 
-def main() -> int:
-    found = {name: program_of(sys.argv[1:], name) for name in ("trace_cli", "why", "replay", "depends")}
-    programs = {name: program for name, program in found.items() if program}
-    for name in sorted(found.keys() - programs.keys()):
-        print(f"left out: bounds on the time of {name}, since it isn't the program that is tested, nor was it built beside that")
-    rows = [row for row in bounds() if {row.slow.program, row.quick.program} <= programs.keys()]
-    failed = 0
+def within(rows: list[Bound], programs: dict[str, str]) -> Iterator[Check]:
+    """Each ratio that has a bound; it is told also where it keeps it."""
     with tempfile.TemporaryDirectory() as folder:
         for row in rows:
             try:
                 got = ratio(row, programs, Path(folder))
             except Failed as error:
-                failed += 1
-                print(f"FAILED {row.name}: {error}")
+                yield row.name, str(error)
                 continue
-            if got > row.most:
-                failed += 1
-            print(f"{'FAILED ' if got > row.most else ''}{row.name}: {got:.1f} times, at most {row.most}")
-    print(f"{len(rows) - failed} bounds passed, {failed} failed")
-    return 1 if failed else 0
+            told = f"{got:.1f} times, at most {row.most}"
+            if got <= row.most:
+                print(f"{row.name}: {told}", flush=True)
+            yield row.name, told if got > row.most else None
+
+
+def main() -> int:
+    script = Script()
+    found = {name: program_of(script.words, name) for name in ("trace_cli", "why", "replay", "depends")}
+    programs = {name: program for name, program in found.items() if program}
+    for name in sorted(found.keys() - programs.keys()):
+        left_out(f"bounds on the time of {name}", "it isn't the program that is tested, nor was it built beside that")
+    rows = [row for row in bounds() if {row.slow.program, row.quick.program} <= programs.keys()]
+    script.run(partial(within, rows, programs))
+    return script.ended("bounds")
 
 
 if __name__ == "__main__":

@@ -8,16 +8,16 @@ built beside it. Without it those of this repository are tested. Where one isn't
 minutes hangs. Exits with 1 where an output differs.
 """
 
-import subprocess
 import sys
 from collections.abc import Iterator
+from functools import partial
 from pathlib import Path
 
 from audit_rows import traced
-from memory import beside
-from seq_rows import ROOT, at, done, image, run
+from common import ROOT, Check, Script, beside, called_well, left_out
+from seq_rows import at, done, image, run
 
-Results = Iterator[tuple[str, str | None]]
+Results = Iterator[Check]
 Outcome = tuple[str, str, int]
 # Epochs of 14 loads and a return, as many as there may be: 16 entries each on one core, 1,048,560 in all, of 1,048,576 that a history may have.
 EPOCHS, LOADS = 65_535, 14
@@ -41,13 +41,15 @@ COUNTS_DOWN = "version 2\n" + image("631a0500b7120300032300049382f2ffe39c02fe678
 ROWS, TOLD = range(64, 288, 16), 9_000
 ALL_ROWS = image("".join((row << 20 | 0x2283).to_bytes(4, "little").hex() for row in ROWS) + RETURN, epochs=TOLD, size=512)
 MOST_BYTES = 48_000_000
+# A build of a program, where one has to be
+BUILD = 4 * 3600
 
 
 def program_of(command: list[str], name: str) -> str | None:
     """The built program of this name that belongs to a command of `trace_cli`, or None. Without a command it is built, where it isn't."""
     given = Path(command[0]).resolve() if command else ROOT / "trace_cli"
     if given == ROOT / "trace_cli":
-        return subprocess.run([ROOT / name, "--built"], capture_output=True, text=True, check=True).stdout.strip()
+        return called_well([ROOT / name, "--built"], seconds=BUILD).strip()
     found = beside(command, name)
     return str(found) if found else None
 
@@ -172,21 +174,18 @@ def even_steps(gain: str) -> Results:
 
 
 def main() -> int:
-    program, why, replay, gain = (program_of(sys.argv[1:], name) for name in ("trace_cli", "why", "replay", "gain"))
+    script = Script()
+    program, why, replay, gain = (program_of(script.words, name) for name in ("trace_cli", "why", "replay", "gain"))
     if program is None:
-        print("left out: inputs of true length, since no program of crates/ is tested")
+        left_out("inputs of true length", "no program of crates/ is tested")
         return 0
-    results = [*traces(program, why), *long_code(program), *on_threads(program)]
     for name, found in (("why", why), ("replay", replay), ("gain", gain)):
         if found is None:
-            print(f"left out: inputs of true length to {name}, since it wasn't built beside the program that is tested")
-    results += [*(even_turns(replay) if replay else ()), *(steps(replay) if replay else ()), *(even_steps(gain) if gain else ())]
-    for name, wrong in results:
-        if wrong:
-            print(f"FAILED {name}: {wrong}")
-    failed = sum(wrong is not None for _, wrong in results)
-    print(f"{len(results) - failed} checks passed, {failed} failed")
-    return 1 if failed else 0
+            left_out(f"inputs of true length to {name}", "it wasn't built beside the program that is tested")
+    script.run(partial(traces, program, why), partial(long_code, program), partial(on_threads, program),
+               *([partial(even_turns, replay), partial(steps, replay)] if replay else []),
+               *([partial(even_steps, gain)] if gain else []))
+    return script.ended()
 
 
 if __name__ == "__main__":

@@ -7,16 +7,17 @@ Nothing has to be built. Without Debian's mypy all is left out, and a line says 
 """
 
 import shutil
-import subprocess
 import sys
 import tempfile
 import tomllib
 from collections.abc import Iterator
+from functools import partial
 from pathlib import Path
 
+from common import ROOT, Check, Script, called, left_out
+
 # What a check is of, and what is wrong or None
-Results = Iterator[tuple[str, str | None]]
-ROOT = Path(__file__).resolve().parent.parent
+Results = Iterator[Check]
 # A function without types, and a field that isn't there: each has to be found.
 WRONG = "from loops import read_image\n\n\ndef size(text):\n    return read_image(text).length\n"
 
@@ -29,7 +30,7 @@ class Checker:
 
     def says(self, *words: str) -> str | None:
         """What is wrong with packages or files, or None."""
-        done = subprocess.run([*self.words, *words], cwd=ROOT, capture_output=True, text=True, check=False)
+        done = called([*self.words, *words], cwd=ROOT)
         return (done.stdout + done.stderr).strip() or f"status {done.returncode}" if done.returncode else None
 
 
@@ -59,18 +60,14 @@ def results(checker: Checker) -> Results:
 
 
 def main() -> int:
+    script = Script()
     program = shutil.which("mypy")
     if program is None:
-        print("left out: types, since mypy is not installed")
+        left_out("types", "mypy is not installed")
         return 0
     with tempfile.TemporaryDirectory() as folder:
-        checked = list(results(Checker(program, Path(folder))))
-    for name, wrong in checked:
-        if wrong:
-            print(f"FAILED {name}: {wrong}")
-    failed = sum(wrong is not None for _, wrong in checked)
-    print(f"{len(checked) - failed} checks passed, {failed} failed")
-    return 1 if failed else 0
+        script.run(partial(results, Checker(program, Path(folder))))
+    return script.ended()
 
 
 if __name__ == "__main__":

@@ -10,15 +10,16 @@ check failed.
 """
 
 import re
-import subprocess
 import sys
 import tempfile
 from collections.abc import Iterator
+from functools import partial
 from pathlib import Path
 
+from common import ROOT, Check, Script, beside, called, left_out
+
 # What a check is of, and what is wrong or None
-Results = Iterator[tuple[str, str | None]]
-ROOT = Path(__file__).resolve().parent.parent
+Results = Iterator[Check]
 # Epoch 1 loads the word at 40 before epoch 0 stores it. On two cores the loop takes 8 steps, on one 12; epoch 1 loses
 # 4.
 IMAGE = ("# Two epochs, of which one waits.\n# flag 00000040 4\n# code 00000004 waits.c:7\n# code 00000014 waits.c:4\n"
@@ -142,8 +143,7 @@ def stub(folder: Path | str, name: str, output: str, error: str = "", status: in
 
 def verdict(folder: Path | str, image: Path, *words: str | Path) -> tuple[str, str, int]:
     """What the tool prints, on one line, with the programs of a folder; its error line and its status."""
-    done = subprocess.run([ROOT / "tools" / "verdict", image, *words], capture_output=True, text=True,
-                          env={"PATH": "/usr/bin:/bin", "LOOPS_PROGRAMS": str(folder)}, check=False)
+    done = called([ROOT / "tools" / "verdict", image, *words], env={"PATH": "/usr/bin:/bin", "LOOPS_PROGRAMS": str(folder)})
     return " ".join(done.stdout.split()), done.stderr, done.returncode
 
 
@@ -217,8 +217,7 @@ def line_of(text: str, words: str) -> int:
 
 def compiled(folder: Path | str, source: Path, compiler: str, *words: str) -> Path | None:
     """The image of a source with lines, or None where something isn't installed."""
-    done = subprocess.run([ROOT / "tools" / "image-of", "--compiler", compiler, "-g", *words, source],
-                          capture_output=True, text=True, check=False)
+    done = called([ROOT / "tools" / "image-of", "--compiler", compiler, "-g", *words, source])
     if done.returncode:
         return None
     path = Path(folder, f"{source.stem}.image")
@@ -234,7 +233,7 @@ def hidden(folder: Path | str) -> Results:
             source = ROOT / "tests" / "verdicts" / f"{name}.c"
             image, text = compiled(folder, source, compiler), source.read_text()
             if image is None:
-                print(f"left out: verdicts on tests/verdicts by {compiler}, since tools/image-of lacks something")
+                left_out(f"verdicts on tests/verdicts by {compiler}", "tools/image-of lacks something")
                 break
             got = verdict(folder, image)
             first = f"hits the load at {name}.c:{line_of(text, load)} at {place}"
@@ -257,7 +256,7 @@ def chunks(folder: Path | str) -> Results:
         words = ["--epochs", "64", "--stack", "64"]
         image = compiled(folder, source, compiler, *words)
         if image is None:
-            print(f"left out: the verdict on neighbours by {compiler}, since tools/image-of lacks something")
+            left_out(f"the verdict on neighbours by {compiler}", "tools/image-of lacks something")
             continue
         proposed = ("were lost where epochs use neighbours in out, 4 bytes apart, that share lines of 16 bytes: it "
                     "usually helps to give an epoch 4 iterations, as image-of --chunk 4 does")
@@ -276,10 +275,9 @@ def chunk_of_a_program(folder: Path | str) -> Results:
     source.write_text(NEIGHBOURS + "int main(void)\n{\n    for (unsigned e = 0; e < 64; e++)\n        body(e);\n"
                                    "    return 0;\n}\n")
     words = ["--loop", f"program.c:{line_of(source.read_text(), 'for (unsigned e = 0')}", str(source)]
-    done = subprocess.run([ROOT / "tools" / "loops-of", *words], capture_output=True, text=True,
-                          env={"PATH": "/usr/bin:/bin", "LOOPS_PROGRAMS": str(folder)}, check=False)
+    done = called([ROOT / "tools" / "loops-of", *words], env={"PATH": "/usr/bin:/bin", "LOOPS_PROGRAMS": str(folder)})
     if done.returncode:
-        print("left out: the verdict on neighbours in a program, since tools/loops-of lacks something")
+        left_out("the verdict on neighbours in a program", "tools/loops-of lacks something")
         return
     image.write_text(done.stdout)
     got = verdict(folder, image, "--", *words)
@@ -291,22 +289,15 @@ def chunk_of_a_program(folder: Path | str) -> Results:
            else f"got {got}")
 
 
-def beside(command: list[str]) -> dict[str, Path]:
-    """The programs that were built beside a command of `trace_cli`."""
-    given = Path(command[0]).resolve()
-    top = ROOT if given == ROOT / "trace_cli" else given.parents[2] if len(given.parents) > 2 else given.parent
-    found = {name: ROOT / name if top == ROOT else top / name / "out" / name for name in ("why", "replay", "gain", "depends")}
-    return {name: path for name, path in found.items() if path.is_file()}
-
-
 def examples(folder: Path | str, command: list[str]) -> Results:
     """The verdicts on examples, by the programs."""
-    programs = beside(command)
+    found = {name: beside(command, name) for name in ("why", "replay", "gain", "depends")}
+    programs = {name: path for name, path in found.items() if path and path.is_file()}
     if not {"why", "replay", "gain"} <= set(programs):
-        print("left out: the examples, since why, replay or gain wasn't built beside the program that is tested")
+        left_out("the examples", "why, replay or gain wasn't built beside the program that is tested")
         return
     if "depends" not in programs:
-        print("left out: what verdicts tell of depends, since it wasn't built beside the program that is tested")
+        left_out("what verdicts tell of depends", "it wasn't built beside the program that is tested")
     for name, path in {**programs, "trace_cli": Path(command[0]).resolve()}.items():
         Path(folder, name).unlink(missing_ok=True)
         Path(folder, name).symlink_to(path)
@@ -327,9 +318,9 @@ def examples(folder: Path | str, command: list[str]) -> Results:
     yield from chunks(folder)
     yield from chunk_of_a_program(folder)
     source, image = ROOT / "examples" / "c" / "own_counters.c", Path(folder, "own_counters.image")
-    made = subprocess.run([ROOT / "tools" / "image-of", "-g", source], capture_output=True, text=True, check=False)
+    made = called([ROOT / "tools" / "image-of", "-g", source])
     if made.returncode:
-        print("left out: lines of the source, since tools/image-of lacks something")
+        left_out("lines of the source", "tools/image-of lacks something")
         return
     image.write_text(made.stdout)
     stores, loads = (next(number for number, text in enumerate(source.read_text().splitlines(), 1)
@@ -341,15 +332,10 @@ def examples(folder: Path | str, command: list[str]) -> Results:
 
 
 def main() -> int:
-    command = sys.argv[1:] or [str(ROOT / "trace_cli"), "seq"]
+    script = Script()
     with tempfile.TemporaryDirectory() as folder:
-        results = [*by_hand(folder), *flows(folder), *examples(folder, command)]
-    for name, wrong in results:
-        if wrong:
-            print(f"FAILED {name}: {wrong}")
-    failed = sum(wrong is not None for _, wrong in results)
-    print(f"{len(results) - failed} checks passed, {failed} failed")
-    return 1 if failed else 0
+        script.run(partial(by_hand, folder), partial(flows, folder), partial(examples, folder, script.command()))
+    return script.ended()
 
 
 if __name__ == "__main__":

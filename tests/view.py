@@ -12,14 +12,15 @@ import importlib.util
 import os
 import re
 import shutil
-import subprocess
 import sys
 import tempfile
 from collections.abc import Callable, Iterator
+from functools import partial
 from pathlib import Path
 from typing import Any
 
-ROOT = Path(__file__).resolve().parent.parent
+from common import ROOT, Script, beside, called_bytes, left_out
+
 DEBIANS = "/usr/bin/python3"
 # So long may a script take in the browser, and so many keys are pressed by one.
 SECONDS, AT_ONCE = 100, 20
@@ -474,8 +475,7 @@ class Views:
 
     def view(self, text: str, *words: str) -> tuple[str, str, int]:
         """Standard output, the error stream and the status."""
-        done = subprocess.run([sys.executable, ROOT / "tools" / "view", *words], input=text.encode("latin-1"), capture_output=True,
-                              env={**os.environ, "LOOPS_PROGRAMS": str(self.programs.folder)}, check=False)
+        done = called_bytes([sys.executable, ROOT / "tools" / "view", *words], text.encode("latin-1"), env={**os.environ, "LOOPS_PROGRAMS": str(self.programs.folder)})
         return done.stdout.decode("utf-8"), done.stderr.decode("latin-1"), done.returncode
 
     def page(self, text: str, *words: str, link: str = "") -> tuple[Page, str]:
@@ -555,25 +555,18 @@ def windows(views: Views) -> Iterator[Result]:
         yield f"refused: {name}", None if got == answer else f"{got}"
 
 
-def beside(command: list[str]) -> dict[str, Path]:
-    """The programs that were built beside a command of `trace_cli`."""
-    given = Path(command[0]).resolve()
-    top = ROOT if given == ROOT / "trace_cli" else given.parents[2] if len(given.parents) > 2 else given.parent
-    found_there = {name: ROOT / name if top == ROOT else top / name / "out" / name for name in ("why", "replay")}
-    return {name: path for name, path in found_there.items() if path.is_file()}
-
-
 def in_browser(folder: str, command: list[str]) -> Iterator[Result]:
     """The checks that need programs and a browser."""
-    programs = beside(command)
+    found_there = {name: beside(command, name) for name in ("why", "replay")}
+    programs = {name: path for name, path in found_there.items() if path and path.is_file()}
     if len(programs) < 2:
-        print("left out: pages, since why and replay weren't built beside the program that is tested")
+        left_out("pages", "why and replay weren't built beside the program that is tested")
         return
     for name, path in programs.items():
         Path(folder, name).symlink_to(path)
     browser = driver()
     if browser is None:
-        print("left out: pages, since chromium, chromium-driver and python3-selenium aren't all installed")
+        left_out("pages", "chromium, chromium-driver and python3-selenium aren't all installed")
         return
     try:
         views = Views(browser, folder, Programs(Path(folder)))
@@ -585,15 +578,10 @@ def in_browser(folder: str, command: list[str]) -> Iterator[Result]:
 
 def main() -> int:
     find_selenium()
-    command = sys.argv[1:] or [str(ROOT / "trace_cli"), "seq"]
+    script = Script()
     with tempfile.TemporaryDirectory() as folder:
-        results = [*disassembly(), *forms(), *in_browser(folder, command)]
-    for name, wrong in results:
-        if wrong:
-            print(f"FAILED {name}: {wrong}")
-    failed = sum(wrong is not None for _, wrong in results)
-    print(f"{len(results) - failed} checks passed, {failed} failed")
-    return 1 if failed else 0
+        script.run(disassembly, forms, partial(in_browser, folder, script.command()))
+    return script.ended()
 
 
 if __name__ == "__main__":

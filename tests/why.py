@@ -10,14 +10,15 @@ of an attempt that was not violated, and for each attempt that goes on; the sums
 with 1 where a check failed.
 """
 
-import re
-import subprocess
 import sys
+from collections.abc import Iterator, Sequence
+from functools import partial
 from pathlib import Path
+from typing import Any
 
-from seq_rows import MOST_SECONDS
+from common import ROOT, Check, Script, beside, called, differs, left_out
+from seq_rows import MOST_SECONDS, Outcome
 
-ROOT = Path(__file__).resolve().parent.parent
 LOOPS = ["byte_search", "counter", "first_match", "hash_insert", "histogram", "list_walk", "maximum", "moving_pointer", "own_counters", "padded_counters",
          "recurrence", "shift_left", "wait_for_flag", "wide_lines"]
 CORES = [2, 4, 8]
@@ -34,25 +35,19 @@ REFUSED = [
 ]
 
 
-def why_beside(command):
-    """The program `why` that belongs to a command of `trace_cli`, or None."""
-    program = Path(command[0]).resolve()
-    beside = ROOT / "why" if program == ROOT / "trace_cli" else program.parents[2] / "why" / "out" / "why" if len(program.parents) > 2 else None
-    return beside if beside is not None and beside.is_file() else None
-
-
-def outcome(command, text):
-    done = subprocess.run([str(word) for word in command], input=text, capture_output=True, text=True, check=False, timeout=MOST_SECONDS)
+def outcome(command: Sequence[str | Path], text: str) -> Outcome:
+    done = called(command, text, MOST_SECONDS)
     return done.stdout, done.stderr, done.returncode
 
 
-def value_of(words, name):
+def value_of(words: list[str], name: str) -> int:
     return int(words[words.index(name) + 1])
 
 
-def unended(entries):
+def unended(entries: list[str]) -> tuple[list[str], list[str]]:
     """The cancellations of a trace, by their places, and the attempts that go on after it: each as `epoch E try T core C`. A violated attempt is none of them."""
-    attempts, cancelled = {}, []
+    attempts: dict[str, list[Any]] = {}
+    cancelled: list[str] = []
     for place, (core, what, *rest) in enumerate(entry.split() for entry in entries):
         if what == "start":
             attempts[core] = [rest[0], 1, True]
@@ -70,10 +65,10 @@ def unended(entries):
     return cancelled, [f"epoch {epoch} try {number} core {core}" for core, (epoch, number, goes_on) in sorted(attempts.items(), key=lambda one: int(one[0])) if goes_on]
 
 
-def pair_lines(lines):
+def pair_lines(lines: list[list[str]]) -> list[str]:
     """The lines of pairs that the lines of violations give, heaviest first."""
     marked = {word: {int(words[1]) for words in lines if words[0] == word} for word in ("vain", "later")}
-    pairs = {}
+    pairs: dict[tuple[str, str], list[dict[str, Any]]] = {}
     for words in (words for words in lines if words[0] == "hurt"):
         names = ("asked", "held") if words[2] == "buffer" else ("store", "load")
         (store, stored), (load, loaded) = [words[len(words) - words[::-1].index(name):][:2] for name in names]
@@ -96,7 +91,7 @@ def pair_lines(lines):
     return [text for *_, text in sorted(told)]
 
 
-def differences(report, trace):
+def differences(report: str, trace: str) -> str | None:
     """What is wrong with the report on a trace, or None."""
     entries = trace.splitlines()[1:]
     places = [place for place, entry in enumerate(entries) if entry.split()[1] == "hurt"]
@@ -129,9 +124,10 @@ def differences(report, trace):
     return None
 
 
-def runs_wrong(report):
+def runs_wrong(report: str) -> str | None:
     """What is wrong with the lines of further runs, or None: each stands below its violation's, is of a kind that a run can have, and no byte is in two runs."""
-    place, taken = None, set()
+    place: str | None = None
+    taken: set[int] = set()
     for words in (line.split() for line in report.splitlines()):
         if words[0] == "hurt":
             place, taken = words[1], set()
@@ -145,39 +141,33 @@ def runs_wrong(report):
     return None
 
 
-def real(command, why):
-    """(what it shows, what is wrong or None) of each run."""
+def real(command: list[str], why: Path) -> Iterator[Check]:
+    """Each run."""
     for name in LOOPS:
         image = (ROOT / "examples" / f"{name}.image").read_text()
         for cores in CORES:
-            printed, _, _ = outcome([*command[:-1], "run", "--cores", cores, "--trace"], image)
-            trace = printed[re.search(r"^trace \d+\n", printed, re.MULTILINE).start():]
+            printed, _, _ = outcome([*command[:-1], "run", "--cores", str(cores), "--trace"], image)
+            trace = printed[f"\n{printed}".index("\ntrace "):]
             report, errors, status = outcome([why], image + trace)
             yield f"{name} on {cores} cores", f"{errors!r}, status {status}" if (errors, status) != ("", 0) else differences(report, trace) or runs_wrong(report)
 
 
-def refused(why):
+def refused(why: Path) -> Iterator[Check]:
     for name, text, output, errors, status in REFUSED:
-        got = outcome([why], text)
-        yield name, None if got == (output, errors, status) else f"got {got}"
+        yield name, differs(outcome([why], text), (output, errors, status))
     for name, word in ("a word", "seq"), ("a word that is no UTF-8", "\udcff"):
-        got = outcome([why, word], WAITS)
-        yield name, None if got == ("", "usage\n", 2) else f"got {got}"
+        yield name, differs(outcome([why, word], WAITS), ("", "usage\n", 2))
 
 
-def main():
-    command = sys.argv[1:] or [str(ROOT / "trace_cli"), "seq"]
-    why = why_beside(command)
-    if why is None:
-        print("left out: why, since no program of that name was built beside the one that is tested")
+def main() -> int:
+    script = Script()
+    command = script.command()
+    why = beside(command, "why")
+    if why is None or not why.is_file():
+        left_out("why", "no program of that name was built beside the one that is tested")
         return 0
-    results = [*real(command, why), *refused(why)]
-    for name, wrong in results:
-        if wrong:
-            print(f"FAILED {name}: {wrong}")
-    failed = sum(wrong is not None for _, wrong in results)
-    print(f"{len(results)} reports, {failed} failed")
-    return 1 if failed else 0
+    script.run(partial(real, command, why), partial(refused, why))
+    return script.ended("reports")
 
 
 if __name__ == "__main__":

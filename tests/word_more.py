@@ -6,7 +6,6 @@ writes it, two places in all, and checks the whole crate, over what the check of
 whether that is proved, and the seconds of one processor that the check took. The libraries below are those that `rt ci` or `rt check` left.
 It isn't part of tests/run, since it takes some minutes. Exits with 1 where a line is not proved.
 """
-import os
 import resource
 import shutil
 import subprocess

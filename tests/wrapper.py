@@ -10,14 +10,14 @@ were called, and make a program that prints its words and its standard input. Ex
 import os
 import re
 import shutil
-import subprocess
 import sys
 import tempfile
 import time
-from collections.abc import Callable
+from collections.abc import Callable, Iterator
 from pathlib import Path
 
-TOP = Path(__file__).resolve().parent.parent
+from common import ROOT, Check, Script, called, left_out
+
 CRATES = """\
 # the crates
 low:
@@ -78,8 +78,8 @@ class Tree:
         self.write("crates/trace_cli/src/main.rt", "program")
         self.write("crates/bench/src/main.rt", "bench")
         for name in ("trace_cli", "tools/build", "tools/crates.py", "tools/help/trace_cli"):
-            self.write(name, (TOP / name).read_text()).chmod(0o755)
-        shutil.copytree(TOP / "tools" / "loops", self.top / "tools" / "loops", ignore=shutil.ignore_patterns("__pycache__"))
+            self.write(name, (ROOT / name).read_text()).chmod(0o755)
+        shutil.copytree(ROOT / "tools" / "loops", self.top / "tools" / "loops", ignore=shutil.ignore_patterns("__pycache__"))
         for path, text in ((self.bin / "rt", RT), (self.kit / "bin/rattle", CHECKER), (self.kit / "bin/rattle-link", LINKER)):
             path.parent.mkdir(parents=True, exist_ok=True)
             path.write_text(text)
@@ -97,8 +97,7 @@ class Tree:
         self.calls.write_text("")
         environment = {"PATH": f"{path or self.bin}:/usr/bin:/bin", "CALLS": str(self.calls), "REFUSED": "", "NOTHING": "",
                        "SLOW": "", "KIT": str(self.kit), **environment}
-        done = subprocess.run([str(wrapper or self.top / "trace_cli"), *words], input="given\n", text=True,
-                              capture_output=True, env=environment, check=False)
+        done = called([str(wrapper or self.top / "trace_cli"), *words], "given\n", env=environment)
         return done.stdout, done.stderr.splitlines(), done.returncode, sorted(self.calls.read_text().splitlines())
 
     def is_run(self, calls: list[str], wrapper: Path | None = None) -> str | None:
@@ -109,10 +108,10 @@ class Tree:
         return None
 
 
-Check = Callable[[Tree], str | None]
+Trial = Callable[[Tree], str | None]
 
 
-def rows() -> list[tuple[str, Check]]:
+def rows() -> list[tuple[str, Trial]]:
     """The checks: each takes a new tree and answers what is wrong, or None."""
     def first_run(tree: Tree) -> str | None:
         output, errors, status, calls = tree.run()
@@ -173,11 +172,11 @@ def rows() -> list[tuple[str, Check]]:
         script = "import sys; from loops.programs import TREE, call; print(call(TREE / 'trace_cli', ['seq', sys.argv[1]], 'given\\n', (3,)), end='')"
         tree.calls.write_text("")
         env = {"PATH": f"{tree.bin}:/usr/bin:/bin", "CALLS": str(tree.calls), "KIT": str(tree.kit), "PYTHONPATH": str(tree.top / "tools"), "REFUSED": "", "NOTHING": "", "SLOW": ""}
-        alone = subprocess.run([sys.executable, "-c", script, "one"], env=env, capture_output=True, text=True, check=False)
+        alone = called([sys.executable, "-c", script, "one"], env=env)
         if "trace_cli isn't built for these sources" not in alone.stderr or tree.calls.read_text():
             return f"unasked: got {alone}, {tree.calls.read_text()}"
         script = f"from loops.programs import allow_builds; allow_builds(); {script}"
-        done = [subprocess.run([sys.executable, "-c", script, word], env=env, capture_output=True, text=True, check=False) for word in ("one", "two")]
+        done = [called([sys.executable, "-c", script, word], env=env) for word in ("one", "two")]
         right = [one.stdout for one in done] == [f"words seq {word}\ngiven\n" for word in ("one", "two")] and done[1].stderr == ""
         told = done[0].stderr.splitlines()
         good = right and len(told) == 2 and "not built for these sources yet" in told[0] and "proved and built in" in told[1]
@@ -187,7 +186,7 @@ def rows() -> list[tuple[str, Check]]:
         (tree.top / "crates/low/out/incremental").mkdir(parents=True)
         return tree.is_run(BUILD)
 
-    def after(change: Callable[[Tree], object], calls: list[str]) -> Check:
+    def after(change: Callable[[Tree], object], calls: list[str]) -> Trial:
         def check(tree: Tree) -> str | None:
             tree.is_run(BUILD)
             change(tree)
@@ -229,7 +228,7 @@ def rows() -> list[tuple[str, Check]]:
 
     def from_its_folder(tree: Tree) -> str | None:
         tree.is_run(BUILD)
-        done = subprocess.run(["sh", "trace_cli", "seq"], cwd=tree.top, input="", text=True, capture_output=True, check=False)
+        done = called(["sh", "trace_cli", "seq"], "", cwd=tree.top)
         return None if (done.stdout, done.stderr, done.returncode) == ("words seq\n", "", 3) else f"got {done}"
 
     def refused(tree: Tree) -> str | None:
@@ -245,7 +244,7 @@ def rows() -> list[tuple[str, Check]]:
 
     def without_rt(tree: Tree) -> str | None:
         if shutil.which("rt", path="/usr/bin:/bin"):
-            print("left out: no rt, since one is installed beside sh")
+            left_out("no rt", "one is installed beside sh")
             return None
         output, errors, status, _ = tree.run(path=tree.top)
         wanted = ["trace_cli: the command rt of the Rattle kit is not installed, so the program can't be built"]
@@ -302,17 +301,17 @@ def rows() -> list[tuple[str, Check]]:
     ]
 
 
-def main() -> int:
-    failed = 0
-    checks = rows()
-    for name, check in checks:
+def trials() -> Iterator[Check]:
+    """Each in a tree of its own."""
+    for name, trial in rows():
         with tempfile.TemporaryDirectory() as folder:
-            wrong = check(Tree(folder))
-        if wrong:
-            failed += 1
-            print(f"FAILED {name}\n  {wrong}")
-    print(f"{len(checks) - failed} checks passed, {failed} failed")
-    return 1 if failed else 0
+            yield name, trial(Tree(folder))
+
+
+def main() -> int:
+    script = Script()
+    script.run(trials)
+    return script.ended()
 
 
 if __name__ == "__main__":

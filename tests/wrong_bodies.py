@@ -12,10 +12,13 @@ import json
 import os
 import re
 import shutil
-import subprocess
 import sys
 import tempfile
+from collections.abc import Iterator
+from functools import partial
 from pathlib import Path
+
+from common import Check, Script, called, called_well, differs, left_out
 
 TOP = Path(__file__).resolve().parent.parent
 sys.path.insert(0, str(TOP / "tests/wrong-bodies"))
@@ -317,7 +320,7 @@ def edit_text(pairs):
 
 def repository(top):
     """Lays out a repository with the crate `steps`, its edits and the tool."""
-    subprocess.run(["git", "init", "--quiet", str(top)], check=True)
+    called_well(["git", "init", "--quiet", str(top)])
     write(top / "crates.txt", "steps:\nlow:\nover: low\n")
     write(top / "crates/low/src/lib.rt", LOW)
     write(top / "crates/over/src/lib.rt", OVER)
@@ -341,7 +344,7 @@ def repository(top):
 def kit_of_its_own(folder):
     """A folder with links to all that the kit has, beside which nothing is kept yet, and an `rt` that names it: the path on which it stands."""
     rt = shutil.which("rt")
-    page = Path(subprocess.run(["rt", "doc"], capture_output=True, text=True, check=True).stdout.strip())
+    page = Path(called_well(["rt", "doc"]).strip())
     (folder / "kit").mkdir()
     for it in page.parent.iterdir():
         (folder / "kit" / it.name).symlink_to(it)
@@ -351,7 +354,7 @@ def kit_of_its_own(folder):
 
 def told(top, path, *words):
     """What the tool prints of each edit, its lines and its status."""
-    ran = subprocess.run([top / "tests/wrong-bodies/run", *words], capture_output=True, text=True, check=False, env={**os.environ, "PATH": path})
+    ran = called([top / "tests/wrong-bodies/run", *words], env={**os.environ, "PATH": path})
     return dict(re.findall(r"(?m)^\w+/(\w+): (.*)$", ran.stdout)), ran.stdout.splitlines() or [ran.stderr], ran.returncode
 
 
@@ -412,29 +415,38 @@ def left(top, path, *words):
     return told(top, path, "--left", *words, "over")[1][-1]
 
 
-def main():
-    if not shutil.which("rt"):
-        print("left out: wrong bodies of a small crate, since the command rt of the Rattle kit isn't installed")
-        return 0
-    with tempfile.TemporaryDirectory() as name:
-        folder, top = Path(name), Path(name, "repository")
-        repository(top)
-        path = kit_of_its_own(folder)
-        said, lines, status = told(top, path, "steps")
-        noted = told(top, path, "--left", "steps")[1][-1]
-        kept = [*keeping(top, folder, path)]
+def of_a_small_crate(folder: Path) -> Iterator[Check]:
+    """What is told of each edit of a small crate, and what is kept."""
+    top = folder / "repository"
+    repository(top)
+    path = kit_of_its_own(folder)
+    said, lines, status = told(top, path, "steps")
+    noted = told(top, path, "--left", "steps")[1][-1]
     told_of = {name: wanted for name, (_, wanted) in EDITS.items()} | {KNOWN[-1]: "FAILED, NO EDIT: misfits.txt has it"}
     counts = [sum(wanted.startswith(word) for wanted in told_of.values()) for word in ("refused", "FAILED", "misfit")]
-    checks = [(name, said.get(name, "nothing"), wanted) for name, wanted in told_of.items()]
-    checks += [("the last line", lines[-1], f"{counts[0]} refused, {counts[1]} failed"), ("the third line from the end", lines[-3:][0], f"{counts[2]} misfits")]
     all_kept = sum(any(word in wanted for word in ("refused: ", "misfit: ")) for wanted in told_of.values())
-    checks += [("the status", str(status), "1"), ("what is kept of these", noted.partition(", ")[2], f"{all_kept} kept"), *kept]
-    checks += [(f"{one} and {other}", str(is_another(one, other) or is_another(other, one)), str(wanted)) for one, other, wanted in TERMS]
-    wrong = [it for it in checks if not it[1].startswith(it[2])]
-    for name, got, wanted in wrong:
-        print(f"FAILED {name}: got {got!r}, wanted {wanted!r}")
-    print(f"{len(checks) - len(wrong)} checks passed, {len(wrong)} failed")
-    return 1 if wrong else 0
+    for name, got, wanted in [
+            *((name, said.get(name, "nothing"), wanted) for name, wanted in told_of.items()),
+            ("the last line", lines[-1], f"{counts[0]} refused, {counts[1]} failed"),
+            ("the third line from the end", lines[-3:][0], f"{counts[2]} misfits"), ("the status", str(status), "1"),
+            ("what is kept of these", noted.partition(", ")[2], f"{all_kept} kept"), *keeping(top, folder, path)]:
+        yield name, None if got.startswith(wanted) else f"got {got!r}, wanted {wanted!r}"
+
+
+def terms() -> Iterator[Check]:
+    """Which terms are told to be others."""
+    for one, other, wanted in TERMS:
+        yield f"{one} and {other}", differs(is_another(one, other) or is_another(other, one), wanted)
+
+
+def main() -> int:
+    script = Script()
+    if not shutil.which("rt"):
+        left_out("wrong bodies of a small crate", "the command rt of the Rattle kit isn't installed")
+        return 0
+    with tempfile.TemporaryDirectory() as name:
+        script.run(partial(of_a_small_crate, Path(name)), terms)
+    return script.ended()
 
 
 if __name__ == "__main__":

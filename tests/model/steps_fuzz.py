@@ -197,7 +197,7 @@ def main():
     given = arguments()
     program = program_of(given.command or [str(ROOT / "trace_cli"), "seq"])
     if not program or not program.is_file():
-        print("left out: the steps of replay, since no such program was built beside the one that is tested")
+        left_out("the steps of replay", "no such program was built beside the one that is tested")
         return 0
     begun, turns = time.monotonic(), 0
     with ThreadPoolExecutor(given.jobs) as pool:
