@@ -18,11 +18,12 @@ from collections.abc import Iterator
 from functools import partial
 from pathlib import Path
 
-from common import ROOT, Check, Script, beside, called, left_out
+from common import ROOT, Check, Script, beside, called, differs, left_out
 
 sys.path.insert(0, str(ROOT / "tools"))
 
 from loops import Programs, Stopped, pieces, read_conflicts, read_image, with_trace  # noqa: E402
+from loops.changes import Copy, Hand, OfAttempt, OfBuffer, OfHart, OfKept, OfMemory, OfWay, Running  # noqa: E402
 from loops.documents import FORMS, SCHEMA, content_of, document, form_of, to_json  # noqa: E402
 from loops.programs import call  # noqa: E402
 from loops.runs import read_output  # noqa: E402
@@ -46,6 +47,12 @@ STEPS = ("turn 0 0 go\nentry 0 start 0\nattempt 0 0 homefree\nhart 0 00000000 0\
          "entry 0 store 00000040 4 00000001\nentry 0 commit\nattempt 0 -\nhart 0 -\norb 0\nline 0 0 0 00000040 M - 00000000 01000000\n"
          "kept 0 00000040 0000 000f 01\nat 00000040 01000000\nend\nend done 1\nat 00000040 01000000000000000000000000000000\n"
          "counts 0 1 0 1\ntrace 2\n0 start 0\n0 store 00000040 4 00000001\n0 commit\n")
+# What these turns change.
+CHANGES = [
+    [OfAttempt(0, Running(0, "homefree")), OfHart(0, Hand(0, 0))], [],
+    [OfAttempt(0, None), OfHart(0, None), OfBuffer(0, ()), OfWay(0, 0, 0, Copy(0x40, "M", False, 0, b"\1\0\0\0")),
+     OfKept(0, 0x40, 0, 15, b"\1"), OfMemory(0x40, b"\1\0\0\0")],
+]
 DEPENDS = ("dep store 00000034 load 00000014 times 12 distance 4 4 at 00000040 13 first 0 4 stored 25 of 27 loaded 5 of 27\n"
            "from caches 2 epoch 1 load 00000014 by epoch 0 store 00000034\nturns 0 1 1 0 0\nnever plain 4\n")
 # (form, a text of that form)
@@ -80,7 +87,10 @@ TEXTS = [
 REFUSED = [
     ("image", "size 64\nspeed 3\n"), ("image", "size x\n"), ("traced", "size 64\n"), ("traced", "size 64\ntrace 2\n0 begin 0\n"), ("output", "end soon 3\n"),
     ("conflicts", "hurt 4 true epoch 1\n"), ("conflicts", "vain 4 hurt\n"), ("conflicts", HURT.replace("vain 4", "vain 5")), ("gains", "store caches cores 2 fast\n"),
-    ("steps", STEPS.partition("end\n")[0]), ("steps", STEPS.replace("hart 0 -", "heart 0 -")), ("steps", STEPS.replace("end done 1", "end soon 1")),
+    ("steps", STEPS.partition("end\n")[0]), ("steps", STEPS.replace("hart 0 -", "heart 0 -")),
+    *(("steps", STEPS.replace(right, wrong)) for right, wrong in (
+        ("hart 0 00000000 0", "hart 0 0 0"), ("attempt 0 0 homefree", "attempt 0 0"), ("orb 0\n", "orb 0 40\n"), ("M - 00000000", "M 00000000"),
+        ("0000 000f", "000f"), ("at 00000040 01000000\nend", "at 00000040 0\nend"))), ("steps", STEPS.replace("end done 1", "end soon 1")),
     ("dependences", DEPENDS.replace("turns 0 1 1 0 0\n", "")), ("dependences", DEPENDS.replace("distance 4", "distances 4")), ("dependences", "never plain\n"),
     ("dependences", "never plain 4\n" + DEPENDS),
 ]
@@ -198,8 +208,9 @@ def by_hand():
     facts = (violation.cause_what, violation.victims.pc, violation.also[0].kind, violation.later.entry, violation.vain, violation.moot)
     yield "what a violation says", None if facts == ("commit", 4, "silent", 7, True, True) else f"got {facts}"
     steps = FORMS["steps"][1](STEPS)
-    facts = (len(steps.steps), steps.steps[1].answer, steps.steps[2].entries[1].place, steps.steps[2].changes["orb 0"], steps.output.counts.stores)
-    yield "what steps say", None if facts == (3, "again NoWay", 2, "", 1) else f"got {facts}"
+    facts = (len(steps.steps), steps.steps[1].answer, steps.steps[2].entries[1].place, steps.steps[1].cause, steps.steps[2].end, steps.output.counts.stores)
+    yield "what steps say", differs(facts, (3, "again NoWay", 2, "NoWay", "done", 1))
+    yield "what turns change", differs([step.changes for step in steps.steps], CHANGES)
     told = FORMS["dependences"][1](DEPENDS)
     facts = (told.pairs[0].at.length, told.pairs[0].stored.of, told.over("caches").turns, told.over("caches").causer, told.over("plain").verdict)
     yield "what dependences say", None if facts == (13, 27, [0, 1, 1, 0, 0], 0x34, "never") else f"got {facts}"

@@ -23,6 +23,7 @@ sys.path.insert(0, str(ROOT / "tools"))
 sys.dont_write_bytecode = True
 
 from loops import Programs, Stopped, Unreadable, iter_conflicts, iter_entries, iter_steps  # noqa: E402
+from loops.changes import Hand, OfHart  # noqa: E402
 
 Checks = Iterator[tuple[str, str | None]]
 # A trace of 33 MB may cost 500 MB, so one of 3 MB this; half of it is Python's own.
@@ -110,7 +111,7 @@ def iterators() -> Checks:
     yield "entries without end", None if [(one.place, one.epoch) for one in first] == [(0, 0), (1, 1), (2, 2)] else f"{first}"
     turns = (line for turn in itertools.count() for line in (f"turn {turn} 0 go", f"entry 0 start {turn}", f"hart 0 {turn:08x} 0"))
     steps = [(one.turn, one.entries[0].place, one.changes) for one in itertools.islice(iter_steps(turns), 3)]
-    yield "turns without end", None if steps == [(turn, turn, {"hart 0": f"{turn:08x} 0"}) for turn in range(3)] else f"{steps}"
+    yield "turns without end", None if steps == [(turn, turn, [OfHart(0, Hand(turn, 0))]) for turn in range(3)] else f"{steps}"
     lines = iter(["turn 0 0 over done 1", "end", "end done 1"])
     steps = [one.answer for one in iter_steps(lines)]
     yield "what is below turns is left", None if (steps, list(lines)) == (["over done 1"], ["end done 1"]) else f"{steps}"

@@ -222,6 +222,11 @@ def of_attempt(text: str, got: dict[str, Any]) -> bool:
     return f": epoch {epoch}, attempt " in got["text"] and got["text"].endswith(f", {mode}")
 
 
+def printed(steps: Any) -> list[dict[str, str]]:
+    """After each turn what stands at each place, as `replay steps` prints it."""
+    return [{place: change.said for place, change in state.items()} for state in steps.states()]
+
+
 OF_PLACE = {"line": of_line, "orb": of_buffer, "kept": of_kept, "hart": of_hart, "attempt": of_attempt, "at": lambda text, got: got["bytes"] == text}
 
 
@@ -238,7 +243,7 @@ def differences(shown: dict[str, Any], state: dict[str, str], step: Any, before:
     places, waits = shown["places"], step.answer.split(" ")[1] if step.answer.startswith("again ") else ""
     for place, text in state.items():
         kind, got = place.split(" ")[0], places.get(place)
-        is_changed, is_gone = place in step.changes, kind == "kept" and int("".join(text.split(" ")[:2]), 16) == 0
+        is_changed, is_gone = place in {it.place for it in step.changes}, kind == "kept" and int("".join(text.split(" ")[:2]), 16) == 0
         if got is None and is_gone and not is_changed:
             continue
         if got is None or not OF_PLACE[kind](text, got):
@@ -254,7 +259,7 @@ def differences(shown: dict[str, Any], state: dict[str, str], step: Any, before:
 
 def whole_run(page: Page, steps: Any) -> Iterator[Result]:
     """(what it shows, what is wrong or None) of all turns, by the keys."""
-    states, count = [dict(state) for state in steps.states()], len(steps.steps)
+    states, count = printed(steps), len(steps.steps)
     for number in range(3):
         wrong = list(differences(page.shown(), states[number], steps.steps[number], states[number - 1] if number else {}))
         yield f"turn {number}", wrong[:3] or None
@@ -535,7 +540,7 @@ def windows(views: Views) -> Iterator[Result]:
     """Parts of runs, and what is refused."""
     text = views.evenly(example("histogram"), "caches", 2)
     steps = views.programs.steps(text, "caches", 2)
-    states = [dict(state) for state in steps.states()]
+    states = printed(steps)
     page, _ = views.page(text, "--cores", "2", "--from", "20", "--to", "39", link="#turn=25")
     told = [page.turn(), page.text("cut")]
     yield "a window", None if told == [25, f"Turns 20 to 39 of {len(states)} are on this page: --from and --to of tools/view choose others."] else f"{told}"

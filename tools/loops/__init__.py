@@ -9,6 +9,7 @@
     print(conflicts.total.lost, [pair.kinds.false for pair in conflicts.pairs])
 """
 
+from .changes import Change
 from .conflicts import Access, Conflicts, Violation, iter_conflicts, read_conflicts
 from .dependences import Dependences, Joined, OverStore, When, read_dependences
 from .images import Image, Unreadable, read_image
@@ -17,6 +18,6 @@ from .runs import Counts, Entry, Output, Report, Survey, Trace, Traced, Verdict,
 from .steps import Step, Steps, iter_steps, read_steps
 
 __all__ = [
-    "Access", "Conflicts", "Counts", "Dependences", "Entry", "Image", "Joined", "Output", "OverStore", "Programs", "Report", "Step", "Steps", "Stopped", "Survey", "Trace", "Traced", "Unreadable", "Verdict",
+    "Access", "Change", "Conflicts", "Counts", "Dependences", "Entry", "Image", "Joined", "Output", "OverStore", "Programs", "Report", "Step", "Steps", "Stopped", "Survey", "Trace", "Traced", "Unreadable", "Verdict",
     "Violation", "When", "iter_conflicts", "iter_entries", "iter_steps", "read_conflicts", "read_dependences", "read_image", "read_output", "read_report", "read_steps", "read_survey", "read_traced", "read_verdict", "with_trace",
 ]

@@ -11,13 +11,14 @@ from functools import cache
 from pathlib import Path
 from typing import Any, Union, get_args, get_origin, get_type_hints
 
+from .changes import change_of
 from .conflicts import Conflicts, read_conflicts
 from .dependences import Dependences, read_dependences
 from .gains import Gains, read_gains
 from .images import Image, Unreadable, read_image
 from .pieces import Items
-from .runs import Output, Survey, Traced, Verdict, read_output, read_survey, read_traced, read_verdict
-from .steps import Steps, read_steps
+from .runs import Entry, Output, Survey, Traced, Verdict, read_output, read_survey, read_traced, read_verdict
+from .steps import Step, Steps, read_steps
 
 VERSION = 1
 SCHEMA = Path(__file__).with_name("schema.json")
@@ -71,6 +72,8 @@ def plain(value: Any) -> Any:
     """A value as JSON has it."""
     if value is None or isinstance(value, (int, str)):
         return value
+    if isinstance(value, Step):
+        return step_said(value)
     kind: type = type(value)
     names = names_of(kind)
     if names:
@@ -82,6 +85,18 @@ def plain(value: Any) -> Any:
     return [plain(one) for one in value] if isinstance(value, list) else value
 
 
+def step_said(step: Step) -> dict[str, Any]:
+    """A turn as JSON has it: what stands at a place now is said as it is printed."""
+    return {"turn": step.turn, "core": step.core, "answer": step.answer, "entries": plain(step.entries),
+            "changes": {change.place: change.said for change in step.changes}}
+
+
+def step_made(value: Any) -> Step:
+    """The turn that JSON says."""
+    return Step(value["turn"], value["core"], value["answer"], made(list[Entry], value["entries"]),
+                [change_of(f"{place} {said}".rstrip(" ")) for place, said in value["changes"].items()])
+
+
 def made(kind: Any, value: Any) -> Any:
     """The value of a type that JSON's says. Of a list that isn't kept, each item is made when it is asked for."""
     if get_origin(kind) in (Union, types.UnionType):
@@ -91,6 +106,8 @@ def made(kind: Any, value: Any) -> Any:
         return Items(lambda: (made(part, one) for one in value)) if isinstance(value, Items) else [made(part, one) for one in value]
     if get_origin(kind) is dict:
         return {get_args(kind)[0](key): one for key, one in value.items()}
+    if kind is Step:
+        return step_made(value)
     if is_dataclass(kind):
         return kind(**{name: made(one, value[name]) for name, one in types_of(kind).items()})
     return bytes.fromhex(value) if kind is bytes else value

@@ -3,12 +3,10 @@
 from collections.abc import Iterable, Iterator
 from dataclasses import dataclass, field
 
+from .changes import Change, change_of
 from .images import Unreadable
 from .runs import Entry, Output, entry_of, read_output
 from .texts import iter_split
-
-# How many words of each line of a change name its place. Those behind them are what stands there now.
-PLACE_WORDS = {"attempt": 2, "hart": 2, "line": 4, "orb": 2, "kept": 3, "at": 2}
 
 
 @dataclass(slots=True)
@@ -18,11 +16,26 @@ class Step:
     core: int
     answer: str                                                 # `go`, `again NoWay`, `left`, `over done 2`
     entries: list[Entry] = field(default_factory=list)
-    changes: dict[str, str] = field(default_factory=dict)       # what stands at a place now: `line 0 3 0`: `00000030 SpE loaded ..`
+    changes: list[Change] = field(default_factory=list)         # what stands at a place now, of each place that changed
+
+    @property
+    def cause(self) -> str | None:
+        """Why the core waits, as `NoWay`; None where it doesn't."""
+        return self.answered("again")
+
+    @property
+    def end(self) -> str | None:
+        """How the loop ended, as `done`, of the turn at which it is over."""
+        return self.answered("over")
+
+    def answered(self, word: str) -> str | None:
+        """The word behind this one, where the answer begins with it."""
+        words = self.answer.split(" ")
+        return words[1] if words[0] == word else None
 
     def text(self) -> str:
         lines = [f"turn {self.turn} {self.core} {self.answer}\n", *(f"entry {entry.text()}" for entry in self.entries)]
-        return "".join(lines + [f"{place} {now}".rstrip(" ") + "\n" for place, now in self.changes.items()])
+        return "".join(lines + [f"{change.place} {change.said}".rstrip(" ") + "\n" for change in self.changes])
 
 
 @dataclass
@@ -31,11 +44,11 @@ class Steps:
     steps: list[Step]
     output: Output
 
-    def states(self) -> Iterator[dict[str, str]]:
+    def states(self) -> Iterator[dict[str, Change]]:
         """After each turn, what was last said of each place. It is one dictionary, which goes on: copy what is to be kept."""
-        state: dict[str, str] = {}
+        state: dict[str, Change] = {}
         for step in self.steps:
-            state.update(step.changes)
+            state.update((change.place, change) for change in step.changes)
             yield state
 
     def parts(self) -> Iterator[str]:
@@ -56,12 +69,10 @@ def step_of(line: str) -> Step:
 
 def take_line(step: Step, place: int, line: str) -> int:
     """Takes one line below a turn's first in. The place is that of the next entry, and what is answered is that of the one after this line."""
-    words = line.split(" ")
-    if words[0] == "entry":
+    if line.startswith("entry "):
         step.entries.append(entry_of(place, line[6:]))
         return place + 1
-    named = PLACE_WORDS[words[0]]
-    step.changes[" ".join(words[:named])] = " ".join(words[named:])
+    step.changes.append(change_of(line))
     return place
 
 

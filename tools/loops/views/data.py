@@ -4,7 +4,8 @@ from collections.abc import Mapping
 from dataclasses import dataclass, field
 from typing import TypedDict
 
-from loops import Entry, Image, Step, Violation
+from loops import Change, Entry, Image, Step, Violation
+from loops.changes import OfAttempt, OfBuffer, OfHart, OfKept, OfMemory, OfWay
 from loops.images import there
 from loops.instructions import spelled
 
@@ -21,7 +22,7 @@ class Shown:
     """A turn that is shown: which of the run it is, what it changed, and of its core the epoch and the instruction."""
     number: int
     step: Step
-    changes: dict[str, str]
+    wait: str | None                        # what its core waits for now, where that isn't what it waited for before: a cause, or nothing
     epoch: int | None
     pc: int
     moved: str
@@ -35,11 +36,12 @@ class Turns:
         self.count = 0
         self.low: int | None = None             # the first turn that is shown
         self.high: int | None = None            # the first one beyond
-        self.before: dict[str, str] = {}        # what stands at each place before the first one
+        self.before: dict[str, Change] = {}     # what stands at each place before the first one
+        self.waits_before: dict[int, str] = {}  # and what each core waits for
         self.shown: list[Shown] = []
         self.rows: set[int] = set()             # the rows of memory that a turn touches
         self.lanes = Lanes()
-        self._state: dict[str, str] = {}
+        self._state: dict[str, Change] = {}
         self._waits: dict[int, str] = {}
         self._epochs: dict[int, int] = {}
 
@@ -49,7 +51,7 @@ class Turns:
         for entry in step.entries:
             if entry.address is not None:
                 self.rows.update(rows_of(entry.address, entry.width or 0))
-        self.rows.update(int(place[3:], 16) for place in step.changes if place.startswith("at "))
+        self.rows.update(change.address for change in step.changes if isinstance(change, OfMemory))
         if self.high is None or self.low is None:
             self._follow(step)
         self.lanes.take(self.count, step.entries)
@@ -62,7 +64,7 @@ class Turns:
         self.low = self.count if self.low is None else self.low
         self.high = max(self.low, self.count if self.high is None else self.high)
         if self.low == self.count:
-            self.before = self._state
+            self.before, self.waits_before = self._state, self._waits
         self.lanes.end(self.count)
 
     @property
@@ -73,29 +75,28 @@ class Turns:
     def _bound(self, turn: int) -> None:
         """Whether the next turn is the first one that is shown, or the first one beyond."""
         if self.low is None and turn >= self.first:
-            self.low, self.before = self.count, dict(self._state)
+            self.low, self.before, self.waits_before = self.count, dict(self._state), dict(self._waits)
         if self.high is None and (self.last is not None and turn > self.last or self.low is not None and self.count >= self.low + self.most):
             self.high = self.count
         self.lanes.closed = self.low is not None and self.high is not None
 
     def _follow(self, step: Step) -> None:
         """What a turn changes; and the turn, where it is shown."""
-        changes, shown = self._with_wait(step), self.low is not None
+        shown = self.low is not None
         moved = moves_told(step, self._state) if shown else ""
-        self._state.update(changes)
-        running, hart = self._state.get(f"attempt {step.core}", "-"), self._state.get(f"hart {step.core}", "-")
-        if running != "-":
-            self._epochs[step.core] = int(running.split(" ")[0])
+        self._state.update((change.place, change) for change in step.changes)
+        wait, running, hart = self._wait(step), self._state.get(f"attempt {step.core}"), self._state.get(f"hart {step.core}")
+        if isinstance(running, OfAttempt) and running.now:
+            self._epochs[step.core] = running.now.epoch
         if shown:
-            pc = int(hart.split(" ")[0], 16) - 4 if hart != "-" else 0
-            self.shown.append(Shown(self.count, step, changes, self._epochs.get(step.core), pc, moved))
+            pc = hart.now.pc - 4 if isinstance(hart, OfHart) and hart.now else 0
+            self.shown.append(Shown(self.count, step, wait, self._epochs.get(step.core), pc, moved))
 
-    def _with_wait(self, step: Step) -> dict[str, str]:
-        """The changes of a turn, with one more place: what its core waits for, `wait 0`: `NoWay`."""
-        words = step.answer.split(" ")
-        now = words[1] if words[0] == "again" else "-"
-        before, self._waits[step.core] = self._waits.get(step.core, "-"), now
-        return step.changes if before == now else {**step.changes, f"wait {step.core}": now}
+    def _wait(self, step: Step) -> str | None:
+        """What the core of a turn waits for from there on, or nothing, where that is something else than before; None where it isn't."""
+        now = step.cause or ""
+        before, self._waits[step.core] = self._waits.get(step.core, ""), now
+        return None if before == now else now
 
 
 @dataclass
@@ -118,12 +119,12 @@ def rows_of(address: int, length: int) -> range:
     return range(address // ROW * ROW, address + max(length, 1), ROW)
 
 
-def first_memory(image: Image, touched: set[int]) -> dict[str, str]:
+def first_memory(image: Image, touched: set[int]) -> dict[str, Change]:
     """The rows of 16 committed bytes that are shown: those that a turn touches, and those of variables and data, where they are few; as they are loaded."""
     named = {row for one in image.variables for row in rows_of(one.address, one.length)} | {row for part in image.data for row in rows_of(part.address, len(part.data))}
     rows = touched | (named if len(named - touched) <= MOST_UNTOUCHED else set())
     memory = loaded(image)
-    return {f"at {row:08x}": bytes(memory[row:row + ROW]).hex() for row in sorted(rows) if row < image.size}
+    return {it.place: it for it in (OfMemory(row, bytes(memory[row:row + ROW])) for row in sorted(rows) if row < image.size)}
 
 
 def rollbacks(turns: Turns, violations: Mapping[int, Violation]) -> list[list[int]]:
@@ -145,6 +146,38 @@ def cut(turns: Turns) -> str | None:
     return f"{shown} of {count:,} {are} on this page: --from and --to of tools/view choose others."
 
 
+# What stands at a place, as the script of the page has it: numbers and names, or nothing.
+Value = list[object] | None
+
+
+def value_of(change: Change) -> Value:
+    """What stands at a place now."""
+    if isinstance(change, OfBuffer):
+        return [*change.lines]
+    if isinstance(change, OfMemory):
+        return [change.address, [*change.data]]
+    if isinstance(change, OfKept):
+        return [change.address, change.read, change.stored, [*change.data]]
+    if change.now is None:
+        return None
+    if isinstance(change, OfWay):
+        copy = change.now
+        return [copy.address, copy.state, copy.loaded, copy.stored, [*copy.data]]
+    return [change.now.epoch, change.now.mode] if isinstance(change, OfAttempt) else [change.now.pc, change.now.done]
+
+
+def changed(one: Shown) -> dict[str, Value | str]:
+    """What a turn changed, by place; and the cause for which its core waits, at one place more."""
+    found: dict[str, Value | str] = {change.place: value_of(change) for change in one.step.changes}
+    return found if one.wait is None else {**found, f"wait {one.step.core}": one.wait}
+
+
+def first_values(image: Image, turns: Turns) -> dict[str, Value | str]:
+    """What stands at each place before the first turn that is shown."""
+    found: dict[str, Value | str] = {place: value_of(change) for place, change in (first_memory(image, turns.rows) | turns.before).items()}
+    return found | {f"wait {core}": cause for core, cause in turns.waits_before.items()}
+
+
 class Cut(TypedDict, total=False):
     """What is there where a page hasn't all turns."""
     cut: str
@@ -159,13 +192,13 @@ class PageData(Cut):
     epochs: int
     all: int                                            # turns of the run
     variables: list[list[str | int]]                    # name, address and bytes
-    code: dict[str, str]                                # by the address
-    sources: dict[str, str]                             # by the address
+    code: list[str]                                     # word by word
+    sources: dict[int, str]                             # by the address
     causes: dict[str, str]
-    start: dict[str, str]                               # what stands at each place before the first turn that is shown
+    start: dict[str, Value | str]                       # what stands at each place before the first turn that is shown
     attempts: list[list[int | str | None]]
     rollbacks: list[list[int]]
-    steps: list[list[int | str | list[str] | dict[str, str]]]
+    steps: list[list[object]]                           # turn, core, entries, changes, two sentences, and how many it hurts
 
 
 def page_data(run: Told, turns: Turns, cores: int, violations: Mapping[int, Violation], store: str) -> PageData:
@@ -176,12 +209,12 @@ def page_data(run: Told, turns: Turns, cores: int, violations: Mapping[int, Viol
         "about": image.about, "store": store, "cores": cores, "length": image.line_length, "epochs": image.epochs,
         "all": turns.count,
         "variables": [[one.name, one.address, one.length] for one in image.variables],
-        "code": {f"{pc:08x}": spelled(word, pc) for pc, word in words},
-        "sources": {f"{pc:08x}": line for pc, line in image.sources.items()}, "causes": CAUSES,
-        "start": first_memory(image, turns.rows) | turns.before, "attempts": turns.lanes.between(*turns.bounds),
+        "code": [spelled(word, pc) for pc, word in words], "sources": image.sources, "causes": CAUSES,
+        "start": first_values(image, turns), "attempts": turns.lanes.between(*turns.bounds),
         "rollbacks": rollbacks(turns, violations),
-        "steps": [[one.step.turn, one.step.core, [entry.text().rstrip() for entry in one.step.entries], one.changes,
-                   turn_told(run, one.step, one.epoch, one.pc, violations), one.moved] for one in turns.shown],
+        "steps": [[one.step.turn, one.step.core, [entry.text().rstrip() for entry in one.step.entries], changed(one),
+                   turn_told(run, one.step, one.epoch, one.pc, violations), one.moved,
+                   sum(entry.what == "hurt" for entry in one.step.entries)] for one in turns.shown],
     }
     if left_out is not None:
         data["cut"] = left_out

@@ -17,8 +17,8 @@ function show(number) {
   link = setTimeout(() => history.replaceState(null, "", `#turn=${step[TURN]}`), LINK_DELAY);
 }
 
-const isRollback = step => step[ENTRIES].some(entry => entry.includes(" hurt "));
-const isWait = step => (step[CHANGES][`wait ${step[CORE]}`] ?? "-") !== "-";
+const isRollback = step => step[HURTS] > 0;
+const isWait = step => Boolean(step[CHANGES][`wait ${step[CORE]}`]);
 
 function on(holds) {
   const found = steps.findIndex((step, number) => number > now && holds(step));

@@ -10,6 +10,7 @@ const STATES = {
 };
 
 const hex = (number, digits) => number.toString(16).padStart(digits, "0");
+const word = number => hex(number, 8);
 
 // `bins`, or `bins+4..19`, of the variables that a stretch of memory has.
 function namesIn(address, length) {
@@ -40,35 +41,34 @@ function headRow(...texts) {
   return row;
 }
 
-// In a word, how a place isn't as it was before the turn.
-function wordOf(place, was) {
-  if (!place.startsWith("line ")) return "changed";
-  const old = (was ?? "-").split(" "), is = at(place).split(" ");
-  if (is[0] === "-") return `gone: was ${old[0]} ${old[1]}`;
-  if (old[0] === "-") return "new";
-  if (old[0] !== is[0]) return `new, in place of ${old[0]} ${old[1]}`;
-  return old[1] === is[1] ? "changed" : `was ${old[1]}`;
+// In a word, how a way of a cache isn't as it was before the turn.
+function wayWord(was, is) {
+  const [address, kind] = was ?? [];
+  if (!is) return `gone: was ${word(address)} ${kind}`;
+  if (!was) return "new";
+  if (address !== is[0]) return `new, in place of ${word(address)} ${kind}`;
+  return kind === is[1] ? "changed" : `was ${kind}`;
 }
 
 // A part that shows a place; where its turn changed that, it says so.
-function placed(tag, place) {
+function placed(tag, place, wordOf = () => "changed") {
   const part = made(tag), changes = steps[now][CHANGES];
   part.dataset.place = place;
   if (place in changes) {
     part.className = "changed";
-    part.append(made("span", wordOf(place, before[now][place]), "word"), " ");
+    part.append(made("span", wordOf(before[now][place], at(place)), "word"), " ");
   }
   return part;
 }
 
 // Bytes in words of four: those of a mask are underlined, and those that are not as they were are framed. Where they are of the mask alone, no others are shown.
 function bytesShown(bytes, mask, was, alone = false) {
-  const all = made("span", "", "bytes"), count = bytes.length / 2;
-  for (let place = 0; place < count; place++) {
+  const all = made("span", "", "bytes");
+  for (let place = 0; place < bytes.length; place++) {
     if (place && place % 4 === 0) all.append(place % 16 ? " " : made("br"));
     if (place % 4 === 0) all.append(made("span", "", "four"));
-    const byte = bytes.slice(2 * place, 2 * place + 2), isStored = mask >>> place & 1, isNew = was !== undefined && was.slice(2 * place, 2 * place + 2) !== byte;
-    const kinds = [isStored ? "stored" : "", isNew ? "new" : ""].filter(Boolean).join(" "), shown = alone && !isStored ? "--" : byte;
+    const byte = bytes[place], isStored = mask >>> place & 1, isNew = was !== undefined && was[place] !== byte;
+    const kinds = [isStored ? "stored" : "", isNew ? "new" : ""].filter(Boolean).join(" "), shown = alone && !isStored ? "--" : hex(byte, 2);
     all.lastChild.append(kinds ? made("span", shown, kinds) : shown);
   }
   return all;
@@ -81,18 +81,17 @@ function stateShown(kind) {
 }
 
 function wayCell(place) {
-  const cell = placed("td", place), text = at(place);
-  if (text === "-") {
+  const cell = placed("td", place, wayWord), copy = at(place);
+  if (!copy) {
     cell.prepend(made("span", "empty", "none"), " ");
     return cell;
   }
-  const [address, kind, loaded, mask, bytes] = text.split(" "), stored = parseInt(mask, 16);
-  const [oldAddress, , , , oldBytes] = (before[now][place] ?? "-").split(" ");
-  cell.append(made("span", address, "address"), " ", stateShown(kind));
-  if (loaded === "loaded") cell.append(" ", made("span", "loaded", "mark"));
-  if (stored) cell.append(" mask ", made("span", mask.slice(-run.length / 4), "mask"));
+  const [address, kind, loaded, stored, bytes] = copy, [oldAddress, , , , oldBytes] = before[now][place] ?? [];
+  cell.append(made("span", word(address), "address"), " ", stateShown(kind));
+  if (loaded) cell.append(" ", made("span", "loaded", "mark"));
+  if (stored) cell.append(" mask ", made("span", hex(stored, run.length / 4), "mask"));
   cell.append(made("br"), bytesShown(bytes, stored, oldAddress === address ? oldBytes : undefined));
-  cell.append(made("br"), made("span", namesIn(parseInt(address, 16), run.length), "names"), " ", cell.querySelector(".word") ?? "");
+  cell.append(made("br"), made("span", namesIn(address, run.length), "names"), " ", cell.querySelector(".word") ?? "");
   return cell;
 }
 
@@ -108,8 +107,8 @@ function cacheTable(core) {
 }
 
 function bufferPart(core) {
-  const part = placed("p", `orb ${core}`), lines = at(`orb ${core}`, "").split(" ").filter(Boolean);
-  const told = lines.map(line => `${line} ${namesIn(parseInt(line, 16), run.length)}`.trim());
+  const part = placed("p", `orb ${core}`), lines = at(`orb ${core}`) ?? [];
+  const told = lines.map(line => `${word(line)} ${namesIn(line, run.length)}`.trim());
   part.append(`buffer, ${lines.length} of ${run.length / 4} lines${told.length ? ": " : ""}${told.join("; ")}`);
   return part;
 }
@@ -120,12 +119,12 @@ function keptTable(core) {
   table.setAttribute("aria-label", `What core ${core} keeps`);
   table.append(headRow("keeps of", "read (mask)", "stored (mask)", "stored bytes"));
   for (const place of [...state.keys()].filter(one => one.startsWith(`kept ${core} `)).sort()) {
-    const [read, own, bytes] = at(place).split(" "), address = place.split(" ")[2];
-    if (read + own === "00000000" && !(place in changes)) continue;
+    const [address, read, stored, bytes] = at(place);
+    if (!read && !stored && !(place in changes)) continue;
     const row = table.insertRow(), cell = placed("td", place);
-    cell.append(made("span", `${address} ${namesIn(parseInt(address, 16), 16)}`, "names"));
-    row.append(cell, made("td", read, "mark"), made("td", own, "mask"), made("td"));
-    row.lastChild.append(bytesShown(bytes, parseInt(own, 16), before[now][place]?.split(" ")[2], true));
+    cell.append(made("span", `${word(address)} ${namesIn(address, 16)}`, "names"));
+    row.append(cell, made("td", hex(read, 4), "mark"), made("td", hex(stored, 4), "mask"), made("td"));
+    row.lastChild.append(bytesShown(bytes, stored, before[now][place]?.[3], true));
   }
   return table;
 }
@@ -133,26 +132,26 @@ function keptTable(core) {
 const attemptAt = core => run.attempts.findLast(([by, , , first, end]) => by === core && first <= now && now <= end);
 
 function attemptPart(core) {
-  const part = placed("h2", `attempt ${core}`), [epoch, mode] = at(`attempt ${core}`).split(" "), last = attemptAt(core);
+  const part = placed("h2", `attempt ${core}`), [epoch, mode] = at(`attempt ${core}`) ?? [], last = attemptAt(core);
   const undone = last && last[6] !== null && last[6] <= now;
   const idle = undone ? `epoch ${last[1]}, attempt ${last[2]}, was ${last[5] === "violated" ? "rolled back" : "cancelled"}` : "no epoch";
-  part.append(`Core ${core}: ${epoch === "-" ? idle : `epoch ${epoch}, attempt ${last ? last[2] : 1}, ${mode}`}`);
+  part.append(`Core ${core}: ${epoch === undefined ? idle : `epoch ${epoch}, attempt ${last ? last[2] : 1}, ${mode}`}`);
   return part;
 }
 
 function hartPart(core) {
-  const part = placed("p", `hart ${core}`), [pc, done] = at(`hart ${core}`).split(" ");
-  if (pc === "-") part.append("nothing in hand");
-  else part.append(`${done} executed; next ${pc} `, made("code", run.code[pc] ?? ""), run.sources[pc] ? ` ${run.sources[pc]}` : "");
-  if (pc !== "-" && at(`attempt ${core}`) === "-") part.append(" (given up)");
+  const part = placed("p", `hart ${core}`), [pc, done] = at(`hart ${core}`) ?? [];
+  if (pc === undefined) part.append("nothing in hand");
+  else part.append(`${done} executed; next ${word(pc)} `, made("code", run.code[pc / 4] ?? ""), run.sources[pc] ? ` ${run.sources[pc]}` : "");
+  if (pc !== undefined && !at(`attempt ${core}`)) part.append(" (given up)");
   return part;
 }
 
 function waitPart(core) {
   const place = `wait ${core}`, wait = at(place);
-  if (wait === "-" && !(place in steps[now][CHANGES])) return "";
+  if (!wait && !(place in steps[now][CHANGES])) return "";
   const part = placed("p", place);
-  part.append(wait === "-" ? "waits no more" : `waits (${wait}): ${run.causes[wait] ?? wait}`);
+  part.append(wait ? `waits (${wait}): ${run.causes[wait] ?? wait}` : "waits no more");
   return part;
 }
 
@@ -177,7 +176,7 @@ const memoryRows = new Map();
 
 function memoryCell(place) {
   const cell = placed("td", place);
-  cell.append(bytesShown(at(place), 0, before[now][place]));
+  cell.append(bytesShown(at(place)[1], 0, before[now][place]?.[1]));
   return cell;
 }
 
@@ -185,8 +184,8 @@ function makeMemory() {
   const rows = [...state.keys()].filter(place => place.startsWith("at ")).sort();
   element("memory").append(headRow("address", "variables", "bytes"));
   for (const place of rows) {
-    const row = element("memory").insertRow(), address = place.slice(3);
-    row.append(headCell(address, "row"), made("td", namesIn(parseInt(address, 16), 16), "names"), memoryCell(place));
+    const row = element("memory").insertRow(), [address] = at(place);
+    row.append(headCell(word(address), "row"), made("td", namesIn(address, 16), "names"), memoryCell(place));
     memoryRows.set(place, row);
   }
 }
@@ -200,16 +199,16 @@ function showMemory() {
 // ---- code: all of it, or what stands around the next instruction of the turn's core
 
 function showCode() {
-  const pcs = Object.keys(run.code), cores = new Map(), hasSources = Object.keys(run.sources).length > 0;
+  const pcs = run.code.map((_, place) => 4 * place), cores = new Map(), hasSources = Object.keys(run.sources).length > 0;
   for (let core = 0; core < run.cores; core++) {
-    const pc = at(`hart ${core}`).split(" ")[0];
+    const [pc] = at(`hart ${core}`) ?? [];
     cores.set(pc, [...cores.get(pc) ?? [], core]);
   }
-  const middle = Math.max(0, pcs.indexOf(at(`hart ${steps[now][CORE]}`).split(" ")[0]));
+  const middle = Math.max(0, pcs.indexOf(at(`hart ${steps[now][CORE]}`)?.[0]));
   const shown = pcs.length <= MOST_CODE ? pcs : pcs.slice(Math.max(0, middle - AROUND), middle + AROUND);
   element("code").replaceChildren(headRow("address", "instruction", ...(hasSources ? ["source"] : []), "next of"), ...shown.map(pc => {
     const row = made("tr", "", cores.has(pc) ? "here" : ""), next = cores.get(pc) ?? [];
-    row.append(headCell(pc, "row"), made("td", run.code[pc]));
+    row.append(headCell(word(pc), "row"), made("td", run.code[pc / 4]));
     if (hasSources) row.append(made("td", run.sources[pc] ?? ""));
     row.append(made("td", next.length ? `\u25c0 core ${next.join(", ")}` : ""));
     return row;

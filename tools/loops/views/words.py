@@ -2,7 +2,8 @@
 
 from collections.abc import Mapping
 
-from loops import Entry, Image, Step, Violation
+from loops import Change, Entry, Image, Step, Violation
+from loops.changes import Copy, OfBuffer, OfWay
 from loops.images import there
 from loops.pictures.words import Lost, plural, sentence
 
@@ -54,39 +55,38 @@ def ended(text: str) -> str:
 def turn_told(run: Lost, step: Step, epoch: int | None, pc: int, violations: Mapping[int, Violation]) -> str:
     """What a turn did: its own act and whom it cancelled, and then in a line each whom it rolled back and why."""
     said: list[str] = []
-    answer = step.answer.split(" ")
-    if answer[0] == "again":
-        said.append(f"core {step.core} waits: {CAUSES.get(answer[1], answer[1])}")
+    if step.cause:
+        said.append(f"core {step.core} waits: {CAUSES.get(step.cause, step.cause)}")
     own = [entry for entry in step.entries if entry.what not in ("hurt", "cancel")]
     said += [act(run.image, entry, epoch, pc) for entry in own]
     said += [act(run.image, entry, epoch, pc) for entry in step.entries if entry.what == "cancel"]
-    if answer[0] == "over":
-        said.append(ENDS.get(answer[1], answer[1]))
+    if step.end:
+        said.append(ENDS.get(step.end, step.end))
     hurts = [rolled_back(run, entry, violations) for entry in step.entries if entry.what == "hurt"]
     return "\n".join(map(ended, ["; ".join(said) or f"core {step.core}: {step.answer}", *hurts]))
 
 
-def copy_moved(before: str, now: str) -> list[str]:
+def copy_moved(before: Copy | None, now: Copy | None) -> list[str]:
     """What became of a way of a cache: `00000040 from SpE to SpS`."""
-    old, new = before.split(" "), now.split(" ")
-    if old[0] == new[0]:
-        return [f"{new[0]} from {old[1]} to {new[1]}"] if old[1] != new[1] else []
-    return ([f"{old[0]} goes"] if before != "-" else []) + ([f"{new[0]} comes as {new[1]}"] if now != "-" else [])
+    if before and now and before.address == now.address:
+        return [f"{now.address:08x} from {before.state} to {now.state}"] if before.state != now.state else []
+    goes = [f"{before.address:08x} goes"] if before else []
+    return goes + ([f"{now.address:08x} comes as {now.state}"] if now else [])
 
 
-def buffer_moved(before: str, now: str) -> list[str]:
+def buffer_moved(before: tuple[int, ...], now: tuple[int, ...]) -> list[str]:
     """What entered a buffer and what left it."""
-    old, new = before.split(), now.split()
-    return [f"{line} enters its buffer" for line in new if line not in old] + [f"{line} leaves its buffer" for line in old if line not in new]
+    return ([f"{line:08x} enters its buffer" for line in now if line not in before]
+            + [f"{line:08x} leaves its buffer" for line in before if line not in now])
 
 
-def moves_told(step: Step, state: Mapping[str, str]) -> str:
+def moves_told(step: Step, state: Mapping[str, Change]) -> str:
     """What the caches did in a turn, core by core, by the state before it."""
-    said: dict[str, list[str]] = {}
-    for place, now in step.changes.items():
-        kind, core = place.split(" ")[:2]
-        if kind == "line":
-            said.setdefault(core, []).extend(copy_moved(state.get(place, "-"), now))
-        elif kind == "orb":
-            said.setdefault(core, []).extend(buffer_moved(state.get(place, ""), now))
+    said: dict[int, list[str]] = {}
+    for change in step.changes:
+        before = state.get(change.place)
+        if isinstance(change, OfWay):
+            said.setdefault(change.core, []).extend(copy_moved(before.now if isinstance(before, OfWay) else None, change.now))
+        elif isinstance(change, OfBuffer):
+            said.setdefault(change.core, []).extend(buffer_moved(before.lines if isinstance(before, OfBuffer) else (), change.lines))
     return " ".join(f"Core {core}: {', '.join(moved)}." for core, moved in said.items() if moved)
