@@ -29,7 +29,8 @@ STRAIGHT = ["0 start 0", "0 publish", "0 load 00000040 4 00000000", "0 store 000
 FAULTS = image("00000000")
 # Epochs of ten loads, one after the other on one core.
 MANY_LOADS = image("83220004" * 10 + "67800000", epochs=60_001)
-LEGAL_LOADS = [line for epoch in range(60_000) for line in [f"0 start {epoch}", *["0 load 00000040 4 00000000"] * 10, "0 commit"]]
+LEGAL_LOADS = [line for epoch in range(60_000)
+               for line in [f"0 start {epoch}", *["0 load 00000040 4 00000000"] * 10, "0 commit"]]
 LONGEST = 33_554_432
 
 
@@ -72,11 +73,13 @@ VERDICTS = [
     ("nine entries with a hurt", traced(WAIT, NINE), legal(9, 2)),
     ("without the hurt", traced(WAIT, without(NINE, 4)), illegal(4, "HurtMissing")),
     ("as many entries as an input can have", traced(WAIT, ["0 commit"] * 3_700_000), illegal(0, "NotThere")),
-    ("many legal entries, and one that isn't", traced(MANY_LOADS, LEGAL_LOADS + ["0 publish"]), illegal(len(LEGAL_LOADS), "NotThere")),
+    ("many legal entries, and one that isn't", traced(MANY_LOADS, LEGAL_LOADS + ["0 publish"]),
+     illegal(len(LEGAL_LOADS), "NotThere")),
     ("a load of an idle core", traced(WAIT, NINE[3:4]), illegal(0, "NotThere")),
     ("the second epoch first", traced(WAIT, ["0 start 1"]), illegal(0, "NotNext")),
     ("a publish of a later epoch", traced(WAIT, NINE[:4] + ["1 publish"]), illegal(4, "NotHomefree")),
-    ("a load of a value that isn't there", traced(WAIT, changed(NINE, 3, "1 load 00000040 4 00000001")), illegal(3, "WrongValue")),
+    ("a load of a value that isn't there", traced(WAIT, changed(NINE, 3, "1 load 00000040 4 00000001")),
+     illegal(3, "WrongValue")),
     ("an entry after the end", traced(WAIT, NINE + ["0 publish"]), illegal(9, "Over")),
     ("a history that isn't whole", traced(WAIT, NINE[:5]), legal(5, 0)),
     ("no entries", traced(WAIT, []), legal(0, 0)),
@@ -96,15 +99,18 @@ VERDICTS = [
     ("a cause of 99 is well formed", traced(WAIT, ["0 start 0", "0 fault 99 00000000"]), illegal(1, "NotNext")),
     ("a core past the head is well formed", traced(WAIT, ["2 start 0"]), illegal(0, "NotThere")),
     ("the largest core is well formed", traced(WAIT, ["4294967295 start 0"]), illegal(0, "NotThere")),
-    ("a value past its width is well formed", traced(WAIT, ["0 start 0", "0 store 00000040 1 00000101"]), illegal(1, "NotNext")),
-    ("an address past memory is well formed", traced(WAIT, ["0 start 0", "0 load ffffffff 4 00000000"]), illegal(1, "NotNext")),
+    ("a value past its width is well formed", traced(WAIT, ["0 start 0", "0 store 00000040 1 00000101"]),
+     illegal(1, "NotNext")),
+    ("an address past memory is well formed", traced(WAIT, ["0 start 0", "0 load ffffffff 4 00000000"]),
+     illegal(1, "NotNext")),
     ("the largest epoch is well formed", traced(WAIT, ["0 start 4294967295"]), illegal(0, "NotNext")),
     ("version 2, nine cores", traced("version 2\n" + WAIT, NINE, "trace 9"), legal(9, 2)),
     ("version 2, sixteen cores", traced("version 2\n" + WAIT, NINE, "trace 16"), legal(9, 2)),
     ("eight cores", traced(WAIT, NINE, "trace 8"), legal(9, 2)),
     ("remarks and empty lines", traced(WAIT, ["", "# trace 3", *[line + "\n\n#" for line in NINE]]), legal(9, 2)),
     ("no line feed at the end", traced(WAIT, NINE)[:-1], legal(9, 2)),
-    ("digits of upper case", traced(image("9302f00f2300550467800000"), ["0 start 0", "0 store 00000040 1 000000FF", "0 commit"], "trace 1"),
+    ("digits of upper case",
+     traced(image("9302f00f2300550467800000"), ["0 start 0", "0 store 00000040 1 000000FF", "0 commit"], "trace 1"),
      legal(3, 1)),
     ("the longest input", padded(traced(WAIT, NINE), LONGEST), legal(9, 2)),
     ("the longest image", padded(WAIT, 1_048_575) + "\n" + traced("", NINE), legal(9, 2)),
@@ -169,7 +175,8 @@ REFUSALS = [
     ("a bad line below an illegal entry", traced(WAIT, ["0 start 1", "x"]), trace_refused(7, "Line")),
     ("a bad line below remarks", traced(WAIT, ["", "# x", "0 start 0", "", "x"]), trace_refused(10, "Line")),
     ("an input that is too long", padded(traced(WAIT, NINE), LONGEST + 1), trace_refused(0, "TooLong")),
-    ("an input that is too long, with a bad image", padded("size 1\n" + traced("", NINE), LONGEST + 1), trace_refused(0, "TooLong")),
+    ("an input that is too long, with a bad image", padded("size 1\n" + traced("", NINE), LONGEST + 1),
+     trace_refused(0, "TooLong")),
     ("an image that is too long", padded(WAIT, 1_048_576) + "\n" + traced("", NINE), image_refused(0, "TooLong")),
     ("an image that is too long, without a trace", "#" * 1_048_577, image_refused(0, "TooLong")),
 ]

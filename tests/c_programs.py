@@ -3,14 +3,16 @@
 
 Usage: tests/c_programs.py [--make] [COMMAND ..]
 
-COMMAND reads an image on standard input and ends with the word `seq`; without it `./trace_cli seq` of this repository is tested.
+COMMAND reads an image on standard input and ends with the word `seq`; without it `./trace_cli seq` of this repository
+is tested.
 
-Each program of tests/c says in the lines that begin with `//> ` how its loop ends and which bytes its variables have then. They
-were printed by the same C, compiled by `cc` for this machine and called epoch by epoch, and are compared with that again where
-`cc` is there. The program's image stands beside it. The report has to be exactly the rows in which those bytes differ from the
-loaded ones, but for what calls left on stacks. By each compiler for RISC-V that is there, as tools/image-of says, all programs
-are compiled again and run too, with those of examples/c, and the sources that can't be an image are tried; a line says which
-compiler was left out. `--make` writes the lines and the images anew. Exits with 1 where a check failed.
+Each program of tests/c says in the lines that begin with `//> ` how its loop ends and which bytes its variables have
+then. They were printed by the same C, compiled by `cc` for this machine and called epoch by epoch, and are compared
+with that again where `cc` is there. The program's image stands beside it. The report has to be exactly the rows in
+which those bytes differ from the loaded ones, but for what calls left on stacks. By each compiler for RISC-V that is
+there, as tools/image-of says, all programs are compiled again and run too, with those of examples/c, and the sources
+that can't be an image are tried; a line says which compiler was left out. `--make` writes the lines and the images
+anew. Exits with 1 where a check failed.
 """
 
 import re
@@ -30,7 +32,8 @@ PROGRAMS = ROOT / "tests" / "c"
 ARITHMETIC = ROOT / "tools" / "arithmetic.c"
 # Programs of tests/c and their further sources.
 SOURCES = {
-    "arrays": [], "counter": [], "crc": [], "divisors": [PROGRAMS / "divisors.remainder.c"], "far_apart": [], "globals": [],
+    "arrays": [], "counter": [], "crc": [], "divisors": [PROGRAMS / "divisors.remainder.c"], "far_apart": [],
+    "globals": [],
     "quotients": [ARITHMETIC], "recursion": [], "search": [], "sort": [ARITHMETIC], "strings": [ARITHMETIC], "wide": [],
 }
 # The pointers of this example have another length here.
@@ -53,7 +56,8 @@ int main(void)
     return 0;
 }}
 """
-PRINT = '''for (unsigned i = 0; i < {length}; i++) printf("%s%02x", i == 0 ? "{name} " : "", {name}[i]); printf("\\n");'''
+PRINT = ('for (unsigned i = 0; i < {length}; i++) printf("%s%02x", i == 0 ? "{name} " : "", {name}[i]); '
+         'printf("\\n");')
 
 
 def native(source: Path, further: list[Path]) -> tuple[str, dict[str, bytes]]:
@@ -65,7 +69,8 @@ def native(source: Path, further: list[Path]) -> tuple[str, dict[str, bytes]]:
         objects = []
         for part in [source, *(one for one in further if one != ARITHMETIC)]:
             objects.append(str(Path(folder, part.stem + ".o")))
-            called_well(["cc", "-w", "-std=c11", "-O1", "-funsigned-char", "-fno-common", "-ffreestanding", "-c", "-o", objects[-1], str(part)])
+            called_well(["cc", "-w", "-std=c11", "-O1", "-funsigned-char", "-fno-common", "-ffreestanding", "-c", "-o",
+                         objects[-1], str(part)])
         listed = called_well(["nm", "-S", *objects])
         variables = re.findall(r"(?m)^[0-9a-f]+ ([0-9a-f]+) [BD] (\w+)$", listed)
         harness = HARNESS.format(
@@ -119,7 +124,8 @@ def report_of(image: str, lines: list[str]) -> tuple[list[str], int]:
     shown = {name for name, *_ in (line.split() for line in lines[1:])}
     for name in shown:
         address, length = known[name]
-        given = {address + int(line.split()[1], 16) + i for line in lines[1:] if line.split()[0] == name for i in range(16)}
+        given = {address + int(line.split()[1], 16) + i for line in lines[1:] if line.split()[0] == name
+                 for i in range(16)}
         at_end.update({place: 0 for place in range(address, address + length) if place not in given})
     stacks = known.get("stacks", (1 << 32, 0))[0]
     changed = {place // 16 * 16 for place in at_end if at_end[place] != loaded.get(place, 0)}
@@ -160,21 +166,27 @@ REFUSED_WITHOUT_LIBGCC = [
      "undefined: __floatunsidf: the machine has no float or double"),
 ]
 REFUSED_WITH_LIBGCC = [
-    (BODY + "{ a[e] = e * e; }", [], "the code needs a stack; it calls __mulsi3, since RV32I has no multiplication or division"),
+    (BODY + "{ a[e] = e * e; }", [],
+     "the code needs a stack; it calls __mulsi3, since RV32I has no multiplication or division"),
     ("unsigned long long a[4]; void body(unsigned e) { a[e] = a[0] / a[1]; }", [], "the code needs a stack; it calls "),
-    ("float a[4]; void body(unsigned e) { a[e] = a[0] + a[1]; }", [], "the code needs a stack; it calls __addsf3, since the machine has no float or double"),
+    ("float a[4]; void body(unsigned e) { a[e] = a[0] + a[1]; }", [],
+     "the code needs a stack; it calls __addsf3, since the machine has no float or double"),
 ]
 REFUSED = [
-    *(REFUSED_WITH_LIBGCC if list(Path("/usr/lib/gcc/riscv64-unknown-elf").glob("*/rv32i/ilp32/libgcc.a")) else REFUSED_WITHOUT_LIBGCC),
+    *(REFUSED_WITH_LIBGCC if list(Path("/usr/lib/gcc/riscv64-unknown-elf").glob("*/rv32i/ilp32/libgcc.a"))
+      else REFUSED_WITHOUT_LIBGCC),
     ("unsigned long strlen(const char *); " + BODY + '{ a[e] = strlen((const char *)&a[e]); }', ["--stack", "64"],
      "undefined: strlen: there is no C library"),
-    ("#include <string.h>\n" + BODY + "{ a[e] = e; }", [], ": there is no header string.h, since there is no C library"),
+    ("#include <string.h>\n" + BODY + "{ a[e] = e; }", [],
+     ": there is no header string.h, since there is no C library"),
     ("unsigned a[4]; void loop(unsigned e) { a[e] = e; }", [], "undefined: body: a source has to define void body"),
-    ("unsigned a[4], g(unsigned); void body(unsigned e) { a[e] = g(e); }", ["--stack", "64"], "undefined: g: there is no C"),
+    ("unsigned a[4], g(unsigned); void body(unsigned e) { a[e] = g(e); }", ["--stack", "64"],
+     "undefined: g: there is no C"),
     ("unsigned a[4], g(unsigned); void body(unsigned e) { a[e] = g(e) + g(1); }\n"
      "__attribute__((noinline)) unsigned g(unsigned e) { return e + a[e]; }", [], "the code needs a stack;"),
     ("unsigned a[9999]; void body(unsigned e) { a[e] = e; }", ["--size", "1024"], "more than the 1024 bytes"),
-    ("unsigned a[99999]; void body(unsigned e) { a[e] = e; }", [], "more than 65536 bytes; --version 2 has up to 1048576"),
+    ("unsigned a[99999]; void body(unsigned e) { a[e] = e; }", [],
+     "more than 65536 bytes; --version 2 has up to 1048576"),
     ("unsigned a[999999]; void body(unsigned e) { a[e] = e; }", ["--version", "2"], "more than 1048576 bytes"),
     (BODY + "{ a[e] = e; }", ["--stack", "24"], "--stack takes powers of two"),
     (BODY + "{ a[e] = e; }", ["--size", "100"], "--size takes multiples of 16"),
@@ -183,8 +195,10 @@ REFUSED = [
     (BODY + "{ a[e] = e; }", ["--exit"], "with --exit body returns a number"),
     (BODY + "{ volatile unsigned b[99]; b[e] = e; a[e] = b[1]; }", ["--stack", "64"], "give --stack 512 or more"),
     # 12 words that live over a call are saved beside the array of 60 bytes, which alone would fit
-    ("unsigned a[16], g(unsigned); void body(unsigned e) { volatile unsigned b[15]; b[e] = e; a[e] = b[1] + g(e) + a[1]; }\n"
-     "__attribute__((noinline)) unsigned g(unsigned e) { a[e] = 1; return a[1]; }", ["--stack", "64"], "the frame of body takes"),
+    ("unsigned a[16], g(unsigned); void body(unsigned e) { volatile unsigned b[15]; b[e] = e; a[e] = b[1] + g(e) + "
+     "a[1]; }\n"
+     "__attribute__((noinline)) unsigned g(unsigned e) { a[e] = 1; return a[1]; }", ["--stack", "64"],
+     "the frame of body takes"),
     (BODY + "{ volatile unsigned b[e + 1]; b[e] = e; a[e] = b[0]; }", [], "the code needs a stack;"),
     ("unsigned a[4]; __attribute__((constructor)) void before(void) { *(volatile unsigned *)a = 1; }\n"
      "void body(unsigned e) { a[e] = e; }", [], "no place for the sections"),
@@ -244,7 +258,8 @@ def compiled_anew(command: list[str], with_cc: bool, compiler: str) -> Results:
     for source in sorted((ROOT / "examples" / "c").glob("*.c")) if with_cc else []:
         if source.stem != WITH_POINTERS:
             text, errors, status = image_of(["--compiler", compiler, source])
-            yield f"report of {source.name} by {compiler}", errors if status else wrong_report(command, text, told(*native(source, [])))
+            yield (f"report of {source.name} by {compiler}",
+                   errors if status else wrong_report(command, text, told(*native(source, []))))
 
 
 def make() -> None:

@@ -24,7 +24,8 @@ Part = Callable[[], Iterable[Check]]
 Row = tuple[str, object, object]
 Words = ParamSpec("Words")
 ROOT = Path(__file__).resolve().parent.parent
-# A called program takes at most so many seconds; one that takes longer is ended, and has the status that `timeout` gives.
+# A called program takes at most so many seconds; one that takes longer is ended, and has the status that `timeout`
+# gives.
 SECONDS, TOO_LONG = 600, 124
 
 
@@ -62,7 +63,8 @@ class Script:
     def ended(self, unit: str = "checks") -> int:
         """Tells how many checks passed and failed; the status of the script."""
         if self.only is not None and not self.passed + self.failed:
-            print(f"no check has {self.only!r} in its name, nor has one of the parts {', '.join(self.parts)}", file=sys.stderr)
+            print(f"no check has {self.only!r} in its name, nor has one of the parts {', '.join(self.parts)}",
+                  file=sys.stderr)
             return 2
         print(f"{self.passed} {unit} passed, {self.failed} failed")
         return 1 if self.failed else 0
@@ -103,7 +105,8 @@ def called(words: Sequence[str | bytes | Path], given: str | None = None, second
     try:
         return subprocess.run(words, input=given, text=True, timeout=seconds, check=False, **streams)
     except subprocess.TimeoutExpired as late:
-        return subprocess.CompletedProcess(words, TOO_LONG, text_of(late.stdout), text_of(late.stderr) + told_late(seconds))
+        return subprocess.CompletedProcess(words, TOO_LONG, text_of(late.stdout),
+                                           text_of(late.stderr) + told_late(seconds))
 
 
 def called_bytes(words: Sequence[str | bytes | Path], given: bytes | None = None, seconds: float = SECONDS,
@@ -113,7 +116,8 @@ def called_bytes(words: Sequence[str | bytes | Path], given: bytes | None = None
     try:
         return subprocess.run(words, input=given, timeout=seconds, check=False, **streams)
     except subprocess.TimeoutExpired as late:
-        return subprocess.CompletedProcess(words, TOO_LONG, late.stdout or b"", (late.stderr or b"") + told_late(seconds).encode())
+        return subprocess.CompletedProcess(words, TOO_LONG, late.stdout or b"",
+                                           (late.stderr or b"") + told_late(seconds).encode())
 
 
 def told_late(seconds: float) -> str:
@@ -133,8 +137,8 @@ def called_well(words: Sequence[str | bytes | Path], given: str | None = None, *
 
 
 def beside(command: Sequence[str], name: str) -> Path | None:
-    """The program of this name that belongs to the command that is tested: the link of the tree, or what was built beside
-    it; None where it isn't there."""
+    """The program of this name that belongs to the command that is tested: the link of the tree, or what was built
+    beside it; None where it isn't there."""
     given = Path(command[0]).resolve()
     if given == ROOT / "trace_cli":
         return ROOT / name

@@ -1,13 +1,13 @@
 #!/usr/bin/env python3
-"""The program `depends` on all examples and on random loops: the rows of tests/depends.txt, schedules that show what it tells, seeds that
-never violate anything where it says never, and refusals.
+"""The program `depends` on all examples and on random loops: the rows of tests/depends.txt, schedules that show what it
+tells, seeds that never violate anything where it says never, and refusals.
 
 Usage: tests/depends.py [--many N] [COMMAND ..]
 
-COMMAND is a command of `trace_cli` that ends with the word `seq`, such as crates/trace_cli/out/trace_cli seq; `depends`, `replay` and `why`
-are the programs that were built beside it. Without it those of this repository are tested. Where no such program is beside it the
-test is left out, and a line says so. N random loops are compared with the reference model, model/depends.py, 60 without it. Exits with 1 where an
-outcome differs.
+COMMAND is a command of `trace_cli` that ends with the word `seq`, such as crates/trace_cli/out/trace_cli seq;
+`depends`, `replay` and `why` are the programs that were built beside it. Without it those of this repository are
+tested. Where no such program is beside it the test is left out, and a line says so. N random loops are compared with
+the reference model, model/depends.py, 60 without it. Exits with 1 where an outcome differs.
 """
 
 import argparse
@@ -30,7 +30,8 @@ from stress import loop_of  # noqa: E402
 
 STORES = ["caches", "plain"]
 COUNTER = image("83220004938212002320500467800000", epochs=4, limit=50)
-# Rows of one loop each: name, cores, stores, the lines that have to be printed, of which the line `turns` isn't compared.
+# Rows of one loop each: name, cores, stores, the lines that have to be printed, of which the line `turns` isn't
+# compared.
 ROWS = [
     ("own_counters", "5", ["plain"], ["from plain 5 epoch 4 load 00000014 by epoch 0 store 00000034"]),
     ("own_counters", "4", ["plain"], ["never plain 4"]),
@@ -77,7 +78,8 @@ def check_shown(at: str, programs: Programs, text: str, told: str, turns: str) -
     first = next(violated(output), None)
     said = run(programs.why, [], f"{text}\ntrace {output.partition(chr(10) + 'trace ')[2]}")[0].split()
     load, store = (["load", said[24]], ["store", said[27]]) if said[22:23] == ["load"] else (["buffer"], [])
-    yield (f"{at}: what the turns show", words[3:], ["epoch", str(first and first[0]), *load, "by", "epoch", str(first and first[1]), *store])
+    yield (f"{at}: what the turns show", words[3:],
+           ["epoch", str(first and first[0]), *load, "by", "epoch", str(first and first[1]), *store])
     output = run(programs.replay, words[1:3], f"{text}\n{turns.rpartition(' ')[0]}\n")[0]
     yield (f"{at}: a turn less", list(violated(output)), [])
 
@@ -117,8 +119,10 @@ def told_of(output: str, stores: list[str]) -> Told | None:
     return None if rest or lines[:len(deps)] != deps else (deps, found)
 
 
-def check_loop(programs: Programs, name: str, text: str, cores: int, deps: list[str], leasts: dict[str, int | None], seeds: Iterable[int]) -> Iterator[Row]:
-    """What is told of a loop on up to so many cores. `leasts` has for each store the least number with a conflict, or None."""
+def check_loop(programs: Programs, name: str, text: str, cores: int, deps: list[str], leasts: dict[str, int | None],
+               seeds: Iterable[int]) -> Iterator[Row]:
+    """What is told of a loop on up to so many cores. `leasts` has for each store the least number with a conflict, or
+    None."""
     printed = run(programs.depends, [str(cores)], text)
     yield (f"{name}: again", run(programs.depends, [str(cores)], text), printed)
     told = told_of(printed[0], STORES)
@@ -130,12 +134,15 @@ def check_loop(programs: Programs, name: str, text: str, cores: int, deps: list[
     for store in STORES:
         line, turns = told[1][store]
         at, words, least = f"{name} {store}", line.split(), leasts[store]
-        yield (f"{at}: from how many cores", words[2] if words[0] != "never" else line, str(least) if least else f"never {store} {cores}")
+        yield (f"{at}: from how many cores", words[2] if words[0] != "never" else line,
+               str(least) if least else f"never {store} {cores}")
         seen[f"{words[0]} {store}"] += 1
         if words[0] == "never":
             yield from check_never(at, programs.replay, text, store, cores, seeds)
         if turns is not None:
-            yield (f"{at}: a conflict {line}", (int(words[4]), int(words[9 if "load" in words else 8])) in conflicting(loop, store, int(words[2])), True)
+            yield (f"{at}: a conflict {line}",
+                   (int(words[4]), int(words[9 if "load" in words else 8])) in conflicting(loop, store, int(words[2])),
+                   True)
             yield from check_shown(at, programs, text, line, turns)
 
 
@@ -159,7 +166,8 @@ def check_examples(programs: Programs) -> Iterator[Row]:
         cores = 16 if "\nversion 2\n" in f"\n{files[name]}" else 8
         yield from check_loop(programs, name, files[name], cores, deps.get(name, []), leasts[name], [1, 2])
     for name, store in sorted(coarser):
-        print(f"known: {name} over {store} is told as a conflict on {leasts[name][store]} cores, where another program finds none: the definition is coarser than the machine")
+        print(f"known: {name} over {store} is told as a conflict on {leasts[name][store]} cores, where another program "
+              "finds none: the definition is coarser than the machine")
 
 
 @comparing
@@ -172,7 +180,8 @@ def check_rows(programs: Programs) -> Iterator[Row]:
 
 @comparing
 def check_words(depends: list[str]) -> Iterator[Row]:
-    for words in (["0"], ["17"], ["x"], ["2", "other"], ["-1"], ["2", "caches", "2"], ["2", "plain", "caches", "plain"], ["caches"]):
+    for words in (["0"], ["17"], ["x"], ["2", "other"], ["-1"], ["2", "caches", "2"], ["2", "plain", "caches", "plain"],
+                  ["caches"]):
         yield (f"words {words}", run(depends, words, COUNTER), ("", "usage\n", 2))
     yield ("more cores than version 1 allows", run(depends, ["9"], COUNTER), ("", "usage\n", 2))
     yield ("an image that is refused", run(depends, ["2"], "size 1\n"), ("", "image 1 Range\n", 2))
@@ -185,7 +194,8 @@ def check_words(depends: list[str]) -> Iterator[Row]:
 # --- Random loops ------------------------------------------------------------------
 
 def access(rng: random.Random, places: list[int]) -> list[int]:
-    """A load or store of a place that epochs share, or that follows from the epoch's number; sometimes one at an address from memory."""
+    """A load or store of a place that epochs share, or that follows from the epoch's number; sometimes one at an
+    address from memory."""
     base, at = rng.choice([0, 0, 0, 5, 5]), rng.choice(places)
     narrow = at % 4 != 0 or rng.random() < 0.15
     base = 10 if narrow and base else base
@@ -204,18 +214,22 @@ def small(rng: random.Random) -> tuple[bytes, int]:
     words = [MATCH["slli"] | 5 << 7 | 10 << 15 | rng.choice([0, 2, 2, 4, 4]) << 20]
     for _ in range(rng.randint(2, 8 if wide else 5)):
         chance = rng.random()
-        words += ([word_of_i(MATCH["addi"], 6, 6, 1)] if chance < 0.1 else [word_of_b(MATCH["beq"], rng.choice([6, 10]), 0, 8)] if chance < 0.2
+        words += ([word_of_i(MATCH["addi"], 6, 6, 1)] if chance < 0.1
+                  else [word_of_b(MATCH["beq"], rng.choice([6, 10]), 0, 8)] if chance < 0.2
                   else access(rng, places))
     leaves = rng.random() < 0.3
     if leaves:
-        words += [rng.choice([word_of_i(MATCH["sltiu"], 10, 10, rng.randint(0, 3)), word_of_i(MATCH["andi"], 10, 6, 1)])]
+        words += [rng.choice([word_of_i(MATCH["sltiu"], 10, 10, rng.randint(0, 3)),
+                              word_of_i(MATCH["andi"], 10, 6, 1)])]
         words += [word_of_i(MATCH["xori"], 10, 10, 1)] * rng.randint(0, 1)
     words += [word_of_i(MATCH["lw"], 8, 6, 1)] if rng.random() < 0.1 else []
     code = b"".join(word.to_bytes(4, "little") for word in [*words, word_of_i(MATCH["addi"], 0, 0, 0), RETURN]).hex()
     version = rng.choice([1, 1, 1, 2])
-    lines = [f"version {version}", "size 512", f"epochs {rng.randint(2, 6)}", f"limit {rng.choice([rng.randint(3, 8), *[40] * 9])}"]
+    lines = [f"version {version}", "size 512", f"epochs {rng.randint(2, 6)}",
+             f"limit {rng.choice([rng.randint(3, 8), *[40] * 9])}"]
     # code lies below 64 where it is short; else the places are in it, and stores fault
-    lines += [f"code {code}", *(["exit"] if leaves else []), *(["at 00000040 0700000004000000"] if len(code) <= 128 else [])]
+    lines += [f"code {code}", *(["exit"] if leaves else []),
+              *(["at 00000040 0700000004000000"] if len(code) <= 128 else [])]
     return ("\n".join(lines) + "\n").encode("ascii"), rng.choice([2, 3, 4, 8])
 
 
@@ -227,12 +241,14 @@ def check_random(programs: Programs, count: int) -> Iterator[Row]:
         try:
             image_read = rv32_seq.image_of(text)
         except rv32_seq.Refused as refused:
-            yield (f"random {index}", run(programs.depends, [str(cores)], text), ("", f"image {refused.line} {refused.name}\n", 2))
+            yield (f"random {index}", run(programs.depends, [str(cores)], text),
+                   ("", f"image {refused.line} {refused.name}\n", 2))
             continue
         loop = model.Loop(image_read)
         told = {store: model.store_line(loop, store, cores).split() for store in STORES}
         leasts = {store: None if words[0] == "never" else int(words[2]) for store, words in told.items()}
-        yield from check_loop(programs, f"random {index}", text.decode("latin-1"), cores, list(model.dep_lines(loop)), leasts, range(3))
+        yield from check_loop(programs, f"random {index}", text.decode("latin-1"), cores, list(model.dep_lines(loop)),
+                              leasts, range(3))
 
 
 @comparing
@@ -252,8 +268,8 @@ def main() -> int:
         left_out("depends", "it, replay and why weren't built beside the program that is tested")
         return 0
     programs = Programs(*([str(path)] for path in found))
-    script.run(*([partial(no_words, programs.depends)] if given.command else []), partial(check_words, programs.depends),
-               partial(check_rows, programs), partial(check_examples, programs))
+    script.run(*([partial(no_words, programs.depends)] if given.command else []),
+               partial(check_words, programs.depends), partial(check_rows, programs), partial(check_examples, programs))
     seen.clear()
     script.run(partial(check_random, programs, given.many))
     print("random loops:", ", ".join(f"{count} {told}" for told, count in sorted(seen.items())))

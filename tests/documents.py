@@ -3,11 +3,12 @@
 
 Usage: tests/documents.py [--list]
 
-`docs/reading.md` has to be what `tools/definitions` writes. The README has to say how many definitions the sentence stands on, and
-none of them may be of the caches or their bus. A definition is cited where a clause (`requires` or `ensures`) of an exported function
-names it, from a file of `specs/` that the source imports by `ghost use`; each has to be in its file. `--list` prints all of them. The
-drawing of docs/architecture.md and the README's list have the crates of crates.txt, by its floors, and each crate names
-there no crate that nothing of it names. Needs Python 3 alone. Exits with 1 where a check failed.
+`docs/reading.md` has to be what `tools/definitions` writes. The README has to say how many definitions the sentence
+stands on, and none of them may be of the caches or their bus. A definition is cited where a clause (`requires` or
+`ensures`) of an exported function names it, from a file of `specs/` that the source imports by `ghost use`; each has to
+be in its file. `--list` prints all of them. The drawing of docs/architecture.md and the README's list have the crates
+of crates.txt, by its floors, and each crate names there no crate that nothing of it names. Needs Python 3 alone. Exits
+with 1 where a check failed.
 """
 
 import re
@@ -27,7 +28,8 @@ NAME = r"[^\s(){}.,;λ]+"
 # --- The definitions that contracts cite ------------------------------------
 
 def imports(text):
-    """The definitions and the modules that a source imports: by the name that it uses, the crate, the file and the name there."""
+    """The definitions and the modules that a source imports: by the name that it uses, the crate, the file and the name
+    there."""
     names, modules = {}, {}
     for crate, path, what in re.findall(r"ghost use Rattle\.(\w+)\.specs\.([\w.]+?)(?:\.\{([^}]*)\}|(?= as ))", text):
         if path.startswith("declared"):
@@ -52,10 +54,12 @@ def block(text, start):
 
 def exports(crate):
     """The names that a crate's root file exports, and its public modules."""
-    root = next(path for path in ((ROOT / "crates" / crate / "src" / name) for name in ("lib.rt", "main.rt")) if path.is_file())
+    root = next(path for path in ((ROOT / "crates" / crate / "src" / name) for name in ("lib.rt", "main.rt"))
+                if path.is_file())
     text = root.read_text()
     names = set()
-    for what in re.findall(r"pub use [\w:]+?::(?:\{([^}]*)\}|(?=\w+;))", text) + re.findall(r"pub use [\w:]+::(\w+);", text):
+    for what in re.findall(r"pub use [\w:]+?::(?:\{([^}]*)\}|(?=\w+;))",
+                           text) + re.findall(r"pub use [\w:]+::(\w+);", text):
         names |= {part.strip() for part in what.split(",")}
     return names, set(re.findall(r"(?m)^pub mod (\w+);", text)), root.stem == "main"
 
@@ -137,8 +141,11 @@ def reading():
     list_of_run = page.partition("## `run_cores`\n")[2].partition("\n## ")[0]
     count = re.search(r"It stands on (\d+ definitions) of (\d+ lines)", list_of_run)
     said = " ".join((ROOT / "README.md").read_text().split())
-    yield "README.md", None if count and all(it in said for it in count.groups()) else f"doesn't say {count and count.groups()} of the sentence"
-    of_bus = set(re.findall(r"\(\.\./crates/(\w+)/", list_of_run)) & {"spec_bus", "bus_states", "cache_lines", "orb", "spec_states"}
+    yield ("README.md", None if count and all(it in said
+                                             for it in count.groups())
+           else f"doesn't say {count and count.groups()} of the sentence")
+    of_bus = set(re.findall(r"\(\.\./crates/(\w+)/", list_of_run)) & {"spec_bus", "bus_states", "cache_lines", "orb",
+                                                                      "spec_states"}
     yield "what the sentence stands on", f"is of the bus: {', '.join(sorted(of_bus))}" if of_bus else None
 
 
@@ -166,23 +173,30 @@ def drawn():
 def architecture():
     """The drawing, the README's list and the crates' pages have every crate, at its floor."""
     listed, rows = floors(), drawn()
-    yield "the floors of docs/architecture.md", None if len(rows) == len(listed) else f"are {len(rows)}, those of crates.txt {len(listed)}"
+    yield ("the floors of docs/architecture.md",
+           None if len(rows) == len(listed) else f"are {len(rows)}, those of crates.txt {len(listed)}")
     for names, row in zip(listed, rows):
-        yield f"the floor of {names[0]} in docs/architecture.md", None if sorted(names) == sorted(row) else f"has {row}, in crates.txt {names}"
+        yield (f"the floor of {names[0]} in docs/architecture.md",
+               None if sorted(names) == sorted(row) else f"has {row}, in crates.txt {names}")
     table = re.findall(r"(?m)^- \[`(\w+)`\]\(crates/", (ROOT / "README.md").read_text())
-    yield "the README's list of crates", None if table == sum(listed, []) else "doesn't have the crates of crates.txt in their order"
+    yield ("the README's list of crates",
+           None if table == sum(listed, []) else "doesn't have the crates of crates.txt in their order")
     for name in listed_crates():
         yield f"crates/{name}/README.md", None if (ROOT / "crates" / name / "README.md").is_file() else "isn't there"
 
 
 def named_in(name):
-    """The words before `::` or a dot, and behind `use`, of a crate's sources, definitions and proofs: the crates that they name, and more."""
-    files = (path for part in ("src", "specs", "proofs") for path in (ROOT / "crates" / name / part).rglob("*") if path.suffix in (".rt", ".antt"))
-    return {word for path in files for word in re.findall(r"\b\w+(?=::)|(?<=Rattle\.)\w+|(?<=use )\w+", path.read_text())}
+    """The words before `::` or a dot, and behind `use`, of a crate's sources, definitions and proofs: the crates that
+    they name, and more."""
+    files = (path for part in ("src", "specs", "proofs") for path in (ROOT / "crates" / name / part).rglob("*")
+             if path.suffix in (".rt", ".antt"))
+    return {word for path in files
+            for word in re.findall(r"\b\w+(?=::)|(?<=Rattle\.)\w+|(?<=use )\w+", path.read_text())}
 
 
 def dependencies():
-    """Each crate names in crates.txt no crate that nothing of it names. (One that is missing there, the checker refuses.)"""
+    """Each crate names in crates.txt no crate that nothing of it names. (One that is missing there, the checker
+    refuses.)"""
     for name, uses in re.findall(r"(?m)^(\w+)[^:#\n]*:(.*)", (ROOT / "crates.txt").read_text()):
         unnamed = sorted(set(uses.split()) - named_in(name))
         yield f"{name} in crates.txt", f"stands on {', '.join(unnamed)}, which nothing of it names" if unnamed else None
@@ -191,7 +205,8 @@ def dependencies():
 # --- Links and lengths ------------------------------------------------------
 
 def pages():
-    listed = called(["git", "ls-files", "-z", "--cached", "--others", "--exclude-standard", "*.md"], cwd=ROOT).stdout.split("\0")
+    listed = called(["git", "ls-files", "-z", "--cached", "--others", "--exclude-standard", "*.md"],
+                    cwd=ROOT).stdout.split("\0")
     names = [name for name in listed if name and (ROOT / name).is_file()]
     return sorted(ROOT / name for name in names) or sorted(ROOT.glob("**/*.md"))
 
@@ -224,7 +239,8 @@ def lengths():
     count = sum(len(page.read_text().split()) for page in pages())
     yield "all pages", None if count <= MOST_WORDS else f"have {count} words, more than {MOST_WORDS}"
     for page in pages():
-        yield from ((f"{page.relative_to(ROOT)}, line {number}", "can be wrapped") for number in too_long(page.read_text()))
+        yield from ((f"{page.relative_to(ROOT)}, line {number}", "can be wrapped")
+                    for number in too_long(page.read_text()))
 
 
 def too_long(text):
@@ -233,12 +249,15 @@ def too_long(text):
     for number, line in enumerate(text.splitlines(), 1):
         fenced ^= line.lstrip().startswith("```")
         prose = not fenced and not line.lstrip().startswith(("|", "#", "```"))
-        if prose and len(line) > LONGEST_LINE and " " in re.sub(r"^\s*(?:[-*>]|\d+\.)?\s*", "", line)[:LONGEST_LINE - 8]:
+        if (prose and len(line) > LONGEST_LINE
+            and " " in re.sub(r"^\s*(?:[-*>]|\d+\.)?\s*", "", line)[:LONGEST_LINE - 8]):
             yield number
 
 
-NUMBERS = "no one two three four five six seven eight nine ten eleven twelve thirteen fourteen fifteen sixteen seventeen eighteen nineteen twenty".split()
-COUNTED = re.compile(r"\b(?:all|the)\s+(\d[\d,]*|" + "|".join(NUMBERS[2:]) + r")\s+(?:[a-z]+\s+)?(crates|test\s+crates|wrong\s+bodies|edits)\b", re.I)
+NUMBERS = ("no one two three four five six seven eight nine ten eleven twelve thirteen fourteen fifteen sixteen "
+           "seventeen eighteen nineteen twenty").split()
+COUNTED = re.compile(r"\b(?:all|the)\s+(\d[\d,]*|" + "|".join(NUMBERS[2:])
+                     + r")\s+(?:[a-z]+\s+)?(crates|test\s+crates|wrong\s+bodies|edits)\b", re.I)
 TIMED = re.compile(r"\b(?:\d+|" + "|".join(NUMBERS[2:]) + r")\s+(?:processor\s+)?minutes\b[^.]*\bprocessors?\b", re.I)
 
 
@@ -255,7 +274,8 @@ def true_counts():
 
 
 def counts():
-    """Each count on a page of what the project has; that of minutes, which no test can know, may stand on one page alone."""
+    """Each count on a page of what the project has; that of minutes, which no test can know, may stand on one page
+    alone."""
     truth, timed = true_counts(), []
     for page in pages():
         if page.name == "CHANGELOG.md":
@@ -267,7 +287,8 @@ def counts():
             count = NUMBERS.index(number.lower()) if number.lower() in NUMBERS else int(number.replace(",", ""))
             wrong = None if count == truth[what] else f"is wrong: there are {truth[what]}"
             yield f"{page.relative_to(ROOT)}: the count {number} {what}", wrong
-    yield "minutes on processors", None if len(timed) <= 1 else f"stand on {', '.join(map(str, timed))}: one page is their home"
+    yield ("minutes on processors",
+           None if len(timed) <= 1 else f"stand on {', '.join(map(str, timed))}: one page is their home")
 
 
 def main() -> int:

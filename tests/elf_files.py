@@ -1,11 +1,14 @@
 #!/usr/bin/env python3
-"""ELF files that are damaged or made to mislead, as tools/image-of takes them: what is told is a reason, and what is made has the file's bytes.
+"""ELF files that are damaged or made to mislead, as tools/image-of takes them: what is told is a reason, and what is
+made has the file's bytes.
 
 Usage: tests/elf_files.py [--count N] [--seed S]
 
-Six good files, of both compilers and linkers, are changed at a few places drawn from a seed (2,000 times): bytes, words and lengths. Each then has to end in an image
-or a refusal, in a short time, and an image has to have the bytes that the file's own tables say, which a reader of this test's looks up. Names with line feeds and
-blanks, and variables far larger than memory, are tried too. What isn't installed is left out, and a line says so. Exits with 1 where a check failed.
+Six good files, of both compilers and linkers, are changed at a few places drawn from a seed (2,000 times): bytes, words
+and lengths. Each then has to end in an image or a refusal, in a short time, and an image has to have the bytes that the
+file's own tables say, which a reader of this test's looks up. Names with line feeds and blanks, and variables far
+larger than memory, are tried too. What isn't installed is left out, and a line says so. Exits with 1 where a check
+failed.
 """
 
 import argparse
@@ -34,13 +37,16 @@ sys.path.insert(0, str(TOOLS))
 sys.dont_write_bytecode = True
 
 GCC = ["riscv64-unknown-elf-gcc", "-march=rv32i", "-mabi=ilp32", "-O1", "-ffreestanding", "-msmall-data-limit=0"]
-CLANG = ["clang", "--target=riscv32-unknown-elf", "-march=rv32i", "-mabi=ilp32", "-O1", "-ffreestanding", "-msmall-data-limit=0"]
+CLANG = ["clang", "--target=riscv32-unknown-elf", "-march=rv32i", "-mabi=ilp32", "-O1", "-ffreestanding",
+         "-msmall-data-limit=0"]
 LD = ["riscv64-unknown-elf-ld", "--no-warn-rwx-segments", "-m", "elf32lriscv", "-e", "body"]
 LLD = ["ld.lld", "-m", "elf32lriscv", "-e", "body"]
-SOURCE = "unsigned out[4], given[3] = {1, 2, 3};\nconst unsigned char table[5] = {9, 8, 7, 6, 5};\nvoid body(unsigned e) { out[e] = given[e & 1] + table[e]; }\n"
+SOURCE = ("unsigned out[4], given[3] = {1, 2, 3};\nconst unsigned char table[5] = {9, 8, 7, 6, 5};\nvoid body(unsigned "
+          "e) { out[e] = given[e & 1] + table[e]; }\n")
 OWN = "_Thread_local unsigned kept[2] = {4, 5};\nunsigned out[4];\nvoid body(unsigned e) { out[e] = kept[e & 1]++; }\n"
 # No relocation changes what this object's sections say.
-ALONE = (" .globl body\n .type body, @function\nbody:\n lui t0, 1\n add t0, t0, a0\n lbu t1, 0(t0)\n sb t1, 16(t0)\n ret\n .size body, .-body\n .data\n .balign 16\n .globl kept\n"
+ALONE = (" .globl body\n .type body, @function\nbody:\n lui t0, 1\n add t0, t0, a0\n lbu t1, 0(t0)\n sb t1, 16(t0)\n "
+         "ret\n .size body, .-body\n .data\n .balign 16\n .globl kept\n"
          " .type kept, @object\n .size kept, 8\nkept:\n .word 0x04030201, 0x08070605\n")
 # Each file with its share of the changes: those that a linker reads cost more.
 SHARES = {"gnu.elf": 500, "lld.elf": 450, "own.elf": 400, "apart.elf": 450, "alone.o": 140, "alone.a": 60}
@@ -96,7 +102,8 @@ def answer_of(module: ModuleType, words: list[str]) -> Answer:
         except Exception as wrong:      # what a person would see as a traceback
             raised = f"{type(wrong).__name__}: {wrong}"
     out.flush()
-    return Answer(status, out.buffer.getvalue().decode("utf-8", "surrogateescape"), err.getvalue(), raised, time.process_time() - begun)
+    return Answer(status, out.buffer.getvalue().decode("utf-8", "surrogateescape"), err.getvalue(), raised,
+                  time.process_time() - begun)
 
 
 # --- What a file says, read apart from the tool -------------------------------
@@ -119,7 +126,8 @@ def headers(data: bytes) -> Iterator[tuple[int, ...]]:
 
 def placed(data: bytes) -> list[tuple[int, bytes]]:
     """Address and bytes of each section in memory that the file holds."""
-    return [(address, data[offset:offset + size]) for _, kind, flags, address, offset, size, *_ in headers(data) if flags & 2 and kind not in (0, 8)]
+    return [(address, data[offset:offset + size]) for _, kind, flags, address, offset, size, *_ in headers(data)
+            if flags & 2 and kind not in (0, 8)]
 
 
 def segments(data: bytes) -> Iterator[tuple[int, bytes]]:
@@ -133,11 +141,13 @@ def segments(data: bytes) -> Iterator[tuple[int, bytes]]:
 
 def wrong_of_linked(data: bytes, image: str) -> str | None:
     """Whether each byte of a section is what the section says, and what the loader would put there."""
-    memory, loaded = memory_of(image), {address + place: byte for address, part in segments(data) for place, byte in enumerate(part)}
+    memory, loaded = memory_of(image), {address + place: byte for address, part in segments(data)
+                                        for place, byte in enumerate(part)}
     for address, part in placed(data):
         for place, byte in enumerate(part, address):
             if not memory.get(place, 0) == byte == loaded.get(place):
-                return f"at {place:08x} the image has {memory.get(place, 0):02x}, the section {byte:02x}, the segment {loaded.get(place)}"
+                return (f"at {place:08x} the image has {memory.get(place, 0):02x}, the section {byte:02x}, the segment "
+                        f"{loaded.get(place)}")
     return None
 
 
@@ -186,7 +196,8 @@ def wrong_answer(answer: Answer, name: str, data: bytes) -> str | None:
         # of an archive the linker takes the member's bytes as they stand behind two headers
         member = data[data.rfind(b"\x7fELF"):] if name.endswith(".a") else data
         return wrong_of_linked(data, answer.image) if name.endswith(".elf") else wrong_of_object(member, answer.image)
-    if answer.status != 1 or answer.image or not re.match(r"image-of\S*: \S", answer.errors) or any(not line.isprintable() for line in answer.errors.splitlines()):
+    if (answer.status != 1 or answer.image or not re.match(r"image-of\S*: \S", answer.errors)
+        or any(not line.isprintable() for line in answer.errors.splitlines())):
         return f"the status {answer.status} and {answer.errors[:300]!r}"
     return None
 
@@ -213,7 +224,8 @@ def mutations(module: ModuleType, folder: Path, count: int, seed: int) -> Iterat
                 wrong.append(f"{number} ({kept}): {told}")
         yield f"{name} changed", "\n  ".join(wrong[:4]) + f"\n  {len(wrong)} in all" if wrong else None
     print(f"{images} of the changed files are images still; {time.process_time() - begun:.0f} s of the processor")
-    yield "some are images still, and most aren't", None if count < 500 or count // 50 < images < count else f"{images} of {count}"
+    yield ("some are images still, and most aren't",
+           None if count < 500 or count // 50 < images < count else f"{images} of {count}")
 
 
 # --- Names and sizes ------------------------------------------------------------
@@ -227,21 +239,29 @@ def names(module: ModuleType, folder: Path) -> Iterator[Check]:
     for name in ("named.o", "named.elf"):
         got = answer_of(module, ["--epochs", "4", "--version", "2", "--reg", "2=64", str(folder / name)])
         lines = got.image.splitlines()
-        right = "# kept\\x2000000000\\x204\\x0aexit\\x0a# " in got.image and "exit" not in lines and [line for line in lines if line[0] != "#"][0] == "version 2"
+        right = ("# kept\\x2000000000\\x204\\x0aexit\\x0a# " in got.image and "exit" not in lines
+                 and [line for line in lines if line[0] != "#"][0] == "version 2")
         yield f"a name with line feeds in {name}", None if right else f"got {got}"
     source = folder / "one\nexit\nend.s"
     source.write_text("# A remark.\x1b[31m \x07\n" + ALONE)
     got = answer_of(module, ["--epochs", "4", "--reg", "2=64", str(source)])
-    right = [line for line in got.image.splitlines() if line[0] != "#"] == [line for line in plain.splitlines() if line[0] != "#"]
-    yield "a file's name with line feeds", None if right and "# Made from one\\x0aexit\\x0aend.s by" in got.image and "\x1b" not in got.image else f"got {got}"
-    (folder / "asks.c").write_text("unsigned a[4];\nunsigned far(unsigned) __asm__(\"f\\033[31m\");\nvoid body(unsigned e) { a[e] = far(e); }\n")
+    right = [line for line in got.image.splitlines() if line[0] != "#"] == [line for line in plain.splitlines()
+                                                                            if line[0] != "#"]
+    yield ("a file's name with line feeds",
+           None if right and "# Made from one\\x0aexit\\x0aend.s by" in got.image and "\x1b" not in got.image
+           else f"got {got}")
+    (folder / "asks.c").write_text("unsigned a[4];\nunsigned far(unsigned) __asm__(\"f\\033[31m\");\nvoid "
+                                   "body(unsigned e) { a[e] = far(e); }\n")
     got = answer_of(module, ["--epochs", "4", "--stack", "64", str(folder / "asks.c")])
-    yield "a name with control characters in a refusal", None if got.status == 1 and "\x1b" not in got.errors else f"got {got}"
+    yield ("a name with control characters in a refusal",
+           None if got.status == 1 and "\x1b" not in got.errors else f"got {got}")
 
 
 def in_own_process(folder: Path, *words: str) -> tuple[str, float, int]:
-    """What the tool says in a process of its own, and what that took: seconds of the processor, and kilobytes at its most."""
-    done = subprocess.Popen([sys.executable, TOOLS / "image-of", *words], cwd=folder, stdout=subprocess.PIPE, stderr=subprocess.STDOUT, text=True)
+    """What the tool says in a process of its own, and what that took: seconds of the processor, and kilobytes at its
+    most."""
+    done = subprocess.Popen([sys.executable, TOOLS / "image-of", *words], cwd=folder, stdout=subprocess.PIPE,
+                            stderr=subprocess.STDOUT, text=True)
     told = done.stdout.read() if done.stdout else ""
     _, _, used = os.wait4(done.pid, 0)
     return told, used.ru_utime + used.ru_stime, used.ru_maxrss
@@ -257,8 +277,11 @@ def sizes(folder: Path) -> Iterator[Check]:
     (folder / "bare.elf").write_bytes((folder / "gnu.elf").read_bytes())
     for name in ("zeros.c", "ones.c", "common.o", "common.elf"):
         told, seconds, kilobytes = in_own_process(folder, "--epochs", "4", "--version", "2", name)
-        right = told.startswith("image-of: ") and ("than memory can" in told or "write more than" in told or "memory ends at" in told)
-        yield f"800 MB of {name}", None if right and seconds < 5 and kilobytes < 200_000 else f"{told[:300]!r}, {seconds:.1f} s, {kilobytes} KB"
+        right = told.startswith("image-of: ") and ("than memory can" in told or "write more than" in told
+                                                   or "memory ends at" in told)
+        yield (f"800 MB of {name}",
+               None if right and seconds < 5 and kilobytes < 200_000
+               else f"{told[:300]!r}, {seconds:.1f} s, {kilobytes} KB")
 
 
 def lacking() -> list[str]:
@@ -286,7 +309,8 @@ def main() -> int:
     with tempfile.TemporaryDirectory() as name:
         folder = Path(name)
         furnish(folder)
-        script.run(partial(names, module, folder), partial(sizes, folder), partial(mutations, module, folder, given.count, given.seed))
+        script.run(partial(names, module, folder), partial(sizes, folder),
+                   partial(mutations, module, folder, given.count, given.seed))
     return script.ended()
 
 

@@ -1,11 +1,14 @@
 #!/usr/bin/env python3
-"""Tests tools/loops and tools/json: each form that the programs take and print is read, written as it was, and the same after the way through JSON.
+"""Tests tools/loops and tools/json: each form that the programs take and print is read, written as it was, and the same
+after the way through JSON.
 
 Usage: tests/forms.py [COMMAND ..]
 
-COMMAND is a command of `trace_cli` that ends with the word `seq`; `why`, `replay`, `gain` and `depends` are the programs that were built beside it. Without it those of this
-repository are tested. Texts worked by hand are tried first, which need no program; then all images of examples/, with what the programs print of them. Each
-document is held to tools/loops/schema.json where python3-jsonschema is installed. What isn't there is left out, and a line says so. Exits with 1 where a check failed.
+COMMAND is a command of `trace_cli` that ends with the word `seq`; `why`, `replay`, `gain` and `depends` are the
+programs that were built beside it. Without it those of this repository are tested. Texts worked by hand are tried
+first, which need no program; then all images of examples/, with what the programs print of them. Each document is held
+to tools/loops/schema.json where python3-jsonschema is installed. What isn't there is left out, and a line says so.
+Exits with 1 where a check failed.
 """
 
 import json
@@ -37,15 +40,21 @@ except ImportError:
 
 # What a shell tells of a program that SIGPIPE ends.
 UNREAD = 141
-TOOLS = ["build", "definitions", "picture", "named", "trace", "json", "image-of", "loops-of", "plot", "verdict", "study", "view"]
-HURT = ("hurt 4 true epoch 1 try 1 core 1 lost 3 entered 2 since 2 by 0 core 0 cause 5 commit load 3 00000004 store 2 00000014 at 00000040 4\n"
+TOOLS = ["build", "definitions", "picture", "named", "trace", "json", "image-of", "loops-of", "plot", "verdict",
+         "study", "view"]
+HURT = ("hurt 4 true epoch 1 try 1 core 1 lost 3 entered 2 since 2 by 0 core 0 cause 5 commit load 3 00000004 store 2 "
+        "00000014 at 00000040 4\n"
         "also 4 silent load 3 00000004 store 2 00000014 at 00000080 4\nlater 4 store 7 00000014\nvain 4 hurt\nmoot 4\n")
 TOTAL = "total epochs 2 committed 2 useful 8 rollbacks 1 lost 3 cancelled 0 dropped 0 open 0 unsettled 0\n"
-GAIN = ("store plain cores 4 steps 108 gain 4.00 useful 432 lost 0 dropped 0 waiting 0 idle 0 restarts 0 true 0 silent 0 false 0 buffer 0 "
+GAIN = ("store plain cores 4 steps 108 gain 4.00 useful 432 lost 0 dropped 0 waiting 0 idle 0 restarts 0 true 0 silent "
+        "0 false 0 buffer 0 "
         "nothomefree 0 noway 0 orbfull 0 orbbusy 0\n")
-STEPS = ("turn 0 0 go\nentry 0 start 0\nattempt 0 0 homefree\nhart 0 00000000 0\nturn 1 1 again NoWay\nturn 2 0 over done 1\n"
-         "entry 0 store 00000040 4 00000001\nentry 0 commit\nattempt 0 -\nhart 0 -\norb 0\nline 0 0 0 00000040 M - 00000000 01000000\n"
-         "kept 0 00000040 0000 000f 01\nat 00000040 01000000\nend\nend done 1\nat 00000040 01000000000000000000000000000000\n"
+STEPS = ("turn 0 0 go\nentry 0 start 0\nattempt 0 0 homefree\nhart 0 00000000 0\nturn 1 1 again NoWay\nturn 2 0 over "
+         "done 1\n"
+         "entry 0 store 00000040 4 00000001\nentry 0 commit\nattempt 0 -\nhart 0 -\norb 0\nline 0 0 0 00000040 M - "
+         "00000000 01000000\n"
+         "kept 0 00000040 0000 000f 01\nat 00000040 01000000\nend\nend done 1\nat 00000040 "
+         "01000000000000000000000000000000\n"
          "counts 0 1 0 1\ntrace 2\n0 start 0\n0 store 00000040 4 00000001\n0 commit\n")
 # What these turns change.
 CHANGES = [
@@ -53,25 +62,39 @@ CHANGES = [
     [OfAttempt(0, None), OfHart(0, None), OfBuffer(0, ()), OfWay(0, 0, 0, Copy(0x40, "M", False, 0, b"\1\0\0\0")),
      OfKept(0, 0x40, 0, 15, b"\1"), OfMemory(0x40, b"\1\0\0\0")],
 ]
-DEPENDS = ("dep store 00000034 load 00000014 times 12 distance 4 4 at 00000040 13 first 0 4 stored 25 of 27 loaded 5 of 27\n"
+DEPENDS = ("dep store 00000034 load 00000014 times 12 distance 4 4 at 00000040 13 first 0 4 stored 25 of 27 loaded 5 "
+           "of 27\n"
            "from caches 2 epoch 1 load 00000014 by epoch 0 store 00000034\nturns 0 1 1 0 0\nnever plain 4\n")
 # (form, a text of that form)
 TEXTS = [
-    ("image", "# One.\n#> end done 3\nversion 2\nexit\nsize 64\nepochs 3\nlimit 9\ncode 6780000013000000\nreg 2 0000ff00\nat 00000020 01ff\n"),
-    ("traced", "size 64\nepochs 3\nlimit 9\ncode 67800000\ntrace 2\n0 start 0\n0 load 00000020 4 00000001\n0 store 00000020 1 000000ff\n1 start 1\n"
+    ("image",
+     "# One.\n#> end done 3\nversion 2\nexit\nsize 64\nepochs 3\nlimit 9\ncode 6780000013000000\nreg 2 0000ff00\nat "
+     "00000020 01ff\n"),
+    ("traced",
+     "size 64\nepochs 3\nlimit 9\ncode 67800000\ntrace 2\n0 start 0\n0 load 00000020 4 00000001\n0 store 00000020 1 "
+     "000000ff\n1 start 1\n"
                "0 hurt 1\n0 publish\n0 commit\n1 restart\n1 cancel 2\n1 fault 7 00000004\n"),
     ("output", "end fault 7 6 0000000c\nat 00000040 01000000000000000000000000000000\n"),
     ("output", "end exit 2\n"),
     ("output", "open 3\nat 00000040 01000000000000000000000000000000\ncounts 2 1 1 2\ntrace 2\n0 start 0\n0 commit\n"),
     ("survey", "schedules 256\nover 0\nhistories 9\n"),
-    ("survey", "schedules 4\nover 4\nhistories 2\nleast 0\nturns 0 0\nmost 1\nturns 0 1\nend done 2\nat 00000040 01000000000000000000000000000000\n"),
+    ("survey",
+     "schedules 4\nover 4\nhistories 2\nleast 0\nturns 0 0\nmost 1\nturns 0 1\nend done 2\nat 00000040 "
+     "01000000000000000000000000000000\n"),
     ("verdict", "legal 9 2\n"),
     ("verdict", "illegal 4 HurtMissing\n"),
-    ("conflicts", HURT + "cancel 9 epoch 3 try 1 core 0 lost 4 by 2 core 1\nopen epoch 3 try 2 core 0 done 5\n" + TOTAL),
-    ("conflicts", "hurt 4 other epoch 1 try 1 core 1 lost 3 entered 2 since - by 0 core 0 cause - - load - - store - - at - -\n" + TOTAL),
-    ("conflicts", "hurt 4 buffer epoch 1 try 1 core 1 lost 3 entered 2 since - by 0 core 0 cause 5 load held 3 00000004 asked 2 00000014 at 00000040 16\n"
-                  "epoch 1 rollbacks 1 lost 3\npair asked 00000014 held 00000004 rollbacks 1 lost 3 true 0 silent 0 false 0 buffer 1 stale 0 vain 0 later 0 "
-                  "distance 1 1 at 00000040 16\nline 00000040 rollbacks 1 lost 3 true 0 silent 0 false 0 buffer 1\npc 00000004 victim 1 3 causer 0 0\n"
+    ("conflicts", HURT + "cancel 9 epoch 3 try 1 core 0 lost 4 by 2 core 1\nopen epoch 3 try 2 core 0 done 5\n"
+     + TOTAL),
+    ("conflicts",
+     "hurt 4 other epoch 1 try 1 core 1 lost 3 entered 2 since - by 0 core 0 cause - - load - - store - - at - -\n"
+     + TOTAL),
+    ("conflicts",
+     "hurt 4 buffer epoch 1 try 1 core 1 lost 3 entered 2 since - by 0 core 0 cause 5 load held 3 00000004 asked 2 "
+     "00000014 at 00000040 16\n"
+                  "epoch 1 rollbacks 1 lost 3\npair asked 00000014 held 00000004 rollbacks 1 lost 3 true 0 silent 0 "
+                  "false 0 buffer 1 stale 0 vain 0 later 0 "
+                  "distance 1 1 at 00000040 16\nline 00000040 rollbacks 1 lost 3 true 0 silent 0 false 0 buffer 1\npc "
+                  "00000004 victim 1 3 causer 0 0\n"
                   "kind buffer rollbacks 1 lost 3\n" + TOTAL),
     ("gains", GAIN + "store caches cores 1 full\n" + GAIN.replace("gain 4.00", "gain -")),
     ("output", "turns 0 1 0\nend done 1\ncounts 0 0 0 1\ntrace 2\n0 start 0\n0 commit\n"),
@@ -85,13 +108,18 @@ TEXTS = [
 ]
 # (form, what isn't of it)
 REFUSED = [
-    ("image", "size 64\nspeed 3\n"), ("image", "size x\n"), ("traced", "size 64\n"), ("traced", "size 64\ntrace 2\n0 begin 0\n"), ("output", "end soon 3\n"),
-    ("conflicts", "hurt 4 true epoch 1\n"), ("conflicts", "vain 4 hurt\n"), ("conflicts", HURT.replace("vain 4", "vain 5")), ("gains", "store caches cores 2 fast\n"),
+    ("image", "size 64\nspeed 3\n"), ("image", "size x\n"), ("traced", "size 64\n"),
+    ("traced", "size 64\ntrace 2\n0 begin 0\n"), ("output", "end soon 3\n"),
+    ("conflicts", "hurt 4 true epoch 1\n"), ("conflicts", "vain 4 hurt\n"),
+    ("conflicts", HURT.replace("vain 4", "vain 5")), ("gains", "store caches cores 2 fast\n"),
     ("steps", STEPS.partition("end\n")[0]), ("steps", STEPS.replace("hart 0 -", "heart 0 -")),
     *(("steps", STEPS.replace(right, wrong)) for right, wrong in (
-        ("hart 0 00000000 0", "hart 0 0 0"), ("attempt 0 0 homefree", "attempt 0 0"), ("orb 0\n", "orb 0 40\n"), ("M - 00000000", "M 00000000"),
-        ("0000 000f", "000f"), ("at 00000040 01000000\nend", "at 00000040 0\nend"))), ("steps", STEPS.replace("end done 1", "end soon 1")),
-    ("dependences", DEPENDS.replace("turns 0 1 1 0 0\n", "")), ("dependences", DEPENDS.replace("distance 4", "distances 4")), ("dependences", "never plain\n"),
+        ("hart 0 00000000 0", "hart 0 0 0"), ("attempt 0 0 homefree", "attempt 0 0"), ("orb 0\n", "orb 0 40\n"),
+        ("M - 00000000", "M 00000000"),
+        ("0000 000f", "000f"), ("at 00000040 01000000\nend", "at 00000040 0\nend"))),
+    ("steps", STEPS.replace("end done 1", "end soon 1")),
+    ("dependences", DEPENDS.replace("turns 0 1 1 0 0\n", "")),
+    ("dependences", DEPENDS.replace("distance 4", "distances 4")), ("dependences", "never plain\n"),
     ("dependences", "never plain 4\n" + DEPENDS),
 ]
 
@@ -139,7 +167,8 @@ def turned(value: object) -> object:
 
 
 def in_pieces() -> Iterator[Check]:
-    """Documents of which few bytes are read at once, in other orders and without blanks. The last text has characters of several bytes, and a byte that is no UTF-8."""
+    """Documents of which few bytes are read at once, in other orders and without blanks. The last text has characters
+    of several bytes, and a byte that is no UTF-8."""
     usual = pieces.CHUNK
     texts = [text for _, text in TEXTS] + ["# \u00e9\u20ac\U0001f600\udcff\n" + TEXTS[1][1]]
     for size in (1, 2, 7, 64):
@@ -150,28 +179,35 @@ def in_pieces() -> Iterator[Check]:
     for text in texts:
         told = document(text)
         content = {key: told[key] for key in ("form", "version")} | {"content": turned(told["content"])}
-        orders = {"no blanks": json.dumps(told, separators=(",", ":")), "each key at its other end": json.dumps(turned(told), ensure_ascii=False),
+        orders = {"no blanks": json.dumps(told, separators=(",", ":")),
+                  "each key at its other end": json.dumps(turned(told), ensure_ascii=False),
                   "the content's keys at their other end": json.dumps(content, indent="\t") + "\r\n"}
         for name, order in orders.items():
-            if name == "no blanks" or form_of(text) != "steps":     # what a turn changes is said in the order of its keys
+            # what a turn changes is said in the order of its keys
+            if name == "no blanks" or form_of(text) != "steps":
                 yield f"{text[:30]!r}, {name}", None if back(order) == text else "is another"
 
 
 def refused_back() -> Iterator[Check]:
-    """Documents with which something is wrong: nothing is written, and what is said is what Python says of the whole document."""
+    """Documents with which something is wrong: nothing is written, and what is said is what Python says of the whole
+    document."""
     good = to_json(TEXTS[1][1])
     for name, told, said in (
         ("nothing", "", "Expecting value: line 1 column 1 (char 0)"),
-        ("no end", good[:-3], f"Expecting ',' delimiter: line {good.count(chr(10)) - 1} column 3 (char {len(good) - 3})"),
+        ("no end", good[:-3],
+         f"Expecting ',' delimiter: line {good.count(chr(10)) - 1} column 3 (char {len(good) - 3})"),
         ("more behind its end", good + "{}", f"Extra data: line {good.count(chr(10)) + 1} column 1 (char {len(good)})"),
         ("no comma", good.replace('"cores": 2,', '"cores": 2'), None),
         ("a number that goes on", good.replace('"cores": 2,', '"cores": 2x,'), None),
         ("no width of the last entry", "\n".join(good.rsplit('\n     "width": null,\n', 1)), "'width'"),
-        ("an address that is a word", good.replace('"address": 32', '"address": "x"'), "Unknown format code 'x' for object of type 'str'"),
-        ("half of a surrogate pair", good.replace('"publish"', '"\\ud800"'), "'utf-8' codec can't encode character '\\ud800' in position 133: surrogates not allowed"),
+        ("an address that is a word", good.replace('"address": 32', '"address": "x"'),
+         "Unknown format code 'x' for object of type 'str'"),
+        ("half of a surrogate pair", good.replace('"publish"', '"\\ud800"'),
+         "'utf-8' codec can't encode character '\\ud800' in position 133: surrogates not allowed"),
     ):
         got = tool("json", told, "--back")
-        right = got[0] == "" and got[1].startswith("json: ") and got[2] == 2 and (said is None or got[1] == f"json: {said}\n")
+        right = got[0] == "" and got[1].startswith("json: ") and got[2] == 2 and (said is None
+                                                                                  or got[1] == f"json: {said}\n")
         yield f"back from a document with {name}", None if right else f"got {got}"
     twice = good.replace('"version": 1,', '"version": 2,\n "version": 1,', 1)
     yield "a key that is said twice", None if tool("json", twice, "--back") == (TEXTS[1][1], "", 0) else "is another"
@@ -203,20 +239,26 @@ def by_hand():
     yield "another version", None if got[2] == 2 and "version 1 is known" in got[1] else f"got {got}"
     image = read_image(TEXTS[0][1])
     facts = (image.version, image.exit, image.size, image.registers, image.data[0].data, image.remarks)
-    yield "what an image says", None if facts == (2, True, 64, {2: 0xFF00}, b"\x01\xff", [" One.", "> end done 3"]) else f"got {facts}"
+    yield "what an image says", None if facts == (2, True, 64, {2: 0xFF00}, b"\x01\xff",
+                                                  [" One.", "> end done 3"]) else f"got {facts}"
     violation = read_conflicts(TEXTS[9][1]).violations[0]
-    facts = (violation.cause_what, violation.victims.pc, violation.also[0].kind, violation.later.entry, violation.vain, violation.moot)
+    facts = (violation.cause_what, violation.victims.pc, violation.also[0].kind, violation.later.entry, violation.vain,
+             violation.moot)
     yield "what a violation says", None if facts == ("commit", 4, "silent", 7, True, True) else f"got {facts}"
     steps = FORMS["steps"][1](STEPS)
-    facts = (len(steps.steps), steps.steps[1].answer, steps.steps[2].entries[1].place, steps.steps[1].cause, steps.steps[2].end, steps.output.counts.stores)
+    facts = (len(steps.steps), steps.steps[1].answer, steps.steps[2].entries[1].place, steps.steps[1].cause,
+             steps.steps[2].end, steps.output.counts.stores)
     yield "what steps say", differs(facts, (3, "again NoWay", 2, "NoWay", "done", 1))
     yield "what turns change", differs([step.changes for step in steps.steps], CHANGES)
     told = FORMS["dependences"][1](DEPENDS)
-    facts = (told.pairs[0].at.length, told.pairs[0].stored.of, told.over("caches").turns, told.over("caches").causer, told.over("plain").verdict)
+    facts = (told.pairs[0].at.length, told.pairs[0].stored.of, told.over("caches").turns, told.over("caches").causer,
+             told.over("plain").verdict)
     yield "what dependences say", None if facts == (13, 27, [0, 1, 1, 0, 0], 0x34, "never") else f"got {facts}"
     for name in TOOLS:
         out, errors, status = tool(name, "", "--help")
-        yield f"tools/{name} --help", None if (errors, status) == ("", 0) and out.startswith("usage: ") and len(out.split()) > 20 else f"got {out!r}, {errors!r}"
+        yield (f"tools/{name} --help",
+               None if (errors, status) == ("", 0) and out.startswith("usage: ") and len(out.split()) > 20
+               else f"got {out!r}, {errors!r}")
         said, _ = unread(name, "--help")
         yield f"tools/{name} --help, which nobody reads", f"says {said!r}" if said else None
     for words in ((), ("--cited",), ("do_why",)):
@@ -224,17 +266,22 @@ def by_hand():
         yield f"tools/definitions {' '.join(words)}, which nobody reads", None if got == ("", UNREAD) else f"got {got}"
     for name in ("build", "definitions"):
         out, errors, status = tool(name, "", "one", "two")
-        yield f"tools/{name} with two words", None if (out, status) == ("", 2) and errors.startswith("usage: ") else f"got {out!r}, {errors!r}, {status}"
+        yield (f"tools/{name} with two words",
+               None if (out, status) == ("", 2) and errors.startswith("usage: ")
+               else f"got {out!r}, {errors!r}, {status}")
 
 
 def packages():
-    """`pip install .` installs each package of tools/, and the tools, in the version that the changelog released last."""
+    """`pip install .` installs each package of tools/, and the tools, in the version that the changelog released
+    last."""
     project = (ROOT / "pyproject.toml").read_text()
     told = json.loads(re.search(r"(?m)^packages = (.*)$", project)[1])
-    there = sorted(".".join(path.parent.relative_to(ROOT / "tools").parts) for path in (ROOT / "tools").rglob("__init__.py"))
+    there = sorted(".".join(path.parent.relative_to(ROOT / "tools").parts)
+                   for path in (ROOT / "tools").rglob("__init__.py"))
     yield "the packages that are installed", None if sorted(told) == there else f"{told}, there are {there}"
     told = re.findall(r'(?m)^(loops-[\w-]+) = "loops\.commands\.(\w+):main"$', project)
-    names = {path.stem: path.stem.replace("_", "-") for path in (ROOT / "tools" / "loops" / "commands").glob("[a-z]*.py")}
+    names = {path.stem: path.stem.replace("_", "-")
+             for path in (ROOT / "tools" / "loops" / "commands").glob("[a-z]*.py")}
     there = [(name if name.startswith("loops-") else f"loops-{name}", module) for module, name in names.items()]
     yield "the tools that are installed", None if sorted(told) == sorted(there) else f"{told}, there are {there}"
     version = re.search(r'(?m)^version = "(.*)"$', project)[1]
@@ -250,7 +297,8 @@ def schema():
     checker = Draft202012Validator(json.loads(SCHEMA.read_text(encoding="utf-8")))
     Draft202012Validator.check_schema(checker.schema)
     good = document(TEXTS[9][1])
-    for name, bad in (("another form", {**good, "form": "image"}), ("no version", {"form": "verdict", "content": good["content"]}),
+    for name, bad in (("another form", {**good, "form": "image"}),
+                      ("no version", {"form": "verdict", "content": good["content"]}),
                       ("another kind", json.loads(json.dumps(good).replace('"true", "epoch"', '"odd", "epoch"')))):
         try:
             checker.validate(bad)
@@ -279,9 +327,11 @@ def examples(command):
         text = path.read_text()
         image = read_image(text)
         told = json.loads(json.dumps(document(text)))
-        yield f"{path.name}: the image", None if content_of(told) == image == read_image(image.text()) else "is another after JSON"
+        yield (f"{path.name}: the image",
+               None if content_of(told) == image == read_image(image.text()) else "is another after JSON")
         seq = printed(command[0], command[1:], text)
-        yield f"{path.name}: the report of its text", None if printed(command[0], command[1:], image.text()) == seq else "is another"
+        yield (f"{path.name}: the report of its text",
+               None if printed(command[0], command[1:], image.text()) == seq else "is another")
         run = printed(command[0], [*command[1:-1], "run", "--cores", "4", "--trace"], text)
         if seq is None or run is None:
             yield f"{path.name}: what it prints", "is refused"
@@ -294,11 +344,14 @@ def examples(command):
         if "why" in programs:
             yield f"{path.name}: its conflicts", wrong_with("conflicts", printed(programs["why"], [], traced))
         if "replay" in programs:
-            yield f"{path.name}: every schedule", wrong_with("survey", printed(programs["replay"], ["all", "plain", "2", "6"], text))
+            yield (f"{path.name}: every schedule",
+                   wrong_with("survey", printed(programs["replay"], ["all", "plain", "2", "6"], text)))
             again = Programs(programs["replay"].parent).retrace(traced, "caches")
             yield f"{path.name}: its trace taken again", None if again == read_output(run) else "is another"
-            yield f"{path.name}: its turns", wrong_with("steps", printed(programs["replay"], ["steps", "caches"], traced))
-            yield f"{path.name}: a run at even speed", wrong_with("output", printed(programs["replay"], ["even", "caches", "4"], text))
+            yield f"{path.name}: its turns", wrong_with("steps",
+                                                        printed(programs["replay"], ["steps", "caches"], traced))
+            yield (f"{path.name}: a run at even speed",
+                   wrong_with("output", printed(programs["replay"], ["even", "caches", "4"], text)))
         if "gain" in programs:
             yield f"{path.name}: its gains", wrong_with("gains", printed(programs["gain"], ["4"], text))
         if "depends" in programs:

@@ -1,12 +1,13 @@
 #!/usr/bin/env python3
-"""The program `gain` on all examples and on random images: the figures of tests/gain.txt, the sums, refusals; and `replay even`, whose
-turns are replayed.
+"""The program `gain` on all examples and on random images: the figures of tests/gain.txt, the sums, refusals; and
+`replay even`, whose turns are replayed.
 
 Usage: tests/gain.py [--random N] [COMMAND ..]
 
-COMMAND is a command of `trace_cli` that ends with the word `seq`, such as crates/trace_cli/out/trace_cli seq; `gain` and `replay`
-are the programs that were built beside it. Without it ./gain and ./replay of this repository are tested. Where no such program is beside it the
-test is left out, and a line says so. N random images are tried, 40 without it. Exits with 1 where an outcome differs.
+COMMAND is a command of `trace_cli` that ends with the word `seq`, such as crates/trace_cli/out/trace_cli seq; `gain`
+and `replay` are the programs that were built beside it. Without it ./gain and ./replay of this repository are tested.
+Where no such program is beside it the test is left out, and a line says so. N random images are tried, 40 without it.
+Exits with 1 where an outcome differs.
 """
 
 import argparse
@@ -24,8 +25,10 @@ FIGURES = "steps useful lost dropped waiting idle restarts".split()
 CAUSES = "nothomefree noway orbfull orbbusy".split()
 KINDS = "true silent false buffer".split()
 COUNTER = image("83220004938212002320500467800000", epochs=4, limit=50)
-# Epoch 0 counts down from 409,600 and then sets a word, for which three others look again and again: on four cores a history is full.
-COUNT_DOWN = image("631e0500b74206009382f2ffe39e02fe13031000232060046780000003230004e30e03fe67800000", epochs=4, limit=1_000_000)
+# Epoch 0 counts down from 409,600 and then sets a word, for which three others look again and again: on four cores a
+# history is full.
+COUNT_DOWN = image("631e0500b74206009382f2ffe39e02fe13031000232060046780000003230004e30e03fe67800000", epochs=4,
+                   limit=1_000_000)
 # How often a random image came to each kind, cause and end.
 seen: Counter[str] = Counter()
 
@@ -44,7 +47,8 @@ def check_sums(name: str, rows: list[dict[str, str]]) -> Iterator[Row]:
     for row in rows:
         n = {key: int(row[key]) for key in [*FIGURES, *CAUSES]}
         at = f"{name} {row['store']} {row['cores']}"
-        yield (f"{at}: the sum", n["useful"] + n["lost"] + n["dropped"] + n["waiting"] + n["idle"], int(row["cores"]) * n["steps"])
+        yield (f"{at}: the sum", n["useful"] + n["lost"] + n["dropped"] + n["waiting"] + n["idle"],
+               int(row["cores"]) * n["steps"])
         yield (f"{at}: waiting", sum(n[cause] for cause in CAUSES), n["waiting"])
         hundredths = first[row["store"]] * 100 // n["steps"]
         yield (f"{at}: gain", row["gain"], f"{hundredths // 100}.{hundredths % 100:02}")
@@ -65,9 +69,11 @@ def check_examples(program: list[str]) -> Iterator[Row]:
         first, second = run(program, ["8"], text), run(program, ["8"], text)
         yield (f"{name}: again", second, first)
         rows = lines_of(first[0])
-        yield (f"{name}: lines", [(row["store"], row["cores"]) for row in rows], [(s, c) for s in ("caches", "plain") for c in "1248"])
+        yield (f"{name}: lines", [(row["store"], row["cores"]) for row in rows],
+               [(s, c) for s in ("caches", "plain") for c in "1248"])
         for row in rows:
-            yield (f"{name} {row['store']} {row['cores']}", [row[key] for key in FIGURES], known[name, row["store"], row["cores"]])
+            yield (f"{name} {row['store']} {row['cores']}", [row[key] for key in FIGURES],
+                   known[name, row["store"], row["cores"]])
         yield from check_sums(name, rows)
 
 
@@ -83,13 +89,16 @@ def check_words(program: list[str]) -> Iterator[Row]:
 
 @comparing
 def check_full(program: list[str]) -> Iterator[Row]:
-    """The lines of a loop whose history is full on four cores: an epoch takes a step to begin, one for each instruction, and one to commit."""
+    """The lines of a loop whose history is full on four cores: an epoch takes a step to begin, one for each
+    instruction, and one to commit."""
     output, errors, status = run(program, ["4"], COUNT_DOWN)
     yield ("full: status", (errors, status), ("", 0))
     lines = output.splitlines()
+    steps = 2 * 409_600 + 7 + 3 * 6
     for first, store in ((0, "caches"), (3, "plain")):
-        yield (f"full: {store} 1", lines[first].split()[:10], f"store {store} cores 1 steps {2 * 409_600 + 7 + 3 * 6} gain 1.00 useful {2 * 409_600 + 7 + 3 * 6}".split())
-        yield (f"full: {store} 2", lines[first + 1].split()[9], str(2 * 409_600 + 7 + 3 * 6))
+        yield (f"full: {store} 1", lines[first].split()[:10],
+               f"store {store} cores 1 steps {steps} gain 1.00 useful {steps}".split())
+        yield (f"full: {store} 2", lines[first + 1].split()[9], str(steps))
         yield (f"full: {store} 4", lines[first + 2], f"store {store} cores 4 full")
 
 
@@ -109,11 +118,14 @@ def below_end(output: str) -> str:
 def wide(rng: random.Random) -> tuple[bytes, int]:
     """The text of an image whose epochs write in many lines, some of the same, and on how many cores it runs."""
     version, step = rng.choice([1, 2]), rng.choice([16, 32, 64])
-    words = [word_of_i(MATCH["andi"], 5, 10, rng.choice([0, 1, 3, 7])), MATCH["slli"] | 5 << 7 | 5 << 15 | rng.choice([4, 7, 9]) << 20]
+    words = [word_of_i(MATCH["andi"], 5, 10, rng.choice([0, 1, 3, 7])),
+             MATCH["slli"] | 5 << 7 | 5 << 15 | rng.choice([4, 7, 9]) << 20]
     for at in range(rng.randint(1, 24)):
-        words += [word_of_i(MATCH["lw"], 6, 5, 256 + at * step)] * rng.randint(0, 1) + [word_of_s(MATCH["sw"], 5, 10, 256 + at * step)]
+        words += ([word_of_i(MATCH["lw"], 6, 5, 256 + at * step)] * rng.randint(0, 1)
+                  + [word_of_s(MATCH["sw"], 5, 10, 256 + at * step)])
     code = b"".join(word.to_bytes(4, "little") for word in [*words, RETURN]).hex()
-    return f"version {version}\nsize 8192\nepochs {rng.choice([3, 9, 20])}\nlimit 100\ncode {code}\n".encode("ascii"), rng.randint(2, 16 if version == 2 else 8)
+    return (f"version {version}\nsize 8192\nepochs {rng.choice([3, 9, 20])}\nlimit 100\ncode {code}\n".encode("ascii"),
+            rng.randint(2, 16 if version == 2 else 8))
 
 
 def check_even(gain: list[str], replay: list[str], name: str, text: bytes, cores: int) -> Iterator[Row]:

@@ -77,7 +77,8 @@ def works() -> Iterator[Check]:
         wanted = {("proofs", "low"), ("tests", "low"), ("wrong bodies", "high"), ("the rest", "bash")}
         close = (rows.keys() == wanted and all(0.4 <= rows[it] <= 1.6 for it in wanted - {("the rest", "bash")})
                  and 3.5 <= sum(rows.values()) <= 6)
-        yield "processes that work 1.3 seconds each", None if close and status == 7 else f"noted {rows}, status {status}"
+        yield ("processes that work 1.3 seconds each",
+               None if close and status == 7 else f"noted {rows}, status {status}")
         file = Path(folder, "noted.tsv")
         file.write_text(NOTED)
         shown = called([TOOL, file])

@@ -1,6 +1,6 @@
 #!/usr/bin/env python3
-"""The package as `pip install .` puts it into an empty environment: each command prints its help, and makes what the tool
-of the tree makes.
+"""The package as `pip install .` puts it into an empty environment: each command prints its help, and makes what the
+tool of the tree makes.
 
 Usage: tests/installed.py [--only WORD] [COMMAND ..]
 
@@ -27,7 +27,8 @@ PROGRAMS = ("trace_cli", "why", "replay", "gain", "depends")
 GAIN = ("store {} cores {} steps {} gain {}.00 useful 432 lost 0 dropped 0 waiting 0 idle 0 restarts 0 true 0 silent 0 "
         "false 0 buffer 0 nothomefree 0 noway 0 orbfull 0 orbbusy 0\n")
 GAINS = "".join(GAIN.format(store, cores, 432 // cores, cores) for store in ("plain", "caches") for cores in (1, 4))
-PLAN = 'cores = [2]\nstores = ["plain"]\nschedules = ["seeded"]\nseeds = [1, 2]\ngain = 2\n[loops]\ncounter = "counter.image"\n'
+PLAN = ('cores = [2]\nstores = ["plain"]\nschedules = ["seeded"]\nseeds = [1, 2]\ngain = 2\n[loops]\ncounter = '
+        '"counter.image"\n')
 HAS_ALL = ("import importlib.util, sys; names = 'ensurepip pip setuptools venv wheel'.split(); "
            "sys.exit(not all(map(importlib.util.find_spec, names)))")
 # What a study makes that is the same each time; its manifest has the commit of a tree.
@@ -49,7 +50,8 @@ class Environment:
         shutil.copytree(ROOT / "tools", source / "tools", symlinks=True, ignore=shutil.ignore_patterns("__pycache__"))
         shutil.copy(ROOT / "pyproject.toml", source)
         pip = ["-m", "pip", "--no-input", "--disable-pip-version-check"]
-        called_well([by, *pip, "wheel", "--no-build-isolation", "--no-index", "--no-deps", "--wheel-dir", str(room), "."], cwd=source)
+        called_well([by, *pip, "wheel", "--no-build-isolation", "--no-index", "--no-deps", "--wheel-dir", str(room),
+                     "."], cwd=source)
         called_well([by, "-m", "venv", str(room / "environment")])
         wheel = str(next(room.glob("*.whl")))
         called_well([str(self.bin / "python"), *pip, "install", "--no-index", "--no-deps", wheel])
@@ -72,7 +74,8 @@ class Environment:
 
     def differs(self, name: str, *words: str, given: str = "") -> str | None:
         """How what a command prints differs from what the tool of the tree does; a failure of both is one too."""
-        one, other = self.call(self.bin / command_of(name), *words, given=given), self.call(ROOT / "tools" / name, *words, given=given)
+        one, other = self.call(self.bin / command_of(name), *words,
+                               given=given), self.call(ROOT / "tools" / name, *words, given=given)
         if other.returncode or not other.stdout:
             return f"tools/{name} ended with {other.returncode}: {other.stderr}"
         return differs((one.stdout, one.stderr, one.returncode), (other.stdout, other.stderr, other.returncode))
@@ -129,12 +132,14 @@ def with_programs(environment: Environment) -> Iterator[Check]:
     traced = (ROOT / "examples" / "traces" / "waits.trace").read_text()
     image = ROOT / "examples" / "histogram.image"
     rows: list[tuple[str, list[str], list[str], str]] = [
-        ("picture", ["why"], [], traced), ("named", ["why"], ["--say"], traced), ("view", ["why", "replay"], [], traced),
+        ("picture", ["why"], [], traced), ("named", ["why"], ["--say"], traced),
+        ("view", ["why", "replay"], [], traced),
         ("verdict", ["why", "replay", "gain"], [str(image)], "")]
     for name, needs, words, given in rows:
         lacks = environment.lacks(*needs)
         if lacks:
-            left_out(f"{command_of(name)} in an environment", f"{' and '.join(lacks)} isn't built beside the program that is tested")
+            left_out(f"{command_of(name)} in an environment",
+                     f"{' and '.join(lacks)} isn't built beside the program that is tested")
         else:
             yield command_of(name), environment.differs(name, *words, given=given)
     if environment.lacks("trace_cli"):
@@ -147,7 +152,8 @@ def with_programs(environment: Environment) -> Iterator[Check]:
 
 def study(environment: Environment) -> Iterator[Check]:
     """A study in which jobs are processes of their own, with a plot."""
-    lacks = [*environment.lacks("trace_cli", "why", "replay", "gain"), *([] if shutil.which("snakemake", path="/usr/bin") else ["snakemake"])]
+    lacks = [*environment.lacks("trace_cli", "why", "replay", "gain"),
+             *([] if shutil.which("snakemake", path="/usr/bin") else ["snakemake"])]
     if lacks:
         left_out("loops-study in an environment", f"{' and '.join(lacks)} isn't there")
         return

@@ -1,10 +1,10 @@
 #!/usr/bin/env python3
 """Tells each lemma that nothing reaches: tests/lemmas.py [FOLDER]
 
-A definition in a file of proofs/ is reached where a source, a definition in specs/, or an answer, an invariant or a proof of a function names it,
-or a definition that is itself reached. Names are compared and not what they stand for: one that is named anywhere counts as reached wherever it
-stands. So what is told is never needed, and `rt check` still decides. FOLDER has the crates; without it they are those of this repository.
-Exits with 1 where there is such a lemma.
+A definition in a file of proofs/ is reached where a source, a definition in specs/, or an answer, an invariant or a
+proof of a function names it, or a definition that is itself reached. Names are compared and not what they stand for:
+one that is named anywhere counts as reached wherever it stands. So what is told is never needed, and `rt check` still
+decides. FOLDER has the crates; without it they are those of this repository. Exits with 1 where there is such a lemma.
 """
 import re
 import sys
@@ -28,7 +28,8 @@ OF_FUNCTIONS = ("Answers.antt", "Invariants.antt", "Proof.antt")
 
 @dataclass
 class Definition:
-    """A definition of a file of proofs/: its name, the number of its first line, how many lines it has, and the words in them."""
+    """A definition of a file of proofs/: its name, the number of its first line, how many lines it has, and the words
+    in them."""
 
     file: Path
     name: str
@@ -48,7 +49,8 @@ def without_remark(line: str, mark: str) -> str:
 
 
 def definitions_of(file: Path, roots: set[str]) -> list[Definition]:
-    """The definitions of a file, in order; what stands outside of each goes to the roots. Those of a module stand two columns further in."""
+    """The definitions of a file, in order; what stands outside of each goes to the roots. Those of a module stand two
+    columns further in."""
     found: dict[str, Definition] = {}
     current, margins = None, [0]
     for number, whole in enumerate(file.read_text(encoding="utf-8").split("\n"), 1):
@@ -78,13 +80,16 @@ def unreached(folder: Path) -> tuple[list[Definition], list[Definition]]:
     all_of_them = []
     for file in sorted(folder.glob("crates/*/proofs/**/*.antt")):
         if file.name in OF_FUNCTIONS:
-            roots |= {it for line in file.read_text(encoding="utf-8").split("\n") for it in words_of(without_remark(line, "--"))}
+            roots |= {it for line in file.read_text(encoding="utf-8").split("\n")
+                      for it in words_of(without_remark(line, "--"))}
         elif file.name != "Lib.antt":
             all_of_them += definitions_of(file, roots)
     for file in folder.glob("crates/*/specs/**/*.antt"):
-        roots |= {it for line in file.read_text(encoding="utf-8").split("\n") for it in words_of(without_remark(line, "--"))}
+        roots |= {it for line in file.read_text(encoding="utf-8").split("\n")
+                  for it in words_of(without_remark(line, "--"))}
     for file in folder.glob("crates/*/src/**/*.rt"):
-        roots |= {it for line in file.read_text(encoding="utf-8").split("\n") for it in words_of(without_remark(line, "//"))}
+        roots |= {it for line in file.read_text(encoding="utf-8").split("\n")
+                  for it in words_of(without_remark(line, "//"))}
     by_name: dict[str, list[Definition]] = {}
     for it in all_of_them:
         by_name.setdefault(it.name, []).append(it)

@@ -105,8 +105,8 @@ def natives(folder: Path) -> Iterator[Check]:
     for source, words, given in [*((source, [], b"") for source in SOURCES),
                                  (PROGRAMS / "words.c", ["-n", "3"], b"one two\nthree\n\nfour"),
                                  (PROGRAMS / "words.c", ["-n", "9"], b"one")]:
-        yield (f"{source.name} {words} beside cc", differs(emulated(source, folder, words, given),
-                                                           native(source, folder, words, given)))
+        yield (f"{source.name} {words} beside cc",
+               differs(emulated(source, folder, words, given), native(source, folder, words, given)))
 
 
 def same(folder: Path) -> Iterator[Check]:
@@ -133,7 +133,8 @@ def random_programs(folder: Path) -> Iterator[Check]:
         return
     for seed in SEEDS:
         source = folder / f"random{seed}.c"
-        source.write_text(called_well(["csmith", "--seed", str(seed), "--max-funcs", "2", "--max-block-depth", "2", "--no-argc"]))
+        source.write_text(called_well(["csmith", "--seed", str(seed), "--max-funcs", "2", "--max-block-depth", "2",
+                                       "--no-argc"]))
         expected = native(source, folder, [], b"", ["-I/usr/include/csmith"])
         out, errors, status = loops_of("--cflags=-I/usr/include/csmith", "--loop", "all", "--out", folder / "random",
                                      source, seconds=600)

@@ -1,5 +1,6 @@
 #!/usr/bin/env python3
-"""Refuses each allocation of `trace_cli seq`, `trace_cli run` and `trace_cli audit`, of `why`, `replay` and `gain` in turn, and each thread of a run.
+"""Refuses each allocation of `trace_cli seq`, `trace_cli run` and `trace_cli audit`, of `why`, `replay` and `gain` in
+turn, and each thread of a run.
 
 Usage: tests/memory.py [COMMAND ..]
 
@@ -32,8 +33,8 @@ from steps_rows import COUNTED_CACHES, COUNTED_PLAIN, steps
 STOPPED = ("", "stopped NoMemory\n", 3)
 NO_THREAD = ("", "stopped NoThread\n", 3)
 
-# Takes the place of malloc and realloc, and of pthread_create: the call of the number REFUSED, of the one or the other by
-# KIND, gets nothing, and descriptor 9 is told so.
+# Takes the place of malloc and realloc, and of pthread_create: the call of the number REFUSED, of the one or the other
+# by KIND, gets nothing, and descriptor 9 is told so.
 SHIM = r"""
 #define _GNU_SOURCE
 #include <dlfcn.h>
@@ -90,7 +91,8 @@ AUDITS = [
     ("an illegal trace", traced(WAIT, without(NINE, 4)), illegal(4, "HurtMissing")),
     ("an exit without its cancel", traced(EXIT, without(SIX, 4)), illegal(4, "NotCancelled")),
     ("a long trace", traced(WAIT, NINE[:5] + ["# " + "x" * 100] * 500), legal(5, 0)),
-    ("many entries", traced(image("6f000000", epochs=9, limit=2), ["0 start 0", "1 start 1", *["0 hurt 1", "1 restart"] * 50]),
+    ("many entries", traced(image("6f000000", epochs=9, limit=2),
+                            ["0 start 0", "1 start 1", *["0 hurt 1", "1 restart"] * 50]),
      legal(102, 0)),
     ("a refused trace", traced(WAIT, NINE + ["x"]), trace_refused(15, "Line")),
     ("an image that is refused", traced(FOUR + "at 00000000 00\n", NINE), refused(5, "Place")),
@@ -102,31 +104,43 @@ ON_THREADS: list[tuple[str, list[str], str, Outcome]] = [
     ("a word for each epoch", ["run", "--cores", "4"], image("9312250023a0a20467800000", epochs=4),
      done(4, at(0x40, "00000000010000000200000003000000"))),
     ("a trace", ["run", "--cores", "1", "--trace"], image(COUNTER),
-     ("end done 1\ncounts 1 1 0 1\ntrace 1\n0 start 0\n0 load 00000040 4 00000000\n0 store 00000040 4 00000000\n0 commit\n", "", 0)),
+     ("end done 1\ncounts 1 1 0 1\ntrace 1\n0 start 0\n0 load 00000040 4 00000000\n0 store 00000040 4 00000000\n0 "
+      "commit\n", "", 0)),
     ("more cores than the version allows", ["run", "--cores", "9"], FOUR, ("", "usage\n", 2)),
 ]
 
 # the same, of the other programs: (what it shows, program, words, input, what is printed)
 CRATES = ROOT / "crates"
 OTHERS: list[tuple[str, str, list[str], str, Outcome]] = [
-    ("why of a worked history", "why", [], (CRATES / "why" / "stdin").read_text(), ((CRATES / "why" / "stdout").read_text(), "", 0)),
-    ("a worked schedule", "replay", ["caches", "2"], (CRATES / "replay" / "stdin").read_text(), ((CRATES / "replay" / "stdout").read_text(), "", 0)),
+    ("why of a worked history", "why", [], (CRATES / "why" / "stdin").read_text(),
+     ((CRATES / "why" / "stdout").read_text(), "", 0)),
+    ("a worked schedule", "replay", ["caches", "2"], (CRATES / "replay" / "stdin").read_text(),
+     ((CRATES / "replay" / "stdout").read_text(), "", 0)),
     # A start, a load, an addition, a store, a return and a commit. The second core has no epoch.
-    ("the gains of an epoch", "gain", ["2"], (CRATES / "gain" / "stdin").read_text(), ((CRATES / "gain" / "stdout").read_text(), "", 0)),
-    ("what a counter rolls back through", "depends", ["2"], (CRATES / "depends" / "stdin").read_text(), ((CRATES / "depends" / "stdout").read_text(), "", 0)),
+    ("the gains of an epoch", "gain", ["2"], (CRATES / "gain" / "stdin").read_text(),
+     ((CRATES / "gain" / "stdout").read_text(), "", 0)),
+    ("what a counter rolls back through", "depends", ["2"], (CRATES / "depends" / "stdin").read_text(),
+     ((CRATES / "depends" / "stdout").read_text(), "", 0)),
     ("one schedule", "replay", ["all", "plain", "1", "4"], image(COUNTER),
      ("schedules 1\nover 1\nhistories 1\nleast 0\nturns 0 0 0 0\nmost 0\nturns 0 0 0 0\nend done 1\n", "", 0)),
     # The core that is first takes the epoch, and needs three of the other four turns to start, load, store and commit.
     ("32 schedules", "replay", ["all", "caches", "2", "5"], image(COUNTER),
      ("schedules 32\nover 10\nhistories 8\nleast 0\nturns 0 0 0 0 0\nmost 0\nturns 0 0 0 0 0\nend done 1\n", "", 0)),
     *[("a run on one core by its own schedule", "replay", [*pace, "plain", "1"], image(COUNTER),
-       ("turns 0 0 0 0\nend done 1\ncounts 1 1 0 1\ntrace 1\n0 start 0\n0 load 00000040 4 00000000\n0 store 00000040 4 00000000\n0 commit\n", "", 0))
+       ("turns 0 0 0 0\nend done 1\ncounts 1 1 0 1\ntrace 1\n0 start 0\n0 load 00000040 4 00000000\n0 store 00000040 4 "
+        "00000000\n0 commit\n", "", 0))
       for pace in (["even"], ["seeded", "5"])],
     *[("each turn of a schedule", "replay", ["steps", store, "1"], image(COUNTER) + "turns 0 0 0 0\n",
-       (steps(above, "end done 1\ncounts 1 1 0 1\ntrace 1\n0 start 0\n0 load 00000040 4 00000000\n0 store 00000040 4 00000000\n0 commit\n"), "", 0))
+       (steps(above,
+              "end done 1\ncounts 1 1 0 1\ntrace 1\n0 start 0\n0 load 00000040 4 00000000\n0 store 00000040 4 "
+              "00000000\n0 commit\n"), "", 0))
       for store, above in (("caches", COUNTED_CACHES), ("plain", COUNTED_PLAIN))],
-    *[("a trace", "replay", ["caches"], image(COUNTER) + f"trace 1\n0 start 0\n0 load 00000040 4 0000000{value}\n0 store 00000040 4 00000000\n0 commit\n", shown)
-      for value, shown in [(0, ("end done 1\ncounts 1 1 0 1\ntrace 1\n0 start 0\n0 load 00000040 4 00000000\n0 store 00000040 4 00000000\n0 commit\n", "", 0)),
+    *[("a trace", "replay", ["caches"],
+       image(COUNTER)
+       + f"trace 1\n0 start 0\n0 load 00000040 4 0000000{value}\n0 store 00000040 4 00000000\n0 commit\n", shown)
+      for value, shown in [(0,
+                            ("end done 1\ncounts 1 1 0 1\ntrace 1\n0 start 0\n0 load 00000040 4 00000000\n0 store "
+                             "00000040 4 00000000\n0 commit\n", "", 0)),
                            (1, ("", "differs 1\n", 4))]],
 ]
 
@@ -144,8 +158,8 @@ def run(command: list[str], shim: Path, text: str, kind: str, number: int) -> tu
     return (result.stdout.decode("latin-1"), result.stderr.decode("latin-1"), result.returncode), met
 
 
-def differences(command: list[str], shim: Path, text: str, expected: Outcome, refused_too: Sequence[Outcome] = (STOPPED,),
-                kind: str = "allocation") -> tuple[str | None, int]:
+def differences(command: list[str], shim: Path, text: str, expected: Outcome, refused_too: Sequence[Outcome] = (STOPPED,
+                ), kind: str = "allocation") -> tuple[str | None, int]:
     """What is wrong with the runs of a row, and how many there were."""
     for number in range(1, 1000):
         got, met = run(command, shim, text, kind, number)
@@ -160,7 +174,8 @@ def differences(command: list[str], shim: Path, text: str, expected: Outcome, re
 
 
 def without_the_wrapper(command: list[str]) -> list[str]:
-    """The command with the built program in the place of ./trace_cli, whose shell would meet the refused allocations."""
+    """The command with the built program in the place of ./trace_cli, whose shell would meet the refused
+    allocations."""
     if Path(command[0]).resolve() != ROOT / "trace_cli":
         return command
     called_bytes(command, b"")

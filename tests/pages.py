@@ -3,13 +3,14 @@
 
 Usage: tests/pages.py [COMMAND ..]
 
-COMMAND is a command of `trace_cli` that ends with the word `seq`, as for the other tests; `why`, `replay` and `gain` are the programs
-that were built beside it. Without it those of this tree are tested. A command with nothing below it has to end well and to say
-nothing on standard error. The commands of a page are run in one new folder, in which the tree's folders are found by their names; the
-word `--unproved` of ./trace_cli is dropped, since the program is there. A line of a block that begins as a command does, and has no
-`$ `, is told as failed. What NOT_RUN names is left out. So is what calls a program that isn't built, what makes an
-image where tools/image-of lacks something or no gcc for RISC-V is installed, and what reads a file that so wasn't made. A line says
-each that is left out. Exits with 1 where a check failed.
+COMMAND is a command of `trace_cli` that ends with the word `seq`, as for the other tests; `why`, `replay` and `gain`
+are the programs that were built beside it. Without it those of this tree are tested. A command with nothing below it
+has to end well and to say nothing on standard error. The commands of a page are run in one new folder, in which the
+tree's folders are found by their names; the word `--unproved` of ./trace_cli is dropped, since the program is there. A
+line of a block that begins as a command does, and has no `$ `, is told as failed. What NOT_RUN names is left out. So is
+what calls a program that isn't built, what makes an image where tools/image-of lacks something or no gcc for RISC-V is
+installed, and what reads a file that so wasn't made. A line says each that is left out. Exits with 1 where a check
+failed.
 """
 import functools
 import os
@@ -29,13 +30,15 @@ from packages import has_module
 Command = tuple[str, str]
 COMPILER = "riscv64-unknown-elf-gcc"
 SECONDS = 120
-PAGES = ["README.md", "CONTRIBUTING.md", "docs/**/*.md", "examples/*.md", "tests/*.md", "bench/**/*.md", "crates/*/README.md"]
+PAGES = ["README.md", "CONTRIBUTING.md", "docs/**/*.md", "examples/*.md", "tests/*.md", "bench/**/*.md",
+         "crates/*/README.md"]
 FOLDERS = ["bench", "docs", "examples", "tests", "tools"]
 # How a command begins that is this project's own.
 OWN = re.compile(r"(?m)^(?:\./|tools/|tests/|bench/|\.ci/).*")
 PROGRAMS = ["why", "replay", "gain", "depends"]
 # The programs that a tool calls.
-TOOLS = {"named": ["why"], "picture": ["why"], "view": ["why", "replay"], "verdict": PROGRAMS, "study": ["why", "replay", "gain", "snakemake"]}
+TOOLS = {"named": ["why"], "picture": ["why"], "view": ["why", "replay"], "verdict": PROGRAMS,
+         "study": ["why", "replay", "gain", "snakemake"]}
 MODULES = {"plot": ["matplotlib"], "study": ["jsonschema", "matplotlib"]}
 # Commands that no test runs, with the reason.
 NOT_RUN = {
@@ -45,7 +48,8 @@ NOT_RUN = {
 
 
 def blocks(page: Path) -> Iterator[tuple[int, str, list[Command]]]:
-    """The fenced blocks of a page: for each the line where it begins, what stands above its first command, and its commands with what they print."""
+    """The fenced blocks of a page: for each the line where it begins, what stands above its first command, and its
+    commands with what they print."""
     text = page.read_text(encoding="utf-8")
     for found in re.finditer(r"(?ms)^```\w*\n(.*?)^```", text):
         above, *commands = re.split(r"(?m)^\$ ", found[1])
@@ -83,7 +87,8 @@ def lacks(command: str, found: dict[str, Path]) -> str | None:
     for name in needs:
         if not (name in found if name in PROGRAMS else shutil.which(name)):
             return f"the program {name}"
-    module = next((name for tool, names in MODULES.items() for name in names if f"tools/{tool} " in command and not has_module(name)), None)
+    module = next((name for tool, names in MODULES.items() for name in names if f"tools/{tool} " in command
+                   and not has_module(name)), None)
     if module:
         return f"the Python module {module}"
     if "image-of" in command and not can_compile():
@@ -109,8 +114,10 @@ def left_out(commands: list[Command], found: dict[str, Path], unmade: set[str]) 
     kept_back = next(filter(None, (not_run(it) for it, _ in commands)), None)
     missing = next(filter(None, (lacks(it, found) for it, _ in commands)), None)
     if not missing:
-        missing = next((f"the file {name}" for it, _ in commands for name in sorted(unmade) if re.search(rf"(?<![\w.]){re.escape(name)}\b", it)), None)
-    reason = f"not run: {kept_back}" if kept_back else missing and f"left out: commands of pages, since {missing} isn't there"
+        missing = next((f"the file {name}" for it, _ in commands for name in sorted(unmade)
+                        if re.search(rf"(?<![\w.]){re.escape(name)}\b", it)), None)
+    reason = (f"not run: {kept_back}" if kept_back else missing
+              and f"left out: commands of pages, since {missing} isn't there")
     return reason, unmade | set().union(*(files_of(it) for it, _ in commands)) if reason else unmade
 
 
@@ -126,7 +133,8 @@ def furnish(room: Path, found: dict[str, Path]) -> None:
 
 def failure_of(command: str, wanted: str, room: str) -> str | None:
     """Why a command isn't what its page says, or None."""
-    ran = called(["bash", "-c", command], seconds=SECONDS, cwd=room, stdin=subprocess.DEVNULL, env={**os.environ, "LOOPS_PROGRAMS": str(room)})
+    ran = called(["bash", "-c", command], seconds=SECONDS, cwd=room, stdin=subprocess.DEVNULL,
+                 env={**os.environ, "LOOPS_PROGRAMS": str(room)})
     if ran.returncode == TOO_LONG:
         return f"is still running after {SECONDS} seconds"
     if wanted and ran.stdout != wanted:

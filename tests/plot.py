@@ -1,10 +1,11 @@
 #!/usr/bin/env python3
-"""Tests tools/plot on lines of `gain` and of `depends`: the plot is read back as XML, the table as CSV. Nothing has to be built.
+"""Tests tools/plot on lines of `gain` and of `depends`: the plot is read back as XML, the table as CSV. Nothing has to
+be built.
 
 Usage: tests/plot.py
 
-The figures are those of a trial of the schedule outside the program. The plots are left out where no Python here has matplotlib, and a line says so. Exits with 1
-where a check failed.
+The figures are those of a trial of the schedule outside the program. The plots are left out where no Python here has
+matplotlib, and a line says so. Exits with 1 where a check failed.
 """
 
 import csv
@@ -19,8 +20,10 @@ from pathlib import Path
 from common import ROOT, Script, called, left_out
 
 SVG = "{http://www.w3.org/2000/svg}"
-NAMES = "store cores steps gain useful lost dropped waiting idle restarts true silent false buffer nothomefree noway orbfull orbbusy".split()
-# Of own_counters all violations are false sharing; of queens all waiting is for a way; of the histogram one of nine is made up to be false sharing.
+NAMES = ("store cores steps gain useful lost dropped waiting idle restarts true silent false buffer nothomefree noway "
+         "orbfull orbbusy").split()
+# Of own_counters all violations are false sharing; of queens all waiting is for a way; of the histogram one of nine is
+# made up to be false sharing.
 LINES = {
     "own_counters": """caches 1 464 1.00 464 0 0 0 0 0 0 0 0 0 0 0 0 0
 caches 4 428 1.08 464 1092 0 0 156 42 0 0 42 0 0 0 0 0
@@ -32,30 +35,38 @@ plain 1 1014 1.00 1014 0 0 0 0 0 0 0 0 0 0 0 0 0
 plain 4 268 3.78 1014 0 0 58 0 0 0 0 0 0 58 0 0 0""",
     "histogram": "caches 4 84 2.29 192 99 0 27 18 9 8 0 1 0 27 0 0 0",
 }
-FULL = "store caches cores 1 full\nstore caches cores 2 steps 84 gain - " + " ".join(f"{name} 0" for name in NAMES[4:]).replace("useful 0", "useful 168") + "\n"
+FULL = ("store caches cores 1 full\nstore caches cores 2 steps 84 gain - "
+        + " ".join(f"{name} 0" for name in NAMES[4:]).replace("useful 0", "useful 168") + "\n")
 # Of each bar the parts that are drawn, from below, in hundredths of all steps, rounded.
 PARTS = {
-    "own_counters-caches-1": {"useful": 100}, "own_counters-caches-4": {"useful": 27, "false": 64, "idle": 9}, "own_counters-plain-4": {"useful": 100},
+    "own_counters-caches-1": {"useful": 100}, "own_counters-caches-4": {"useful": 27, "false": 64, "idle": 9},
+    "own_counters-plain-4": {"useful": 100},
     "queens-caches-4": {"useful": 35, "noway": 32, "idle": 33}, "queens-plain-4": {"useful": 95, "nothomefree": 5},
-    "histogram-caches-4": {"useful": 57, "true": 26, "false": 3, "nothomefree": 8, "idle": 5}, "grown-caches-2": {"useful": 100},
+    "histogram-caches-4": {"useful": 57, "true": 26, "false": 3, "nothomefree": 8, "idle": 5},
+    "grown-caches-2": {"useful": 100},
 }
 
 
-# Two pairs of a loop, of which one is stored later in its epoch than it is loaded, and a loop without any; and one of fourteen pairs.
+# Two pairs of a loop, of which one is stored later in its epoch than it is loaded, and a loop without any; and one of
+# fourteen pairs.
 DEP = "dep store {:08x} load {:08x} times {} distance {} at 00000040 13 first 0 4 stored {} loaded {}\n"
 NEVER = "never caches 8\nnever plain 8\n"
 DEPENDS = {
-    "flows": DEP.format(0x34, 0x14, 12, "4 4", "25 of 27", "5 of 27") + DEP.format(0x08, 0x20, 3, "1 5", "3 of 27", "9 of 27")
+    "flows": DEP.format(0x34, 0x14, 12, "4 4", "25 of 27", "5 of 27")
+    + DEP.format(0x08, 0x20, 3, "1 5", "3 of 27", "9 of 27")
              + "from caches 2 epoch 1 load 00000014 by epoch 0 store 00000034\nturns 0 1 1 0 0\nopen plain 5\n",
     "alone": NEVER,
-    "many": "".join(DEP.format(4 * place, 4, 20 - place, f"{place + 1} 30", "2 of 4", "1 of 4") for place in range(14)) + NEVER,
+    "many": "".join(DEP.format(4 * place, 4, 20 - place, f"{place + 1} 30", "2 of 4", "1 of 4") for place in range(14))
+    + NEVER,
 }
-IMAGE = "# counter 00000040 16\n# code 00000034 flows.c:20\n# code 00000014 flows.c:14\nsize 256\nepochs 16\nlimit 50\ncode 67800000\n"
+IMAGE = ("# counter 00000040 16\n# code 00000034 flows.c:20\n# code 00000014 flows.c:14\nsize 256\nepochs 16\nlimit "
+         "50\ncode 67800000\n")
 
 
 def text_of(rows):
     """The lines of `gain` of a table."""
-    return "".join(" ".join(f"{name} {word}" for name, word in zip(NAMES, row.split())) + "\n" for row in rows.splitlines())
+    return "".join(" ".join(f"{name} {word}" for name, word in zip(NAMES, row.split())) + "\n"
+                   for row in rows.splitlines())
 
 
 def plot(*words, text=""):
@@ -76,14 +87,16 @@ def bars(root):
     for group in root.iter(f"{SVG}g"):
         named = re.fullmatch(r"(\w+-(?:caches|plain)-\d+)-(\w+)", group.get("id", ""))
         if named:
-            heights = [float(point.split()[-1]) for point in re.findall(r"[ML] ([-\d.]+ [-\d.]+)", group.find(f"{SVG}path").get("d"))]
+            heights = [float(point.split()[-1])
+                       for point in re.findall(r"[ML] ([-\d.]+ [-\d.]+)", group.find(f"{SVG}path").get("d"))]
             found.setdefault(named[1], []).append((named[2], min(heights), max(heights)))
     return {name: sorted(parts, key=lambda part: -part[2]) for name, parts in found.items()}
 
 
 def hatches(root: xml.Element) -> dict[str, str]:
     """Of each part of bars the lines of its hatch, without colours; empty where it has none."""
-    lines = {f"url(#{one.get('id')})": "".join(path.get("d", "") for path in one.iter(f"{SVG}path")) for one in root.iter(f"{SVG}pattern")}
+    lines = {f"url(#{one.get('id')})": "".join(path.get("d", "") for path in one.iter(f"{SVG}path"))
+             for one in root.iter(f"{SVG}pattern")}
     found = {}
     for group in root.iter(f"{SVG}g"):
         named = re.fullmatch(r"\w+-(?:caches|plain)-\d+-(\w+)", group.get("id", ""))
@@ -108,8 +121,8 @@ def plots(words):
     wanted = "1.00 1.08 1.00 4.00 1.00 1.39 1.00 3.78 2.29 full -".split()
     yield "the gain above each bar", None if sorted(gains) == sorted(wanted) else f"{gains}"
     told = [text for text in texts if text.startswith(("useful", "lost,", "dropped", "waiting", "idle"))]
-    wanted = ["useful: attempts that committed", "lost, true sharing", "lost, false sharing", "waiting to be the first epoch", "waiting for a way in a full set",
-              "idle: without an epoch"]
+    wanted = ["useful: attempts that committed", "lost, true sharing", "lost, false sharing",
+              "waiting to be the first epoch", "waiting for a way in a full set", "idle: without an epoch"]
     yield "what occurs is explained, and nothing else", None if told == wanted else f"{told}"
     found = bars(root)
     yield "a bar for each run that isn't full", None if len(found) == 10 else f"{sorted(found)}"
@@ -119,22 +132,27 @@ def plots(words):
         yield f"the parts of {name}", None if list(got.items()) == list(wanted.items()) else f"{got}"
     yield "the same bytes again", None if plot(*words)[0] == out else "others"
     found = hatches(root)
-    yield "no colour alone", None if len(found) >= 6 and len(set(found.values())) == len(found) else f"{ {name: hash(one) for name, one in found.items()} }"
+    yield ("no colour alone",
+           None if len(found) >= 6 and len(set(found.values())) == len(found)
+           else f"{ {name: hash(one) for name, one in found.items()} }")
 
 
 def tables(words, folder):
     """The same of the table, and what is refused."""
     out, errors, status = plot("--csv", *words)
     rows = list(csv.DictReader(io.StringIO(out)))
-    yield "a row for each line", None if (len(rows), errors, status) == (11, "", 0) else f"{len(rows)}, {errors!r}, {status}"
+    yield "a row for each line", None if (len(rows), errors, status) == (11, "",
+                                                                         0) else f"{len(rows)}, {errors!r}, {status}"
     found = next(row for row in rows if (row["loop"], row["store"], row["cores"]) == ("own_counters", "caches", "4"))
-    wanted = dict(zip(["loop", *NAMES], ["own_counters", *LINES["own_counters"].splitlines()[1].split()])) | {"full": "0"}
+    wanted = dict(zip(["loop", *NAMES],
+                      ["own_counters", *LINES["own_counters"].splitlines()[1].split()])) | {"full": "0"}
     yield "a row", None if found == wanted else f"{found}"
     full = rows[-2]
     yield "a full run", None if (full["full"], full["steps"], rows[-1]["gain"]) == ("1", "", "") else f"{full}"
     named = plot("--csv", f"{folder}/queens.txt")[0].splitlines()[1].split(",")[0]
     yield "named after the file", None if named == "queens" else named
-    for name, text, said in (("another line", "end done 3\n", "is no line of gain"), ("nothing", "", "there is no line of gain")):
+    for name, text, said in (("another line", "end done 3\n", "is no line of gain"),
+                             ("nothing", "", "there is no line of gain")):
         got = plot("--csv", text=text)
         yield f"refused: {name}", None if got[0] == "" and said in got[1] and got[2] == 2 else f"{got}"
 
@@ -147,11 +165,13 @@ def depends(folder):
     words = [f"{folder}/{name}.dep" for name in DEPENDS]
     out, errors, status = plot("--csv", *words)
     rows = [line.split(",") for line in out.splitlines()]
-    yield "a row for each pair", None if (len(rows), errors, status) == (17, "", 0) else f"{out!r}, {errors!r}, {status}"
+    yield "a row for each pair", None if (len(rows), errors, status) == (17, "",
+                                                                         0) else f"{out!r}, {errors!r}, {status}"
     wanted = ["flows", "00000034", "00000014", "12", "4", "4", "00000040", "13", "0", "4", "25", "27", "5", "27"]
     yield "the first pair", None if rows[1] == wanted else f"{rows[1]}"
     got = plot("--csv", f"{folder}/flows.dep", f"{folder}/queens.txt")
-    yield "refused: lines of both programs", None if got[0] == "" and "is no line of gain" in got[1] and got[2] == 2 else f"{got}"
+    yield ("refused: lines of both programs",
+           None if got[0] == "" and "is no line of gain" in got[1] and got[2] == 2 else f"{got}")
     out, errors, status = plot("--images", folder, *words)
     if "is not installed" in errors:
         left_out("plots of dependences", "python3-matplotlib isn't installed")
@@ -159,11 +179,14 @@ def depends(folder):
     yield "a plot of dependences", None if (errors, status) == ("", 0) else f"{errors!r}, {status}"
     root = xml.fromstring(out)
     texts = ["".join(text.itertext()).strip() for text in root.iter(f"{SVG}text")]
-    for said in ("caches: rolls back from 2 cores on; plain: open from 5 cores on", "caches: never on up to 8 cores; plain: never on up to 8 cores",
-                 "12 times, 4 later: counter", "flows.c:20 to flows.c:14", "3 times, 1 to 5 later: counter", "00000008 to 00000020",
+    for said in ("caches: rolls back from 2 cores on; plain: open from 5 cores on",
+                 "caches: never on up to 8 cores; plain: never on up to 8 cores",
+                 "12 times, 4 later: counter", "flows.c:20 to flows.c:14", "3 times, 1 to 5 later: counter",
+                 "00000008 to 00000020",
                  "no epoch reads what another one stored", "3 more pairs, 24 times, at least 12 later"):
         yield f"it is told: {said}", None if said in texts else f"{texts}"
-    arrows = {group.get("id"): "stroke-dasharray" in xml.tostring(group, "unicode") for group in root.iter(f"{SVG}g") if re.match(r"\w+-[0-9a-f]{8}-[0-9a-f]{8}", group.get("id", ""))}
+    arrows = {group.get("id"): "stroke-dasharray" in xml.tostring(group, "unicode") for group in root.iter(f"{SVG}g")
+              if re.match(r"\w+-[0-9a-f]{8}-[0-9a-f]{8}", group.get("id", ""))}
     yield "an arrow for each pair that has a row", None if len(arrows) == 13 else f"{arrows}"
     told = (arrows["flows-00000034-00000014"], arrows["flows-00000008-00000020"])
     yield "late and early by no colour alone", None if told == (False, True) else f"{told}"

@@ -1,11 +1,13 @@
 #!/usr/bin/env python3
-"""Compares the recipes of CONTRIBUTING.md with the tree, or with a change that follows one: tests/recipes.py [RECIPE REVISION [BASE]]
+"""Compares the recipes of CONTRIBUTING.md with the tree, or with a change that follows one: tests/recipes.py [RECIPE
+REVISION [BASE]]
 
-Without words each file that a recipe names has to be there. With the first words of a recipe's title, as `instruction`, and a revision it tells
-which of the files that differ there from BASE (where the revision left `main`) the recipe doesn't name, and which of those that it names are
-untouched. A file is named by its path, below the crate that was named last, or below the top; above the first recipe stand those that belong to
-each. A new file has no name yet: it has to stand beside one that is named. So does a wrong body beside others, always. Exits with 1 where a file
-is not there, or a touched one is not named.
+Without words each file that a recipe names has to be there. With the first words of a recipe's title, as `instruction`,
+and a revision it tells which of the files that differ there from BASE (where the revision left `main`) the recipe
+doesn't name, and which of those that it names are untouched. A file is named by its path, below the crate that was
+named last, or below the top; above the first recipe stand those that belong to each. A new file has no name yet: it has
+to stand beside one that is named. So does a wrong body beside others, always. Exits with 1 where a file is not there,
+or a touched one is not named.
 """
 import re
 import sys
@@ -40,7 +42,8 @@ def files_of(text: str, top: Path) -> list[str]:
 
 def touched(revision: str, base: str) -> dict[str, bool]:
     """The files that a revision has otherwise than its base, each with whether it is new there; wrong bodies aside."""
-    words = ["git", "-C", str(ROOT), "diff", "--name-status", "--no-renames", f"{base}...{revision}" if base == "main" else f"{base}..{revision}"]
+    words = ["git", "-C", str(ROOT), "diff", "--name-status", "--no-renames",
+             f"{base}...{revision}" if base == "main" else f"{base}..{revision}"]
     lines = called_well(words).splitlines()
     files = [line.split("\t") for line in lines]
     return {name: how == "A" for how, name in files if not name.startswith("tests/wrong-bodies/")}
@@ -50,7 +53,8 @@ def compare(title: str, named: set[str], of_all: set[str], revision: str, base: 
     """Tells how a change and a recipe differ; how many files the recipe lacks."""
     changed = touched(revision, base)
     beside = {str(Path(it).parent) for it in named}
-    lacks = sorted(it for it, is_new in changed.items() if it not in named | of_all and not (is_new and str(Path(it).parent) in beside))
+    lacks = sorted(it for it, is_new in changed.items() if it not in named | of_all
+                   and not (is_new and str(Path(it).parent) in beside))
     for it in lacks:
         print(f"FAILED {title}: the change touches {it}, which the recipe doesn't name")
     for it in sorted(named - changed.keys()):

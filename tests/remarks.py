@@ -1,9 +1,11 @@
 #!/usr/bin/env python3
-"""Tests which options a source may give tools/image-of in its remarks: those that name no file and no program. Others are refused before anything is called.
+"""Tests which options a source may give tools/image-of in its remarks: those that name no file and no program. Others
+are refused before anything is called.
 
 Usage: tests/remarks.py
 
-What the options do is compared with the command line, where a compiler for RISC-V is there; else that is left out, and a line says so. Exits with 1 where a check failed.
+What the options do is compared with the command line, where a compiler for RISC-V is there; else that is left out, and
+a line says so. Exits with 1 where a check failed.
 """
 
 import os
@@ -16,22 +18,32 @@ from pathlib import Path
 from common import ROOT, Check, Script, called, left_out
 
 Results = Iterator[Check]
-BODY = "#ifndef STEP\n#define STEP 1\n#endif\nunsigned sums[4];\nvoid body(unsigned epoch) { sums[epoch & 3] += STEP; }\nvoid loop(unsigned epoch) { sums[0] = epoch; }\n"
+BODY = ("#ifndef STEP\n#define STEP 1\n#endif\nunsigned sums[4];\nvoid body(unsigned epoch) { sums[epoch & 3] += STEP; "
+        "}\nvoid loop(unsigned epoch) { sums[0] = epoch; }\n")
 REMARK = {"b.c": "//", "b.s": "#", "b.ll": ";", "b.cpp": "//"}
 # A remark, and words of the reason.
 REFUSED = [
-    ("--cflags='-wrapper sh,-c,touch\\ X'", "--cflags"), ("--cflags=-std=c99", "--cflags"), ("--data sums=/etc/hostname", "--data"), ("-I /etc", "-I"), ("-I/etc", "-I/etc"),
-    ("-g", "-g"), ("--assembly", "--assembly"), ("--compiler clang", "--compiler"), ("--help", "--help"), ("/etc/hostname", "/etc/hostname"), ("@/etc/hostname", "@/etc/hostname"),
-    ("-- b.c", "'--'"), ("-wrapper sh,-c,true", "-wrapper"), ("--epoch 3", "--epoch"), ("--entry 'body\"; .incbin \"/etc/hostname'", "isn't the name of a function"),
-    ("--entry 'body) *(.x'", "isn't the name of a function"), ("--entry ''", "isn't the name of a function"), ("-O '2 -wrapper sh'", "isn't 0, 1, 2"), ("-O2@x", "isn't 0, 1, 2"),
-    ("-D=-wrapper", "isn't NAME or NAME=VALUE"), ("-D 'A=\x1b'", "isn't NAME or NAME=VALUE"), ("--std 'c99 -wrapper'", "isn't a standard"), ("--std=-x", "isn't a standard"),
-    ("--reg 1=4", "isn't N=VALUE"), ("--size x", "--size"), ("--limit 'unclosed", "No closing quotation"), ("--version 3", "--version"),
+    ("--cflags='-wrapper sh,-c,touch\\ X'", "--cflags"), ("--cflags=-std=c99", "--cflags"),
+    ("--data sums=/etc/hostname", "--data"), ("-I /etc", "-I"), ("-I/etc", "-I/etc"),
+    ("-g", "-g"), ("--assembly", "--assembly"), ("--compiler clang", "--compiler"), ("--help", "--help"),
+    ("/etc/hostname", "/etc/hostname"), ("@/etc/hostname", "@/etc/hostname"),
+    ("-- b.c", "'--'"), ("-wrapper sh,-c,true", "-wrapper"), ("--epoch 3", "--epoch"),
+    ("--entry 'body\"; .incbin \"/etc/hostname'", "isn't the name of a function"),
+    ("--entry 'body) *(.x'", "isn't the name of a function"), ("--entry ''", "isn't the name of a function"),
+    ("-O '2 -wrapper sh'", "isn't 0, 1, 2"), ("-O2@x", "isn't 0, 1, 2"),
+    ("-D=-wrapper", "isn't NAME or NAME=VALUE"), ("-D 'A=\x1b'", "isn't NAME or NAME=VALUE"),
+    ("--std 'c99 -wrapper'", "isn't a standard"), ("--std=-x", "isn't a standard"),
+    ("--reg 1=4", "isn't N=VALUE"), ("--size x", "--size"), ("--limit 'unclosed", "No closing quotation"),
+    ("--version 3", "--version"),
 ]
 # A remark that is taken, and the words of the command line that say the same.
 TAKEN = [
-    ("--limit 60", ["--limit", "60"]), ("--size 128", ["--size", "128"]), ("--stack 32", ["--stack", "32"]), ("--version 2", ["--version", "2"]), ("--entry loop", ["--entry", "loop"]),
-    ("--reg 5=0x10 --reg x6=-1", ["--reg", "5=0x10", "--reg", "6=0xffffffff"]), ("-O1", ["-O", "1"]), ("-Os -D STEP=3", ["-Os", "-DSTEP=3"]),
-    ("-D 'STEP=(1 + 2)'", ["-D", "STEP=(1 + 2)"]), ("--std c99", ["--cflags=-std=c99"]), ("--std=gnu11 -DSTEP", ["--std", "gnu11", "-D", "STEP"]),
+    ("--limit 60", ["--limit", "60"]), ("--size 128", ["--size", "128"]), ("--stack 32", ["--stack", "32"]),
+    ("--version 2", ["--version", "2"]), ("--entry loop", ["--entry", "loop"]),
+    ("--reg 5=0x10 --reg x6=-1", ["--reg", "5=0x10", "--reg", "6=0xffffffff"]), ("-O1", ["-O", "1"]),
+    ("-Os -D STEP=3", ["-Os", "-DSTEP=3"]),
+    ("-D 'STEP=(1 + 2)'", ["-D", "STEP=(1 + 2)"]), ("--std c99", ["--cflags=-std=c99"]),
+    ("--std=gnu11 -DSTEP", ["--std", "gnu11", "-D", "STEP"]),
 ]
 
 
@@ -46,8 +58,10 @@ def refused(folder: Path) -> Results:
         for remark, reason in REFUSED if name == "b.c" else REFUSED[:3]:
             (folder / name).write_text(f"{sign} A loop.\n{sign} image: --epochs 4\n{sign} image: {remark}\n{BODY}")
             out, errors, status = image_of(folder, name)
-            right = out == "" and status == 1 and errors.startswith(f"image-of: {name}:3: ") and reason in errors and errors.count("\n") == 1
-            yield f"{name}: {remark!r}", None if right and not (folder / "X").exists() else f"{out[:60]!r}, {errors!r}, {status}"
+            right = (out == "" and status == 1 and errors.startswith(f"image-of: {name}:3: ") and reason in errors
+                     and errors.count("\n") == 1)
+            yield (f"{name}: {remark!r}",
+                   None if right and not (folder / "X").exists() else f"{out[:60]!r}, {errors!r}, {status}")
 
 
 def taken(folder: Path) -> Results:
@@ -64,7 +78,9 @@ def taken(folder: Path) -> Results:
         yield f"taken: {remark}", None if same else f"{told}, not {given}"
     (folder / "b.c").write_text("// image: --epochs 4 --limit 7 -O0\n" + BODY)
     out, errors, status = image_of(folder, "--limit", "9", "-O2", "b.c")
-    yield "the command line wins", None if "\nlimit 9\n" in out and "-O2" in out and "-O0" not in out and status == 0 else f"{out!r}, {errors!r}"
+    yield ("the command line wins",
+           None if "\nlimit 9\n" in out and "-O2" in out and "-O0" not in out and status == 0
+           else f"{out!r}, {errors!r}")
 
 
 def named(folder: Path) -> Results:
@@ -73,7 +89,9 @@ def named(folder: Path) -> Results:
         (folder / name).write_text(text)
         out, errors, status = image_of(folder, "--epochs", "1", "--", name)
         right = status == (0 if text == BODY else 1) or "is not installed" in errors or "no compiler" in errors
-        yield f"a source called {name}", None if right and "Traceback" not in errors and not (folder / "X").exists() else f"{out!r}, {errors!r}, {status}"
+        yield (f"a source called {name}",
+               None if right and "Traceback" not in errors and not (folder / "X").exists()
+               else f"{out!r}, {errors!r}, {status}")
 
 
 def main() -> int:

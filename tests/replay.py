@@ -1,14 +1,16 @@
 #!/usr/bin/env python3
-"""Worked rows of the program `replay`: words, an image and the lines below it, with the exact output for each; and streams that fail.
+"""Worked rows of the program `replay`: words, an image and the lines below it, with the exact output for each; and
+streams that fail.
 
 Usage: tests/replay.py [COMMAND ..]
 
-COMMAND is a command of `trace_cli` that ends with the word `seq`, such as crates/trace_cli/out/trace_cli seq; `replay` is the program that was built beside it.
-Without it ./replay of this repository is tested. Where no such program is beside it the test is left out, and a line says so.
-What comes of each schedule was worked out by hand from the cases of a turn; what a run on threads printed has to come of its trace. The input ends in a failed read after each number of its bytes, and the
-output after each number of bytes that are taken: once by what the kernel does of itself, and once, where the C compiler `cc` is
-installed, by calls in the place of `read` and `write` that take few bytes at a time and are interrupted. Needs Linux: pipes whose reads give what
-one write took. Exits with 1 where an outcome differs.
+COMMAND is a command of `trace_cli` that ends with the word `seq`, such as crates/trace_cli/out/trace_cli seq; `replay`
+is the program that was built beside it. Without it ./replay of this repository is tested. Where no such program is
+beside it the test is left out, and a line says so. What comes of each schedule was worked out by hand from the cases of
+a turn; what a run on threads printed has to come of its trace. The input ends in a failed read after each number of its
+bytes, and the output after each number of bytes that are taken: once by what the kernel does of itself, and once, where
+the C compiler `cc` is installed, by calls in the place of `read` and `write` that take few bytes at a time and are
+interrupted. Needs Linux: pipes whose reads give what one write took. Exits with 1 where an outcome differs.
 """
 
 import fcntl
@@ -26,7 +28,8 @@ from pathlib import Path
 from common import Check, ROOT, Row, Script, beside, called_bytes, called_well, comparing, differs, left_out
 from run_rows import loads
 from seq_rows import image, run
-from steps_rows import (BYTES_PLAIN, FAULTED_CACHES, FAULTED_PLAIN, NOT_VIOLATED_CACHES, NOT_VIOLATED_PLAIN, OVER_AT_ONCE, VIOLATED_CACHES,
+from steps_rows import (BYTES_PLAIN, FAULTED_CACHES, FAULTED_PLAIN, NOT_VIOLATED_CACHES, NOT_VIOLATED_PLAIN,
+                        OVER_AT_ONCE, VIOLATED_CACHES,
                         VIOLATED_PLAIN, answers, buffer, copies, entries, standing, steps, turns_of)
 from streams import piecewise
 
@@ -39,9 +42,11 @@ BYTES = image("9302f00f2300550467800000", epochs=2)
 # Each epoch loads the words at 64, 128 and 192, whose lines are of one set.
 ONE_SET = image("83220004032300088323000c67800000", epochs=2)
 # Epoch 0 loads the words at 64, 80, 96, 112 and 128. Epoch 1 stores 1 to them.
-FIVE_LOADS_FIRST = image("630e05002320a0042328a0042320a0062328a0062320a00867800000832200048322000583220006832200078322000867800000", epochs=2)
+FIVE_LOADS_FIRST = image("630e05002320a0042328a0042320a0062328a0062320a0086780000083220004832200058322000683220007"
+                         "8322000867800000", epochs=2)
 # Epoch 0 stores 0 to these words. Epoch 1 loads them.
-FIVE_STORES_FIRST = image("630e050083220004832200058322000683220007832200086780000" + "02320a0042328a0042320a0062328a0062320a00867800000", epochs=2)
+FIVE_STORES_FIRST = image("630e050083220004832200058322000683220007832200086780000"
+                          + "02320a0042328a0042320a0062328a0062320a00867800000", epochs=2)
 # Each of two epochs adds 1 to the word at 64, and then faults.
 CALL = image("83220004938212002320500473000000", epochs=2, limit=50)
 # Nothing is to be run.
@@ -208,14 +213,16 @@ at 00000040 ffff0000000000000000000000000000
 """
 NO_EPOCHS = "schedules 8\nover 8\nhistories 1\nleast 0\nturns 0 0 0\nmost 0\nturns 0 0 0\nend done 0\n"
 MOST_SCHEDULES = (
-    "schedules 65536\nover 65536\nhistories 1\nleast 0\nturns 0 0 0 0 0 0 0 0\nmost 0\nturns 0 0 0 0 0 0 0 0\nend done 0\n"
+    "schedules 65536\nover 65536\nhistories 1\nleast 0\nturns 0 0 0 0 0 0 0 0\nmost 0\nturns 0 0 0 0 0 0 0 0\nend done "
+    "0\n"
 )
 SIX_AND_SIX = "turns 0 0 0 0 0 0\nturns 1 1 1 1 1 1\n# then\n\nturns 0 1 1"
 
 # (store, image, what is printed, status): the trace below each image says whose turns make it
 TRACES = [
     *[(store, *row) for store in ("plain", "caches") for row in [
-        (SIGNAL, VIOLATED, 0), (LOAD_FIRST, NOT_VIOLATED, 0), (BYTES, BOTH_BYTES, 0), (SIGNAL, COMMITTED, 0), (CALL, FAULTED, 1),
+        (SIGNAL, VIOLATED, 0), (LOAD_FIRST, NOT_VIOLATED, 0), (BYTES, BOTH_BYTES, 0), (SIGNAL, COMMITTED, 0),
+        (CALL, FAULTED, 1),
         (SIGNAL, NOT_BEGUN, 0), (NOTHING, DONE_AT_ONCE, 0)]],
     ("caches", ONE_SET, PUBLISHED, 0), ("plain", ONE_SET, NOT_PUBLISHED, 0),
     ("caches", FIVE_LOADS_FIRST, WAITED, 0), ("plain", FIVE_LOADS_FIRST, NOT_WAITED, 0),
@@ -278,8 +285,10 @@ ROWS: list[tuple[list[str], str, str, int, str, str]] = [
     (PLAIN, ONE_SET, trace_of(PUBLISHED), 4, "", "differs 6\n"),
     (CACHES, FIVE_LOADS_FIRST, trace_of(NOT_WAITED), 4, "", "differs 11\n"),
     *[(["caches"], SIGNAL, trace_of(VIOLATED).replace(old, new), 4, "", f"differs {place}\n") for old, new, place in [
-        ("0 hurt 1\n", "", 4), ("1 restart\n", "", 6), ("0 store 00000040 4 00000001", "0 store 00000040 4 00000002", 2),
-        ("0 store", "1 store", 2), ("0 hurt 1", "1 hurt 1", 4), ("0 start 0\n", "", 0), ("trace 2\n", "trace 2\n2 start 0\n", 0)]],
+        ("0 hurt 1\n", "", 4), ("1 restart\n", "", 6),
+        ("0 store 00000040 4 00000001", "0 store 00000040 4 00000002", 2),
+        ("0 store", "1 store", 2), ("0 hurt 1", "1 hurt 1", 4), ("0 start 0\n", "", 0),
+        ("trace 2\n", "trace 2\n2 start 0\n", 0)]],
     (["caches"], SIGNAL, trace_of(VIOLATED) + "0 hurt 1\n", 4, "", "differs 9\n"),
     (["caches"], SIGNAL, trace_of(VIOLATED) + "# the end\n\n", 0, VIOLATED, ""),
     (["caches"], SIGNAL, "trace 9\n", 2, "", "trace 5 Head\n"),
@@ -318,7 +327,8 @@ STEPS = [
     (PLAIN, NOTHING, "0", OVER_AT_ONCE, DONE_AT_ONCE, 0),
 ]
 
-# Over caches on two cores: (image, turns, the answers, and of some cores what stands after so many turns: copies, buffer)
+# Over caches on two cores: (image, turns, the answers, and of some cores what stands after so many turns: copies,
+# buffer)
 STANDING: list[tuple[str, str, list[str], list[tuple[int, str, list[str], list[str]]]]] = [
     (BYTES, "0 1 0 1 0 1", ["go"] * 4 + ["left", "over done 2"], [
         (4, "0", ["00000040 SpS - 00000001"], ["00000040"]), (4, "1", ["00000040 SpS - 00000002"], ["00000040"])]),
@@ -330,13 +340,15 @@ STANDING: list[tuple[str, str, list[str], list[tuple[int, str, list[str], list[s
         (12, "1", [f"000000{line}0 SpS - 0000000f" for line in "4567"], [f"000000{line}0" for line in "4567"])]),
     (FIVE_STORES_FIRST, "0 0 0 0 0 0 1 1 1 1 1 1 0", ["go"] * 11 + ["again OrbBusy", "left"], [
         (6, "0", [f"000000{line}0 SpE - 0000000f" for line in "45678"], []),
-        (12, "0", [f"000000{line}0 SpS - 0000000f" for line in "4567"] + ["00000080 SpE - 0000000f"], [f"000000{line}0" for line in "4567"]),
+        (12, "0", [f"000000{line}0 SpS - 0000000f" for line in "4567"] + ["00000080 SpE - 0000000f"],
+         [f"000000{line}0" for line in "4567"]),
         (12, "1", [f"000000{line}0 SpS loaded 00000000" for line in "4567"], []),
         (13, "1", [], [])]),
 ]
 
 # Words below `steps` that ask for nothing.
-NO_STEPS: list[list[str]] = [[], ["bus", "2"], ["plain", "9"], ["plain", "02"], ["all", "plain", "2", "2"], ["seeded", "1", "plain", "2"], ["steps", "plain", "2"]]
+NO_STEPS: list[list[str]] = [[], ["bus", "2"], ["plain", "9"], ["plain", "02"], ["all", "plain", "2", "2"],
+                             ["seeded", "1", "plain", "2"], ["steps", "plain", "2"]]
 
 # The bytes that an image and lines of turns may have together.
 LONGEST = 33_554_432
@@ -344,8 +356,8 @@ LONGEST = 33_554_432
 # A program that tries again where it is interrupted would go on for ever.
 SECONDS = 30
 
-# In the place of read and write: descriptor 0 gives so many bytes, at most 3 a call, and is interrupted then; descriptor 1 takes
-# so many, at most 7 a call, and is broken then.
+# In the place of read and write: descriptor 0 gives so many bytes, at most 3 a call, and is interrupted then;
+# descriptor 1 takes so many, at most 7 a call, and is broken then.
 SHIM = r"""
 #define _GNU_SOURCE
 #include <errno.h>
@@ -371,7 +383,8 @@ ssize_t write(int to, const void *bytes, size_t count) { return some(SYS_write, 
 """
 
 
-# The first draws of SplitMix64 from the seed 1234567, as published: https://rosettacode.org/wiki/Pseudo-random_numbers/Splitmix64
+# The first draws of SplitMix64 from the seed 1234567, as published:
+# https://rosettacode.org/wiki/Pseudo-random_numbers/Splitmix64
 DRAWS = [6457827717110365317, 3203168211198807973, 9817491932198370423, 4593380528125082431, 16408922859458223821]
 
 
@@ -398,7 +411,8 @@ def seeded(program: Path, command: list[str]) -> Iterator[Row]:
             line, _, below = output.partition("\n")
             turns = line.split()[1:]
             yield name, turns, [str(draw % cores) for draw in itertools.islice(draws(seed), len(turns))]
-            yield f"{name}, replayed", run([str(program)], [store, str(cores)], f"{text}{line}\n"), (below, errors, status)
+            yield f"{name}, replayed", run([str(program)], [store, str(cores)],
+                                           f"{text}{line}\n"), (below, errors, status)
             yield f"{name}, in order", (below.partition("counts ")[0], errors, status), in_order
 
 
@@ -413,9 +427,11 @@ def traced(program: Path, command: list[str]) -> Iterator[Row]:
         trace = trace_of(printed)
         yield name, run([str(program)], ["caches"], f"{text}\n{trace}"), (printed, errors, status)
         lines = trace.splitlines()
-        place = chance.choice([place for place, line in enumerate(lines) if line.split()[1] in ("start", "load", "store", "hurt")])
+        place = chance.choice([place for place, line in enumerate(lines)
+                               if line.split()[1] in ("start", "load", "store", "hurt")])
         lines[place] = lines[place][:-1] + ("1" if lines[place][-1] == "0" else "0")
-        yield f"{name}, another {lines[place]}", run([str(program)], ["caches"], "\n".join([text, *lines])), ("", f"differs {place - 1}\n", 4)
+        yield f"{name}, another {lines[place]}", run([str(program)], ["caches"],
+                                                     "\n".join([text, *lines])), ("", f"differs {place - 1}\n", 4)
 
 
 @comparing
@@ -430,7 +446,8 @@ def stepped(program: Path) -> Iterator[Row]:
         seen, name = turns_of(output), f"steps of {turns} on {len(text)} bytes"
         yield name, (answers(seen), errors, status), (answered, "", 0)
         for count, core, held, buffered in after:
-            yield f"{name}: core {core} after {count}", (copies(seen[:count], core), buffer(seen[:count], core)), (held, buffered)
+            yield (f"{name}: core {core} after {count}", (copies(seen[:count], core), buffer(seen[:count], core)),
+                   (held, buffered))
     for words in NO_STEPS:
         yield f"steps {words}", run([str(program)], ["steps", *words], SIGNAL + "turns 0\n"), ("", "usage\n", 2)
 
@@ -509,7 +526,8 @@ STREAMS: list[tuple[list[str], str, str, str]] = [
     (CACHES, SIGNAL, NOT_BEGUN, "turns 0 Read\n"),
     (["seeded", "1234567", "plain", "2"], NOTHING, DRAWN, "image 0 Read\n"),
     (["caches"], NOTHING + "trace 2\n", DONE_AT_ONCE, "turns 0 Read\n"),
-    *[(["steps", *words], NOTHING + "turns 0\n", steps(OVER_AT_ONCE, DONE_AT_ONCE), "turns 0 Read\n") for words in (PLAIN, CACHES)],
+    *[(["steps", *words], NOTHING + "turns 0\n", steps(OVER_AT_ONCE, DONE_AT_ONCE), "turns 0 Read\n")
+      for words in (PLAIN, CACHES)],
 ]
 
 
@@ -524,17 +542,20 @@ def streams(program: Path, shim: Path | None) -> Iterator[Row]:
             failed = (b"", refused, 2)
             yield f"{words}: a read that fails after {given} bytes", read_fails(program, words, text[:given]), failed
             if shim:
-                yield f"{words}: a read that is interrupted after {given} bytes", cut(program, shim, words, text, given, 99), failed
+                yield (f"{words}: a read that is interrupted after {given} bytes",
+                       cut(program, shim, words, text, given, 99), failed)
         for room in range(len(output)):
             failed = (output[:room], b"stopped Write\n", 3)
             yield f"{words}: a write that fails after {room} bytes", write_fails(program, words, text, room), failed
             if shim:
-                yield f"{words}: a pipe that breaks after {room} bytes", cut(program, shim, words, text, 999, room), failed
+                yield (f"{words}: a pipe that breaks after {room} bytes", cut(program, shim, words, text, 999, room),
+                       failed)
 
 
 def rows(program: Path) -> Iterator[Check]:
     for words, text, below, status, output, errors in ROWS:
-        yield f"{words} on {len(text)} bytes and {below!r}", differs(run([str(program)], words, text + below), (output, errors, status))
+        yield (f"{words} on {len(text)} bytes and {below!r}",
+               differs(run([str(program)], words, text + below), (output, errors, status)))
 
 
 def main() -> int:
@@ -552,8 +573,10 @@ def main() -> int:
             called_well(["cc", "-shared", "-fPIC", "-O1", "-o", shim, source])
         else:
             left_out("interrupted reads of replay", "cc isn't installed")
-        script.run(partial(rows, program), *[partial(part, program) for part in (stepped, summed_up, full_history, longest)],
-                   partial(streams, program, shim), partial(seeded, program, command), partial(traced, program, command))
+        script.run(partial(rows, program),
+                   *[partial(part, program) for part in (stepped, summed_up, full_history, longest)],
+                   partial(streams, program, shim), partial(seeded, program, command),
+                   partial(traced, program, command))
     return script.ended("rows")
 
 

@@ -38,7 +38,8 @@ RUNS = [
     ("more cores than epochs", 8, image(COUNTER, epochs=3), done(3, at(0x40, "03"))),
     ("an epoch that waits for the one before it", 2, WAIT, done(2, at(0x40, "01"))),
     ("a limit that an epoch may reach before it is homefree", 8, WAIT, done(2, at(0x40, "01"))),
-    ("an exit among eight epochs", 4, image(SEARCH, epochs=8, more="exit\n"), exited(2, at(0x40, "000000000100000002"))),
+    ("an exit among eight epochs", 4, image(SEARCH, epochs=8, more="exit\n"),
+     exited(2, at(0x40, "000000000100000002"))),
     ("the same epochs without exit", 4, image(SEARCH, epochs=8),
      done(8, at(0x40, "00000000010000000200000003000000"), at(0x50, "04000000050000000600000007000000"))),
     ("an exit of the first epoch", 2, EXIT, exited(0)),
@@ -57,25 +58,30 @@ RUNS = [
 
 # (what it shows, cores, image text, all that is printed)
 TRACES = [
-    ("one epoch", 1, ONE, "end done 1\ncounts 1 1 0 1\ntrace 1\n0 start 0\n0 load 00000040 4 00000000\n0 store 00000040 4 00000000\n0 commit\n"),
+    ("one epoch", 1, ONE,
+     "end done 1\ncounts 1 1 0 1\ntrace 1\n0 start 0\n0 load 00000040 4 00000000\n0 store 00000040 4 00000000\n0 "
+     "commit\n"),
     ("no epochs", 2, image(COUNTER, epochs=0), "end done 0\ncounts 0 0 0 0\ntrace 2\n"),
-    ("a fault counts nothing", 1, FAULTS, "end fault 0 1 00000000\ncounts 0 0 0 0\ntrace 1\n0 start 0\n0 fault 1 00000000\n"),
+    ("a fault counts nothing", 1, FAULTS,
+     "end fault 0 1 00000000\ncounts 0 0 0 0\ntrace 1\n0 start 0\n0 fault 1 00000000\n"),
     ("an exit", 1, EXIT, "end exit 0\ncounts 0 1 0 1\ntrace 1\n0 start 0\n0 store 00000040 4 00000000\n0 commit\n"),
 ]
 
 # Words that ask for no run.
 WORDS = [
-    ["run"], ["run", "--cores"], ["run", "--cores", "0"], ["run", "--cores", "17"], ["run", "--cores", "-1"], ["run", "--cores", "x"],
-    ["run", "--cores", "4294967297"], ["run", "--cores", "2", "--cores", "2"], ["run", "--cores", "2", "x"], ["run", "--trace"],
-    ["run", "--cores", "2", "--trace=yes"], ["run", "--cores", "2", "--help"], ["run", "--help"], ["--cores", "2", "run"],
-    ["run", "--core", "2"], ["seq", "--cores", "2"], ["audit", "--trace"],
+    ["run"], ["run", "--cores"], ["run", "--cores", "0"], ["run", "--cores", "17"], ["run", "--cores", "-1"],
+    ["run", "--cores", "x"],
+    ["run", "--cores", "4294967297"], ["run", "--cores", "2", "--cores", "2"], ["run", "--cores", "2", "x"],
+    ["run", "--trace"],
+    ["run", "--cores", "2", "--trace=yes"], ["run", "--cores", "2", "--help"], ["run", "--help"],
+    ["--cores", "2", "run"], ["run", "--core", "2"], ["seq", "--cores", "2"], ["audit", "--trace"],
 ]
 # What an epoch other than the first passes over: bne x10,x0 to behind one load, to behind two.
 FIRST_EPOCH = ["", "6314050083220004", "631605008322000483220004"]
 
 
-# One core makes as many entries of an epoch as it loads, and two: of 14 loads each 1,048,560 in all, where 1,048,576 have room and
-# a turn asks for 16. The first epoch may load once more, and not twice. In order there is no such limit.
+# One core makes as many entries of an epoch as it loads, and two: of 14 loads each 1,048,560 in all, where 1,048,576
+# have room and a turn asks for 16. The first epoch may load once more, and not twice. In order there is no such limit.
 def loads(count: int, first: int = 0) -> str:
     return image(FIRST_EPOCH[first] + "83220004" * count + "67800000", epochs=65_535)
 
@@ -88,7 +94,8 @@ LONG = [
 
 
 def traced_differs(program: list[str], cores: int, text: str) -> str | None:
-    """What is wrong with a run that prints its trace: it ends as without one, and `audit` finds as many entries as are counted."""
+    """What is wrong with a run that prints its trace: it ends as without one, and `audit` finds as many entries as are
+    counted."""
     plain = run(program, ["run", "--cores", str(cores)], text)
     output, errors, status = run(program, ["run", "--cores", str(cores), "--trace"], text)
     report, below = output[:len(plain[0])], output[len(plain[0]):]

@@ -140,7 +140,8 @@ RUNS: list[Row] = [
     ("version 1 of the first row", "version 1\n" + FOUR, done(4, at(0x40, "06"))),
     ("the last word of the largest memory of version 2",
      "version 2\n" + image("b702100023ae12fe" + RETURN, size=1_048_576), done(1, at(0xFFFF0, "0" * 24 + "fcffffff"))),
-    ("just past the largest memory of version 2", "version 2\n" + image("b702100003a30200", size=1_048_576), fault(0, 6, 4)),
+    ("just past the largest memory of version 2", "version 2\n" + image("b702100003a30200", size=1_048_576),
+     fault(0, 6, 4)),
     ("a row of 16 bytes in version 2", "version 2\n" + image("2320a0042322a006" + RETURN, epochs=2),
      done(2, at(0x40, "01"), at(0x60, "0000000001"))),
 ]
@@ -242,7 +243,9 @@ ACCEPTED: list[Row] = [
     ("at up to the last byte", FOUR + "at 000000ff 01\n", done(4, at(0x40, "06"))),
 ]
 
-USAGE: list[list[str | bytes]] = [["x"], [], ["help"], ["audit", "x"], ["audit", "--help"], ["AUDIT"], ["seq", "audit"], ["seq", "--help"], ["seq", "x"], ["SEQ"], ["--help"], ["--version"], ["run"], ["run", "--cores", "9"],
+USAGE: list[list[str | bytes]] = [["x"], [], ["help"], ["audit", "x"], ["audit", "--help"], ["AUDIT"], ["seq", "audit"],
+                                  ["seq", "--help"], ["seq", "x"], ["SEQ"], ["--help"], ["--version"], ["run"],
+                                  ["run", "--cores", "9"],
          # words that are no UTF-8
          [b"\xff"], [b"seq\xff"], ["seq", b"\xc3"]]
 

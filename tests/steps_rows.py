@@ -1,4 +1,5 @@
-"""Worked outputs of `replay steps`, written by hand from the worked examples of the protocol; and what steps come to together."""
+"""Worked outputs of `replay steps`, written by hand from the worked examples of the protocol; and what steps come to
+together."""
 
 import re
 
@@ -310,7 +311,8 @@ def standing(turns: list[Turn]) -> dict[tuple[str, ...], list[str]]:
 
 def copies(turns: list[Turn], core: str) -> list[str]:
     """The core's copies after these turns: address, state, mark and mask of each."""
-    return sorted(" ".join(copy[:4]) for place, copy in standing(turns).items() if place[:2] == ("line", core) and copy != ["-"])
+    return sorted(" ".join(copy[:4]) for place, copy in standing(turns).items() if place[:2] == ("line", core)
+                  and copy != ["-"])
 
 
 def buffer(turns: list[Turn], core: str) -> list[str]:

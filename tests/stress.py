@@ -42,7 +42,8 @@ def conflicting(rng):
 
 def counting(rng):
     """Epochs that count in one of a few words, so that each third or so has a conflict."""
-    words = [word_of_i(MATCH["andi"], 5, 10, rng.choice([0, 1, 3, 7])), MATCH["slli"] | 5 << 7 | 5 << 15 | rng.choice([0, 2, 4]) << 20]
+    words = [word_of_i(MATCH["andi"], 5, 10, rng.choice([0, 1, 3, 7])),
+             MATCH["slli"] | 5 << 7 | 5 << 15 | rng.choice([0, 2, 4]) << 20]
     name = rng.choice([("lw", "sw"), ("lbu", "sb")])
     if name[0] == "lw":
         words.append(word_of_i(MATCH["andi"], 5, 5, -4))
@@ -69,7 +70,8 @@ def loop_of(rng):
     words = rng.choice([conflicting, counting, waiting])(rng)
     code = b"".join(word.to_bytes(4, "little") for word in words).hex()
     lines = [f"version {version}"] if version else []
-    lines += ["size 256", f"epochs {rng.choice([0, 1, 2, 5, 8, 20, 40])}", f"limit {rng.choice([3, 8, 50, 50, 200])}", f"code {code}"]
+    lines += ["size 256", f"epochs {rng.choice([0, 1, 2, 5, 8, 20, 40])}", f"limit {rng.choice([3, 8, 50, 50, 200])}",
+              f"code {code}"]
     if rng.random() < 0.3:
         lines.append("exit")
     if rng.random() < 0.3:
@@ -142,7 +144,8 @@ def main():
                 print(f"DIFFERS at loop {index} on {cores} cores, kept as {path}\n  {wrong}")
                 pool.shutdown(cancel_futures=True)
                 return 1
-    print(f"{given.count} runs equal, seed {given.seed}: {entries} entries, {restarts} restarts, {time.monotonic() - begun:.0f} seconds")
+    print(f"{given.count} runs equal, seed {given.seed}: {entries} entries, {restarts} restarts, "
+          f"{time.monotonic() - begun:.0f} seconds")
     return 0
 
 

@@ -3,9 +3,10 @@
 
 Usage: tests/study.py [COMMAND ..]
 
-COMMAND is a command of `trace_cli` that ends with the word `seq`; `why`, `replay` and `gain` are the programs that were built beside it. Without it those of this
-repository are tested. Without them, or Debian's packages snakemake, python3-jsonschema and python3-matplotlib, the studies are left out, and a line says so; so is
-what is sorted on the page without Chromium. Exits with 1 where a check failed.
+COMMAND is a command of `trace_cli` that ends with the word `seq`; `why`, `replay` and `gain` are the programs that were
+built beside it. Without it those of this repository are tested. Without them, or Debian's packages snakemake,
+python3-jsonschema and python3-matplotlib, the studies are left out, and a line says so; so is what is sorted on the
+page without Chromium. Exits with 1 where a check failed.
 """
 
 import csv
@@ -29,13 +30,17 @@ from view import driver, find_selenium
 
 Results = Iterator[Check]
 NAMES = ("trace_cli", "why", "replay", "gain")
-PLAN = 'cores = [1]\nschedules = ["threads"]\nversions = [1, 2]\n[loops]\ncounter = "counter.image"\nown_counters = "own_counters.image"\n'
-# Loop and version: how many epochs committed, how many instructions these are by hand (4 of counter; 27 of own_counters), and the trace's entries, which on one core
-# are its turns: a begin, the accesses and a commit of each epoch.
-RUNS = {("counter", "1"): ("4", "16", "16"), ("counter", "2"): ("4", "16", "16"), ("own_counters", "1"): ("16", "432", "64"), ("own_counters", "2"): ("16", "432", "64")}
+PLAN = ('cores = [1]\nschedules = ["threads"]\nversions = [1, 2]\n[loops]\ncounter = "counter.image"\nown_counters = '
+        '"own_counters.image"\n')
+# Loop and version: how many epochs committed, how many instructions these are by hand (4 of counter; 27 of
+# own_counters), and the trace's entries, which on one core are its turns: a begin, the accesses and a commit of each
+# epoch.
+RUNS = {("counter", "1"): ("4", "16", "16"), ("counter", "2"): ("4", "16", "16"),
+        ("own_counters", "1"): ("16", "432", "64"), ("own_counters", "2"): ("16", "432", "64")}
 SEEDS = 'cores = [1, 4]\nschedules = ["even", "seeded"]\nseeds = [{}]\n[loops]\nown_counters = "own_counters.image"\n'
 # Store and cores of own_counters at even speed: steps and gain, as tests/gain.txt has them.
-EVEN = {("caches", "1"): ("464", "1.00"), ("caches", "4"): ("428", "1.08"), ("plain", "1"): ("464", "1.00"), ("plain", "4"): ("116", "4.00")}
+EVEN = {("caches", "1"): ("464", "1.00"), ("caches", "4"): ("428", "1.08"), ("plain", "1"): ("464", "1.00"),
+        ("plain", "4"): ("116", "4.00")}
 # With four seeds there are 4 runs at even speed, 16 seeded ones and a call of `gain`.
 ROWS = 21
 SECONDS = 120
@@ -43,25 +48,37 @@ MADE = ("runs.csv", "pairs.csv", "manifest.json", "page.html")
 IMAGE = "[loops]\na = 'counter.image'\n"
 # What is refused, and the words of the reason.
 REFUSED = [
-    ("cores = [1]\n", "loops is missing"), ("[loops]\n", "loops: {} is refused; wanted is a table of loops"), ("speed = 3\n" + IMAGE, '"speed": no field'),
-    ("stores = ['disk']\n" + IMAGE, 'stores[0]: "disk" is refused; wanted is "caches" or "plain"'), ("[loops]\na = 'none.image'\n", "isn't there"),
-    ("[loops]\n'a b' = 'counter.image'\n", "a loop's name"), ("[loops]\n\"a\\n\" = 'counter.image'\n", "a loop's name"), ("[loops]\na = 'plan.toml'\n", "begins no line of an image"),
-    ("[loops]\na = '.'\n", "is no file"), ("[loops]\na = \"a\\u0000b\"\n", "loops.a"), ("seeds = ['1 || touch X || :']\n" + IMAGE, "seeds[0]"),
-    ("cores = ['$(touch X)']\n" + IMAGE, "cores[0]"), ("gain = '1; touch X'\n" + IMAGE, "gain: "), ("cores = [17]\n" + IMAGE, "a whole number from 1 to 16"),
-    ("cores = [true]\n" + IMAGE, "cores[0]: true"), ("cores = [1.0]\n" + IMAGE, "cores[0]: 1.0"), ("cores = []\n" + IMAGE, "cores: []"), ("cores = [2, 2]\n" + IMAGE, "each once"),
-    ("seeds = [18446744073709551616]\n" + IMAGE, "seeds[0]"), ("seeds = [-1]\n" + IMAGE, "seeds[0]"), ("versions = [3]\n" + IMAGE, "versions[0]"),
-    ("cores = " + "[" * 5000 + "\n", "plan.toml"), ("cores = [1\n", "plan.toml"), ("schedules = 'even'\n" + IMAGE, "schedules: \"even\""),
-    ("seeds = [" + ", ".join(map(str, range(130_000))) + "]\nschedules = ['seeded']\ncores = [1, 2, 3, 4]\n" + IMAGE, "1,040,000 runs, more than 1,000,000"),
+    ("cores = [1]\n", "loops is missing"), ("[loops]\n", "loops: {} is refused; wanted is a table of loops"),
+    ("speed = 3\n" + IMAGE, '"speed": no field'),
+    ("stores = ['disk']\n" + IMAGE, 'stores[0]: "disk" is refused; wanted is "caches" or "plain"'),
+    ("[loops]\na = 'none.image'\n", "isn't there"),
+    ("[loops]\n'a b' = 'counter.image'\n", "a loop's name"), ("[loops]\n\"a\\n\" = 'counter.image'\n", "a loop's name"),
+    ("[loops]\na = 'plan.toml'\n", "begins no line of an image"),
+    ("[loops]\na = '.'\n", "is no file"), ("[loops]\na = \"a\\u0000b\"\n", "loops.a"),
+    ("seeds = ['1 || touch X || :']\n" + IMAGE, "seeds[0]"),
+    ("cores = ['$(touch X)']\n" + IMAGE, "cores[0]"), ("gain = '1; touch X'\n" + IMAGE, "gain: "),
+    ("cores = [17]\n" + IMAGE, "a whole number from 1 to 16"),
+    ("cores = [true]\n" + IMAGE, "cores[0]: true"), ("cores = [1.0]\n" + IMAGE, "cores[0]: 1.0"),
+    ("cores = []\n" + IMAGE, "cores: []"), ("cores = [2, 2]\n" + IMAGE, "each once"),
+    ("seeds = [18446744073709551616]\n" + IMAGE, "seeds[0]"), ("seeds = [-1]\n" + IMAGE, "seeds[0]"),
+    ("versions = [3]\n" + IMAGE, "versions[0]"),
+    ("cores = " + "[" * 5000 + "\n", "plan.toml"), ("cores = [1\n", "plan.toml"),
+    ("schedules = 'even'\n" + IMAGE, "schedules: \"even\""),
+    ("seeds = [" + ", ".join(map(str, range(130_000))) + "]\nschedules = ['seeded']\ncores = [1, 2, 3, 4]\n" + IMAGE,
+     "1,040,000 runs, more than 1,000,000"),
 ]
 # In the place of Slurm's commands: each job runs at once, and its number is that of the process which took it.
 SLURM = {
-    "sbatch": 'for last; do :; done\necho "$@" >> "$CALLS"\n(sh "$last"; echo $? > "$CALLS.$$") > /dev/null 2>&1 &\necho $$',
-    "scontrol": 'state=RUNNING\n[ ! -f "$CALLS.$4" ] || { read -r status < "$CALLS.$4"; state=COMPLETED; [ "$status" = 0 ] || state=FAILED; }\necho "JobId=$4 JobState=$state"',
+    "sbatch": 'for last; do :; done\necho "$@" >> "$CALLS"\n(sh "$last"; echo $? > "$CALLS.$$") > /dev/null 2>&1 &\n'
+              'echo $$',
+    "scontrol": 'state=RUNNING\n[ ! -f "$CALLS.$4" ] || { read -r status < "$CALLS.$4"; state=COMPLETED; [ "$status" = '
+                '0 ] || state=FAILED; }\necho "JobId=$4 JobState=$state"',
     "scancel": "exit 0",
 }
 # A module that tells of its import, under names that Python's own library and Snakemake import.
 TELLTALE = "open({!r}, 'w').close()\n"
-TAKEN = ("json.py", "random.py", "subprocess.py", "snakemake.py", "studies.py", "loops.py", "sitecustomize.py", "usercustomize.py")
+TAKEN = ("json.py", "random.py", "subprocess.py", "snakemake.py", "studies.py", "loops.py", "sitecustomize.py",
+         "usercustomize.py")
 
 
 def without_progress(said: str) -> str:
@@ -107,17 +124,21 @@ def table(out: Path, name: str = "runs.csv") -> list[dict[str, str]]:
 
 def rows_made(out: Path) -> dict[str, int]:
     """How many rows each file has."""
-    return {path.name: sum(line.endswith("}") for line in path.read_text().split("\n")) for path in sorted((out / "rows").iterdir())}
+    return {path.name: sum(line.endswith("}") for line in path.read_text().split("\n"))
+            for path in sorted((out / "rows").iterdir())}
 
 
 def refused(folder: Path) -> Results:
     """(what it shows, what is wrong or None)"""
     for text, words in REFUSED:
         said, status = study(folder, text, None)
-        right = status == 2 and words in said and not (folder / "out").exists() and not (folder / "X").exists() and "Traceback" not in said
+        right = (status == 2 and words in said and not (folder / "out").exists() and not (folder / "X").exists()
+                 and "Traceback" not in said)
         yield f"refused: {text[:60]!r}", None if right else f"{said[:500]!r}, {status}"
     said, status = study(folder, IMAGE, None, out="$(touch X)")
-    yield "refused: a folder's name", None if status == 2 and "which Snakemake would hand to a shell" in said and not (folder / "X").exists() else f"{said!r}, {status}"
+    yield ("refused: a folder's name",
+           None if status == 2 and "which Snakemake would hand to a shell" in said and not (folder / "X").exists()
+           else f"{said!r}, {status}")
 
 
 def studied(folder: Path, programs: Path) -> Results:
@@ -127,24 +148,33 @@ def studied(folder: Path, programs: Path) -> Results:
     yield "a study", None if (said, status) == ("", 0) else f"{said!r}, {status}"
     rows = table(out)
     got = {(row["loop"], row["version"]): (row["committed"], row["useful"], row["entries"]) for row in rows}
-    yield "its runs", None if got == RUNS and all((row["ending"], row["rollbacks"], row["turns"], row["steps"], row["gain"])
-                                                  == ("done", "0", row["entries"], row["entries"], "1.00") for row in rows) else f"{rows}"
+    yield "its runs", None if got == RUNS and all((row["ending"], row["rollbacks"], row["turns"], row["steps"],
+                                                   row["gain"])
+                                                  == ("done", "0", row["entries"], row["entries"], "1.00")
+                                                  for row in rows) else f"{rows}"
     told = json.loads((out / "manifest.json").read_text())
-    yield "its manifest", None if told["plan"]["versions"] == [1, 2] and len(told["programs"]["why"]) == 64 and told["made"]["counter"] is None \
-        and "own_counters.c" in told["made"]["own_counters"] and "clang version 14" in told["made"]["own_counters"] else f"{told}"
-    wanted = {"image_sha256": told["images"], "runner_sha256": told["programs"]["trace_cli"], "why_sha256": told["programs"]["why"]}
-    wrong = [row for row in rows for name, one in wanted.items() if row[name] != (one[row["loop"]] if isinstance(one, dict) else one)]
+    made = told["made"]
+    right = (told["plan"]["versions"] == [1, 2] and len(told["programs"]["why"]) == 64 and made["counter"] is None
+             and "own_counters.c" in made["own_counters"] and "clang version 14" in made["own_counters"])
+    yield "its manifest", None if right else f"{told}"
+    wanted = {"image_sha256": told["images"], "runner_sha256": told["programs"]["trace_cli"],
+              "why_sha256": told["programs"]["why"]}
+    wrong = [row for row in rows for name, one in wanted.items()
+             if row[name] != (one[row["loop"]] if isinstance(one, dict) else one)]
     yield "each row carries its digests", None if not wrong and told["images"]["counter"] == called_well(
         ["sha256sum", folder / "counter.image"]).split()[0] else f"{wrong}"
     page = (out / "page.html").read_text()
-    cells = ElementTree.fromstring("<table>" + page.partition("<tbody>")[2].partition("</tbody>")[0] + "</table>").findall("tr/td")
+    cells = ElementTree.fromstring("<table>" + page.partition("<tbody>")[2].partition("</tbody>")[0]
+                                   + "</table>").findall("tr/td")
     yield "its page", None if len(cells) == 4 * 18 and "runs.csv" in page else f"{len(cells)} cells"
     before, [path] = rows_made(out), (out / "rows").iterdir()
     path.write_text(path.read_text()[:-40])
     (out / "page.html").unlink()
     said, status = study(folder, PLAN, programs)
     after = rows_made(out)
-    yield "what is there isn't run again", None if status == 0 and sum(before.values()) == sum(after.values()) and [*after.values()][1:] == [1] else f"{said!r}, {before}, {after}"
+    yield ("what is there isn't run again",
+           None if status == 0 and sum(before.values()) == sum(after.values()) and [*after.values()][1:] == [1]
+           else f"{said!r}, {before}, {after}")
     yield "and the page is the same", None if (out / "page.html").read_text() == page else "it isn't"
 
 
@@ -165,24 +195,30 @@ def grown(folder: Path, programs: Path) -> Results:
             wanted = (str(turns), str((turns + cores - 1) // cores), f"{int(100 * 64 * cores / turns) / 100:.2f}")
             wrong += [] if (row["turns"], row["steps"], row["gain"]) == wanted else [(row, wanted)]
     yield "steps and gain of seeds", None if not wrong and len(rows) == 12 else f"{wrong}"
-    page, one = (out / "page.html").read_text(), [row for row in rows if (row["schedule"], row["store"], row["cores"]) == ("seeded", "caches", "4")]
+    page, one = (out / "page.html").read_text(), [row for row in rows
+                                                  if (row["schedule"], row["store"],
+                                                      row["cores"]) == ("seeded", "caches", "4")]
     lost = sorted(int(row["lost"]) for row in one)
     told = page.partition('<table id="seeds">')[2].partition("</table>")[0]
     wanted = "".join(f"<td>{value:g}</td>" for value in (lost[0], sum(lost) / 2, lost[1]))
-    yield "least, middle and most over the seeds", None if wanted in told and told.count("<tr>") == 5 else f"{wanted} isn't in {told}"
+    yield ("least, middle and most over the seeds",
+           None if wanted in told and told.count("<tr>") == 5 else f"{wanted} isn't in {told}")
     before = rows_made(out)
     said, status = study(folder, SEEDS.format("1, 2, 7"), programs, "--chunk", "100")
     new = {name: count for name, count in rows_made(out).items() if name not in before}
-    yield "one seed more runs its cells alone", None if status == 0 and sum(new.values()) == 4 and len(table(out)) == 16 else f"{said!r}, {new}"
+    yield ("one seed more runs its cells alone",
+           None if status == 0 and sum(new.values()) == 4 and len(table(out)) == 16 else f"{said!r}, {new}")
     before = rows_made(out)
     said, status = study(folder, SEEDS.format("2"), programs)
-    yield "one seed less runs none", None if status == 0 and rows_made(out) == before and len(table(out)) == 8 else f"{said!r}, {status}"
+    yield ("one seed less runs none",
+           None if status == 0 and rows_made(out) == before and len(table(out)) == 8 else f"{said!r}, {status}")
 
 
 def wait_for(out: Path, rows: int, run: subprocess.Popen[str]) -> None:
     """Waits until a study that runs has so many rows."""
     end = time.monotonic() + SECONDS
-    while time.monotonic() < end and run.poll() is None and (not (out / "rows").is_dir() or sum(rows_made(out).values()) < rows):
+    while time.monotonic() < end and run.poll() is None and (not (out / "rows").is_dir()
+                                                             or sum(rows_made(out).values()) < rows):
         time.sleep(0.02)
 
 
@@ -190,8 +226,8 @@ def begun(folder: Path, programs: Path, text: str, rows: int, sign: int) -> str 
     """Begins a study, and sends a signal to all of it once so many rows are there. Answers what is wrong, or None."""
     (folder / "plan.toml").write_text(text)
     out = folder / "out"
-    with subprocess.Popen(words_of(folder / "plan.toml", out, "--chunk", "4"), stderr=subprocess.PIPE, text=True, env={**os.environ, "LOOPS_PROGRAMS": str(programs)},
-                          start_new_session=True) as run:
+    with subprocess.Popen(words_of(folder / "plan.toml", out, "--chunk", "4"), stderr=subprocess.PIPE, text=True,
+                          env={**os.environ, "LOOPS_PROGRAMS": str(programs)}, start_new_session=True) as run:
         wait_for(out, rows, run)
         there = sum(rows_made(out).values())
         if sign == signal.SIGKILL:
@@ -212,20 +248,25 @@ def stopped(folder: Path, programs: Path) -> Results:
         yield f"stopped by {name}", begun(folder, late, text, 5, sign)
         said, status = study(folder, text, late, "--chunk", "5")
         other = [one for one in MADE if (folder / "out" / one).read_bytes() != (folder / "whole" / one).read_bytes()]
-        right = status == 0 and not other and sum(rows_made(folder / "out").values()) == ROWS and not [*(folder / "out").glob(".study-jobs-*")]
-        yield f"after {name} it goes on, and is the same byte for byte", None if right else f"{said!r}, {status}, {other}, {rows_made(folder / 'out')}"
+        right = (status == 0 and not other and sum(rows_made(folder / "out").values()) == ROWS
+                 and not [*(folder / "out").glob(".study-jobs-*")])
+        yield (f"after {name} it goes on, and is the same byte for byte",
+               None if right else f"{said!r}, {status}, {other}, {rows_made(folder / 'out')}")
         shutil.rmtree(folder / "out")
     yield "stopped before the image changes", begun(folder, late, text, 5, signal.SIGTERM)
     shutil.copy(ROOT / "examples" / "padded_counters.image", folder / "own_counters.image")
     said, status = study(folder, text, late)
     rows = table(folder / "out")
-    right = status == 0 and len(rows) == 20 and {row["lost"] for row in rows} == {"0"} and len({row["image_sha256"] for row in rows}) == 1
+    right = (status == 0 and len(rows) == 20 and {row["lost"] for row in rows} == {"0"}
+             and len({row["image_sha256"] for row in rows}) == 1)
     yield "and every row is of the new image", None if right else f"{said!r}, {status}, {rows}"
     (late / "replay").write_text((late / "replay").read_text() + "# another\n")
     before = rows_made(folder / "out")
     said, status = study(folder, text, late)
     new = sum(count for name, count in rows_made(folder / "out").items() if name not in before)
-    yield "another replay runs all that it ran", None if status == 0 and new == 20 and len({row["runner_sha256"] for row in table(folder / "out")}) == 1 else f"{said!r}, {new}"
+    yield ("another replay runs all that it ran",
+           None if status == 0 and new == 20 and len({row["runner_sha256"] for row in table(folder / "out")}) == 1
+           else f"{said!r}, {new}")
 
 
 def misused(folder: Path, programs: Path) -> Results:
@@ -238,12 +279,15 @@ def misused(folder: Path, programs: Path) -> Results:
     names = {"a": "$(touch X).image", "b": "it's; touch X #.image", "c": "`touch X`.image", "ä": "\u202e ä.image"}
     for name in names.values():
         shutil.copy(folder / "counter.image", room / name)
-    text = "gain = 2\ncores = [2]\nstores = ['plain']\n[loops]\n" + "".join(f"{json.dumps(name)} = {json.dumps(path)}\n" for name, path in names.items())
+    text = ("gain = 2\ncores = [2]\nstores = ['plain']\n[loops]\n"
+            + "".join(f"{json.dumps(name)} = {json.dumps(path)}\n" for name, path in names.items()))
     said, status = study(room, text, Path(os.path.relpath(programs, room)), "--chunk", "2", out="the out")
     there = [path for path in folder.rglob("X")]
-    yield "names that are commands, and modules beside the data", None if (said, status, there) == ("", 0, []) else f"{said!r}, {status}, {there}"
+    yield ("names that are commands, and modules beside the data",
+           None if (said, status, there) == ("", 0, []) else f"{said!r}, {status}, {there}")
     yield "and their rows", None if [row["steps"] for row in table(room / "the out")] else "none"
-    last = called([str(ROOT / "tools" / "study"), "--out", "the out", "--chunk", "2", "plan.toml", "--", "--cores", "1"], cwd=room, env={**os.environ, "LOOPS_PROGRAMS": str(programs)})
+    last = called([str(ROOT / "tools" / "study"), "--out", "the out", "--chunk", "2", "plan.toml", "--", "--cores",
+                   "1"], cwd=room, env={**os.environ, "LOOPS_PROGRAMS": str(programs)})
     yield "words in another order", None if (without_progress(last.stderr), last.returncode) == ("", 0) else f"{last}"
 
 
@@ -255,11 +299,14 @@ def on_a_cluster(folder: Path, programs: Path) -> Results:
         path.write_text(f"#!/bin/sh\n{text}\n")
         path.chmod(0o755)
     (folder / "plan.toml").write_text(SEEDS.format("1, 2"))
-    env = {**os.environ, "LOOPS_PROGRAMS": str(programs), "PATH": f"{folder / 'bin'}:{os.environ['PATH']}", "CALLS": str(folder / "calls"), "CI": "true"}
-    words = [*words_of(Path("plan.toml"), Path("the out"), "--chunk", "5"), "--", "--profile", os.path.relpath(ROOT / "tools" / "loops" / "studies" / "profiles" / "slurm", folder)]
+    env = {**os.environ, "LOOPS_PROGRAMS": str(programs), "PATH": f"{folder / 'bin'}:{os.environ['PATH']}",
+           "CALLS": str(folder / "calls"), "CI": "true"}
+    words = [*words_of(Path("plan.toml"), Path("the out"), "--chunk", "5"), "--", "--profile",
+             os.path.relpath(ROOT / "tools" / "loops" / "studies" / "profiles" / "slurm", folder)]
     done = called(words, cwd=folder, env=env, seconds=SECONDS)
     jobs = (folder / "calls").read_text().splitlines() if (folder / "calls").exists() else []
-    yield "by the profile for Slurm", None if (without_progress(done.stderr), done.returncode, len(jobs)) == ("", 0, 3) else f"{done}, {jobs}"
+    yield "by the profile for Slurm", None if (without_progress(done.stderr), done.returncode,
+                                               len(jobs)) == ("", 0, 3) else f"{done}, {jobs}"
     said, status = study(folder, SEEDS.format("1, 2"), programs)
     other = [one for one in MADE if (folder / "out" / one).read_bytes() != (folder / "the out" / one).read_bytes()]
     yield "and the tables are those made here", None if status == 0 and not other else f"{said!r}, {status}, {other}"
@@ -269,21 +316,28 @@ def failing(folder: Path, programs: Path) -> Results:
     """A program that the machine stops gives no row; a line says how far a study is; and one folder has one study."""
     late, text = slow(folder / "failing", programs, 0), SEEDS.format("1")
     good = (late / "replay").read_text()
-    (late / "replay").write_text(good.replace("exec", 'case "$*" in "seeded 1 plain 4") echo stopped NoMemory >&2; exit 3;; esac\nexec'))
+    (late / "replay").write_text(good.replace("exec",
+                                              'case "$*" in "seeded 1 plain 4") echo stopped NoMemory >&2; exit 3;; '
+                                              'esac\nexec'))
     said, status = study(folder, text, late, "--chunk", "4", out="failed")
-    yield "a run that the machine stopped", None if status == 1 and "stopped NoMemory" in said and "1 of 9 runs have no row" in said \
-        and not (folder / "failed" / "runs.csv").exists() else f"{said!r}, {status}"
+    right = status == 1 and "stopped NoMemory" in said and "1 of 9 runs have no row" in said
+    there = (folder / "failed" / "runs.csv").exists()
+    yield "a run that the machine stopped", None if right and not there else f"{said!r}, {status}"
     late = slow(folder / "slower", programs, 1)
     (folder / "plan.toml").write_text(text)
     parent, child = pty.openpty()
-    with subprocess.Popen(words_of(folder / "plan.toml", folder / "told", "--chunk", "3"), stderr=child, env={**os.environ, "LOOPS_PROGRAMS": str(late)}) as run:
+    with subprocess.Popen(words_of(folder / "plan.toml", folder / "told", "--chunk", "3"), stderr=child,
+                          env={**os.environ, "LOOPS_PROGRAMS": str(late)}) as run:
         wait_for(folder / "told", 1, run)
         other = study(folder, text, late, out="told")
         run.wait(SECONDS)
     os.close(child)
     said = os.read(parent, 65_536).decode()
-    yield "a line of progress", None if run.returncode == 0 and " of 9 cells are done, about 0 min 0" in said else f"{said!r}, {run.returncode}"
-    yield "a second study in the folder", None if other[1] == 1 and "another study runs in this folder" in other[0] else f"{other}"
+    yield ("a line of progress",
+           None if run.returncode == 0 and " of 9 cells are done, about 0 min 0" in said
+           else f"{said!r}, {run.returncode}")
+    yield ("a second study in the folder",
+           None if other[1] == 1 and "another study runs in this folder" in other[0] else f"{other}")
 
 
 def sorted_page(folder: Path) -> Results:
@@ -300,7 +354,9 @@ def sorted_page(folder: Path) -> Results:
             head.click()
             got = [int(one.text) for one in browser.find_elements("css selector", f"#runs td:nth-child({column})")]
             said = browser.find_elements("css selector", "#runs th")[column - 1].get_attribute("aria-sort")
-            yield f"the page sorts, {order}", None if got == sorted(got, reverse=down) and len(set(got)) > 2 and said == order else f"{got}, {said}"
+            yield (f"the page sorts, {order}",
+                   None if got == sorted(got, reverse=down) and len(set(got)) > 2 and said == order
+                   else f"{got}, {said}")
     finally:
         browser.quit()
 

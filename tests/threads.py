@@ -3,14 +3,14 @@
 
 Usage: tests/threads.py [COMMAND ..]
 
-COMMAND reads its standard input and ends with the word `seq`, in whose place
-`run --cores 2` is put; without it `./trace_cli seq` of this repository is tested. The epochs of the loop execute nearly a
-million instructions each and store one word, so that a core that is stopped at some moment mostly executes. One
-of the two cores is stopped, twenty times. The other has to go on meanwhile: it uses more of a processor than one
-epoch needs. If the stopped core kept the lock, or had to be waited for in line, the other would sleep. Neither
-speed nor other programs on the machine change the outcome.
-Needs Linux and its call `ptrace`; where that isn't allowed the test is left out, and a line says so. Exits with 1
-where the other core went on less than fifteen times: now and then the first is stopped while it does have the lock.
+COMMAND reads its standard input and ends with the word `seq`, in whose place `run --cores 2` is put; without it
+`./trace_cli seq` of this repository is tested. The epochs of the loop execute nearly a million instructions each and
+store one word, so that a core that is stopped at some moment mostly executes. One of the two cores is stopped, twenty
+times. The other has to go on meanwhile: it uses more of a processor than one epoch needs. If the stopped core kept the
+lock, or had to be waited for in line, the other would sleep. Neither speed nor other programs on the machine change the
+outcome. Needs Linux and its call `ptrace`; where that isn't allowed the test is left out, and a line says so. Exits
+with 1 where the other core went on less than fifteen times: now and then the first is stopped while it does have the
+lock.
 """
 
 import ctypes
@@ -29,7 +29,8 @@ from memory import without_the_wrapper
 CODE = "b7a207009382f2ffe39e02fe1373f50f131323002320a30467800000"
 IMAGE = f"size 2048\nepochs 20000\nlimit 1000000\ncode {CODE}\n"
 STOPS, LEAST = 20, 15
-# Of the other core: so many ticks of processor time while the first is stopped, and so many looks in a row that find it asleep.
+# Of the other core: so many ticks of processor time while the first is stopped, and so many looks in a row that find it
+# asleep.
 GOES_ON, STANDS_STILL = 4, 40
 PTRACE_CONT, PTRACE_DETACH, PTRACE_SEIZE, PTRACE_INTERRUPT, ALL_THREADS = 7, 17, 0x4206, 0x4207, 0x40000000
 
@@ -108,7 +109,8 @@ def stopped(command: list[str]) -> Iterator[Check]:
     except NotAllowed as refused:
         left_out("a core that is stopped while it executes", f"ptrace answers: {refused}")
         return
-    yield f"a run with {STOPS} stops", None if count >= LEAST else f"while one core was stopped the other went on {count} times"
+    yield (f"a run with {STOPS} stops",
+           None if count >= LEAST else f"while one core was stopped the other went on {count} times")
 
 
 def main() -> int:

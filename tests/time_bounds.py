@@ -1,13 +1,15 @@
 #!/usr/bin/env python3
-"""That the programs take no time that grows faster than their input: ratios of processor times, both of this run, and never seconds.
+"""That the programs take no time that grows faster than their input: ratios of processor times, both of this run, and
+never seconds.
 
 Usage: tests/time_bounds.py [COMMAND ..]
 
-COMMAND is a command of `trace_cli` that ends with the word `seq`, such as crates/trace_cli/out/trace_cli seq; `why`, `replay` and `depends` are the programs that were built
-beside it. Without it those of this repository are tested. Where one isn't built its rows are left out, and a line says so. A time is that of one process, by what the system
-counts of it, the least of ROUNDS; the two calls of a row take turns. Other work disturbs times: a row that is past its bound has as many rounds again, at most TRIES times.
-The traces on which `why` is held to the audit are those of `bench/audit/hard.py`. Exits with 1
-where a ratio is past its bound, or a call fails.
+COMMAND is a command of `trace_cli` that ends with the word `seq`, such as crates/trace_cli/out/trace_cli seq; `why`,
+`replay` and `depends` are the programs that were built beside it. Without it those of this repository are tested. Where
+one isn't built its rows are left out, and a line says so. A time is that of one process, by what the system counts of
+it, the least of ROUNDS; the two calls of a row take turns. Other work disturbs times: a row that is past its bound has
+as many rounds again, at most TRIES times. The traces on which `why` is held to the audit are those of
+`bench/audit/hard.py`. Exits with 1 where a ratio is past its bound, or a call fails.
 """
 
 import os
@@ -32,7 +34,8 @@ ROUNDS, TRIES = 5, 4
 # No call of these takes a second of one processor; one that takes so many is ended.
 LONGEST = 60
 ENTRIES = 50_000
-# `why` to the audit: it takes 3 to 10 times as much. What searches the history anew at each violation takes some 100 times as much at this length, and more at any longer.
+# `why` to the audit: it takes 3 to 10 times as much. What searches the history anew at each violation takes some 100
+# times as much at this length, and more at any longer.
 MOST_OF_WHY = 20
 # Six times as much input; what goes over all that was before at each epoch takes 36 times as long.
 FEW, MANY, MOST_OF_MANY = 10_000, 60_000, 8
@@ -73,7 +76,8 @@ def loads(epochs: int) -> str:
 def trace_of_loads(epochs: int) -> str:
     """A run of it on two cores, in turn."""
     words = "".join(f"{{0}} load {address:08x} 4 00000000\n" for address in range(64, 80, 4))
-    return "trace 2\n" + "".join(f"{core} start {epoch}\n{words.format(core)}{core} commit\n" for epoch in range(epochs) for core in [epoch % 2])
+    return "trace 2\n" + "".join(f"{core} start {epoch}\n{words.format(core)}{core} commit\n" for epoch in range(epochs)
+                                 for core in [epoch % 2])
 
 
 def counters(epochs: int) -> str:
@@ -94,17 +98,20 @@ def bounds() -> list[Bound]:
     rows = []
     for form in hard.FORMS:
         text = hard.text_of(form, ENTRIES)
-        rows.append(Bound(f"why to audit, {form}", MOST_OF_WHY, Call("why", (), text), Call("trace_cli", ("audit",), text)))
+        rows.append(Bound(f"why to audit, {form}", MOST_OF_WHY, Call("why", (), text),
+                          Call("trace_cli", ("audit",), text)))
     even = [Call("replay", ("even", "plain", "2"), loads(count)) for count in (MANY, FEW)]
     rows.append(Bound("even plain, 60,000 epochs to 10,000", MOST_OF_MANY, *even))
     audits = [Call("trace_cli", ("audit",), loads(count) + trace_of_loads(count)) for count in (MANY, FEW)]
     rows.append(Bound("audit, 60,000 epochs to 10,000", MOST_OF_MANY, *audits))
-    every = [Call("replay", ("all", store, "16", "2"), "version 2\n" + image(FOUR_LOADS, epochs=16, size=1_048_576)) for store in ("plain", "caches")]
+    every = [Call("replay", ("all", store, "16", "2"), "version 2\n" + image(FOUR_LOADS, epochs=16, size=1_048_576))
+             for store in ("plain", "caches")]
     rows.append(Bound("every schedule of 1 MiB, plain to caches", MOST_OF_PLAIN, *every))
     for store in ("plain", "caches"):
         even = [Call("replay", ("even", store, "4"), counters(count)) for count in (20_000, 10_000)]
         rows.append(Bound(f"even {store}, twice the epochs", MOST_OF_TWICE, *even))
-        steps = [Call("replay", ("steps", store, "4"), counters(65_535) + "turns" + " 0 1 2 3" * count + "\n") for count in (10_000, 5_000)]
+        steps = [Call("replay", ("steps", store, "4"), counters(65_535) + "turns" + " 0 1 2 3" * count + "\n")
+                 for count in (10_000, 5_000)]
         rows.append(Bound(f"steps {store}, twice the turns", MOST_OF_TWICE, *steps))
     for name, loop in (("nothing depends", loads), ("each epoch depends", counters), ("the last epoch depends", late)):
         twice = [Call("depends", ("8",), loop(count)) for count in (60_000, 30_000)]
@@ -118,12 +125,14 @@ class Failed(Exception):
 
 def seconds(call: Call, program: str, given: Path) -> float:
     """The processor time of one call."""
-    with given.open("rb") as source, subprocess.Popen([program, *call.words], stdin=source, stdout=subprocess.DEVNULL, stderr=subprocess.DEVNULL) as child:
+    with given.open("rb") as source, subprocess.Popen([program, *call.words], stdin=source, stdout=subprocess.DEVNULL,
+                                                      stderr=subprocess.DEVNULL) as child:
         resource.prlimit(child.pid, resource.RLIMIT_CPU, (LONGEST, LONGEST + 1))
         _, status, used = os.wait4(child.pid, 0)
         child.returncode = os.waitstatus_to_exitcode(status)
     if child.returncode != 0:
-        raise Failed(f"{call.program} {' '.join(call.words)} ended with {child.returncode} after {used.ru_utime:.1f} seconds")
+        raise Failed(f"{call.program} {' '.join(call.words)} ended with {child.returncode} after {used.ru_utime:.1f} "
+                     "seconds")
     return used.ru_utime + used.ru_stime
 
 

@@ -1,11 +1,13 @@
 #!/usr/bin/env python3
-"""Inputs and runs as long as they may be, or longer than any body would take that gives up early: what has to be printed is worked out by hand.
+"""Inputs and runs as long as they may be, or longer than any body would take that gives up early: what has to be
+printed is worked out by hand.
 
 Usage: tests/true_length.py [COMMAND ..]
 
-COMMAND is a command of `trace_cli` that ends with the word `seq`, such as crates/trace_cli/out/trace_cli seq; `why`, `replay` and `gain` are the programs that were
-built beside it. Without it those of this repository are tested. Where one isn't built its rows are left out, and a line says so. A run that has no answer after ten
-minutes hangs. Exits with 1 where an output differs.
+COMMAND is a command of `trace_cli` that ends with the word `seq`, such as crates/trace_cli/out/trace_cli seq; `why`,
+`replay` and `gain` are the programs that were built beside it. Without it those of this repository are tested. Where
+one isn't built its rows are left out, and a line says so. A run that has no answer after ten minutes hangs. Exits with
+1 where an output differs.
 """
 
 import sys
@@ -19,7 +21,8 @@ from seq_rows import at, done, image, run
 
 Results = Iterator[Check]
 Outcome = tuple[str, str, int]
-# Epochs of 14 loads and a return, as many as there may be: 16 entries each on one core, 1,048,560 in all, of 1,048,576 that a history may have.
+# Epochs of 14 loads and a return, as many as there may be: 16 entries each on one core, 1,048,560 in all, of 1,048,576
+# that a history may have.
 EPOCHS, LOADS = 65_535, 14
 LOAD = "83220004"  # lw x5,64(x0)
 RETURN = "67800000"
@@ -29,24 +32,27 @@ ALL_LOADS = image(LOAD * LOADS + RETURN, epochs=EPOCHS)
 NEIGHBOURS = "631a0500938212002320007ce39c62fe678000008322407c67800000"
 # Each of these stores violates epoch 1: four entries. With five more there are 1,048,557.
 TIMES = 262_138
-# 125,000 instructions, 500,000 bytes: 124,995 times addi x5,x5,1; then lui x6,128; slli x7,x10,2; add x6,x6,x7; sw x5,0(x6); jalr x0,0(x1)
+# 125,000 instructions, 500,000 bytes: 124,995 times addi x5,x5,1; then lui x6,128; slli x7,x10,2; add x6,x6,x7; sw
+# x5,0(x6); jalr x0,0(x1)
 ADD, STORE_SUM = "93821200", "3703080093132500330373002320530067800000"
 LONG_CODE = "version 2\n" + image(ADD * 124_995 + STORE_SUM, epochs=2, limit=125_000, size=1_048_576)
 # Epoch 0 loads a word 200,704 times, the others nothing:
 # bne x10,x0,+20; lui x5,49; lw x6,64(x0); addi x5,x5,-1; bne x5,x0,-8; jalr x0,0(x1)
 CORES, COUNTED = 16, 49 * 4096
 COUNTS_DOWN = "version 2\n" + image("631a0500b7120300032300049382f2ffe39c02fe67800000", epochs=CORES, limit=1_000_000)
-# Each epoch loads a word of each of these rows of 16 bytes: lw x5,ROW(x0). What `steps` has to say of so many epochs is 28 MB, for which a program that keeps it takes
-# more memory than this.
+# Each epoch loads a word of each of these rows of 16 bytes: lw x5,ROW(x0). What `steps` has to say of so many epochs is
+# 28 MB, for which a program that keeps it takes more memory than this.
 ROWS, TOLD = range(64, 288, 16), 9_000
-ALL_ROWS = image("".join((row << 20 | 0x2283).to_bytes(4, "little").hex() for row in ROWS) + RETURN, epochs=TOLD, size=512)
+ALL_ROWS = image("".join((row << 20 | 0x2283).to_bytes(4, "little").hex() for row in ROWS) + RETURN, epochs=TOLD,
+                 size=512)
 MOST_BYTES = 48_000_000
 # A build of a program, where one has to be
 BUILD = 4 * 3600
 
 
 def program_of(command: list[str], name: str) -> str | None:
-    """The built program of this name that belongs to a command of `trace_cli`, or None. Without a command it is built, where it isn't."""
+    """The built program of this name that belongs to a command of `trace_cli`, or None. Without a command it is built,
+    where it isn't."""
     given = Path(command[0]).resolve() if command else ROOT / "trace_cli"
     if given == ROOT / "trace_cli":
         return called_well([ROOT / name, "--built"], seconds=BUILD).strip()
@@ -60,7 +66,8 @@ def differs(got: Outcome, wanted: Outcome) -> str | None:
         return None
     lines = zip(got[0].splitlines(True), wanted[0].splitlines(True))
     place, pair = next(((number, pair) for number, pair in enumerate(lines) if pair[0] != pair[1]), (-1, None))
-    return f"status {got[2]}, not {wanted[2]}; error stream {got[1][:100]!r}; {len(got[0])} bytes, not {len(wanted[0])}; line {place} {str(pair)[:200]}"
+    return (f"status {got[2]}, not {wanted[2]}; error stream {got[1][:100]!r}; {len(got[0])} bytes, not "
+            f"{len(wanted[0])}; line {place} {str(pair)[:200]}")
 
 
 # --- Traces ---------------------------------------------------------------------
@@ -75,28 +82,38 @@ def beside_each_other(times: int) -> str:
     """The trace of the neighbours: epoch 1 loads before each store of epoch 0, and is violated by it."""
     above = image(NEIGHBOURS, epochs=2, limit=1_000_000, size=4096, more=f"reg 6 {times:08x}\n")
     again = "1 load 000007c4 4 00000000\n0 hurt 1\n0 store 000007c0 4 00000000\n1 restart\n"
-    return traced(above, ["0 start 0", "1 start 1"]) + again * times + "0 commit\n1 load 000007c4 4 00000000\n1 commit\n"
+    return traced(above, ["0 start 0",
+                          "1 start 1"]) + again * times + "0 commit\n1 load 000007c4 4 00000000\n1 commit\n"
 
 
 def report(times: int) -> str:
-    """What `why` has to say of it. Each attempt of epoch 1 had executed its branch, its load and its return: three, two of them from the load on."""
-    hurt = "hurt {} false epoch 1 try {} core 1 lost 3 entered 2 since 2 by 0 core 0 cause {} store load {} 00000014 store {} 00000008 at 000007c4 4\n"
-    lines = "".join(hurt.format(place, number, place + 1, place - 1, place + 1) for number, place in enumerate(range(3, 3 + 4 * times, 4), 1))
+    """What `why` has to say of it. Each attempt of epoch 1 had executed its branch, its load and its return: three, two
+    of them from the load on."""
+    hurt = ("hurt {} false epoch 1 try {} core 1 lost 3 entered 2 since 2 by 0 core 0 cause {} store load {} 00000014 "
+            "store {} 00000008 at 000007c4 4\n")
+    lines = "".join(hurt.format(place, number, place + 1, place - 1, place + 1)
+                    for number, place in enumerate(range(3, 3 + 4 * times, 4), 1))
     lost = f"rollbacks {times} lost {3 * times}"
     kinds = f"true 0 silent 0 false {times} buffer 0"
-    sums = [f"epoch 1 {lost}", f"pair store 00000008 load 00000014 {lost} {kinds} stale 0 vain 0 later 0 distance 1 1 at 000007c4 4", f"line 000007c0 {lost} {kinds}",
-            f"pc 00000008 victim 0 0 causer {times} {3 * times}", f"pc 00000014 victim {times} {3 * times} causer 0 0", f"kind false {lost}",
+    sums = [f"epoch 1 {lost}",
+            f"pair store 00000008 load 00000014 {lost} {kinds} stale 0 vain 0 later 0 distance 1 1 at 000007c4 4",
+            f"line 000007c0 {lost} {kinds}",
+            f"pc 00000008 victim 0 0 causer {times} {3 * times}", f"pc 00000014 victim {times} {3 * times} causer 0 0",
+            f"kind false {lost}",
             f"total epochs 2 committed 2 useful {3 * times + 5} {lost} cancelled 0 dropped 0 open 0 unsettled 0"]
     return lines + "\n".join(sums) + "\n"
 
 
 def traces(program: str, why: str | None) -> Results:
     in_order, meeting = loads_in_order(), beside_each_other(TIMES)
-    yield "audit: 1,048,560 loads", differs(run([program], ["audit"], in_order), (f"legal {16 * EPOCHS} {EPOCHS}\n", "", 0))
-    yield "audit: 1,048,557 entries with violations", differs(run([program], ["audit"], meeting), (f"legal {4 * TIMES + 5} 2\n", "", 0))
+    yield "audit: 1,048,560 loads", differs(run([program], ["audit"], in_order),
+                                            (f"legal {16 * EPOCHS} {EPOCHS}\n", "", 0))
+    yield ("audit: 1,048,557 entries with violations",
+           differs(run([program], ["audit"], meeting), (f"legal {4 * TIMES + 5} 2\n", "", 0)))
     if why is None:
         return
-    total = f"total epochs {EPOCHS} committed {EPOCHS} useful {(LOADS + 1) * EPOCHS} rollbacks 0 lost 0 cancelled 0 dropped 0 open 0 unsettled 0\n"
+    total = (f"total epochs {EPOCHS} committed {EPOCHS} useful {(LOADS + 1) * EPOCHS} rollbacks 0 lost 0 cancelled 0 "
+             "dropped 0 open 0 unsettled 0\n")
     yield "why: 1,048,560 loads", differs(run([why], [], in_order), (total, "", 0))
     yield "why: 262,138 violations", differs(run([why], [], meeting), (report(TIMES), "", 0))
 
@@ -111,25 +128,29 @@ def long_code(program: str) -> Results:
 
 
 def on_threads(program: str) -> Results:
-    """Nothing is stored, so nothing is violated, and no core waits for a line: each epoch makes as many entries whatever the threads do."""
+    """Nothing is stored, so nothing is violated, and no core waits for a line: each epoch makes as many entries
+    whatever the threads do."""
     for cores, version, epochs in ((4, "", 20_000), (CORES, "version 2\n", 6_000)):
         text = version + image(LOAD * 10 + RETURN, epochs=epochs)
         output, errors, status = run([program], ["run", "--cores", str(cores), "--trace"], text)
         above = f"end done {epochs}\ncounts {10 * epochs} 0 0 {epochs}\n"
         name = f"{12 * epochs:,} entries on {cores} threads"
         yield name, differs((output[:len(above)], errors, status), (above, "", 0))
-        yield f"{name}: their audit", differs(run([program], ["audit"], text + output[len(above):]), (f"legal {12 * epochs} {epochs}\n", "", 0))
+        yield f"{name}: their audit", differs(run([program], ["audit"], text + output[len(above):]),
+                                              (f"legal {12 * epochs} {epochs}\n", "", 0))
 
 
 def even_turns(replay: str) -> Results:
-    """At even speed every other core asks once after each load whether it may commit. So the cores take their turns in order, one after the other: once to begin, once
-    for each load, and once to commit."""
+    """At even speed every other core asks once after each load whether it may commit. So the cores take their turns in
+    order, one after the other: once to begin, once for each load, and once to commit."""
     turns = "turns" + " 0 1 2 3 4 5 6 7 8 9 10 11 12 13 14 15" * (COUNTED + 2)
-    begins, commits = ("".join(f"{core} {act}\n" for core, act in enumerate(acts)) for acts in ([f"start {core}" for core in range(CORES)], ["commit"] * CORES))
+    begins, commits = ("".join(f"{core} {act}\n" for core, act in enumerate(acts))
+                       for acts in ([f"start {core}" for core in range(CORES)], ["commit"] * CORES))
     trace = begins + "0 load 00000040 4 00000000\n" * COUNTED + commits
     wanted = f"{turns}\nend done {CORES}\ncounts {COUNTED} 0 0 {CORES}\ntrace {CORES}\n{trace}"
     for store in ("plain", "caches"):
-        yield f"even {store}: 3,211,296 turns", differs(run([replay], ["even", store, str(CORES)], COUNTS_DOWN), (wanted, "", 0))
+        yield (f"even {store}: 3,211,296 turns",
+               differs(run([replay], ["even", store, str(CORES)], COUNTS_DOWN), (wanted, "", 0)))
 
 
 def told_turns() -> Iterator[str]:
@@ -139,14 +160,16 @@ def told_turns() -> Iterator[str]:
         turn = epoch * (len(ROWS) + 2)
         yield f"turn {turn} 0 go\nentry 0 start {epoch}\nattempt 0 {epoch} speculative\nhart 0 00000000 0\n"
         for place, row in enumerate(ROWS, 1):
-            yield f"turn {turn + place} 0 go\nentry 0 load {row:08x} 4 00000000\nhart 0 {4 * place:08x} {place}\nkept 0 {row:08x} 000f 0000 {zeros}\n"
+            yield (f"turn {turn + place} 0 go\nentry 0 load {row:08x} 4 00000000\nhart 0 {4 * place:08x} {place}\nkept "
+                   f"0 {row:08x} 000f 0000 {zeros}\n")
         answer = "left" if epoch + 1 < TOLD else f"over done {TOLD}"
         yield f"turn {turn + len(ROWS) + 1} 0 {answer}\nentry 0 commit\nattempt 0 -\nhart 0 -\n"
         yield "".join(f"kept 0 {row:08x} 0000 0000 {zeros}\n" for row in ROWS)
 
 
 def steps(replay: str) -> Results:
-    """`replay steps` keeps none of what it prints. Of turns that make another trace than the one that is given, or too long a history, nothing is printed."""
+    """`replay steps` keeps none of what it prints. Of turns that make another trace than the one that is given, or too
+    long a history, nothing is printed."""
     limited = ["prlimit", f"--as={MOST_BYTES}", replay]
     loads = "".join(f"0 load {row:08x} 4 00000000\n" for row in ROWS)
     trace = "".join(f"0 start {epoch}\n{loads}0 commit\n" for epoch in range(TOLD))
@@ -154,23 +177,28 @@ def steps(replay: str) -> Results:
     text = f"{ALL_ROWS}turns{' 0' * (len(ROWS) + 2) * TOLD}\n"
     yield f"steps plain: {len(wanted):,} bytes", differs(run(limited, ["steps", "plain", "1"], text), (wanted, "", 0))
     other = f"{ALL_ROWS}trace 1\n" + trace.removesuffix("0 commit\n") + "0 restart\n"
-    yield "steps plain: another trace", differs(run(limited, ["steps", "plain"], other), ("", f"differs {(len(ROWS) + 2) * TOLD - 1}\n", 4))
+    yield "steps plain: another trace", differs(run(limited, ["steps", "plain"], other),
+                                                ("", f"differs {(len(ROWS) + 2) * TOLD - 1}\n", 4))
     full = f"{image(LOAD * (LOADS + 1) + RETURN, epochs=EPOCHS)}turns{' 0' * (LOADS + 3) * EPOCHS}\n"
-    yield "steps plain: a full history", differs(run([replay], ["steps", "plain", "1"], full), ("", "stopped HistoryFull\n", 3))
+    yield "steps plain: a full history", differs(run([replay], ["steps", "plain", "1"], full),
+                                                 ("", "stopped HistoryFull\n", 3))
 
 
 def even_steps(gain: str) -> Results:
-    """Epoch 0 takes a step to begin, three for each load, one for each of its branch, its lui and its return, and one to commit; the others four, of which the last is
-    taken in the last step. From their third step on they wait for epoch 0."""
+    """Epoch 0 takes a step to begin, three for each load, one for each of its branch, its lui and its return, and one
+    to commit; the others four, of which the last is taken in the last step. From their third step on they wait for
+    epoch 0."""
     steps, waited = 3 * COUNTED + 5, (CORES - 1) * (3 * COUNTED + 1)
     useful = steps + 4 * (CORES - 1)
     causes = f"nothomefree {waited} noway 0 orbfull 0 orbbusy 0"
     kinds = "restarts 0 true 0 silent 0 false 0 buffer 0"
     output, errors, status = run([gain], [str(CORES)], COUNTS_DOWN)
     lines = [line for line in output.splitlines() if f" cores {CORES} " in line]
-    wanted = [f"store {store} cores {CORES} steps {steps} gain {useful * 100 // steps // 100}.{useful * 100 // steps % 100:02} useful {useful} lost 0 dropped 0 "
+    wanted = [f"store {store} cores {CORES} steps {steps} gain "
+              f"{useful * 100 // steps // 100}.{useful * 100 // steps % 100:02} useful {useful} lost 0 dropped 0 "
               f"waiting {waited} idle 0 {kinds} {causes}" for store in ("caches", "plain")]
-    yield "gain: 3,211,296 turns", None if (lines, errors, status) == (wanted, "", 0) else f"{lines}, {errors!r}, {status}, not {wanted}"
+    yield ("gain: 3,211,296 turns",
+           None if (lines, errors, status) == (wanted, "", 0) else f"{lines}, {errors!r}, {status}, not {wanted}")
 
 
 def main() -> int:

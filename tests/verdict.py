@@ -4,9 +4,9 @@
 Usage: tests/verdict.py [COMMAND ..]
 
 COMMAND is a command of `trace_cli` that ends with the word `seq`; `why`, `replay`, `gain` and `depends` are the
-programs that were built beside it. Without it those of this repository are tested. The figures are those of a trial of the schedule
-outside the programs. Where a program isn't built, or none compiles, a line says what is left out. Exits with 1 where a
-check failed.
+programs that were built beside it. Without it those of this repository are tested. The figures are those of a trial of
+the schedule outside the programs. Where a program isn't built, or none compiles, a line says what is left out. Exits
+with 1 where a check failed.
 """
 
 import re
@@ -57,9 +57,12 @@ LOAD, LOAD_THERE, ADD, STORE, NOTHING = "83220004", "83a20200", "93821200", "232
 CLEAR, AROUND = "93020000", "63040000"          # addi x5,x0,0; beq x0,x0,8
 WORD = "# Four epochs.\n# total 00000040 4\nsize 256\nepochs 4\nlimit 50\ncode {}67800000\n"
 FORMS = [
-    ([NOTHING] * 4 + [LOAD, ADD, STORE], "load 00000010", "1 1", "It looks like a reduction: each epoch changes total at its end"),
-    ([LOAD, ADD, STORE] + [NOTHING] * 4, "load 00000000", "1 1", "It looks like an induction: each epoch changes total near its start"),
-    ([LOAD, LOAD_THERE, STORE] + [NOTHING] * 4, "load 00000000", "1 1", "It looks like the walk of a list: each epoch finds in total"),
+    ([NOTHING] * 4 + [LOAD, ADD, STORE], "load 00000010", "1 1",
+     "It looks like a reduction: each epoch changes total at its end"),
+    ([LOAD, ADD, STORE] + [NOTHING] * 4, "load 00000000", "1 1",
+     "It looks like an induction: each epoch changes total near its start"),
+    ([LOAD, LOAD_THERE, STORE] + [NOTHING] * 4, "load 00000000", "1 1",
+     "It looks like the walk of a list: each epoch finds in total"),
     ([LOAD, AROUND] + [NOTHING] * 3 + [ADD, STORE], "load 00000000", "1 1",
      "It looks like a recurrence: each epoch reads total early and changes it late"),
     ([LOAD, CLEAR] + [NOTHING] * 4 + [STORE], "load 00000000", "1 1",
@@ -73,20 +76,27 @@ DEP = ("dep store 00000014 load 00000004 times {} distance {} at {} first 0 1 st
 FLOWS = [
     (NEVER, "No schedule on up to 8 cores can roll this loop back (proved). What holds it back"),
     (MEETS.format("caches", 2) + "never plain 8\n",
-     "Over caches a schedule rolls it back from 2 cores on; over a plain store of bytes none on up to 8 cores does (proved). In order no "
+     "Over caches a schedule rolls it back from 2 cores on; over a plain store of bytes none on up to 8 cores does "
+     "(proved). In order no "
      "epoch reads what another one stores: what rolls back are lines that they share."),
     ("open caches 2\nnever plain 8\n",
-     "Over caches epochs conflict from 2 cores on, but no schedule that rolls back is known; over a plain store of bytes none on up to "
+     "Over caches epochs conflict from 2 cores on, but no schedule that rolls back is known; over a plain store of "
+     "bytes none on up to "
      "8 cores does (proved). What holds it back"),
     (DEP.format(1, "1 1", "00000040 1", "2 of 4", "1 of 4") + MEETS.format("caches", 2) + MEETS.format("plain", 2),
-     "A schedule rolls it back over caches from 2 cores on, and over a plain store of bytes too. What an epoch needs earliest of another: "
-     "the load at waits.c:7 reads, after 1 of 4 instructions, what the store at waits.c:4 left after 2 of 4, 1 epoch before; 1 time "
-     "in all, at flag. It looks like a recurrence: an epoch needs what the one before it makes; it usually helps to load it later, or "
-     "to store it earlier. What holds it back over a plain store already: 1 rollback by true sharing lost 3 instructions. 3 "
+     "A schedule rolls it back over caches from 2 cores on, and over a plain store of bytes too. What an epoch needs "
+     "earliest of another: "
+     "the load at waits.c:7 reads, after 1 of 4 instructions, what the store at waits.c:4 left after 2 of 4, 1 epoch "
+     "before; 1 time "
+     "in all, at flag. It looks like a recurrence: an epoch needs what the one before it makes; it usually helps to "
+     "load it later, or "
+     "to store it earlier. What holds it back over a plain store already: 1 rollback by true sharing lost 3 "
+     "instructions. 3 "
      "instructions where the store at waits.c:4 hits the load at waits.c:7 at flag. In 20 %"),
     (DEP.format(4, "2 5", "00000040 13", "2 of 4", "1 of 4") + MEETS.format("caches", 2) + MEETS.format("plain", 3),
      "A schedule rolls it back over caches from 2 cores on, and over a plain store of bytes from 3. What "
-     "epochs need of one another is at least 2 epochs apart, so it holds nothing back on up to 2 cores. What holds it back"),
+     "epochs need of one another is at least 2 epochs apart, so it holds nothing back on up to 2 cores. What holds it "
+     "back"),
 ]
 # What holds back six loops whose epochs wait for ways of full sets, by how they were written: the place, and the lines
 # of the store and of the load.
@@ -99,35 +109,37 @@ HIDDEN = {
 }
 # What their dependences look like, told where `depends` is built.
 SHAPES = {
-    "cipher": "a recurrence: each epoch reads state+48 early", "diffusion": "a recurrence: each epoch reads carried early",
-    "blocks": "a recurrence: each epoch reads unused early", "product": "a reduction: each epoch changes total at its end",
-    "count": "a reduction: each epoch changes ways again and again", "words": "a recurrence: each epoch reads used early",
+    "cipher": "a recurrence: each epoch reads state+48 early",
+    "diffusion": "a recurrence: each epoch reads carried early",
+    "blocks": "a recurrence: each epoch reads unused early",
+    "product": "a reduction: each epoch changes total at its end",
+    "count": "a reduction: each epoch changes ways again and again",
+    "words": "a recurrence: each epoch reads used early",
 }
 NEIGHBOURS = ("unsigned out[64] __attribute__((aligned(16)));\nvoid body(unsigned e)\n{\n    unsigned s = e;\n"
               "    for (unsigned i = 0; i < 20; i++) {\n        s = s * 5 + i;\n"
               "        out[e] += s;\n    }\n}\n")
 # Of an example on four cores: words of its verdict.
-EXAMPLES = {
-    "histogram": ["gains 2.28 on 4 cores", "plain store of bytes it gains 3.25", "hits the load at 00000018 at bins+4 "
-                                                                                 "and bins+20"],
-    "own_counters": ["gains 1.08 on 4 cores", "428 steps in place of 464", "plain store of bytes it gains 4.00. So the "
-                                                                           "caches cost most of what there is to gain",
-                     "27 % are useful, 64 % are lost and 9 % are idle",
-                     "42 rollbacks by false sharing lost 1,050 instructions", "give counter, counter+4, counter+8 and "
-                                                                              "counter+12 lines of 16 bytes of their "
-                                                                              "own"],
-    "padded_counters": ["gains 4.00 on 4 cores", "Nothing holds it back."],
-    "list_walk": ["loses on 4 cores at even speed, a gain of 0.99", "18 rollbacks by true sharing lost"],
-    "queens": ["gains 1.39 on 4 cores", "wait for a way in a full set"],
-}
+EXAMPLES = {"histogram": ["gains 2.28 on 4 cores", "plain store of bytes it gains 3.25",
+                          "hits the load at 00000018 at bins+4 and bins+20"],
+            "own_counters": ["gains 1.08 on 4 cores", "428 steps in place of 464",
+                             "plain store of bytes it gains 4.00. So the caches cost most of what there is to gain",
+                             "27 % are useful, 64 % are lost and 9 % are idle",
+                             "42 rollbacks by false sharing lost 1,050 instructions",
+                             "give counter, counter+4, counter+8 and counter+12 lines of 16 bytes of their own"],
+            "padded_counters": ["gains 4.00 on 4 cores", "Nothing holds it back."],
+            "list_walk": ["loses on 4 cores at even speed, a gain of 0.99", "18 rollbacks by true sharing lost"],
+            "queens": ["gains 1.39 on 4 cores", "wait for a way in a full set"]}
 
 # What is told besides where `depends` is built.
 FLOWING = {
     "histogram": ["A schedule rolls it back over caches from 2 cores on, and over a plain store of bytes from 3.",
                   "7 times in all, at bins. It joins epochs 2 to 9 apart, as where data decide"],
-    "own_counters": ["over caches from 2 cores on, and over a plain store of bytes from 5.", "at least 4 epochs apart, so it holds nothing back on up to 4 cores"],
+    "own_counters": ["over caches from 2 cores on, and over a plain store of bytes from 5.",
+                     "at least 4 epochs apart, so it holds nothing back on up to 4 cores"],
     "padded_counters": ["A schedule rolls it back over caches from 5 cores on, and over a plain store of bytes too."],
-    "list_walk": ["after 0 of 200 instructions, what the store at 00000014 left after 5 of 200, 1 epoch before; 4 times in all, at cursor. It looks like "
+    "list_walk": ["after 0 of 200 instructions, what the store at 00000014 left after 5 of 200, 1 epoch before; 4 "
+                  "times in all, at cursor. It looks like "
                   "the walk of a list"],
     "queens": ["over a plain store of bytes none on up to 8 cores does (proved)"],
 }
@@ -143,7 +155,8 @@ def stub(folder: Path | str, name: str, output: str, error: str = "", status: in
 
 def verdict(folder: Path | str, image: Path, *words: str | Path) -> tuple[str, str, int]:
     """What the tool prints, on one line, with the programs of a folder; its error line and its status."""
-    done = called([ROOT / "tools" / "verdict", image, *words], env={"PATH": "/usr/bin:/bin", "LOOPS_PROGRAMS": str(folder)})
+    done = called([ROOT / "tools" / "verdict", image, *words],
+                  env={"PATH": "/usr/bin:/bin", "LOOPS_PROGRAMS": str(folder)})
     return " ".join(done.stdout.split()), done.stderr, done.returncode
 
 
@@ -154,8 +167,8 @@ def by_hand(folder: Path | str) -> Results:
     for name, output in (("gain", GAIN), ("replay", RUN), ("why", WHY)):
         stub(folder, name, output)
     for words, ending, status in (([], "", 0), (["--max-lost", "20", "--min-gain", "1.2"], " Within the limits.", 0),
-                                  (["--max-lost", "19"], " Past the limits: 20.0 % of the steps are lost, more than 19 "
-                                                         "%.", 5),
+                                  (["--max-lost", "19"],
+                                   " Past the limits: 20.0 % of the steps are lost, more than 19 %.", 5),
                                   (["--min-gain", "1.5"], " Past the limits: it gains 1.20, less than 1.50.", 5)):
         got = verdict(folder, image, "--cores", "2", *words)
         yield f"the verdict {words}", None if got == (SAID + ending, "", status) else f"got {got}"
@@ -188,7 +201,8 @@ def by_hand(folder: Path | str) -> Results:
 
 
 def flows(folder: Path | str) -> Results:
-    """What `depends` adds, where it is there: whether anything can roll back, and what an epoch needs earliest of another."""
+    """What `depends` adds, where it is there: whether anything can roll back, and what an epoch needs earliest of
+    another."""
     image = Path(folder, "waits.image")
     image.write_text(IMAGE)
     for name, output in (("gain", GAIN), ("replay", RUN), ("why", WHY)):
@@ -196,7 +210,8 @@ def flows(folder: Path | str) -> Results:
     for output, said in FLOWS:
         stub(folder, "depends", output)
         got = verdict(folder, image, "--cores", "2")
-        yield f"told of {output[:40]!r}", None if f" are idle. {said}" in got[0] and got[1:] == ("", 0) else f"got {got}"
+        yield (f"told of {output[:40]!r}",
+               None if f" are idle. {said}" in got[0] and got[1:] == ("", 0) else f"got {got}")
     for code, load, distance, said in FORMS:
         image.write_text(WORD.format("".join(code)))
         place = int(load.split()[1], 16) // 4
@@ -204,7 +219,8 @@ def flows(folder: Path | str) -> Results:
         text = text.replace("load 00000004", load).replace("store 00000014", f"store {4 * code.index(STORE):08x}")
         stub(folder, "depends", text + MEETS.format("caches", 2) + MEETS.format("plain", 2))
         got = verdict(folder, image, "--cores", "2")
-        yield f"a shape: {said}", None if f"3 times in all, at total. {said}" in got[0] and got[1:] == ("", 0) else f"got {got}"
+        yield (f"a shape: {said}",
+               None if f"3 times in all, at total. {said}" in got[0] and got[1:] == ("", 0) else f"got {got}")
     stub(folder, "depends", "", error="stopped NoMemory", status=3)
     got = verdict(folder, image, "--cores", "2")
     yield "depends is stopped", None if got == ("", "stopped NoMemory\n", 3) else f"got {got}"
@@ -242,7 +258,8 @@ def hidden(folder: Path | str) -> Results:
                        rf"{name}\.c:{line_of(text, store)} {re.escape(first)}(: it usually helps to|\.)")
             ways = ("What the caches add: " in got[0]
                     and "wait for a way in a full set" in got[0].partition("What the caches add: ")[2])
-            shape = not Path(folder, "depends").exists() or f" in all, at {place}. It looks like {SHAPES[name]}" in got[0]
+            shape = not Path(folder,
+                             "depends").exists() or f" in all, at {place}. It looks like {SHAPES[name]}" in got[0]
             yield (f"the verdict on {name} by {compiler}", None if re.search(pattern, got[0]) and ways and shape
                    and got[1:] == ("", 0) else f"got {got}")
 

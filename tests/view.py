@@ -3,9 +3,10 @@
 
 Usage: tests/view.py [COMMAND ..]
 
-COMMAND is a command of `trace_cli` that ends with the word `seq`; `why` and `replay` are the programs that were built beside it. Without it those of this repository
-are tested. Where Debian's packages chromium, chromium-driver and python3-selenium aren't installed, or a program isn't built, the pages are left out, and a line says
-so. Exits with 1 where a check failed.
+COMMAND is a command of `trace_cli` that ends with the word `seq`; `why` and `replay` are the programs that were built
+beside it. Without it those of this repository are tested. Where Debian's packages chromium, chromium-driver and
+python3-selenium aren't installed, or a program isn't built, the pages are left out, and a line says so. Exits with 1
+where a check failed.
 """
 
 import importlib.util
@@ -32,31 +33,38 @@ sys.dont_write_bytecode = True
 from loops import Programs, Unreadable, read_steps                  # noqa: E402
 from loops.instructions import spelled                              # noqa: E402
 
-# Each of two epochs loads from, or stores to, five lines in turn: on two cores the buffer of the second one is full, or that of the first one is when the second asks.
+# Each of two epochs loads from, or stores to, five lines in turn: on two cores the buffer of the second one is full, or
+# that of the first one is when the second asks.
 LOADS_FIRST = "630e05002320a0042328a0042320a0062328a0062320a00867800000832200048322000583220006832200078322000867800000"
-STORES_FIRST = "630e05008322000483220005832200068322000783220008678000002320a0042328a0042320a0062328a0062320a00867800000"
+STORES_FIRST = ("630e05008322000483220005832200068322000783220008678000002320a0042328a0042320a0062328a006"
+                "2320a00867800000")
 FIVE_LINES = "0 0 0 0 0 0 1 1 1 1 1 1 0 1 1"
 # Each epoch loads the word at 40 and stores it.
 SHORT = "83220004232050046780000013000000"
-# What the page shows: the turn, the text of each core, and each place, without the word that says a change; and that word. A walk presses a key so many times, and
-# answers what is shown before each time and at the end.
+# What the page shows: the turn, the text of each core, and each place, without the word that says a change; and that
+# word. A walk presses a key so many times, and answers what is shown before each time and at the end.
 SCRIPT = """
 // The bytes of a kind, as a mask: bit i is byte i.
 function maskOf(copy, kind) {
   const bytes = copy.querySelector('.bytes')?.cloneNode(true);
   bytes?.querySelectorAll('.' + kind).forEach(one => { one.textContent = '__'; });
-  return (bytes?.textContent.replace(/ /g, '').match(/../g) ?? []).reduce((mask, byte, place) => byte === '__' ? mask + 2 ** place : mask, 0);
+  const all = bytes?.textContent.replace(/ /g, '').match(/../g) ?? [];
+  return all.reduce((mask, byte, place) => byte === '__' ? mask + 2 ** place : mask, 0);
 }
 function shownPlace(part) {
-  const copy = part.dataset.place.startsWith('kept ') ? part.closest('tr').cloneNode(true) : part.cloneNode(true), words = [...copy.querySelectorAll('.word')], told = {};
+  const copy = (part.dataset.place.startsWith('kept ') ? part.closest('tr') : part).cloneNode(true);
+  const words = [...copy.querySelectorAll('.word')], told = {};
   words.forEach(one => one.remove());
-  for (const kind of ['address', 'state', 'mark', 'mask', 'bytes', 'none']) told[kind] = copy.querySelector('.' + kind)?.textContent.replace(/ /g, '') ?? '';
+  for (const kind of ['address', 'state', 'mark', 'mask', 'bytes', 'none'])
+    told[kind] = copy.querySelector('.' + kind)?.textContent.replace(/ /g, '') ?? '';
   const word = words.map(one => one.textContent).join(' '), text = copy.textContent.replace(/\\s+/g, ' ').trim();
-  return { ...told, text, word, stored: maskOf(copy, 'stored'), framed: maskOf(copy, 'new'), marked: part.classList.contains('changed') };
+  const stored = maskOf(copy, 'stored'), framed = maskOf(copy, 'new');
+  return { ...told, text, word, stored, framed, marked: part.classList.contains('changed') };
 }
 function shown() {
   const places = [...document.querySelectorAll('[data-place]')].map(part => [part.dataset.place, shownPlace(part)]);
-  return { turn: Number(document.getElementById('turn').value), places: Object.fromEntries(places), cores: [...document.querySelectorAll('.core')].map(one => one.textContent) };
+  const cores = [...document.querySelectorAll('.core')].map(one => one.textContent);
+  return { turn: Number(document.getElementById('turn').value), places: Object.fromEntries(places), cores };
 }
 function walked(key, times) {
   const all = [shown()];
@@ -80,7 +88,8 @@ def example(name: str) -> str:
 # --- What needs no browser ----------------------------------------------------
 
 def spelled_by_as(text: str, word: int, pc: int) -> str:
-    """The text of a row of the vectors, as the GNU assembler takes it, in the manner of the page: `beq x6,x7,.+8` has its target as an address."""
+    """The text of a row of the vectors, as the GNU assembler takes it, in the manner of the page: `beq x6,x7,.+8` has
+    its target as an address."""
     if text.startswith("fence") and word & 0x7000 == 0 or word & 0x707F == 0x0F:
         return "fence"
     name, _, rest = text.partition(" ")
@@ -92,7 +101,8 @@ def disassembly() -> Iterator[Result]:
     pc, seen = 0x1000, set()
     for path in sorted((ROOT / "tests" / "vectors").glob("*.txt")):
         rows = [line.split(" | ")[:2] for line in path.read_text().splitlines() if not line.startswith("#")]
-        wanted = {int(word, 16): f".word 0x{word}" if path.stem == "illegal" else spelled_by_as(text, int(word, 16), pc) for text, word in rows}
+        wanted = {int(word, 16): f".word 0x{word}" if path.stem == "illegal" else spelled_by_as(text, int(word, 16), pc)
+                  for text, word in rows}
         wrong = {word: (spelled(word, pc), text) for word, text in wanted.items() if spelled(word, pc) != text}
         seen |= {text.split(" ")[0] for text in wanted.values()}
         yield f"the words of {path.name}", f"{list(wrong.values())[:3]}" if wrong else None
@@ -101,7 +111,8 @@ def disassembly() -> Iterator[Result]:
 
 def forms() -> Iterator[Result]:
     """What isn't of the form is refused, and what is can be written again."""
-    text = ("turn 0 1 go\nentry 1 load 00000040 4 00000000\nattempt 1 0 speculative\nhart 1 00000004 1\norb 1 00000040\norb 1\nat 00000040 00\n"
+    text = ("turn 0 1 go\nentry 1 load 00000040 4 00000000\nattempt 1 0 speculative\nhart 1 00000004 1\norb 1 "
+            "00000040\norb 1\nat 00000040 00\n"
             "turn 1 1 over fault 0 5 00000000\nend\nopen 1\n")
     told = read_steps(text.replace("orb 1 00000040\n", ""))
     yield "written again", None if told.text() == text.replace("orb 1 00000040\n", "") else told.text()
@@ -116,7 +127,8 @@ def forms() -> Iterator[Result]:
 
 def find_selenium() -> None:
     """Runs this program anew by Debian's Python, where the one that runs it has no selenium."""
-    if importlib.util.find_spec("selenium") is None and Path(DEBIANS).exists() and Path(DEBIANS).resolve() != Path(sys.executable).resolve():
+    if (importlib.util.find_spec("selenium") is None and Path(DEBIANS).exists()
+        and Path(DEBIANS).resolve() != Path(sys.executable).resolve()):
         os.execv(DEBIANS, [DEBIANS, *sys.argv])
 
 
@@ -159,10 +171,12 @@ class Page:
         return self.browser.execute_script(SCRIPT + "return shown()")
 
     def walked(self, key: str, times: int) -> list[dict[str, Any]]:
-        """What is shown before each press of a key, so many times, and at the end; some presses a call, so that none takes long on a busy machine."""
+        """What is shown before each press of a key, so many times, and at the end; some presses a call, so that none
+        takes long on a busy machine."""
         all_shown = [self.shown()]
         for place in range(0, times, AT_ONCE):
-            all_shown += self.browser.execute_script(SCRIPT + "return walked(...arguments)", key, min(AT_ONCE, times - place))[1:]
+            all_shown += self.browser.execute_script(SCRIPT + "return walked(...arguments)", key,
+                                                     min(AT_ONCE, times - place))[1:]
         return all_shown
 
     def press(self, *keys: str) -> None:
@@ -227,7 +241,8 @@ def printed(steps: Any) -> list[dict[str, str]]:
     return [{place: change.said for place, change in state.items()} for state in steps.states()]
 
 
-OF_PLACE = {"line": of_line, "orb": of_buffer, "kept": of_kept, "hart": of_hart, "attempt": of_attempt, "at": lambda text, got: got["bytes"] == text}
+OF_PLACE = {"line": of_line, "orb": of_buffer, "kept": of_kept, "hart": of_hart, "attempt": of_attempt,
+            "at": lambda text, got: got["bytes"] == text}
 
 
 def framed(place: str, old: str, new: str) -> int:
@@ -239,20 +254,26 @@ def framed(place: str, old: str, new: str) -> int:
 
 
 def differences(shown: dict[str, Any], state: dict[str, str], step: Any, before: dict[str, str]) -> Iterator[str]:
-    """Where the page shows something else than the state after a turn, or doesn't say what changed from the state before."""
+    """Where the page shows something else than the state after a turn, or doesn't say what changed from the state
+    before."""
     places, waits = shown["places"], step.answer.split(" ")[1] if step.answer.startswith("again ") else ""
     for place, text in state.items():
         kind, got = place.split(" ")[0], places.get(place)
-        is_changed, is_gone = place in {it.place for it in step.changes}, kind == "kept" and int("".join(text.split(" ")[:2]), 16) == 0
+        is_changed, is_gone = (place in {it.place
+                                        for it in step.changes},
+                               kind == "kept" and int("".join(text.split(" ")[:2]), 16) == 0)
         if got is None and is_gone and not is_changed:
             continue
         if got is None or not OF_PLACE[kind](text, got):
             yield f"{place}: {got}, and not {text!r}"
         elif (got["marked"], got["word"] != "") != (is_changed, is_changed):
             yield f"{place}: marked {got['marked']}, with the word {got['word']!r}"
-        elif kind in ("line", "at") and got["framed"] != (framed(place, before.get(place, "-" if kind == "line" else "00" * 16), text) if is_changed else 0):
+        elif (kind in ("line", "at")
+              and got["framed"] != (framed(place, before.get(place, "-" if kind == "line" else "00" * 16), text)
+                                    if is_changed else 0)):
             yield f"{place}: framed {got['framed']:x}"
-    yield from (f"{place}: marked" for place, got in places.items() if place not in state and got["marked"] and not place.startswith("wait "))
+    yield from (f"{place}: marked" for place, got in places.items() if place not in state and got["marked"]
+                and not place.startswith("wait "))
     if shown["turn"] != step.turn or waits not in shown["cores"][step.core]:
         yield f"turn {shown['turn']}, and not {step.turn} {step.answer}: {shown['cores'][step.core][:100]}"
 
@@ -261,14 +282,16 @@ def whole_run(page: Page, steps: Any) -> Iterator[Result]:
     """(what it shows, what is wrong or None) of all turns, by the keys."""
     states, count = printed(steps), len(steps.steps)
     for number in range(3):
-        wrong = list(differences(page.shown(), states[number], steps.steps[number], states[number - 1] if number else {}))
+        wrong = list(differences(page.shown(), states[number], steps.steps[number],
+                                 states[number - 1] if number else {}))
         yield f"turn {number}", wrong[:3] or None
         page.press(page.keys.ARROW_RIGHT)
     page.press(page.keys.HOME)
     for key, numbers in (("ArrowRight", range(count)), ("ArrowLeft", range(count - 1, -1, -1))):
         all_shown = page.walked(key, count - 1)
         wrong = [f"turn {number}: {one}" for number, shown in zip(numbers, all_shown)
-                 for one in differences(shown, states[number], steps.steps[number], states[number - 1] if number else {})]
+                 for one in differences(shown, states[number], steps.steps[number],
+                                        states[number - 1] if number else {})]
         yield f"all turns by {key}", wrong[:3] or None
     page.press(page.keys.END, page.keys.ARROW_RIGHT)
     yield "no turn beyond the last", None if page.turn() == steps.steps[-1].turn else f"{page.turn()}"
@@ -287,7 +310,8 @@ def moves(page: Page, steps: Any) -> Iterator[Result]:
     yield "the rollback before", None if not hurts[1:] or page.turn() == hurts[-2] else f"{page.turn()}"
     of_one = [step.turn for step in steps.steps if step.core == 1]
     page.press(page.keys.HOME, "1", "1")
-    yield "the second turn of core 1, by its key", None if page.turn() == of_one[1] else f"{page.turn()}, and not {of_one[1]}"
+    yield ("the second turn of core 1, by its key",
+           None if page.turn() == of_one[1] else f"{page.turn()}, and not {of_one[1]}")
     page.click("back-1")
     yield "the turn of core 1 before", None if page.turn() == of_one[0] else f"{page.turn()}, and not {of_one[0]}"
     middle = steps.steps[len(steps.steps) // 2].turn
@@ -308,8 +332,8 @@ def moves(page: Page, steps: Any) -> Iterator[Result]:
 
 # --- Who reads it ---------------------------------------------------------------------
 
-# The texts whose ratio of contrast with what is behind them is below 4.5, by WCAG 2.1 (relative luminance, 1.4.3): each with the ratio. A background that is partly
-# clear lies over the one behind it.
+# The texts whose ratio of contrast with what is behind them is below 4.5, by WCAG 2.1 (relative luminance, 1.4.3): each
+# with the ratio. A background that is partly clear lies over the one behind it.
 CONTRAST = """
 const rgba = text => { const all = text.match(/[\\d.]+/g).map(Number); return all.length < 4 ? [...all, 1] : all; };
 const part = value => value / 255 <= 0.03928 ? value / 255 / 12.92 : ((value / 255 + 0.055) / 1.055) ** 2.4;
@@ -319,9 +343,11 @@ function behind(one) {
   const own = rgba(getComputedStyle(one).backgroundColor);
   return own[3] === 1 ? own : over(own, one.parentElement ? behind(one.parentElement) : [255, 255, 255]);
 }
-const seen = [...document.querySelectorAll('body *')].filter(one => one.checkVisibility() && [...one.childNodes].some(node => node.nodeType === 3 && node.data.trim()));
+const hasText = one => [...one.childNodes].some(node => node.nodeType === 3 && node.data.trim());
+const seen = [...document.querySelectorAll('body *')].filter(one => one.checkVisibility() && hasText(one));
 const ratios = seen.map(one => {
-  const [low, high] = [luminance(over(rgba(getComputedStyle(one).color), behind(one))), luminance(behind(one))].sort((a, b) => a - b);
+  const ink = over(rgba(getComputedStyle(one).color), behind(one));
+  const [low, high] = [luminance(ink), luminance(behind(one))].sort((a, b) => a - b);
   return [(high + 0.05) / (low + 0.05), one.tagName + '.' + one.className + ': ' + one.textContent.trim().slice(0, 30)];
 });
 return [ratios.length, ratios.filter(([ratio]) => ratio < 4.5)];
@@ -333,9 +359,12 @@ SIZES = [("400 pixels", 400, 1), ("200 % of 1280 pixels", 640, 2), ("400 % of 12
 
 def emulate(browser: Any, width: int, scale: int = 1, scheme: str = "light") -> None:
     """A window so many CSS pixels wide, each of so many of the screen's in a row, in light or dark."""
-    browser.execute_cdp_cmd("Emulation.setDeviceMetricsOverride", {"width": width, "height": 1000, "deviceScaleFactor": scale, "mobile": False})
-    browser.execute_cdp_cmd("Emulation.setEmulatedMedia", {"features": [{"name": "prefers-color-scheme", "value": scheme}]})
-    browser.execute_async_script("const end = arguments[0]; requestAnimationFrame(() => requestAnimationFrame(() => end()))")
+    browser.execute_cdp_cmd("Emulation.setDeviceMetricsOverride",
+                            {"width": width, "height": 1000, "deviceScaleFactor": scale, "mobile": False})
+    browser.execute_cdp_cmd("Emulation.setEmulatedMedia",
+                            {"features": [{"name": "prefers-color-scheme", "value": scheme}]})
+    browser.execute_async_script("const end = arguments[0]; requestAnimationFrame(() => requestAnimationFrame(() => "
+                                 "end()))")
 
 
 def accessible(browser: Any) -> list[tuple[str, str]]:
@@ -347,7 +376,8 @@ def accessible(browser: Any) -> list[tuple[str, str]]:
 def lanes_as_text(page: Page) -> list[str]:
     """The rows of the table of lanes, which the page makes soon after it is opened."""
     page.browser.find_element(page.by.TAG_NAME, "summary").click()
-    page.browser.execute_async_script("const end = arguments[0], look = () => element('attempts').rows.length ? end() : setTimeout(look, 10); look()")
+    page.browser.execute_async_script("const end = arguments[0], look = () => element('attempts').rows.length ? end() "
+                                      ": setTimeout(look, 10); look()")
     return [row.text for row in page.browser.find_elements(page.by.CSS_SELECTOR, "#attempts tr")]
 
 
@@ -356,22 +386,31 @@ def named_parts(page: Page) -> Iterator[Result]:
     parts = accessible(page.browser)
     buttons = [name for role, name in parts if role == "button"]
     core = [f"{which} of core {core}" for core in range(3) for which in ("turn before", "next turn")]
-    wanted = ["first turn", "turn before", "turn after", "last turn", "rollback before", "next rollback", "wait before", "next wait", *core]
+    wanted = ["first turn", "turn before", "turn after", "last turn", "rollback before", "next rollback", "wait before",
+              "next wait", *core]
     yield "the names of its buttons", None if buttons == wanted else f"{buttons}"
     bare = [role for role, name in parts if role in NAMED and not re.search("[a-z]", name)]
-    yield "each part has a name", None if not bare and NAMED <= {role for role, _ in parts} else f"{bare}, {sorted({role for role, _ in parts})}"
+    yield ("each part has a name",
+           None if not bare and NAMED <= {role for role, _ in parts}
+           else f"{bare}, {sorted({role for role, _ in parts})}")
     told = page.browser.find_elements(page.by.CSS_SELECTOR, "#cores-of-lanes li")
-    yield "the names of its lanes", None if [one.text for one in told] == ["core 0", "core 1", "core 2"] else f"{[one.text for one in told]}"
+    yield ("the names of its lanes",
+           None if [one.text for one in told] == ["core 0", "core 1", "core 2"] else f"{[one.text for one in told]}")
     told = [one.text for one in page.browser.find_elements(page.by.CSS_SELECTOR, "#core-0 .cache th[scope=row]")]
     yield "the names of sets", None if told == ["set 0", "set 1", "set 2", "set 3"] else f"{told}"
     page.browser.execute_script("toTurn(18)")
-    states = {one.text: one.get_attribute("title") for one in page.browser.find_elements(page.by.CSS_SELECTOR, "#core-2 .state")}
+    states = {one.text: one.get_attribute("title")
+              for one in page.browser.find_elements(page.by.CSS_SELECTOR, "#core-2 .state")}
     said = page.browser.find_element(page.by.CSS_SELECTOR, "#core-2 .states").text
     wrong = [name for name, told in states.items() if f"{name} is {told}." not in said]
-    yield "what its states mean", None if set(states) == {"SpS", "SpE"} and "no other core holds the line" in states["SpE"] and not wrong else f"{states}, {said!r}"
+    yield ("what its states mean", None if set(states) == {"SpS",
+                                                          "SpE"} and "no other core holds the line" in states["SpE"]
+           and not wrong else f"{states}, {said!r}")
     rows = lanes_as_text(page)
     wanted = ["core epoch attempt from turn to turn and then", 22, "core 0 3 1 14 19 is rolled back"]
-    yield "its lanes as text", None if [rows[0], len(rows) - 1, next((row for row in rows if row.startswith("core 0 3 1 ")), "")] == wanted else f"{rows}"
+    yield "its lanes as text", None if [rows[0], len(rows) - 1,
+                                        next((row for row in rows if row.startswith("core 0 3 1 ")),
+                                             "")] == wanted else f"{rows}"
 
 
 def keyboard(page: Page, steps: Any) -> Iterator[Result]:
@@ -398,7 +437,8 @@ def keyboard(page: Page, steps: Any) -> Iterator[Result]:
     for _ in range(16):
         pressed(keys.TAB)
         reached.append(focused())
-    ids = page.browser.execute_script("return [...document.querySelectorAll('nav button, nav input, summary')].map(one => one.id)")
+    ids = page.browser.execute_script("return [...document.querySelectorAll('nav button, nav input, summary')].map(one "
+                                      "=> one.id)")
     yield "the tabulator reaches all", None if reached == ids[:16] and len(ids) == 16 else f"{reached}, and not {ids}"
     pressed(keys.HOME)
     page.browser.execute_script("element('on').focus()")
@@ -418,7 +458,8 @@ def sizes(page: Page) -> Iterator[Result]:
     """Nothing scrolls sideways, in both colours, and all texts can be read."""
     for name, width, scale in SIZES:
         emulate(page.browser, width, scale)
-        wide, room, inner = page.browser.execute_script("const all = document.documentElement; return [all.scrollWidth, all.clientWidth, innerWidth]")
+        wide, room, inner = page.browser.execute_script("const all = document.documentElement; return "
+                                                        "[all.scrollWidth, all.clientWidth, innerWidth]")
         yield f"no sideways scroll at {name}", None if wide <= room and inner == width else f"{wide} of {room}, {inner}"
     grounds = {}
     for scheme in ("light", "dark"):
@@ -426,11 +467,15 @@ def sizes(page: Page) -> Iterator[Result]:
         for turn in (0, 18, 19):
             page.browser.execute_script("toTurn(arguments[0])", turn)
             count, low = page.browser.execute_script(CONTRAST)
-            yield f"contrast in {scheme} at turn {turn}", None if count > 80 and page.turn() == turn and not low else f"{count}, {low[:5]}"
-        grounds[scheme] = page.browser.execute_script("return [getComputedStyle(document.body).backgroundColor, getComputedStyle(document.body).color, colour('--commits')]")
-    yield "its colours in the dark", None if grounds == {"light": ["rgb(255, 255, 255)", "rgb(28, 28, 28)", "#7fb7d9"],
-                                                         "dark": ["rgb(22, 25, 29)", "rgb(232, 234, 237)", "#2f6f96"]} else f"{grounds}"
-    drawn = page.browser.execute_script("return [...element('drawn').getContext('2d').getImageData(MARGIN + 45, 6, 1, 1).data.slice(0, 3)]")
+            yield (f"contrast in {scheme} at turn {turn}",
+                   None if count > 80 and page.turn() == turn and not low else f"{count}, {low[:5]}")
+        grounds[scheme] = page.browser.execute_script("return [getComputedStyle(document.body).backgroundColor, "
+                                                      "getComputedStyle(document.body).color, colour('--commits')]")
+    yield ("its colours in the dark",
+           None if grounds == {"light": ["rgb(255, 255, 255)", "rgb(28, 28, 28)", "#7fb7d9"],
+                               "dark": ["rgb(22, 25, 29)", "rgb(232, 234, 237)", "#2f6f96"]} else f"{grounds}")
+    drawn = page.browser.execute_script("return [...element('drawn').getContext('2d').getImageData(MARGIN + 45, 6, 1, "
+                                        "1).data.slice(0, 3)]")
     yield "its lanes in the dark", None if drawn == [0x2F, 0x6F, 0x96] else f"{drawn}"
     page.browser.execute_cdp_cmd("Emulation.clearDeviceMetricsOverride", {})
 
@@ -441,8 +486,11 @@ def without_script(browser: Any, path: Path) -> Iterator[Result]:
     page = Page(browser, path)
     told = page.browser.find_element(page.by.TAG_NAME, "body").text
     browser.execute_cdp_cmd("Emulation.setScriptExecutionDisabled", {"value": False})
-    wanted = ["A histogram: epoch e adds 1 to the bin that its sample names.", "This page shows its run by JavaScript, which is off here."]
-    yield "without JavaScript", None if all(text in told for text in wanted) and "rollback" not in told and "Code" not in told else told
+    wanted = ["A histogram: epoch e adds 1 to the bin that its sample names.",
+              "This page shows its run by JavaScript, which is off here."]
+    yield ("without JavaScript", None if all(text in told
+                                            for text in wanted) and "rollback" not in told and "Code" not in told
+           else told)
 
 
 def for_everyone(views: "Views") -> Iterator[Result]:
@@ -460,12 +508,17 @@ def for_everyone(views: "Views") -> Iterator[Result]:
     told = [row.text for row in page.browser.find_elements(page.by.CSS_SELECTOR, "#code tr")]
     wanted = dict(re.findall(r"^# code (\w{8}) (\S+)$", example("own_counters"), re.MULTILINE))
     rows = [row for row in told[1:] if wanted.get(row[:8], "?") in row]
-    yield "the source's lines beside the code", None if told[0] == "address instruction source next of" and len(wanted) > 1 and len(rows) == len(wanted) else f"{told}"
+    yield ("the source's lines beside the code",
+           None if told[0] == "address instruction source next of" and len(wanted) > 1 and len(rows) == len(wanted)
+           else f"{told}")
     page, _ = views.page(views.evenly(example("first_match"), "caches", 4), "--cores", "4")
     told = lanes_as_text(page)
-    yield "lanes of a loop with an exit, as text", None if any(row.endswith(" is cancelled") for row in told) and any(row.endswith(" commits") for row in told) else f"{told}"
+    yield ("lanes of a loop with an exit, as text",
+           None if any(row.endswith(" is cancelled") for row in told) and any(row.endswith(" commits") for row in told)
+           else f"{told}")
     emulate(views.browser, 400)
-    wide, room = page.browser.execute_script("return [document.documentElement.scrollWidth, document.documentElement.clientWidth]")
+    wide, room = page.browser.execute_script("return [document.documentElement.scrollWidth, "
+                                             "document.documentElement.clientWidth]")
     yield "no sideways scroll of another run", None if wide <= room else f"{wide} of {room}"
     views.browser.execute_cdp_cmd("Emulation.clearDeviceMetricsOverride", {})
 
@@ -480,7 +533,8 @@ class Views:
 
     def view(self, text: str, *words: str) -> tuple[str, str, int]:
         """Standard output, the error stream and the status."""
-        done = called_bytes([sys.executable, ROOT / "tools" / "view", *words], text.encode("latin-1"), env={**os.environ, "LOOPS_PROGRAMS": str(self.programs.folder)})
+        done = called_bytes([sys.executable, ROOT / "tools" / "view", *words], text.encode("latin-1"),
+                            env={**os.environ, "LOOPS_PROGRAMS": str(self.programs.folder)})
         return done.stdout.decode("utf-8"), done.stderr.decode("latin-1"), done.returncode
 
     def page(self, text: str, *words: str, link: str = "") -> tuple[Page, str]:
@@ -501,12 +555,14 @@ class Views:
 def runs(views: Views) -> Iterator[Result]:
     """Whole runs: a trace, and turns over both stores."""
     traced = (ROOT / "examples" / "traces" / "histogram.trace").read_text()
-    inputs = [("a histogram's trace", traced, "caches", None, True), ("wide lines", views.evenly(example("wide_lines"), "caches", 3), "caches", 3, False),
+    inputs = [("a histogram's trace", traced, "caches", None, True),
+              ("wide lines", views.evenly(example("wide_lines"), "caches", 3), "caches", 3, False),
               ("a histogram over the plain store", views.evenly(example("histogram"), "plain", 2), "plain", 2, False)]
     for name, text, store, cores, is_moved in inputs:
         steps = views.programs.steps(text, store, cores)
         page, out = views.page(text, "--store", store, *([] if cores is None else ["--cores", str(cores)]))
-        yield f"{name}: alone", None if not re.search(r"(?:src|href)=(?!\"data:,\")|https?:|@import|url\(", out) else "names something outside"
+        yield f"{name}: alone", None if not re.search(r"(?:src|href)=(?!\"data:,\")|https?:|@import|url\(",
+                                                      out) else "names something outside"
         for shows, wrong in [*whole_run(page, steps), *(moves(page, steps) if is_moved else ())]:
             yield f"{name}: {shows}", wrong
         yield f"{name}: no errors in the browser", page.errors() or None
@@ -518,21 +574,28 @@ def first_turn(steps: Any, holds: Callable[[Any], bool]) -> int | None:
 
 def found(views: Views) -> Iterator[Result]:
     """What a person looks for, found by keys; `replay steps` says where it is."""
-    inputs = [("a full set", views.evenly(example("queens"), "caches", 2), 2, "w", "both ways of the set hold lines", lambda step: step.answer == "again NoWay"),
-              ("a full buffer", image(LOADS_FIRST) + f"turns {FIVE_LINES}\n", 2, "w", "its buffer, which is full", lambda step: step.answer == "again OrbFull"),
-              ("a full buffer of another core", image(STORES_FIRST) + f"turns {FIVE_LINES}\n", 2, "w", "whose buffer has no place", lambda step: step.answer == "again OrbBusy"),
-              ("false sharing", views.evenly(example("own_counters"), "caches", 4), 4, "r", "false sharing", lambda step: any(entry.what == "hurt" for entry in step.entries)),
-              ("an exit with a cancel", views.evenly(example("first_match"), "caches", 4), 4, None, "is cancelled; its exit ends the loop",
+    inputs = [("a full set", views.evenly(example("queens"), "caches", 2), 2, "w", "both ways of the set hold lines",
+               lambda step: step.answer == "again NoWay"),
+              ("a full buffer", image(LOADS_FIRST) + f"turns {FIVE_LINES}\n", 2, "w", "its buffer, which is full",
+               lambda step: step.answer == "again OrbFull"),
+              ("a full buffer of another core", image(STORES_FIRST) + f"turns {FIVE_LINES}\n", 2, "w",
+               "whose buffer has no place", lambda step: step.answer == "again OrbBusy"),
+              ("false sharing", views.evenly(example("own_counters"), "caches", 4), 4, "r", "false sharing",
+               lambda step: any(entry.what == "hurt" for entry in step.entries)),
+              ("an exit with a cancel", views.evenly(example("first_match"), "caches", 4), 4, None,
+               "is cancelled; its exit ends the loop",
                lambda step: any(entry.what == "cancel" for entry in step.entries))]
     for name, text, cores, key, words, holds in inputs:
         steps = views.programs.steps(text, "caches", cores)
         page, _ = views.page(text, "--cores", str(cores))
         turn, wanted = page.press_until(key or page.keys.ARROW_RIGHT, words), first_turn(steps, holds)
-        yield f"{name}, found by stepping", None if turn is not None and turn == wanted else f"turn {turn}, and not {wanted}: {page.text('said')}"
+        yield (f"{name}, found by stepping",
+               None if turn is not None and turn == wanted else f"turn {turn}, and not {wanted}: {page.text('said')}")
         if name.startswith("a full buffer"):
             core = 1 if name == "a full buffer" else 0
             told = page.text(f"core-{core}")
-            yield f"{name}: its lines", None if "buffer, 4 of 4 lines: 00000040; 00000050; 00000060; 00000070" in told else told
+            yield (f"{name}: its lines",
+                   None if "buffer, 4 of 4 lines: 00000040; 00000050; 00000060; 00000070" in told else told)
         yield f"{name}: no errors in the browser", page.errors() or None
 
 
@@ -543,7 +606,9 @@ def windows(views: Views) -> Iterator[Result]:
     states = printed(steps)
     page, _ = views.page(text, "--cores", "2", "--from", "20", "--to", "39", link="#turn=25")
     told = [page.turn(), page.text("cut")]
-    yield "a window", None if told == [25, f"Turns 20 to 39 of {len(states)} are on this page: --from and --to of tools/view choose others."] else f"{told}"
+    yield "a window", None if told == [25,
+                                       f"Turns 20 to 39 of {len(states)} are on this page: --from and --to of "
+                                       "tools/view choose others."] else f"{told}"
     yield "a window's state", [*differences(page.shown(), states[25], steps.steps[25], states[24])][:3] or None
     page.press(page.keys.HOME)
     yield "a window's first turn", None if page.turn() == 20 else f"{page.turn()}"
@@ -553,9 +618,13 @@ def windows(views: Views) -> Iterator[Result]:
     page, _ = views.page(long, "--cores", "2", link="#turn=30000")
     count = long.rpartition("turns ")[2].count(" ") + 1
     told = [page.turn(), page.text("cut")]
-    yield "a long run", None if count > 10_000 and told == [9999, f"Turns 0 to 9,999 of {count:,} are on this page: --from and --to of tools/view choose others."] else f"{told}, {count}"
+    yield ("a long run", None if count > 10_000
+           and told == [9999,
+                        f"Turns 0 to 9,999 of {count:,} are on this page: --from and --to of tools/view choose others."]
+           else f"{told}, {count}")
     yield "windows: no errors in the browser", page.errors() or None
-    for name, wrong, words, answer in (("an image", "size 7\n", ["--cores", "2"], ("", "image 1 Range\n", 2)), ("no cores", text, [], ("", "usage\n", 2))):
+    for name, wrong, words, answer in (("an image", "size 7\n", ["--cores", "2"], ("", "image 1 Range\n", 2)),
+                                       ("no cores", text, [], ("", "usage\n", 2))):
         got = views.view(wrong, *words)
         yield f"refused: {name}", None if got == answer else f"{got}"
 

@@ -1,13 +1,16 @@
 #!/usr/bin/env python3
-"""Tests the program `why` on real traces: loops of examples/ run on 2, 4 and 8 cores, and what it answers where `audit` refuses.
+"""Tests the program `why` on real traces: loops of examples/ run on 2, 4 and 8 cores, and what it answers where `audit`
+refuses.
 
 Usage: tests/why.py [COMMAND ..]
 
-COMMAND is a command of `trace_cli` that ends with the word `seq`, such as crates/trace_cli/out/trace_cli seq; `why` is the program that was built beside it.
-Without it ./trace_cli and ./why of this repository are tested. Where no such program is beside it the test is left out, and a line says so.
-Of each run: one line for each violation of its trace, in their places; no violation is unexplained; the lines of further runs stand below their violation's and share no byte with another of its runs; one line for each cancellation
-of an attempt that was not violated, and for each attempt that goes on; the sums of the kinds, of the pairs of instructions, and the total, are those of the lines, and pairs and lines of the caches stand heaviest first. Exits
-with 1 where a check failed.
+COMMAND is a command of `trace_cli` that ends with the word `seq`, such as crates/trace_cli/out/trace_cli seq; `why` is
+the program that was built beside it. Without it ./trace_cli and ./why of this repository are tested. Where no such
+program is beside it the test is left out, and a line says so. Of each run: one line for each violation of its trace, in
+their places; no violation is unexplained; the lines of further runs stand below their violation's and share no byte
+with another of its runs; one line for each cancellation of an attempt that was not violated, and for each attempt that
+goes on; the sums of the kinds, of the pairs of instructions, and the total, are those of the lines, and pairs and lines
+of the caches stand heaviest first. Exits with 1 where a check failed.
 """
 
 import sys
@@ -19,8 +22,8 @@ from typing import Any
 from common import ROOT, Check, Script, beside, called, differs, left_out
 from seq_rows import MOST_SECONDS, Outcome
 
-LOOPS = ["byte_search", "counter", "first_match", "hash_insert", "histogram", "list_walk", "maximum", "moving_pointer", "own_counters", "padded_counters",
-         "recurrence", "shift_left", "wait_for_flag", "wide_lines"]
+LOOPS = ["byte_search", "counter", "first_match", "hash_insert", "histogram", "list_walk", "maximum", "moving_pointer",
+         "own_counters", "padded_counters", "recurrence", "shift_left", "wait_for_flag", "wide_lines"]
 CORES = [2, 4, 8]
 WAITS = "size 256\nepochs 2\nlimit 50\ncode 6308050083220004e38e02fe67800000930210002320500467800000\n"
 # (what it shows, input, standard output, standard error, status)
@@ -28,10 +31,13 @@ REFUSED = [
     ("an image without its code", "size 256\ntrace 2\n", "", "image 0 MissingOrRepeated\n", 2),
     ("a trace without its head", WAITS, "", "trace 0 Head\n", 2),
     ("a line that is none", WAITS + "trace 2\n0 begin 0\n", "", "trace 6 Line\n", 2),
-    ("an input that is a byte too long", WAITS + "trace 2\n" + "#" * (33_554_433 - len(WAITS) - len("trace 2\n")), "", "trace 0 TooLong\n", 2),
-    ("an image that is a byte too long", WAITS + "#" * (1_048_576 - len(WAITS)) + "\ntrace 2\n", "", "image 0 TooLong\n", 2),
+    ("an input that is a byte too long", WAITS + "trace 2\n" + "#" * (33_554_433 - len(WAITS) - len("trace 2\n")), "",
+     "trace 0 TooLong\n", 2),
+    ("an image that is a byte too long", WAITS + "#" * (1_048_576 - len(WAITS)) + "\ntrace 2\n", "",
+     "image 0 TooLong\n", 2),
     ("an entry that is refused", WAITS + "trace 2\n0 start 1\n", "illegal 0 NotNext\n", "", 4),
-    ("no entry", WAITS + "trace 2\n", "total epochs 2 committed 0 useful 0 rollbacks 0 lost 0 cancelled 0 dropped 0 open 0 unsettled 0\n", "", 0),
+    ("no entry", WAITS + "trace 2\n",
+     "total epochs 2 committed 0 useful 0 rollbacks 0 lost 0 cancelled 0 dropped 0 open 0 unsettled 0\n", "", 0),
 ]
 
 
@@ -45,7 +51,8 @@ def value_of(words: list[str], name: str) -> int:
 
 
 def unended(entries: list[str]) -> tuple[list[str], list[str]]:
-    """The cancellations of a trace, by their places, and the attempts that go on after it: each as `epoch E try T core C`. A violated attempt is none of them."""
+    """The cancellations of a trace, by their places, and the attempts that go on after it: each as `epoch E try T core
+    C`. A violated attempt is none of them."""
     attempts: dict[str, list[Any]] = {}
     cancelled: list[str] = []
     for place, (core, what, *rest) in enumerate(entry.split() for entry in entries):
@@ -62,7 +69,9 @@ def unended(entries: list[str]) -> tuple[list[str], list[str]]:
                 cancelled.append(f"{place} epoch {epoch} try {number} core {victim}")
         elif what in ("commit", "fault"):
             del attempts[core]
-    return cancelled, [f"epoch {epoch} try {number} core {core}" for core, (epoch, number, goes_on) in sorted(attempts.items(), key=lambda one: int(one[0])) if goes_on]
+    return cancelled, [f"epoch {epoch} try {number} core {core}"
+                       for core, (epoch, number, goes_on) in sorted(attempts.items(), key=lambda one: int(one[0]))
+                       if goes_on]
 
 
 def pair_lines(lines: list[list[str]]) -> list[str]:
@@ -74,18 +83,22 @@ def pair_lines(lines: list[list[str]]) -> list[str]:
         (store, stored), (load, loaded) = [words[len(words) - words[::-1].index(name):][:2] for name in names]
         if "-" not in (stored, loaded):
             pairs.setdefault((stored, loaded), []).append({
-                "kind": words[2], "lost": value_of(words, "lost"), "stale": names[0] == "store" and int(store) < int(load),
+                "kind": words[2], "lost": value_of(words, "lost"),
+                "stale": names[0] == "store" and int(store) < int(load),
                 "vain": int(words[1]) in marked["vain"], "later": int(words[1]) in marked["later"],
                 "distance": value_of(words, "epoch") - value_of(words, "by"),
                 "first": int(words[words.index("at") + 1], 16), "length": int(words[words.index("at") + 2])})
     told = []
     for (store, load), those in pairs.items():
         lost, first = sum(one["lost"] for one in those), min(one["first"] for one in those)
-        kinds = [f"{kind} {sum(one['kind'] == kind for one in those)}" for kind in ("true", "silent", "false", "buffer")]
+        kinds = [f"{kind} {sum(one['kind'] == kind for one in those)}"
+                 for kind in ("true", "silent", "false", "buffer")]
         fates = [f"{fate} {sum(one[fate] for one in those)}" for fate in ("stale", "vain", "later")]
         distances = [one["distance"] for one in those]
-        head = f"pair asked {store} held {load}" if any(one["kind"] == "buffer" for one in those) else f"pair store {store} load {load}"
-        text = " ".join([head, f"rollbacks {len(those)} lost {lost}", *kinds, *fates, f"distance {min(distances)} {max(distances)}",
+        head = f"pair asked {store} held {load}" if any(one["kind"] == "buffer"
+                                                        for one in those) else f"pair store {store} load {load}"
+        text = " ".join([head, f"rollbacks {len(those)} lost {lost}", *kinds, *fates,
+                         f"distance {min(distances)} {max(distances)}",
                          f"at {first:08x} {max(one['first'] + one['length'] for one in those) - first}"])
         told.append((-lost, -len(those), store, load, text))
     return [text for *_, text in sorted(told)]
@@ -96,7 +109,8 @@ def differences(report: str, trace: str) -> str | None:
     entries = trace.splitlines()[1:]
     places = [place for place, entry in enumerate(entries) if entry.split()[1] == "hurt"]
     lines = [line.split() for line in report.splitlines()]
-    hurts, kinds, cancels, opens = [[words for words in lines if words[0] == first] for first in ("hurt", "kind", "cancel", "open")]
+    hurts, kinds, cancels, opens = [[words for words in lines if words[0] == first]
+                                    for first in ("hurt", "kind", "cancel", "open")]
     total = lines[-1]
     if [int(words[1]) for words in hurts] != places:
         return f"violations stand at {places}"
@@ -111,13 +125,16 @@ def differences(report: str, trace: str) -> str | None:
     pairs, wanted = [line for line in report.splitlines() if line.startswith("pair ")], pair_lines(lines)
     if pairs != wanted:
         return f"the pairs are {pairs}, but the lines have {wanted}"
-    weights = [(-value_of(words, "lost"), -value_of(words, "rollbacks"), words[1]) for words in lines if words[0] == "line"]
+    weights = [(-value_of(words, "lost"), -value_of(words, "rollbacks"), words[1]) for words in lines
+               if words[0] == "line"]
     if weights != sorted(weights):
         return "the lines do not stand heaviest first"
     cancelled, going_on = unended(entries)
-    if ([" ".join(words[1:8]) for words in cancels], [" ".join(words[1:7]) for words in opens]) != (cancelled, going_on):
+    if ([" ".join(words[1:8]) for words in cancels],
+        [" ".join(words[1:7]) for words in opens]) != (cancelled, going_on):
         return f"{cancelled} were cancelled, and {going_on} go on"
-    for those, count, name, done in [(hurts, "rollbacks", "lost", "lost"), (cancels, "cancelled", "dropped", "lost"), (opens, "open", "unsettled", "done")]:
+    for those, count, name, done in [(hurts, "rollbacks", "lost", "lost"), (cancels, "cancelled", "dropped", "lost"),
+                                     (opens, "open", "unsettled", "done")]:
         sums = (len(those), sum(value_of(words, done) for words in those))
         if (value_of(total, count), value_of(total, name)) != sums:
             return f"{' '.join(total)}, but the lines have {sums}"
@@ -125,7 +142,8 @@ def differences(report: str, trace: str) -> str | None:
 
 
 def runs_wrong(report: str) -> str | None:
-    """What is wrong with the lines of further runs, or None: each stands below its violation's, is of a kind that a run can have, and no byte is in two runs."""
+    """What is wrong with the lines of further runs, or None: each stands below its violation's, is of a kind that a run
+    can have, and no byte is in two runs."""
     place: str | None = None
     taken: set[int] = set()
     for words in (line.split() for line in report.splitlines()):
@@ -149,7 +167,9 @@ def real(command: list[str], why: Path) -> Iterator[Check]:
             printed, _, _ = outcome([*command[:-1], "run", "--cores", str(cores), "--trace"], image)
             trace = printed[f"\n{printed}".index("\ntrace "):]
             report, errors, status = outcome([why], image + trace)
-            yield f"{name} on {cores} cores", f"{errors!r}, status {status}" if (errors, status) != ("", 0) else differences(report, trace) or runs_wrong(report)
+            yield (f"{name} on {cores} cores",
+                   f"{errors!r}, status {status}" if (errors, status) != ("", 0) else differences(report, trace)
+                   or runs_wrong(report))
 
 
 def refused(why: Path) -> Iterator[Check]:

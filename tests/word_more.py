@@ -1,10 +1,11 @@
 #!/usr/bin/env python3
 """Shows that a word more on a line that is printed is proved at once: tests/word_more.py [CRATE ..]
 
-For each kind of lines of `why`, of `replay steps` and of `gain` in turn it adds ` x N` to the definition of the line and to the function that
-writes it, two places in all, and checks the whole crate, over what the check of the crate as it is has kept, as after an edit. It prints
-whether that is proved, and the seconds of one processor that the check took. The libraries below are those that `rt ci` or `rt check` left.
-It isn't part of tests/run, since it takes some minutes. Exits with 1 where a line is not proved.
+For each kind of lines of `why`, of `replay steps` and of `gain` in turn it adds ` x N` to the definition of the line
+and to the function that writes it, two places in all, and checks the whole crate, over what the check of the crate as
+it is has kept, as after an edit. It prints whether that is proved, and the seconds of one processor that the check
+took. The libraries below are those that `rt ci` or `rt check` left. It isn't part of tests/run, since it takes some
+minutes. Exits with 1 where a line is not proved.
 """
 import resource
 import shutil
@@ -18,12 +19,13 @@ TOP = Path(__file__).resolve().parent.parent
 sys.path.insert(0, str(TOP / "tools"))
 sys.dont_write_bytecode = True
 
-from crates import CannotCheck, Crates, Kit
+from crates import CannotCheck, Crates, Kit  # noqa: E402
 
 
 @dataclass(frozen=True)
 class Form:
-    """How a crate says ` x N`, in a definition and in code, and the text at the end of a line in code, before which it goes."""
+    """How a crate says ` x N`, in a definition and in code, and the text at the end of a line in code, before which it
+    goes."""
 
     in_definition: str
     in_code: str
@@ -32,7 +34,8 @@ class Form:
 
 @dataclass(frozen=True)
 class Line:
-    """A kind of lines: where it is defined and by what name, where the function is that writes it, and a number of each to add."""
+    """A kind of lines: where it is defined and by what name, where the function is that writes it, and a number of each
+    to add."""
 
     form: Form
     definition: str
@@ -45,9 +48,13 @@ class Line:
 
 END = 'codes "\\n"'
 LABELLED = Form('named (codes " x ") {} ++ ', 'push_named(text, b" x ", {})?;\n    ', 'push_text(text, b"\\n")')
-NUMBERED = Form('number (codes " x ") {} ++ ', 'push_number(text, b" x ", {})?;\n    ', 'text.extend_from_slice(b"\\n")')
-ADDED = Form('codes " x " ++ decimal {} ++ ', 'text.extend_from_slice(b" x ")?;\n    push_number(text, {})?;\n    ', 'text.extend_from_slice(b"\\n")')
-MADE = Form('codes " x " ++ decimal {} ++ ', 'text.extend_from_slice(b" x ")?;\n    trace_text::push_number(&mut text, {})?;\n    ', 'text.extend_from_slice(b"\\n")')
+NUMBERED = Form('number (codes " x ") {} ++ ', 'push_number(text, b" x ", {})?;\n    ',
+                'text.extend_from_slice(b"\\n")')
+ADDED = Form('codes " x " ++ decimal {} ++ ', 'text.extend_from_slice(b" x ")?;\n    push_number(text, {})?;\n    ',
+             'text.extend_from_slice(b"\\n")')
+MADE = Form('codes " x " ++ decimal {} ++ ',
+            'text.extend_from_slice(b" x ")?;\n    trace_text::push_number(&mut text, {})?;\n    ',
+            'text.extend_from_slice(b"\\n")')
 LINES = {
     "conflict_text": [
         Line(LABELLED, "specs/Lines.antt", "hurt_line", "src/lines.rt", "push_hurt", "f.lost", "found.lost as u128"),
@@ -58,7 +65,8 @@ LINES = {
         Line(LABELLED, "specs/Ends.antt", "cancel_line", "src/ends.rt", "push_cancelled", "e.done", "e.done as u128"),
         Line(LABELLED, "specs/Ends.antt", "open_line", "src/ends.rt", "push_open", "o.done", "running.done as u128"),
         Line(LABELLED, "specs/Report.antt", "epoch_line", "src/sums.rt", "push_epoch", "e.0", "epoch as u128"),
-        Line(LABELLED, "specs/Report.antt", "pair_line", "src/parts.rt", "push_pair", "p.sum.count", "sum.sum.count as u128"),
+        Line(LABELLED, "specs/Report.antt", "pair_line", "src/parts.rt", "push_pair", "p.sum.count",
+             "sum.sum.count as u128"),
         Line(LABELLED, "specs/Report.antt", "line_text", "src/parts.rt", "push_line", "e.0", "line as u128"),
         Line(LABELLED, "specs/Report.antt", "pc_text", "src/parts.rt", "push_pc", "pc", "pc as u128"),
         Line(LABELLED, "specs/Report.antt", "kind_text", "src/sums.rt", "push_kind", "sum.count", "sum.count as u128"),
@@ -82,7 +90,8 @@ class NotThere(Exception):
 
 
 def with_word(text: str, begins: str, end: str, word: str) -> str:
-    """The text with a word before the last `end` of the item that begins so, which a blank line or a brace at the margin ends."""
+    """The text with a word before the last `end` of the item that begins so, which a blank line or a brace at the
+    margin ends."""
     start = text.find(begins)
     stop = min((it for it in (text.find("\n\n", start), text.find("\n}\n", start)) if it >= 0), default=len(text))
     at = text.rfind(end, start, stop)
@@ -106,10 +115,12 @@ class Checks:
 
     def __init__(self, kit: Kit, crates: Crates, name: str, folder: Path):
         self.folder, self.own = folder, Path(crates.folder(name))
-        self.words = [kit.checker, "check", *crates.words(name, kit), kit.logic(), "--jobs=1", f"--incremental={folder / 'kept'}"]
+        self.words = [kit.checker, "check", *crates.words(name, kit), kit.logic(), "--jobs=1",
+                      f"--incremental={folder / 'kept'}"]
 
     def check(self, line: Line | None = None) -> tuple[bool, float, list[str]]:
-        """Whether the crate is proved with a word more on a line, the seconds of one processor, and what the checker said."""
+        """Whether the crate is proved with a word more on a line, the seconds of one processor, and what the checker
+        said."""
         crate = self.folder / "crate"
         shutil.rmtree(crate, ignore_errors=True)
         for part in ("src", "specs", "proofs"):
@@ -117,9 +128,11 @@ class Checks:
         if line:
             changed(crate, line)
         before = resource.getrusage(resource.RUSAGE_CHILDREN)
-        ran = subprocess.run(self.words, cwd=crate, stdin=subprocess.DEVNULL, capture_output=True, text=True, errors="replace", check=False)
+        ran = subprocess.run(self.words, cwd=crate, stdin=subprocess.DEVNULL, capture_output=True, text=True,
+                             errors="replace", check=False)
         used = resource.getrusage(resource.RUSAGE_CHILDREN)
-        return ran.returncode == 0, used.ru_utime + used.ru_stime - before.ru_utime - before.ru_stime, ran.stdout.splitlines()
+        return (ran.returncode == 0, used.ru_utime + used.ru_stime - before.ru_utime - before.ru_stime,
+                ran.stdout.splitlines())
 
 
 def rows(names: list[str]) -> int:
@@ -133,7 +146,8 @@ def rows(names: list[str]) -> int:
             for line in LINES[name]:
                 proved, seconds, said = checks.check(line)
                 failed += not proved
-                told = "proved" if proved else next((it for it in said if "not proved" in it or "no proof" in it or "error" in it), said[-1:])
+                told = "proved" if proved else next((it for it in said if "not proved" in it or "no proof" in it
+                                                     or "error" in it), said[-1:])
                 print(f"{name}: {line.name}: {told}, {seconds:.0f} s", flush=True)
     return failed
 

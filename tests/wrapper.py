@@ -3,8 +3,9 @@
 
 Usage: tests/wrapper.py
 
-Each row works in a small tree of its own, with stubs in the place of the kit's commands, so nothing is proved: they note how they
-were called, and make a program that prints its words and its standard input. Exits with 1 where a check failed.
+Each row works in a small tree of its own, with stubs in the place of the kit's commands, so nothing is proved: they
+note how they were called, and make a program that prints its words and its standard input. Exits with 1 where a check
+failed.
 """
 
 import os
@@ -49,7 +50,8 @@ echo "said of $crate"
 case $last in
     --*) ;;
     *.o) printf '#!/bin/sh\\necho "words $*"\\ncat\\nexit 3\\n' >"$last"; chmod +x "$last" ;;
-    *) mkdir -p "$last/lang/antt/proofs"; cat src/* specs/* >"$last/interface" 2>/dev/null; cp -r proofs/* "$last/lang/antt/proofs"
+    *) mkdir -p "$last/lang/antt/proofs"; cat src/* specs/* >"$last/interface" 2>/dev/null
+        cp -r proofs/* "$last/lang/antt/proofs"
         cat src/* proofs/* | sed "s/^/sum /" >"$last/format" ;;
 esac 2>/dev/null
 """
@@ -79,8 +81,10 @@ class Tree:
         self.write("crates/bench/src/main.rt", "bench")
         for name in ("trace_cli", "tools/build", "tools/crates.py", "tools/help/trace_cli"):
             self.write(name, (ROOT / name).read_text()).chmod(0o755)
-        shutil.copytree(ROOT / "tools" / "loops", self.top / "tools" / "loops", ignore=shutil.ignore_patterns("__pycache__"))
-        for path, text in ((self.bin / "rt", RT), (self.kit / "bin/rattle", CHECKER), (self.kit / "bin/rattle-link", LINKER)):
+        shutil.copytree(ROOT / "tools" / "loops", self.top / "tools" / "loops",
+                        ignore=shutil.ignore_patterns("__pycache__"))
+        for path, text in ((self.bin / "rt", RT), (self.kit / "bin/rattle", CHECKER),
+                           (self.kit / "bin/rattle-link", LINKER)):
             path.parent.mkdir(parents=True, exist_ok=True)
             path.write_text(text)
             path.chmod(0o755)
@@ -92,11 +96,12 @@ class Tree:
         path.write_text(text)
         return path
 
-    def run(self, wrapper: Path | None = None, path: Path | None = None, words: tuple[str, ...] = ("seq", "b c"), **environment: str) -> tuple[str, list[str], int, list[str]]:
+    def run(self, wrapper: Path | None = None, path: Path | None = None, words: tuple[str, ...] = ("seq", "b c"),
+            **environment: str) -> tuple[str, list[str], int, list[str]]:
         """The wrapper's output, its lines on standard error, its status and the calls of the checker, sorted."""
         self.calls.write_text("")
-        environment = {"PATH": f"{path or self.bin}:/usr/bin:/bin", "CALLS": str(self.calls), "REFUSED": "", "NOTHING": "",
-                       "SLOW": "", "KIT": str(self.kit), **environment}
+        environment = {"PATH": f"{path or self.bin}:/usr/bin:/bin", "CALLS": str(self.calls), "REFUSED": "",
+                       "NOTHING": "", "SLOW": "", "KIT": str(self.kit), **environment}
         done = called([str(wrapper or self.top / "trace_cli"), *words], "given\n", env=environment)
         return done.stdout, done.stderr.splitlines(), done.returncode, sorted(self.calls.read_text().splitlines())
 
@@ -117,7 +122,8 @@ def rows() -> list[tuple[str, Trial]]:
         output, errors, status, calls = tree.run()
         log = (tree.top / "out" / "trace_cli.log").read_text()
         good = (output, status, calls, len(errors)) == ("words seq b c\ngiven\n", 3, BUILD, 2)
-        good = good and errors[0].startswith("trace_cli: not built for these sources yet; 3 of 3 crates are to be proved, on ")
+        good = good and errors[0].startswith("trace_cli: not built for these sources yet; 3 of 3 crates are to be "
+                                             "proved, on ")
         good = good and errors[1] == "trace_cli: proved and built in 0 min 00 s"
         if not good:
             return f"got {output!r}, {errors!r}, {status}, {calls!r}"
@@ -135,23 +141,27 @@ def rows() -> list[tuple[str, Trial]]:
 
     def unproved(tree: Tree) -> str | None:
         output, errors, status, calls = tree.run(words=("--unproved", "seq", "b c"))
-        good = (output, status, calls, len(errors)) == ("unproved seq b c\ngiven\n", 4, [], 1) and "is unproved" in errors[0]
+        good = ((output, status, calls, len(errors)) == ("unproved seq b c\ngiven\n", 4, [], 1)
+                and "is unproved" in errors[0])
         if not good:
             return f"got {output!r}, {errors!r}, {status}, {calls!r}"
         tree.is_run(BUILD)
         output, errors, status, calls = tree.run(words=("--unproved", "seq", "b c"))
-        good = (output, status, calls, len(errors)) == ("words seq b c\ngiven\n", 3, [], 1) and "is the proved one" in errors[0]
+        good = ((output, status, calls, len(errors)) == ("words seq b c\ngiven\n", 3, [], 1)
+                and "is the proved one" in errors[0])
         return None if good else f"built: got {output!r}, {errors!r}, {status}, {calls!r}"
 
     def helps(tree: Tree) -> str | None:
         page = (tree.top / "tools/help/trace_cli").read_text()
         for words in ((), ("-h",), ("--help",)):
             output, errors, status, calls = tree.run(words=words)
-            if not output.startswith(page) or "Nothing is built yet" not in output or (errors, status, calls) != ([], 0, []):
+            if (not output.startswith(page) or "Nothing is built yet" not in output
+                or (errors, status, calls) != ([], 0, [])):
                 return f"{words}: got {output!r}, {errors!r}, {status}, {calls!r}"
         tree.is_run(BUILD)
         output, errors, status, calls = tree.run(words=())
-        return None if (output, errors, status, calls) == (page, [], 0, []) else f"built: got {output!r}, {errors!r}, {status}"
+        return None if (output, errors, status, calls) == (page, [], 0,
+                                                           []) else f"built: got {output!r}, {errors!r}, {status}"
 
     def where_it_is(tree: Tree) -> str | None:
         place = f"{tree.top}/crates/trace_cli/out/trace_cli\n"
@@ -168,18 +178,23 @@ def rows() -> list[tuple[str, Trial]]:
         return None if got == [("", [], 1, []), ("", [], 0, [])] else f"got {got}"
 
     def from_python(tree: Tree) -> str | None:
-        """A script that calls the program builds nothing unasked. Asked, it shows how far the build is, and calls what was built."""
-        script = "import sys; from loops.programs import TREE, call; print(call(TREE / 'trace_cli', ['seq', sys.argv[1]], 'given\\n', (3,)), end='')"
+        """A script that calls the program builds nothing unasked. Asked, it shows how far the build is, and calls what
+        was built."""
+        script = ("import sys; from loops.programs import TREE, call; print(call(TREE / 'trace_cli', ['seq', "
+                  "sys.argv[1]], 'given\\n', (3,)), end='')")
         tree.calls.write_text("")
-        env = {"PATH": f"{tree.bin}:/usr/bin:/bin", "CALLS": str(tree.calls), "KIT": str(tree.kit), "PYTHONPATH": str(tree.top / "tools"), "REFUSED": "", "NOTHING": "", "SLOW": ""}
+        env = {"PATH": f"{tree.bin}:/usr/bin:/bin", "CALLS": str(tree.calls), "KIT": str(tree.kit),
+               "PYTHONPATH": str(tree.top / "tools"), "REFUSED": "", "NOTHING": "", "SLOW": ""}
         alone = called([sys.executable, "-c", script, "one"], env=env)
         if "trace_cli isn't built for these sources" not in alone.stderr or tree.calls.read_text():
             return f"unasked: got {alone}, {tree.calls.read_text()}"
         script = f"from loops.programs import allow_builds; allow_builds(); {script}"
         done = [called([sys.executable, "-c", script, word], env=env) for word in ("one", "two")]
-        right = [one.stdout for one in done] == [f"words seq {word}\ngiven\n" for word in ("one", "two")] and done[1].stderr == ""
+        right = [one.stdout for one in done] == [f"words seq {word}\ngiven\n"
+                                                 for word in ("one", "two")] and done[1].stderr == ""
         told = done[0].stderr.splitlines()
-        good = right and len(told) == 2 and "not built for these sources yet" in told[0] and "proved and built in" in told[1]
+        good = (right and len(told) == 2 and "not built for these sources yet" in told[0]
+                and "proved and built in" in told[1])
         return None if good else f"got {done}"
 
     def with_kept_work(tree: Tree) -> str | None:
@@ -215,16 +230,21 @@ def rows() -> list[tuple[str, Trial]]:
         (tree.top / "bench").symlink_to("trace_cli")
         output, errors, status, calls = tree.run(tree.top / "tools/build", words=())
         good = (output, status, calls, len(errors)) == ("", 0, ["bench build", *BUILD], 2)
-        if not (good and errors[0].startswith("programs: not built for these sources yet; 4 of 4 crates are to be proved, on ")):
+        if not (good
+                and errors[0].startswith("programs: not built for these sources yet; 4 of 4 crates are to be proved, "
+                                         "on ")):
             return f"got {output!r}, {errors!r}, {status}, {calls!r}"
         again = tree.run(tree.top / "tools/build", words=())
-        return tree.is_run([]) or tree.is_run([], tree.top / "bench") or (None if again == ("", [], 0, []) else f"again: got {again}")
+        return (tree.is_run([]) or tree.is_run([], tree.top / "bench")
+                or (None if again == ("", [], 0, []) else f"again: got {again}"))
 
     def all_programs_with_one_refused(tree: Tree) -> str | None:
         (tree.top / "bench").symlink_to("trace_cli")
         output, errors, status, _ = tree.run(tree.top / "tools/build", words=(), REFUSED="bench")
         wanted = "programs: bench is not proved and built; out/programs.log has what the checker says, which ends so:"
-        return None if (output, status) == ("", 1) and wanted in errors and "said of bench" in errors else f"got {output!r}, {errors!r}, {status}"
+        return (None if (output, status) == ("",
+                                            1) and wanted in errors and "said of bench" in errors
+                else f"got {output!r}, {errors!r}, {status}")
 
     def from_its_folder(tree: Tree) -> str | None:
         tree.is_run(BUILD)
@@ -234,7 +254,9 @@ def rows() -> list[tuple[str, Trial]]:
     def refused(tree: Tree) -> str | None:
         output, errors, status, calls = tree.run(REFUSED="middle")
         good = output == "" and status == 126 and calls == BUILD[:2] and "said of middle" in errors
-        good = good and "trace_cli: middle is not proved and built; out/trace_cli.log has what the checker says, which ends so:" in errors
+        wanted = ("trace_cli: middle is not proved and built; out/trace_cli.log has what the checker says, which ends "
+                  "so:")
+        good = good and wanted in errors
         return tree.is_run(BUILD[1:]) if good else f"got {output!r}, {errors!r}, {status}, {calls!r}"
 
     def no_program(tree: Tree) -> str | None:

@@ -1,11 +1,13 @@
 #!/usr/bin/env python3
-"""Tests tests/wrong-bodies/run, which tries wrong bodies on the prover: a small repository with one crate, and edits that have to
-be told as refused, and others, one in each form that says nothing of a contract, that have to be told as not refused. In another
-crate with one edit its refusal has to be kept, and the edit be tried again where anything that was read has changed by a byte.
+"""Tests tests/wrong-bodies/run, which tries wrong bodies on the prover: a small repository with one crate, and edits
+that have to be told as refused, and others, one in each form that says nothing of a contract, that have to be told as
+not refused. In another crate with one edit its refusal has to be kept, and the edit be tried again where anything that
+was read has changed by a byte.
 
 Usage: tests/wrong_bodies.py
 
-Needs the command `rt` of the Rattle kit, and is left out without it. It takes about three minutes. Exits with 1 where a check failed.
+Needs the command `rt` of the Rattle kit, and is left out without it. It takes about three minutes. Exits with 1 where a
+check failed.
 """
 import contextlib
 import json
@@ -24,7 +26,7 @@ TOP = Path(__file__).resolve().parent.parent
 sys.path.insert(0, str(TOP / "tests/wrong-bodies"))
 sys.dont_write_bytecode = True
 
-from checks import is_another
+from checks import is_another  # noqa: E402
 
 SOURCE = """\
 //! Numbers one after the other.
@@ -184,8 +186,9 @@ returns c = c.one_after.ensures ∙ ap (λ k. 1 + k) c.one_after-first.ensures
 PROOF = "proofs/next_but_one/Answers.antt"
 LONG_NAME = "number_that_comes_two_steps_after_another_number"
 LONG_STEP = "number_that_comes_one_step_after_it"
-# Where a step has another name, `two-steps` names one that isn't there, and `returns` depends on it, "which was rejected".
-# Name of an edit: its pairs of old and new text, and of a file that isn't the source, or a line; and what has to be told of it.
+# Where a step has another name, `two-steps` names one that isn't there, and `returns` depends on it, "which was
+# rejected". Name of an edit: its pairs of old and new text, and of a file that isn't the source, or a line; and what
+# has to be told of it.
 EDITS = {
     "next_is_two_more": ([("    n + 1", "    n + 2")], "refused: "),
     "next_but_one_adds_the_limit": ([("    next(one)", "    next(one) + 1")], "refused: "),
@@ -193,47 +196,61 @@ EDITS = {
     "next_changes_a_comment": ([("// one more", "// plus one")], "FAILED, NOT REFUSED by a message at next: proved"),
     "next_but_one_with_answers_changes_a_comment": (
         [("// two steps", "// 2 steps")], "FAILED, NOT REFUSED by a message at next_but_one: proved"),
-    "next_breaks_another_function": ([("result ≡ n + 1 }", "n < result }")], "FAILED, NOT REFUSED by a message at next: proved"),
-    "next_does_not_compile": ([("    n + 1", "    n + true")], "FAILED, DOES NOT COMPILE: src/lib.rt:11:9: error[mismatched-types]"),
-    "next_of_a_text_that_is_not_there": ([("    n + 7", "    n + 1")], "FAILED, BAD EDIT: a text of it stands in src/lib.rt 0 times"),
+    "next_breaks_another_function": ([("result ≡ n + 1 }", "n < result }")],
+                                     "FAILED, NOT REFUSED by a message at next: proved"),
+    "next_does_not_compile": ([("    n + 1", "    n + true")],
+                              "FAILED, DOES NOT COMPILE: src/lib.rt:11:9: error[mismatched-types]"),
+    "next_of_a_text_that_is_not_there": ([("    n + 7", "    n + 1")],
+                                         "FAILED, BAD EDIT: a text of it stands in src/lib.rt 0 times"),
     "next_but_one_renames_a_step": (
-        [("let one = next(n);\n    next(one)", "let first = next(n);\n    next(first)")], "misfit: ./proofs/next_but_one"),
+        [("let one = next(n);\n    next(one)", "let first = next(n);\n    next(first)")],
+        "misfit: ./proofs/next_but_one"),
     "a_step_with_a_long_name_is_renamed": (
         [(f"let {LONG_STEP} = next(n);\n    next({LONG_STEP})", "let first = next(n);\n    next(first)")],
         f"FAILED, misfit: ./proofs/{LONG_NAME}"),
     "next_but_one_renames_a_step_in_its_answers_too": (
-        [("let one = next(n);\n    next(one)", "let first = next(n);\n    next(first)"), ("c.next-one.ensures", "c.next-first.ensures", PROOF)],
+        [("let one = next(n);\n    next(one)", "let first = next(n);\n    next(first)"),
+         ("c.next-one.ensures", "c.next-first.ensures", PROOF)],
         "FAILED, NOT REFUSED by a message at next_but_one: proved"),
     "next_but_one_is_wrong_with_answers_that_fit": (
-        [("let one = next(n);\n    next(one)", "let first = next(n);\n    next(first) + 1"), ("c.next-one.ensures", "c.next-first.ensures", PROOF)], "refused: "),
+        [("let one = next(n);\n    next(one)", "let first = next(n);\n    next(first) + 1"),
+         ("c.next-one.ensures", "c.next-first.ensures", PROOF)], "refused: "),
     "next_but_one_with_the_answers_of_another": (
-        [("    next(one)", "    next(one) + 1"), (f"c.next-{LONG_STEP}.ensures", "c.next.ensures", f"proofs/{LONG_NAME}/Answers.antt")],
+        [("    next(one)", "    next(one) + 1"),
+         (f"c.next-{LONG_STEP}.ensures", "c.next.ensures", f"proofs/{LONG_NAME}/Answers.antt")],
         "FAILED, BAD EDIT: it changes a proof of a function that it doesn't change"),
     "two_by_steps_is_right_by_one_step_more": (
         [("    one_after(first)", "    one_after(first + 1 - 1)")], "FAILED, misfit: ./proofs/two_by_steps"),
     "two_by_steps_is_three": ([("    one_after(first)", "    one_after(first) + 1")], "refused: ./proofs/two_by_steps"),
-    "two_by_steps_is_three_without_answers": ([("    one_after(first)", "    one_after(first) + 1"), "without answers"], "refused: note: src/lib.rt:"),
+    "two_by_steps_is_three_without_answers": ([("    one_after(first)", "    one_after(first) + 1"), "without answers"],
+                                              "refused: note: src/lib.rt:"),
     "two_by_steps_is_right_without_answers": (
-        [("    one_after(first)", "    one_after(first + 1 - 1)"), "without answers"], "FAILED, NOT REFUSED by a message at two_by_steps: proved"),
+        [("    one_after(first)", "    one_after(first + 1 - 1)"), "without answers"],
+        "FAILED, NOT REFUSED by a message at two_by_steps: proved"),
     "after_of_the_trait_is_the_same": ([("        2 + n", "        n")], "refused: "),
     "next_but_two_is_right_over_a_broken_one": (
-        [("    next_but_one(after)", "    next(next_but_one(n))")], "FAILED, NOT REFUSED by a message at next_but_two: proved"),
+        [("    next_but_one(after)", "    next(next_but_one(n))")],
+        "FAILED, NOT REFUSED by a message at next_but_two: proved"),
     "next_but_two_beside_a_change_that_is_taken_back": (
-        [("    n + 1", "    (n) + 1"), ("    next_but_one(after)", "    next(after)"), ("    (n) + 1", "    n + 1")], "refused: "),
+        [("    n + 1", "    (n) + 1"), ("    next_but_one(after)", "    next(after)"), ("    (n) + 1", "    n + 1")],
+        "refused: "),
     "two_after_has_the_text_that_next_is_given": ([("    n + 2", "    n + 3")], "refused: "),
     "four_after_is_five_after": ([("    next(three_after(n))", "    next(three_after(n)) + 1")], "refused: "),
     "four_after_over_one_that_is_not_proved_changes_a_comment": (
         [("// by three", "// by 3")], "FAILED, NOT REFUSED by a message at four_after: proved"),
     "four_after_in_a_twin_is_right": (
-        [("    next(three_after(n))", "    next((three_after(n)))")], "FAILED, NOT REFUSED by a message at four_after: proved"),
+        [("    next(three_after(n))", "    next((three_after(n)))")],
+        "FAILED, NOT REFUSED by a message at four_after: proved"),
     "after_is_two_more": ([("        1 + n", "        2 + n")], "refused: "),
     "after_is_three_more": ([("        1 + n", "        3 + n")], "refused: "),
-    "after_in_a_twin_changes_a_comment": ([("// the one after", "// 1 after")], "FAILED, NOT REFUSED by a message at OnesCount::after: proved"),
+    "after_in_a_twin_changes_a_comment": ([("// the one after", "// 1 after")],
+                                          "FAILED, NOT REFUSED by a message at OnesCount::after: proved"),
     "count_of_large_is_three": ([("Size::Large => 2,", "Size::Large => 3,")], "refused: "),
     "count_of_small_is_three": ([("Size::Small => 1,", "Size::Small => 3,")], "refused: "),
     "count_of_small_in_a_twin_of_one_arm_is_right": (
         [("Size::Small => 1,", "Size::Small => (1),")], "FAILED, NOT REFUSED by a message at count_of: proved"),
-    "next_is_three_more_and_known_as_a_misfit": ([("    n + 1", "    n + 3")], "FAILED, NO MISFIT: misfits.txt has it, refused: "),
+    "next_is_three_more_and_known_as_a_misfit": ([("    n + 1", "    n + 3")],
+                                                 "FAILED, NO MISFIT: misfits.txt has it, refused: "),
     "the_head_of_the_file": ([("//! Numbers one", "//! Numbers, one")], "FAILED, BAD EDIT: it changes no function"),
 }
 
@@ -309,7 +326,8 @@ def write(path, text):
 
 
 def edit_text(pairs):
-    """The lines of an edit; a pair of several lines is one pair for each line, and a third part is its file. What isn't a pair is a line."""
+    """The lines of an edit; a pair of several lines is one pair for each line, and a third part is its file. What isn't
+    a pair is a line."""
     lines = [it for it in pairs if isinstance(it, str)]
     for old, new, *file in (it for it in pairs if not isinstance(it, str)):
         lines += [f"file: {it}" for it in file or ["src/lib.rt"]]
@@ -342,29 +360,33 @@ def repository(top):
 
 
 def kit_of_its_own(folder):
-    """A folder with links to all that the kit has, beside which nothing is kept yet, and an `rt` that names it: the path on which it stands."""
+    """A folder with links to all that the kit has, beside which nothing is kept yet, and an `rt` that names it: the
+    path on which it stands."""
     rt = shutil.which("rt")
     page = Path(called_well(["rt", "doc"]).strip())
     (folder / "kit").mkdir()
     for it in page.parent.iterdir():
         (folder / "kit" / it.name).symlink_to(it)
-    write(folder / "bin/rt", f'#!/bin/sh\n[ "$1" != doc ] || {{ echo {folder}/kit/{page.name}; exit; }}\nexec {rt} "$@"\n').chmod(0o755)
+    write(folder / "bin/rt",
+          f'#!/bin/sh\n[ "$1" != doc ] || {{ echo {folder}/kit/{page.name}; exit; }}\nexec {rt} "$@"\n').chmod(0o755)
     return f"{folder}/bin:{os.environ['PATH']}"
 
 
 def told(top, path, *words):
     """What the tool prints of each edit, its lines and its status."""
     ran = called([top / "tests/wrong-bodies/run", *words], env={**os.environ, "PATH": path})
-    return dict(re.findall(r"(?m)^\w+/(\w+): (.*)$", ran.stdout)), ran.stdout.splitlines() or [ran.stderr], ran.returncode
+    return dict(re.findall(r"(?m)^\w+/(\w+): (.*)$",
+                           ran.stdout)), ran.stdout.splitlines() or [ran.stderr], ran.returncode
 
 
 @contextlib.contextmanager
 def changed(path, aside):
-    """A time in which a file has a line feed more, or what a crate promises is written otherwise; meanwhile it lies aside. One of the kit is
-    a link."""
+    """A time in which a file has a line feed more, or what a crate promises is written otherwise; meanwhile it lies
+    aside. One of the kit is a link."""
     path.rename(aside)
     text = aside.read_bytes()
-    path.write_bytes(text.replace(b"result", b"(result)", 1) if path.parts[-3:] == ("low", "src", "lib.rt") else text + b"\n")
+    path.write_bytes(text.replace(b"result", b"(result)", 1) if path.parts[-3:] == ("low", "src", "lib.rt") else text
+                     + b"\n")
     path.chmod(aside.stat().st_mode)
     yield
     aside.rename(path)
@@ -372,13 +394,15 @@ def changed(path, aside):
 
 def what_is_read(top, folder):
     """The files that a trial of the edit of the crate `over` reads, one of each kind."""
-    scripts = [*sorted((top / "tests/wrong-bodies").glob("*.py")), top / "tests/wrong-bodies/run", top / "tools/crates.py"]
+    scripts = [*sorted((top / "tests/wrong-bodies").glob("*.py")), top / "tests/wrong-bodies/run",
+               top / "tools/crates.py"]
     crate = [top / "crates/over" / it for it in ("src/lib.rt", "specs/Two.antt", "proofs/next_to_one/Answers.antt")]
     return [top / "tests/wrong-bodies/over/next_to_one_is_three.edit", *crate, folder / "kit/KIT-ID", *scripts]
 
 
 def keeping(top, folder, path):
-    """What is told of the edit of `over`, with what has to be told: of trials that find a refusal kept, and of those that may not take it."""
+    """What is told of the edit of `over`, with what has to be told: of trials that find a refusal kept, and of those
+    that may not take it."""
     notes = folder / NOTES
     yield "first", tried(top, path), "tried"
     yield "again", tried(top, path), "kept"
@@ -404,8 +428,10 @@ def tried(top, path):
     """Whether the edit of `over` was tried, or a note taken; what was told, where that is neither."""
     said, lines, status = told(top, path, "over")
     why = said.get("next_to_one_is_three", "nothing")
-    for word, start, counts in (("tried", "refused: ", "1 tried, 0 kept"), ("kept", "kept, refused: ", "0 tried, 1 kept")):
-        if why.startswith(start) and lines[-2].startswith(counts) and lines[-1] == "1 refused, 0 failed" and status == 0:
+    for word, start, counts in (("tried", "refused: ", "1 tried, 0 kept"),
+                                ("kept", "kept, refused: ", "0 tried, 1 kept")):
+        if (why.startswith(start) and lines[-2].startswith(counts) and lines[-1] == "1 refused, 0 failed"
+            and status == 0):
             return word
     return "\n".join(lines)
 

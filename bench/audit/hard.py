@@ -4,8 +4,9 @@
     bench/audit/hard.py [FORM ..]            measures the forms, or those that are named
     bench/audit/hard.py FORM ENTRIES > FILE  writes the image of a form, and a trace of so many entries below it
 
-Build the programs first, by calling ./trace_cli and ./why. Both take turns, three times. The status is 1 where `why` takes more than MOST times
-the audit's processor time at any length, or answers with anything but status 0. Needs GNU time, /usr/bin/time.
+Build the programs first, by calling ./trace_cli and ./why. Both take turns, three times. The status is 1 where `why`
+takes more than MOST times the audit's processor time at any length, or answers with anything but status 0. Needs GNU
+time, /usr/bin/time.
 """
 import pathlib
 import statistics
@@ -60,11 +61,13 @@ def sb(value, rs, offset):
 
 
 def bne(rs, other, offset):
-    return (offset >> 12 & 1) << 31 | (offset >> 5 & 0x3F) << 25 | other << 20 | rs << 15 | 1 << 12 | (offset >> 1 & 0xF) << 8 | (offset >> 11 & 1) << 7 | 0x63
+    return ((offset >> 12 & 1) << 31 | (offset >> 5 & 0x3F) << 25 | other << 20 | rs << 15 | 1 << 12
+            | (offset >> 1 & 0xF) << 8 | (offset >> 11 & 1) << 7 | 0x63)
 
 
 def jal(offset):
-    return (offset >> 20 & 1) << 31 | (offset >> 1 & 0x3FF) << 21 | (offset >> 11 & 1) << 20 | (offset >> 12 & 0xFF) << 12 | 0x6F
+    return ((offset >> 20 & 1) << 31 | (offset >> 1 & 0x3FF) << 21 | (offset >> 11 & 1) << 20
+            | (offset >> 12 & 0xFF) << 12 | 0x6F)
 
 
 def image(words, epochs, count):
@@ -84,7 +87,8 @@ def stores(count):
 
 def both(count):
     """The same, but the attempt also stores to the other word at its end: each violation came true later."""
-    words = [bne(10, 0, 24), addi(5, 5, 1), sw(0, 0, 0x7C0), bne(5, 6, -8), sw(0, 0, 0x7C4), RETURN, lw(5, 0, 0x7C4), RETURN]
+    words = [bne(10, 0, 24), addi(5, 5, 1), sw(0, 0, 0x7C0), bne(5, 6, -8), sw(0, 0, 0x7C4), RETURN, lw(5, 0, 0x7C4),
+             RETURN]
     entries = ["0 start 0", "1 start 1"]
     turns = max((count - 4) // 4, 1)
     for _ in range(turns):
@@ -94,15 +98,19 @@ def both(count):
 
 
 def bytes_of(count):
-    """One violation with many bytes: an epoch publishes bytes that the one after it had read one by one. The limit of an epoch bounds them."""
-    words = [lui(5, DATA >> 12), addi(6, 0, 1), bne(10, 0, 16), sb(6, 5, 0), addi(5, 5, 1), jal(-8), lb(7, 5, 0), addi(5, 5, 1), jal(-8)]
+    """One violation with many bytes: an epoch publishes bytes that the one after it had read one by one. The limit of
+    an epoch bounds them."""
+    words = [lui(5, DATA >> 12), addi(6, 0, 1), bne(10, 0, 16), sb(6, 5, 0), addi(5, 5, 1), jal(-8), lb(7, 5, 0),
+             addi(5, 5, 1), jal(-8)]
     half = min((count - 4) // 2, 330_000)
-    entries = ["0 start 0", "1 start 1", *(f"1 load {DATA + i:08x} 1 00000000" for i in range(half)), *(f"0 store {DATA + i:08x} 1 00000001" for i in range(half))]
+    entries = ["0 start 0", "1 start 1", *(f"1 load {DATA + i:08x} 1 00000000" for i in range(half)),
+               *(f"0 store {DATA + i:08x} 1 00000001" for i in range(half))]
     return image(words, 2, 1_000_000), 2, [*entries, "0 hurt 1", "0 publish"]
 
 
 def pairs(count):
-    """Many pairs of instructions: each store of one attempt is another instruction, and violates fifteen epochs, each of which loads by an instruction of its own."""
+    """Many pairs of instructions: each store of one attempt is another instruction, and violates fifteen epochs, each
+    of which loads by an instruction of its own."""
     times = max(count // 46, 1)
     # a jump to 8 + 8 * epoch; there epoch 0 jumps past the loads of the others
     words = [slli(5, 10, 3), i_type(0x67, 0, 0, 5, 8), jal(8 * 16), RETURN]
@@ -135,7 +143,8 @@ def text_of(form, count):
 def measured(file, *command):
     """The status of a program, its processor seconds, and the most memory that it held, in kilobytes."""
     with open(file, "rb") as stdin:
-        done = subprocess.run(["/usr/bin/time", "-f", "%U %S %M", *command], stdin=stdin, stdout=subprocess.DEVNULL, stderr=subprocess.PIPE, text=True, check=False)
+        done = subprocess.run(["/usr/bin/time", "-f", "%U %S %M", *command], stdin=stdin, stdout=subprocess.DEVNULL,
+                              stderr=subprocess.PIPE, text=True, check=False)
     user, system, most = done.stderr.split("\n")[-2].split()
     return done.returncode, float(user) + float(system), int(most)
 
@@ -151,7 +160,8 @@ def measure(form, count, folder):
     audit_most, why_most = (max(most for *_, most in one) for one in zip(*runs))
     sound = all(status == 0 for both_runs in runs for status, *_ in both_runs)
     size = file.stat().st_size / 1e6
-    print(f"{form:8}{entries:10,}{size:7.1f}{audited:10.2f}{told:9.2f}{told / max(audited, 0.01):9.1f}{audit_most / 1024:12.1f}{why_most / 1024:10.1f}", flush=True)
+    print(f"{form:8}{entries:10,}{size:7.1f}{audited:10.2f}{told:9.2f}{told / max(audited, 0.01):9.1f}"
+          f"{audit_most / 1024:12.1f}{why_most / 1024:10.1f}", flush=True)
     return sound and told <= MOST * max(audited, 0.01)
 
 

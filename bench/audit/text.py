@@ -1,10 +1,12 @@
 #!/usr/bin/env python3
-"""Megabytes per second of printing and of reading a trace, and the time and memory of `trace_cli audit` and of `why` on it.
+"""Megabytes per second of printing and of reading a trace, and the time and memory of `trace_cli audit` and of `why` on
+it.
 
-`audit_bench` is built by bench/build, where it isn't yet; build the others first, by calling ./trace_cli and ./why. The histories, of 10,000,
-100,000 and 1,000,000 entries, are made here by history.py, from a seed. `audit_bench` prints each as a trace and has to read the same history
-back; the audit has to find it legal, with the homefree epoch that it was made with; the report of `why` has to tell of each of its violations,
-and of as many epochs committed. Needs GNU time, /usr/bin/time.
+`audit_bench` is built by bench/build, where it isn't yet; build the others first, by calling ./trace_cli and ./why. The
+histories, of 10,000, 100,000 and 1,000,000 entries, are made here by history.py, from a seed. `audit_bench` prints each
+as a trace and has to read the same history back; the audit has to find it legal, with the homefree epoch that it was
+made with; the report of `why` has to tell of each of its violations, and of as many epochs committed. Needs GNU time,
+/usr/bin/time.
 """
 import pathlib
 import re
@@ -19,12 +21,14 @@ BUILD = ROOT / "bench" / "build"
 BENCH = ROOT / "out" / "bench" / "audit_bench"
 PROGRAM = ROOT / "crates" / "trace_cli" / "out" / "trace_cli"
 WHY = ROOT / "crates" / "why" / "out" / "why"
-IMAGE = re.search(r'const IMAGE: &str =\s*"(.*?)";', (ROOT / "bench/audit/program/src/main.rt.txt").read_text(), re.S).group(1).replace("\\n", "\n")
+IMAGE = re.search(r'const IMAGE: &str =\s*"(.*?)";', (ROOT / "bench/audit/program/src/main.rt.txt").read_text(),
+                  re.S).group(1).replace("\\n", "\n")
 SEED = "histogram"
 ROUNDS = 9
 # entries, and how often a run prints and reads them
 CASES = [(10_000, 100), (100_000, 10), (1_000_000, 1)]
-LINES = ["{} start {}", "{} load {:08x} {} {:08x}", "{} store {:08x} {} {:08x}", "{} hurt {}", "{} restart", "{} publish", "{} commit"]
+LINES = ["{} start {}", "{} load {:08x} {} {:08x}", "{} store {:08x} {} {:08x}", "{} hurt {}", "{} restart",
+         "{} publish", "{} commit"]
 
 
 def trace_of(entries):
@@ -44,7 +48,8 @@ def text_rates(file, count, size, times):
 def measured(file, *command):
     """What a program prints, its processor seconds, and the most memory that it held, in kilobytes."""
     with open(file, "rb") as stdin:
-        done = subprocess.run(["/usr/bin/time", "-f", "%U %S %M", *command], stdin=stdin, capture_output=True, text=True)
+        done = subprocess.run(["/usr/bin/time", "-f", "%U %S %M", *command], stdin=stdin, capture_output=True,
+                              text=True)
     assert done.returncode == 0, (done.stdout, done.stderr)
     user, system, most = done.stderr.split()
     return done.stdout, float(user) + float(system), int(most)
@@ -81,7 +86,8 @@ def main():
             violations = sum(kind == HURT for _, kind, *_ in entries)
             both = [(audit(traced, count, homefree), explain(traced, violations, homefree)) for _ in range(ROUNDS)]
             printed, read = (statistics.median(column) for column in zip(*rates))
-            (seconds, most), (longer, more) = ((statistics.median(a for a, _ in runs), max(b for _, b in runs)) for runs in zip(*both))
+            (seconds, most), (longer, more) = ((statistics.median(a for a, _ in runs), max(b for _, b in runs))
+                                               for runs in zip(*both))
             print(f"{count:9,}{size / 1e6:7.1f}{printed:16.0f}{read:13.0f}{seconds:12.3f}{most / 1024:13.1f}", end="")
             print(f"{longer:10.3f}{more / 1024:11.1f}{f'{seconds / longer:.2f}' if seconds >= 0.1 else '-':>16}")
 

@@ -43,8 +43,9 @@ def computing(epochs):
 
 
 def accessing(epochs, rounds, conflict, version=1):
-    """Epochs of so many rounds, each of a load and a store with BETWEEN instructions from access to access. With a conflict each
-    even epoch stores the shared word last, and each odd one loads it first. More than 8 cores need version 2."""
+    """Epochs of so many rounds, each of a load and a store with BETWEEN instructions from access to access. With a
+    conflict each even epoch stores the shared word last, and each odd one loads it first. More than 8 cores need
+    version 2."""
     body = own_region()
     if conflict:
         body += [word_of_i(MATCH["andi"], COUNT, NUMBER, 1), word_of_b(MATCH["beq"], COUNT, 0, 8),

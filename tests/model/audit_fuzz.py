@@ -63,7 +63,8 @@ def loop(rng):
     """The text of an image that is read."""
     code = b"".join(word.to_bytes(4, "little") for word in conflicting(rng)).hex()
     version = rng.choice([None, None, 1, 2])
-    lines = ["size 256", f"epochs {rng.choice([0, 1, 2, 3, 4, 5, 6])}", f"limit {rng.choice([3, 8, 50, 50, 50])}", f"code {code}"]
+    lines = ["size 256", f"epochs {rng.choice([0, 1, 2, 3, 4, 5, 6])}", f"limit {rng.choice([3, 8, 50, 50, 50])}",
+             f"code {code}"]
     if rng.random() < 0.3:
         lines.append("exit")
     if rng.random() < 0.3:
@@ -156,7 +157,8 @@ def line_of(entry):
 
 def random_entry(rng, cores):
     what = rng.choice(["start", "load", "store", "hurt", "cancel", "restart", "publish", "commit", "fault"])
-    numbers = {"load": [64, rng.choice([1, 2, 3, 4]), rng.choice([0, 1, 255])], "store": [64, rng.choice([1, 2, 4]), rng.choice([0, 1, 2])],
+    numbers = {"load": [64, rng.choice([1, 2, 3, 4]), rng.choice([0, 1, 255])],
+               "store": [64, rng.choice([1, 2, 4]), rng.choice([0, 1, 2])],
                "fault": [rng.choice([1, 2, 8, 99]), rng.choice([0, 4])]}.get(what)
     if numbers is None:
         numbers = [rng.randrange(6)] if what in ("start", "hurt", "cancel") else []
@@ -192,7 +194,8 @@ def change_entries(rng, entries, cores):
     return entries
 
 
-HEADS = ["trace", "trace ", "trace 0", "trace 9", "trace 17", "trace 16", "trace 02", "trace 1 1", "trace  2", "trace x", "TRACE 2", "",
+HEADS = ["trace", "trace ", "trace 0", "trace 9", "trace 17", "trace 16", "trace 02", "trace 1 1", "trace  2",
+         "trace x", "TRACE 2", "",
          "# trace 2", "trace 4294967297"]
 
 

@@ -180,8 +180,8 @@ def lines_met(loop, cores):
 
 
 def overflows(loop, cores):
-    """(later epoch, earlier epoch) where the later one stores in a line that the earlier one touches, and in as many others as its
-    buffer takes."""
+    """(later epoch, earlier epoch) where the later one stores in a line that the earlier one touches, and in as many
+    others as its buffer takes."""
     length, room = LINE_LENGTH[loop.image.version], BUFFER_LINES[loop.image.version]
     for earlier, later, first, second in loop.beside(cores):
         stored = {a // length for a in second.own}

@@ -236,7 +236,8 @@ class Flat:
     def readers(self, by, written):
         """The other cores that have read a byte which would change, and aren't hurt."""
         changed = {a for a, b in written.items() if self.committed[a] != b}
-        return [k for k in range(len(self.cores)) if k != by and self.running(k) and changed & self.cores[k].outside.keys()]
+        return [k for k in range(len(self.cores)) if k != by and self.running(k)
+                and changed & self.cores[k].outside.keys()]
 
     def refusal(self, by, what, *numbers):
         if self.over:
@@ -251,7 +252,8 @@ class Flat:
             return "WrongValue"
         if self.readers(by, self.written(by, what, numbers)):
             return "HurtMissing"
-        if what == "commit" and self.exits(self.event(by)) and any(core for k, core in enumerate(self.cores) if k != by):
+        if (what == "commit" and self.exits(self.event(by))
+            and any(core for k, core in enumerate(self.cores) if k != by)):
             return "NotCancelled"
         return None
 

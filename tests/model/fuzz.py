@@ -267,8 +267,10 @@ NASTY_LINES = ["size 16", "size 0", "size 65536", "size 65552", "size 24", "epoc
                "code ", "reg 0 00000000", "reg 1 00000000", "reg 10 00000000", "reg 31 00000001", "reg 32 00000000",
                "reg 40 zz", "reg 5 0000000", "reg 8 00000000", "at 00000000 00", "at 00000040 0", "at 00000040 zz",
                "at 000000ff 0000", "at 00000040 00", "at 40 00", " ", "  ", "\t", "\r", " # x", "size", "trace 1",
-               "version 1", "version 2", "version 3", "version 0", "version 02", "version", "version 4294967298", "exit",
-               "exit", "exit 0", "exit ", " exit", "size 32", "size 48", "size 1048576", "size 1048608", "SIZE 16", "size  16", "size 16 ", " size 16", "size 16 16"]
+               "version 1", "version 2", "version 3", "version 0", "version 02", "version", "version 4294967298",
+               "exit",
+               "exit", "exit 0", "exit ", " exit", "size 32", "size 48", "size 1048576", "size 1048608", "SIZE 16",
+               "size  16", "size 16 ", " size 16", "size 16 16"]
 
 
 def damaged(rng, lines):

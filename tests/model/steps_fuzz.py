@@ -1,15 +1,17 @@
 #!/usr/bin/env python3
-"""Random schedules of random loops, turn by turn: what `replay steps` says of each turn, summed up, beside the flat machine of flat_audit.py.
+"""Random schedules of random loops, turn by turn: what `replay steps` says of each turn, summed up, beside the flat
+machine of flat_audit.py.
 
 Usage: tests/model/steps_fuzz.py [--seed S] [--count N] [--jobs J] [--keep DIR] [COMMAND ..]
 
-COMMAND is a command of `trace_cli` that ends with the word `seq`; `replay` is the program that was built beside it. Without it ./replay of
-this repository is tested. Schedule number I of seed S is always the same, over caches and over the plain store in turn. After each turn
-the flat machine has its entries done. Then each core has to run what the machine's does, with the hart that it was given, and committed
-memory has to be the machine's. A core of the plain store has to keep just the bytes that were stored and those that were read from
-outside; one with a cache marks just their lines, each of its other bytes is the committed one, and its buffer has just the shared
-lines to which it has stored. A place is told where it isn't as it was, and nowhere else, in the order of the places. Below the line
-`end` there has to be what `replay` prints without `steps`. The first schedule that differs is written to DIR, and ends the test with
+COMMAND is a command of `trace_cli` that ends with the word `seq`; `replay` is the program that was built beside it.
+Without it ./replay of this repository is tested. Schedule number I of seed S is always the same, over caches and over
+the plain store in turn. After each turn the flat machine has its entries done. Then each core has to run what the
+machine's does, with the hart that it was given, and committed memory has to be the machine's. A core of the plain store
+has to keep just the bytes that were stored and those that were read from outside; one with a cache marks just their
+lines, each of its other bytes is the committed one, and its buffer has just the shared lines to which it has stored. A
+place is told where it isn't as it was, and nowhere else, in the order of the places. Below the line `end` there has to
+be what `replay` prints without `steps`. The first schedule that differs is written to DIR, and ends the test with
 status 1. 2,000 take some minutes.
 """
 
@@ -26,6 +28,7 @@ sys.path[:0] = [str(ROOT / "tests"), str(ROOT / "tests" / "model")]
 import flat_audit  # noqa: E402
 import rv32_seq  # noqa: E402
 import stress  # noqa: E402
+from common import left_out  # noqa: E402
 from replay import program_of  # noqa: E402
 from steps_rows import NAMED, turns_of  # noqa: E402
 
@@ -68,7 +71,8 @@ class Told:
             self.places[place] = now
             core = int(place[1]) if place[0] not in ("hart", "at") else 0
             kind = {"attempt": 0, "hart": 1, "at": 3}.get(place[0], 2)
-            order.append((kind, core, {"orb": 1}.get(place[0], 0), place[2:] if kind == 2 else place[1:] if kind == 3 else ()))
+            order.append((kind, core, {"orb": 1}.get(place[0], 0),
+                          place[2:] if kind == 2 else place[1:] if kind == 3 else ()))
         expect("the order of the lines", order, sorted(set(order)))
 
     def of(self, word, core):
@@ -97,7 +101,8 @@ def check_plain(told, k, core):
     rows = {}
     for row in sorted({a // 16 for a in [*own, *outside]}):
         read, stored = (sum(1 << i for i in range(16) if 16 * row + i in those) for those in (outside, own))
-        rows[f"{16 * row:08x}",] = [f"{read:04x}", f"{stored:04x}", bytes(own.get(16 * row + i, 0) for i in range(16)).hex()]
+        rows[f"{16 * row:08x}",] = [f"{read:04x}", f"{stored:04x}",
+                                    bytes(own.get(16 * row + i, 0) for i in range(16)).hex()]
     expect(f"core {k} keeps", {place: now for place, now in told.of("kept", k).items() if now != NOTHING}, rows)
 
 
@@ -109,12 +114,14 @@ def check_cache(told, k, core, committed, size):
         if now == ["-"]:
             continue
         address, mask, cells = int(now[0], 16), int(now[3], 16), bytes.fromhex(now[4])
-        expect(f"core {k}, the set of {now[0]}", (int(cache_set), way in "01", len(cells)), (address // size % 4, True, size))
+        expect(f"core {k}, the set of {now[0]}", (int(cache_set), way in "01", len(cells)),
+               (address // size % 4, True, size))
         stored |= {address + i: cells[i] for i in range(size) if mask >> i & 1}
         loaded |= {address} if now[2] == "loaded" else set()
         shared += [now[0]] if now[1] == "SpS" and mask else []
         rest = [i for i in range(size) if not mask >> i & 1]
-        expect(f"core {k}, the other bytes of {now[0]}", [cells[i] for i in rest], [committed[address + i] for i in rest])
+        expect(f"core {k}, the other bytes of {now[0]}", [cells[i] for i in rest],
+               [committed[address + i] for i in rest])
     expect(f"core {k} has stored", stored, own)
     expect(f"core {k} has loaded in", loaded, {a // size * size for a in outside})
     expect(f"the buffer of core {k}", sorted(told.of("orb", k).get((), [])), sorted(shared))
@@ -166,7 +173,8 @@ def case(seed, index):
     rng = random.Random(f"steps/{seed}/{index}")
     text, cores = stress.loop_of(rng)
     chosen = [rng.random() ** 2 + 0.05 for _ in range(cores)]
-    return text, cores, ("caches", "plain")[index % 2], rng.choices(range(cores), chosen, k=rng.choice([5, 40, 150, 400]))
+    return (text, cores, ("caches", "plain")[index % 2],
+            rng.choices(range(cores), chosen, k=rng.choice([5, 40, 150, 400])))
 
 
 def wrong_of(program, seed, index):

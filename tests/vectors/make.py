@@ -551,7 +551,8 @@ def decoder_rows(name, table):
 def write_fields():
     """`fields.txt`, and the rows of the decoder's tests."""
     lines = ["# Words and their fields: text, word, name, fields."]
-    rust = ["//! Words and their fields in hexadecimal, made by `tests/vectors/make.py`: the word, the instruction's name, and its fields in\n"
+    rust = ["//! Words and their fields in hexadecimal, made by `tests/vectors/make.py`: the word, the instruction's "
+            "name, and its fields in\n"
             "//! order.\n"]
     for name, cases in FIELD_GROUPS.items():
         table = field_rows(cases())
@@ -584,7 +585,8 @@ def main():
         ("upper", "LUI and AUIPC: text, word, result in x5; AUIPC's as if it stood at pc 0.", upper_rows()),
         ("registers", "Other registers: text, word, a register and its value, another and its value,\n"
          "the register looked at and its value afterwards.", register_rows()),
-        ("load", f"Loads: text, word, base in x6, result in x5. The 16 bytes at {DATA:#x} are\n{PATTERN}.", load_rows()),
+        ("load", f"Loads: text, word, base in x6, result in x5. The 16 bytes at {DATA:#x} are\n{PATTERN}.",
+         load_rows()),
         ("store", f"Stores: text, word, base in x6, value in x7, the 16 bytes at {DATA:#x} afterwards,\n"
          f"which before are {PATTERN}.", store_rows()),
         ("branch", "Branches: text, word, x6, x7, next pc minus own pc.", branch_rows()),

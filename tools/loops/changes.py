@@ -1,5 +1,5 @@
-"""What turns change: what stands at a place of the store or of a core from a turn on. The lines that say so are read and
-written here and nowhere else."""
+"""What turns change: what stands at a place of the store or of a core from a turn on. The lines that say so are read
+and written here and nowhere else."""
 
 import re
 from collections.abc import Callable
@@ -77,7 +77,8 @@ class OfWay:
     @property
     def said(self) -> str:
         copy = self.now
-        return f"{copy.address:08x} {copy.state} {'loaded' if copy.loaded else '-'} {copy.stored:08x} {copy.data.hex()}" if copy else "-"
+        return (f"{copy.address:08x} {copy.state} {'loaded' if copy.loaded else '-'} {copy.stored:08x} "
+                f"{copy.data.hex()}" if copy else "-")
 
 
 @dataclass(frozen=True, slots=True)
@@ -97,7 +98,8 @@ class OfBuffer:
 
 @dataclass(frozen=True, slots=True)
 class OfKept:
-    """What a core keeps of a row over the plain store, by masks: the bytes that were read from outside, and those stored."""
+    """What a core keeps of a row over the plain store, by masks: the bytes that were read from outside, and those
+    stored."""
     core: int
     address: int
     read: int
@@ -147,7 +149,8 @@ def way_of(core: str, set_: str, way: str, address: str | None, *copy: str) -> C
     if address is None:
         return OfWay(int(core), int(set_), int(way), None)
     state, mark, stored, data = copy
-    return OfWay(int(core), int(set_), int(way), Copy(int(address, 16), state, mark == "loaded", int(stored, 16), bytes.fromhex(data)))
+    return OfWay(int(core), int(set_), int(way),
+                 Copy(int(address, 16), state, mark == "loaded", int(stored, 16), bytes.fromhex(data)))
 
 
 def buffer_of(core: str, lines: str) -> Change:
@@ -166,7 +169,8 @@ def memory_of(address: str, data: str) -> Change:
 FORMS: dict[str, tuple[re.Pattern[str], Callable[..., Change]]] = {
     "attempt": (re.compile(rf"attempt {NUMBER} (?:-|{NUMBER} (\S.*))"), attempt_of),
     "hart": (re.compile(rf"hart {NUMBER} (?:-|{ADDRESS} {NUMBER})"), hart_of),
-    "line": (re.compile(rf"line {NUMBER} {NUMBER} {NUMBER} (?:-|{ADDRESS} (\w+) (loaded|-) {ADDRESS} {BYTES})"), way_of),
+    "line": (re.compile(rf"line {NUMBER} {NUMBER} {NUMBER} (?:-|{ADDRESS} (\w+) (loaded|-) {ADDRESS} {BYTES})"),
+             way_of),
     "orb": (re.compile(rf"orb {NUMBER}((?: [0-9a-f]{{8}})*)"), buffer_of),
     "kept": (re.compile(rf"kept {NUMBER} {ADDRESS} ([0-9a-f]{{4}}) ([0-9a-f]{{4}}) {BYTES}"), kept_of),
     "at": (re.compile(rf"at {ADDRESS} {BYTES}"), memory_of),

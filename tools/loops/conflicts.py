@@ -1,4 +1,5 @@
-"""The report of `why`: each violation with its cause and its cost, attempts that ended otherwise, and sums. docs/conflicts.md says what each word means."""
+"""The report of `why`: each violation with its cause and its cost, attempts that ended otherwise, and sums.
+docs/conflicts.md says what each word means."""
 
 import re
 from collections.abc import Callable, Iterable, Iterator
@@ -91,8 +92,10 @@ class Violation:
         return self.undone is not None
 
     def text(self) -> str:
-        lines = [f"hurt {self.place} {self.kind} epoch {self.epoch} try {self.attempt} core {self.core} lost {self.lost} entered {self.entered} "
-                 f"since {told(self.since)} by {self.by_epoch} core {self.by_core} cause {told(self.cause)} {self.cause_what}"
+        lines = [f"hurt {self.place} {self.kind} epoch {self.epoch} try {self.attempt} core {self.core} lost "
+                 f"{self.lost} entered {self.entered} "
+                 f"since {told(self.since)} by {self.by_epoch} core {self.by_core} cause {told(self.cause)} "
+                 f"{self.cause_what}"
                  + self.pair.text(self.kind == "buffer")]
         lines += [f"also {self.place} {run.kind}{run.pair.text()}" for run in self.also]
         lines += [f"later {self.place} store {self.later.entry} {self.later.pc:08x}"] if self.later else []
@@ -171,8 +174,10 @@ class OfPair:
     def text(self) -> str:
         names = ("asked", "held") if self.full else ("store", "load")
         where = f"{self.at.first:08x} {self.at.length}" if self.at else "- -"
-        return (f"pair {names[0]} {self.causer:08x} {names[1]} {self.victim:08x} rollbacks {self.rollbacks} lost {self.lost} {self.kinds.text()} "
-                f"stale {self.stale} vain {self.vain} later {self.later} distance {self.least_distance} {self.most_distance} at {where}\n")
+        return (f"pair {names[0]} {self.causer:08x} {names[1]} {self.victim:08x} rollbacks {self.rollbacks} lost "
+                f"{self.lost} {self.kinds.text()} "
+                f"stale {self.stale} vain {self.vain} later {self.later} distance {self.least_distance} "
+                f"{self.most_distance} at {where}\n")
 
 
 @dataclass
@@ -197,7 +202,8 @@ class OfInstruction:
     causer_lost: int
 
     def text(self) -> str:
-        return f"pc {self.pc:08x} victim {self.victim_rollbacks} {self.victim_lost} causer {self.causer_rollbacks} {self.causer_lost}\n"
+        return (f"pc {self.pc:08x} victim {self.victim_rollbacks} {self.victim_lost} causer {self.causer_rollbacks} "
+                f"{self.causer_lost}\n")
 
 
 @dataclass
@@ -225,7 +231,8 @@ class Total:
     unsettled: int
 
     def text(self) -> str:
-        return (f"total epochs {self.epochs} committed {self.committed} useful {self.useful} rollbacks {self.rollbacks} lost {self.lost} "
+        return (f"total epochs {self.epochs} committed {self.committed} useful {self.useful} rollbacks "
+                f"{self.rollbacks} lost {self.lost} "
                 f"cancelled {self.cancelled} dropped {self.dropped} open {self.open} unsettled {self.unsettled}\n")
 
 
@@ -280,7 +287,8 @@ def form(text: str) -> re.Pattern[str]:
 
 
 FORMS = {
-    "hurt": form(rf"hurt N (\w+) epoch N try N core N lost N entered N since {OPTIONAL} by N core N cause {OPTIONAL} (\S+) {PAIR}"),
+    "hurt": form(rf"hurt N (\w+) epoch N try N core N lost N entered N since {OPTIONAL} by N core N cause {OPTIONAL} "
+                 rf"(\S+) {PAIR}"),
     "also": form(rf"also N (\w+) {PAIR}"),
     "later": form("later N store N PC"),
     "vain": form(r"vain N (hurt|cancelled)"),
@@ -288,7 +296,8 @@ FORMS = {
     "cancel": form("cancel N epoch N try N core N lost N by N core N"),
     "open": form("open epoch N try N core N done N"),
     "epoch": form("epoch N rollbacks N lost N"),
-    "pair": form(rf"pair (store|asked) PC (?:load|held) PC rollbacks N lost N {SUMS} stale N vain N later N distance N N {WHERE}"),
+    "pair": form(rf"pair (store|asked) PC (?:load|held) PC rollbacks N lost N {SUMS} stale N vain N later N distance N "
+                 rf"N {WHERE}"),
     "line": form(f"line PC rollbacks N lost N {SUMS}"),
     "pc": form("pc PC victim N N causer N N"),
     "kind": form(r"kind (\w+) rollbacks N lost N"),

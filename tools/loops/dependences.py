@@ -1,4 +1,5 @@
-"""What `depends` prints: the dependences of the run in order, and for each store whether anything can roll back over it. docs/depends.md says what each word means."""
+"""What `depends` prints: the dependences of the run in order, and for each store whether anything can roll back over
+it. docs/depends.md says what each word means."""
 
 import re
 from collections.abc import Iterator
@@ -38,14 +39,16 @@ class Joined:
     loaded: When                        # and in the victim
 
     def text(self) -> str:
-        return (f"dep store {self.store:08x} load {self.load:08x} times {self.times} distance {self.least_distance} {self.most_distance} "
-                f"at {self.at.first:08x} {self.at.length} first {self.first_causer} {self.first_victim} stored {self.stored.text()} loaded {self.loaded.text()}\n")
+        return (f"dep store {self.store:08x} load {self.load:08x} times {self.times} distance {self.least_distance} "
+                f"{self.most_distance} "
+                f"at {self.at.first:08x} {self.at.length} first {self.first_causer} {self.first_victim} stored "
+                f"{self.stored.text()} loaded {self.loaded.text()}\n")
 
 
 @dataclass
 class OverStore:
-    """Whether anything can roll back over a store: `never` on so many cores; `from` so many, by a schedule that shows it; or `open`, where
-    epochs conflict on so many, and the schedule that was tried doesn't show it."""
+    """Whether anything can roll back over a store: `never` on so many cores; `from` so many, by a schedule that shows
+    it; or `open`, where epochs conflict on so many, and the schedule that was tried doesn't show it."""
     verdict: str
     store: str                          # caches or plain
     cores: int
@@ -59,7 +62,8 @@ class OverStore:
         line = f"{self.verdict} {self.store} {self.cores}"
         if self.epoch is not None:
             where = "buffer" if self.load is None else f"load {self.load:08x}"
-            line += f" epoch {self.epoch} {where} by epoch {self.by_epoch}" + ("" if self.causer is None else f" store {self.causer:08x}")
+            line += f" epoch {self.epoch} {where} by epoch {self.by_epoch}" + ("" if self.causer is None
+                                                                               else f" store {self.causer:08x}")
         return line + "\n" + ("" if self.turns is None else " ".join(["turns", *map(str, self.turns)]) + "\n")
 
 
@@ -77,7 +81,8 @@ class Dependences:
 
 
 NUMBER, PC = r"(\d+)", r"([0-9a-f]{8})"
-PAIR = re.compile(rf"dep store {PC} load {PC} times {NUMBER} distance {NUMBER} {NUMBER} at {PC} {NUMBER} first {NUMBER} {NUMBER} stored {NUMBER} of {NUMBER} "
+PAIR = re.compile(rf"dep store {PC} load {PC} times {NUMBER} distance {NUMBER} {NUMBER} at {PC} {NUMBER} first "
+                  rf"{NUMBER} {NUMBER} stored {NUMBER} of {NUMBER} "
                   rf"loaded {NUMBER} of {NUMBER}")
 BARE = re.compile(rf"(never|open) (\w+) {NUMBER}")
 MEETS = re.compile(rf"from (\w+) {NUMBER} epoch {NUMBER} load {PC} by epoch {NUMBER} store {PC}")
@@ -100,7 +105,8 @@ def store_of(line: str) -> OverStore | None:
     if match := FULL.fullmatch(line):
         return OverStore("from", match[1], int(match[2]), int(match[3]), None, int(match[4]))
     if match := MEETS.fullmatch(line):
-        return OverStore("from", match[1], int(match[2]), int(match[3]), int(match[4], 16), int(match[5]), int(match[6], 16))
+        return OverStore("from", match[1], int(match[2]), int(match[3]), int(match[4], 16), int(match[5]),
+                         int(match[6], 16))
     return None
 
 

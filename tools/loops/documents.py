@@ -1,6 +1,7 @@
 """Each form as JSON and back: `{"form": NAME, "version": 1, "content": {..}}`, as schema.json beside this file says.
 
-The content is the fields of the form's class by their names. Bytes are hexadecimal digits, addresses and values are numbers, and what isn't there is null.
+The content is the fields of the form's class by their names. Bytes are hexadecimal digits, addresses and values are
+numbers, and what isn't there is null.
 """
 
 import json
@@ -23,14 +24,17 @@ from .steps import Step, Steps, read_steps
 VERSION = 1
 SCHEMA = Path(__file__).with_name("schema.json")
 FORMS: dict[str, tuple[type, Callable[[str], Any]]] = {
-    "image": (Image, read_image), "traced": (Traced, read_traced), "output": (Output, read_output), "survey": (Survey, read_survey),
-    "verdict": (Verdict, read_verdict), "conflicts": (Conflicts, read_conflicts), "gains": (Gains, read_gains), "steps": (Steps, read_steps),
-    "dependences": (Dependences, read_dependences),
+    "image": (Image, read_image), "traced": (Traced, read_traced), "output": (Output, read_output),
+    "survey": (Survey, read_survey),
+    "verdict": (Verdict, read_verdict), "conflicts": (Conflicts, read_conflicts), "gains": (Gains, read_gains),
+    "steps": (Steps, read_steps), "dependences": (Dependences, read_dependences),
 }
 # The words that begin a text, and their forms; a text of another beginning is an image.
 BEGINNINGS = {
-    "end": "output", "open": "output", "turns": "output", "schedules": "survey", "legal": "verdict", "illegal": "verdict", "store": "gains",
-    "turn": "steps", "dep": "dependences", "never": "dependences", "from": "dependences", "hurt": "conflicts", "cancel": "conflicts", "epoch": "conflicts", "total": "conflicts",
+    "end": "output", "open": "output", "turns": "output", "schedules": "survey", "legal": "verdict",
+    "illegal": "verdict", "store": "gains",
+    "turn": "steps", "dep": "dependences", "never": "dependences", "from": "dependences", "hurt": "conflicts",
+    "cancel": "conflicts", "epoch": "conflicts", "total": "conflicts",
 }
 
 
@@ -103,7 +107,8 @@ def made(kind: Any, value: Any) -> Any:
         return None if value is None else made(next(one for one in get_args(kind) if one is not type(None)), value)
     if get_origin(kind) is list:
         part = get_args(kind)[0]
-        return Items(lambda: (made(part, one) for one in value)) if isinstance(value, Items) else [made(part, one) for one in value]
+        return (Items(lambda: (made(part, one) for one in value)) if isinstance(value, Items)
+                else [made(part, one) for one in value])
     if get_origin(kind) is dict:
         return {get_args(kind)[0](key): one for key, one in value.items()}
     if kind is Step:
@@ -122,7 +127,8 @@ def document(text: str, form: str | None = None) -> dict[str, Any]:
 def content_of(told: dict[str, Any]) -> Any:
     """What a document says."""
     if told.get("version") != VERSION or told.get("form") not in FORMS:
-        raise Unreadable(f"the document is of form {told.get('form')!r}, version {told.get('version')!r}; version {VERSION} is known, of {', '.join(FORMS)}")
+        raise Unreadable(f"the document is of form {told.get('form')!r}, version {told.get('version')!r}; version "
+                         f"{VERSION} is known, of {', '.join(FORMS)}")
     return made(FORMS[told["form"]][0], told["content"])
 
 

@@ -1,5 +1,5 @@
-"""How a tool ends: with the status that its `main` gives, and without a word where nobody reads what it prints any more.
-What it prints is UTF-8."""
+"""How a tool ends: with the status that its `main` gives, and without a word where nobody reads what it prints any
+more. What it prints is UTF-8."""
 
 import io
 import os
@@ -13,8 +13,8 @@ UNREAD = 128 + signal.SIGPIPE
 
 
 def tool(main: Callable[[], int]) -> Callable[[], int]:
-    """The `main` of a tool, which answers its status. Where the reader of standard output has gone, as `head` goes, that
-    is UNREAD."""
+    """The `main` of a tool, which answers its status. Where the reader of standard output has gone, as `head` goes,
+    that is UNREAD."""
     @wraps(main)
     def run() -> int:
         for stream in (sys.stdout, sys.stderr):

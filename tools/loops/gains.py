@@ -58,7 +58,8 @@ class Gains:
 
 
 NUMBER, HUNDREDTHS = r"(\d+)", r"(\d+\.\d\d|-)"
-FORM = re.compile(r"store (\w+) cores (\d+) (?:full|" + " ".join(f"{name} {HUNDREDTHS if name == 'gain' else NUMBER}" for name in NAMES) + ")")
+FORM = re.compile(r"store (\w+) cores (\d+) (?:full|"
+                  + " ".join(f"{name} {HUNDREDTHS if name == 'gain' else NUMBER}" for name in NAMES) + ")")
 
 
 def read_gains(text: str) -> Gains:

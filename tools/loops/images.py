@@ -14,7 +14,8 @@ LINE_LENGTH = {1: 16, 2: 32}
 MOST_CORES = {1: 8, 2: 16}
 VARIABLE = re.compile(r" (\S+) ([0-9a-fA-F]{8}) (\d+)")
 SOURCE = re.compile(r" code ([0-9a-fA-F]{8}) (\S+:\d+)")
-# To a full stop that another sentence follows, or to the end; that of a number in front, as in `2. A histogram.`, is none.
+# To a full stop that another sentence follows, or to the end; that of a number in front, as in `2. A histogram.`, is
+# none.
 SENTENCE = re.compile(r"(?:\d+\. )?.+?(?:\.(?= [\"'(]?[A-Z])|$)")
 
 

@@ -5,7 +5,8 @@ STORES = {0: "sb", 1: "sh", 2: "sw"}
 BRANCHES = {0: "beq", 1: "bne", 4: "blt", 5: "bge", 6: "bltu", 7: "bgeu"}
 IMMEDIATES = {0: "addi", 2: "slti", 3: "sltiu", 4: "xori", 6: "ori", 7: "andi"}
 SHIFTS = {(1, 0): "slli", (5, 0): "srli", (5, 32): "srai"}
-OPERATIONS = {(0, 0): "add", (0, 32): "sub", (1, 0): "sll", (2, 0): "slt", (3, 0): "sltu", (4, 0): "xor", (5, 0): "srl", (5, 32): "sra", (6, 0): "or", (7, 0): "and"}
+OPERATIONS = {(0, 0): "add", (0, 32): "sub", (1, 0): "sll", (2, 0): "slt", (3, 0): "sltu", (4, 0): "xor", (5, 0): "srl",
+              (5, 32): "sra", (6, 0): "or", (7, 0): "and"}
 
 
 def signed(bits: int, length: int = 12) -> int:
@@ -34,7 +35,8 @@ def access_spelled(word: int) -> str | None:
 
 def computed_spelled(word: int) -> str | None:
     """`addi x4,x3,-16`; None of an instruction that doesn't compute."""
-    opcode, low, middle, first, second, top = word & 127, word >> 7 & 31, word >> 12 & 7, word >> 15 & 31, word >> 20 & 31, word >> 25
+    opcode, low, middle, first, second, top = (word & 127, word >> 7 & 31, word >> 12 & 7, word >> 15 & 31,
+                                               word >> 20 & 31, word >> 25)
     if opcode in (0b0110111, 0b0010111):
         return f"{'lui' if opcode == 0b0110111 else 'auipc'} x{low},0x{word >> 12:x}"
     if opcode == 0b0010011 and middle in IMMEDIATES:

@@ -79,7 +79,8 @@ class Reader:
         return mark
 
     def value(self) -> Any:
-        """Takes a value. Where the buffer ends in its middle, twice as much is read each time, so a long one costs time by its length."""
+        """Takes a value. Where the buffer ends in its middle, twice as much is read each time, so a long one costs time
+        by its length."""
         self.peek()
         length = CHUNK
         while True:
@@ -139,7 +140,8 @@ def skip_list(reader: Reader, path: Path) -> Items:
 
 
 def read_value(reader: Reader, path: Path, places: Any) -> Any:
-    """Takes a value. Of the lists that stand at some places in it, no item is kept: `places` is LIST, or a table of the places below each key, or None."""
+    """Takes a value. Of the lists that stand at some places in it, no item is kept: `places` is LIST, or a table of the
+    places below each key, or None."""
     mark = reader.peek()
     if places == LIST and mark == "[":
         return skip_list(reader, path)
@@ -154,7 +156,8 @@ def read_value(reader: Reader, path: Path, places: Any) -> Any:
 
 
 def read_document(path: Path, lists: dict[str, dict[str, Any]]) -> dict[str, Any]:
-    """The document that stands in a file. `lists` says for each form which lists aren't kept; where the form isn't said before the content, all is."""
+    """The document that stands in a file. `lists` says for each form which lists aren't kept; where the form isn't said
+    before the content, all is."""
     told: dict[str, Any] = {}
     with path.open("rb") as source:
         reader = Reader(source)

@@ -24,7 +24,8 @@ ILLEGAL = 4
 NOT_BUILT = 126
 MAY_BUILD = "LOOPS_BUILD"
 TREE = Path(__file__).resolve().parents[2]
-# Whether that is the tree of the project: a package that is installed stands in none, and takes nothing from where it is
+# Whether that is the tree of the project: a package that is installed stands in none, and takes nothing from where it
+# is
 IN_TREE = (TREE / "trace_cli").is_file() and TREE / "tools" / "loops" == Path(__file__).resolve().parent
 
 
@@ -44,7 +45,8 @@ def folder() -> Path:
 class Build(argparse.Action):
     """What `--build` does: programs that aren't built may be built, by this process and by those that it starts."""
 
-    def __call__(self, parser: argparse.ArgumentParser, given: argparse.Namespace, values: str | Sequence[str] | None, option: str | None = None) -> None:
+    def __call__(self, parser: argparse.ArgumentParser, given: argparse.Namespace, values: str | Sequence[str] | None,
+                 option: str | None = None) -> None:
         allow_builds()
 
 
@@ -55,17 +57,22 @@ def allow_builds() -> None:
 
 def add_build(parser: argparse.ArgumentParser) -> None:
     """The option by which a tool builds programs. Without it none does, since a build takes minutes."""
-    parser.add_argument("--build", action=Build, nargs=0, help="proves and builds the programs first where they aren't built, which takes minutes")
+    parser.add_argument("--build", action=Build, nargs=0,
+                        help="proves and builds the programs first where they aren't built, which takes minutes")
 
 
 @cache
 def built(program: str | Path) -> str:
-    """Where a program itself is. A wrapper of the tree builds it first, where it has to and may, and says on standard error how far that is."""
+    """Where a program itself is. A wrapper of the tree builds it first, where it has to and may, and says on standard
+    error how far that is."""
     if Path(program).resolve() != TREE / "trace_cli":
         return str(program)
-    if not os.environ.get(MAY_BUILD) and subprocess.run([str(program), "--is-built"], stdin=subprocess.DEVNULL, check=False).returncode:
+    if (not os.environ.get(MAY_BUILD)
+        and subprocess.run([str(program), "--is-built"], stdin=subprocess.DEVNULL, check=False).returncode):
         name = Path(program).name
-        raise Stopped(NOT_BUILT, f"{name} isn't built for these sources: {program} --built proves and builds it, which takes minutes, and so does --build here\n")
+        raise Stopped(NOT_BUILT,
+                      f"{name} isn't built for these sources: {program} --built proves and builds it, which takes "
+                      "minutes, and so does --build here\n")
     done = subprocess.run([str(program), "--built"], stdin=subprocess.DEVNULL, stdout=subprocess.PIPE, check=False)
     if done.returncode:
         raise Stopped(done.returncode, f"{Path(program).name} is not built\n")
@@ -76,7 +83,8 @@ def is_there(program: Path) -> bool:
     """Whether a program can be called at once: it is built, or a wrapper of the tree may build it."""
     if program.resolve() != TREE / "trace_cli":
         return program.is_file()
-    return bool(os.environ.get(MAY_BUILD)) or subprocess.run([str(program), "--is-built"], stdin=subprocess.DEVNULL, check=False).returncode == 0
+    return (bool(os.environ.get(MAY_BUILD))
+            or subprocess.run([str(program), "--is-built"], stdin=subprocess.DEVNULL, check=False).returncode == 0)
 
 
 def call(program: str | Path, words: list[str], text: str, right: tuple[int, ...] = ENDED) -> str:
@@ -91,12 +99,14 @@ def call(program: str | Path, words: list[str], text: str, right: tuple[int, ...
 
 
 def iter_call(program: str | Path, words: list[str], source: Path, right: tuple[int, ...] = ENDED) -> Iterator[str]:
-    """The lines that a program prints on a file, one after another, without their line feeds. After the last one Stopped as `call` has it."""
+    """The lines that a program prints on a file, one after another, without their line feeds. After the last one
+    Stopped as `call` has it."""
     with tempfile.TemporaryFile() as errors, source.open("rb") as given:
         try:
             running = subprocess.Popen([built(program), *words], stdin=given, stdout=subprocess.PIPE, stderr=errors)
         except OSError as wrong:
-            raise Stopped(127, f"{program}: {wrong.strerror}; LOOPS_PROGRAMS names the folder of the programs\n") from None
+            raise Stopped(127,
+                          f"{program}: {wrong.strerror}; LOOPS_PROGRAMS names the folder of the programs\n") from None
         with running:
             try:
                 yield from (line.decode("ascii").removesuffix("\n") for line in running.stdout or ())
@@ -105,7 +115,8 @@ def iter_call(program: str | Path, words: list[str], source: Path, right: tuple[
                 raise
         if running.returncode not in right:
             errors.seek(0)
-            raise Stopped(running.returncode, text_in(errors.read()) or f"{Path(program).name} ended with status {running.returncode}\n")
+            raise Stopped(running.returncode,
+                          text_in(errors.read()) or f"{Path(program).name} ended with status {running.returncode}\n")
 
 
 @dataclass
@@ -156,7 +167,8 @@ class Programs:
         return read_output(call(self.folder / "replay", ["seeded", str(seed), store, str(cores)], text_of(image)))
 
     def steps(self, text: str, store: str, cores: int | None = None) -> Steps:
-        """A run turn by turn, with what changed: that of the lines of turns below an image, for so many cores, or of a trace below it."""
+        """A run turn by turn, with what changed: that of the lines of turns below an image, for so many cores, or of a
+        trace below it."""
         return read_steps(call(self.folder / "replay", steps_words(store, cores), text))
 
     def step_lines(self, source: Path, store: str, cores: int | None = None) -> Iterator[str]:

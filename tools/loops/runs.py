@@ -122,7 +122,8 @@ class Output:
 
 @dataclass
 class Survey:
-    """What every schedule of so many turns comes to; schedules with the fewest and the most restarts, where the loop is over for some."""
+    """What every schedule of so many turns comes to; schedules with the fewest and the most restarts, where the loop is
+    over for some."""
     schedules: int
     over: int
     histories: int

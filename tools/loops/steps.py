@@ -1,4 +1,5 @@
-"""What `replay steps` prints: each turn of a run with its entries, and what it changed in what the store and the cores hold."""
+"""What `replay steps` prints: each turn of a run with its entries, and what it changed in what the store and the cores
+hold."""
 
 from collections.abc import Iterable, Iterator
 from dataclasses import dataclass, field
@@ -45,7 +46,8 @@ class Steps:
     output: Output
 
     def states(self) -> Iterator[dict[str, Change]]:
-        """After each turn, what was last said of each place. It is one dictionary, which goes on: copy what is to be kept."""
+        """After each turn, what was last said of each place. It is one dictionary, which goes on: copy what is to be
+        kept."""
         state: dict[str, Change] = {}
         for step in self.steps:
             state.update((change.place, change) for change in step.changes)
@@ -68,7 +70,8 @@ def step_of(line: str) -> Step:
 
 
 def take_line(step: Step, place: int, line: str) -> int:
-    """Takes one line below a turn's first in. The place is that of the next entry, and what is answered is that of the one after this line."""
+    """Takes one line below a turn's first in. The place is that of the next entry, and what is answered is that of the
+    one after this line."""
     if line.startswith("entry "):
         step.entries.append(entry_of(place, line[6:]))
         return place + 1
@@ -77,7 +80,8 @@ def take_line(step: Step, place: int, line: str) -> int:
 
 
 def iter_steps(lines: Iterable[str]) -> Iterator[Step]:
-    """The turns of the lines that `replay steps` prints, one after another. Of an iterator all lines to `end` are taken, and those of the output are left."""
+    """The turns of the lines that `replay steps` prints, one after another. Of an iterator all lines to `end` are
+    taken, and those of the output are left."""
     step: Step | None = None
     place = 0
     for number, line in enumerate(lines, 1):

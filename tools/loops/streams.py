@@ -1,4 +1,5 @@
-"""Texts of forms that may be long, as JSON that is written while they are read, and back: of a trace, of turns and of violations one at a time is in memory.
+"""Texts of forms that may be long, as JSON that is written while they are read, and back: of a trace, of turns and of
+violations one at a time is in memory.
 
 A document is the same to the byte as `to_json` writes it, and a text as `from_json` does.
 """
@@ -21,13 +22,14 @@ from .texts import iter_lines, iter_split, text_in, text_out
 Lines = Callable[[], Iterator[str]]
 # The fields of a report of `why` that are lists, and the first words of their lines.
 WORDS = {
-    "violations": ("hurt", *BELOW), "cancelled": ("cancel",), "open": ("open",), "epochs": ("epoch",), "pairs": ("pair",), "lines": ("line",),
-    "instructions": ("pc",), "kinds": ("kind",),
+    "violations": ("hurt", *BELOW), "cancelled": ("cancel",), "open": ("open",), "epochs": ("epoch",), "pairs": ("pair",
+    ), "lines": ("line",), "instructions": ("pc",), "kinds": ("kind",),
 }
 # Where the long lists stand in the content of each form.
 OUTPUT = {"trace": {"entries": LIST}, "turns": LIST}
 LISTS: dict[str, dict[str, Any]] = {
-    "traced": {"trace": {"entries": LIST}}, "output": OUTPUT, "steps": {"steps": LIST, "output": OUTPUT}, "conflicts": dict.fromkeys(WORDS, LIST),
+    "traced": {"trace": {"entries": LIST}}, "output": OUTPUT, "steps": {"steps": LIST, "output": OUTPUT},
+    "conflicts": dict.fromkeys(WORDS, LIST),
 }
 # What a document raises that says no text.
 WRONG = (ValueError, LookupError, TypeError, AttributeError, RecursionError)
@@ -83,7 +85,8 @@ def steps(path: Path) -> dict[str, Any]:
     """What `replay steps` prints."""
     def lines() -> Iterator[str]:
         return iter_split(iter_lines(path))
-    return {"steps": Items(lambda: iter_steps(lines())).check(), "output": output_of(lambda: below(lines(), lambda line: line == "end"))}
+    return {"steps": Items(lambda: iter_steps(lines())).check(),
+            "output": output_of(lambda: below(lines(), lambda line: line == "end"))}
 
 
 def conflicts(path: Path) -> dict[str, Any]:
@@ -99,7 +102,8 @@ def conflicts(path: Path) -> dict[str, Any]:
     return {name: Items(partial(parts, words)) for name, words in WORDS.items()} | {"total": total}
 
 
-LONG: dict[str, Callable[[Path], dict[str, Any]]] = {"traced": traced, "output": output, "steps": steps, "conflicts": conflicts}
+LONG: dict[str, Callable[[Path], dict[str, Any]]] = {"traced": traced, "output": output, "steps": steps,
+                                                     "conflicts": conflicts}
 
 
 def iter_json(value: Any, depth: int = 0) -> Iterator[str]:
@@ -121,21 +125,24 @@ def iter_json(value: Any, depth: int = 0) -> Iterator[str]:
 
 
 def iter_document(path: Path, form: str | None = None) -> Iterator[str]:
-    """The document of a text that stands in a file, in parts. What is wrong with the text is raised before the first one."""
+    """The document of a text that stands in a file, in parts. What is wrong with the text is raised before the first
+    one."""
     name = form or form_of_lines(line.removesuffix("\n") for line in iter_lines(path))
     content = LONG[name](path) if name in LONG else FORMS[name][1]("".join(iter_lines(path)))
     return iter_json({"form": name, "version": VERSION, "content": content})
 
 
 def iter_text(path: Path) -> Iterator[str]:
-    """The text of a document that stands in a file, in parts. What is wrong with it may be raised behind some of them."""
+    """The text of a document that stands in a file, in parts. What is wrong with it may be raised behind some of
+    them."""
     content = content_of(read_document(path, LISTS))
     parts: Iterator[str] = content.parts() if hasattr(content, "parts") else iter([content.text()])
     return parts
 
 
 def write_text(source: Path, target: Path) -> None:
-    """Writes the text of a document that stands in a file to another file. One with which something is wrong is read whole, and refused as `from_json` does."""
+    """Writes the text of a document that stands in a file to another file. One with which something is wrong is read
+    whole, and refused as `from_json` does."""
     try:
         with target.open("wb") as out:
             out.writelines(map(text_out, iter_text(source)))

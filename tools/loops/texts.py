@@ -1,4 +1,5 @@
-"""Text from outside. It comes in and goes out as UTF-8, with bytes that are none kept as they are; where people read it, `shown` takes out what isn't to be seen."""
+"""Text from outside. It comes in and goes out as UTF-8, with bytes that are none kept as they are; where people read
+it, `shown` takes out what isn't to be seen."""
 
 import re
 import shutil
@@ -6,8 +7,9 @@ import sys
 from collections.abc import Iterable, Iterator
 from pathlib import Path
 
-# What would break XML, drive a terminal, end a line, or turn the direction of what stands beside it: control characters, line and paragraph separators, the marks and
-# embeddings of the Unicode Bidirectional Algorithm (UAX 9), halves of surrogate pairs (so bytes that aren't UTF-8), and what is no character.
+# What would break XML, drive a terminal, end a line, or turn the direction of what stands beside it: control
+# characters, line and paragraph separators, the marks and embeddings of the Unicode Bidirectional Algorithm (UAX 9),
+# halves of surrogate pairs (so bytes that aren't UTF-8), and what is no character.
 UNSEEN = re.compile("[\x00-\x1f\x7f-\x9f\u061c\u200e\u200f\u2028-\u202e\u2066-\u2069\ud800-\udfff\ufffe\uffff]")
 REPLACEMENT = "\ufffd"
 
@@ -51,5 +53,6 @@ def write_output(text: str) -> None:
 
 
 def shown(text: str) -> str:
-    """A text for one line of a picture, a page, a plot or a terminal: a tab is a space, and another such character is the replacement character."""
+    """A text for one line of a picture, a page, a plot or a terminal: a tab is a space, and another such character is
+    the replacement character."""
     return UNSEEN.sub(REPLACEMENT, text.replace("\t", " "))

@@ -126,9 +126,9 @@ def add_options(made: argparse.ArgumentParser) -> argparse.ArgumentParser:
     made.add_argument("-O", dest="optimize", type=of_form("[0-3sgz]|fast", "0, 1, 2, 3, s, g, z or fast"), default="2",
                       metavar="LEVEL",
                       help="how the compiler optimizes (2)")
-    made.add_argument("-D", dest="define", type=of_form(r"[A-Za-z_]\w*(\([\w, .]*\))?(=[ -~\u00a0-\U0010ffff]*)?",
-                                                        "NAME or NAME=VALUE"), action="append", default=[],
-                      metavar="NAME[=VALUE]", help="defines a macro")
+    made.add_argument("-D", dest="define",
+                      type=of_form(r"[A-Za-z_]\w*(\([\w, .]*\))?(=[ -~\u00a0-\U0010ffff]*)?", "NAME or NAME=VALUE"),
+                      action="append", default=[], metavar="NAME[=VALUE]", help="defines a macro")
     made.add_argument("--std", type=of_form(r"(c|gnu)(\+\+)?[0-9][0-9a-z]", "a standard, as c99 or gnu++20"),
                       metavar="STANDARD",
                       help="the standard of C or C++ that the sources are of (c11, c++17)")

@@ -2,9 +2,10 @@
 
 Usage: tools/json [--form NAME] [--back] [--schema] < TEXT > NAME.json
 
-Standard input is an image, an image with a trace, or what `trace_cli`, `why`, `replay`, `gain` or `depends` printed; which of them is seen from its first words.
---back writes the text again. --schema prints the JSON schema, of version 1, in which each field is said. What is of no known form is refused with a line on
-standard error and status 2. A document that is refused, or that has its form behind its content, is read whole; of others no long list is in memory.
+Standard input is an image, an image with a trace, or what `trace_cli`, `why`, `replay`, `gain` or `depends` printed;
+which of them is seen from its first words. --back writes the text again. --schema prints the JSON schema, of version 1,
+in which each field is said. What is of no known form is refused with a line on standard error and status 2. A document
+that is refused, or that has its form behind its content, is read whole; of others no long list is in memory.
 """
 
 import argparse

@@ -1,16 +1,19 @@
-"""The report of which conflicts rolled back, or what epochs need of one another, with the names of variables, source lines and instructions.
+"""The report of which conflicts rolled back, or what epochs need of one another, with the names of variables, source
+lines and instructions.
 
 Usage: tools/named [--say] [--why COMMAND] < IMAGE_AND_TRACE
        tools/named --depends [--cores N] < IMAGE
 
-Standard input is what `./why` reads: an image, and below it a trace (tools/trace makes it of a run). The report is that of `./why`, or COMMAND. Its `hurt` and `also`
-lines end with the name of their first byte, as `bins+4`, `pair` lines with the variables, and `pc` lines with FILE:LINE and the instruction; `-` stands where the image's
-remarks (tools/image-of writes them) name none. Below the lines of the caches stands `name NAME rollbacks N lost N true N silent N false N buffer N` of each variable,
-heaviest first. With --say a remark below each violation says it in English.
+Standard input is what `./why` reads: an image, and below it a trace (tools/trace makes it of a run). The report is that
+of `./why`, or COMMAND. Its `hurt` and `also` lines end with the name of their first byte, as `bins+4`, `pair` lines
+with the variables, and `pc` lines with FILE:LINE and the instruction; `-` stands where the image's remarks
+(tools/image-of writes them) name none. Below the lines of the caches stands `name NAME rollbacks N lost N true N silent
+N false N buffer N` of each variable, heaviest first. With --say a remark below each violation says it in English.
 
-With --depends the input is an image, and the lines are those that `./depends` prints of it on up to N cores, as many as its version allows without that. `dep` lines end
-with the variables from the lowest byte to the highest, and FILE:LINE of the store and of the load; `from` and `open` lines with FILE:LINE of the load and of the store.
-Where a program refuses the input, its line comes on standard error, and its status is that of this program.
+With --depends the input is an image, and the lines are those that `./depends` prints of it on up to N cores, as many as
+its version allows without that. `dep` lines end with the variables from the lowest byte to the highest, and FILE:LINE
+of the store and of the load; `from` and `open` lines with FILE:LINE of the load and of the store. Where a program
+refuses the input, its line comes on standard error, and its status is that of this program.
 """
 
 import argparse
@@ -122,11 +125,14 @@ def lines_of(text: str, given: argparse.Namespace) -> Iterator[str]:
 
 @tool
 def main() -> int:
-    parser = argparse.ArgumentParser(description="The report of which conflicts rolled back, or what epochs need of one another, with names.")
+    parser = argparse.ArgumentParser(description="The report of which conflicts rolled back, or what epochs need of "
+                                                 "one another, with names.")
     parser.add_argument("--say", action="store_true", help="each violation in English too")
     parser.add_argument("--why", metavar="COMMAND", help="the program that writes the report (./why)")
-    parser.add_argument("--depends", action="store_true", help="the input is an image, and what ./depends prints of it has names")
-    parser.add_argument("--cores", type=int, metavar="N", help="with --depends: on up to so many cores (as many as the image's version allows)")
+    parser.add_argument("--depends", action="store_true",
+                        help="the input is an image, and what ./depends prints of it has names")
+    parser.add_argument("--cores", type=int, metavar="N",
+                        help="with --depends: on up to so many cores (as many as the image's version allows)")
     add_build(parser)
     given = parser.parse_args()
     try:

@@ -2,11 +2,13 @@
 
 Usage: tools/picture [--overview] [--perfetto] [--turns FIRST-LAST] [--why COMMAND] < IMAGE_AND_TRACE > PICTURE.svg
 
-Standard input is what `./why` reads: an image, and below it a trace (tools/trace makes it of a run). Which conflicts rolled back is what `./why`, or COMMAND, says
-of it. Up to 300 entries it draws a lane for each core, with each load and store; a longer run, or any with --overview, by epochs. --perfetto
-writes the events that https://ui.perfetto.dev shows instead. Above 2,000 entries both are gathered: of the cores a column for each pixel, and of the events
-counts for each of up to a thousand parts of the run; with --turns FIRST-LAST --perfetto writes all events of these turns. Remarks of the image, as tools/image-of writes them, name variables and
-source lines. Where `why` refuses the input, its line comes on standard error, and its status is that of this program.
+Standard input is what `./why` reads: an image, and below it a trace (tools/trace makes it of a run). Which conflicts
+rolled back is what `./why`, or COMMAND, says of it. Up to 300 entries it draws a lane for each core, with each load and
+store; a longer run, or any with --overview, by epochs. --perfetto writes the events that https://ui.perfetto.dev shows
+instead. Above 2,000 entries both are gathered: of the cores a column for each pixel, and of the events counts for each
+of up to a thousand parts of the run; with --turns FIRST-LAST --perfetto writes all events of these turns. Remarks of
+the image, as tools/image-of writes them, name variables and source lines. Where `why` refuses the input, its line comes
+on standard error, and its status is that of this program.
 """
 
 import argparse
@@ -33,7 +35,8 @@ def main() -> int:
     parser = argparse.ArgumentParser(description="Draws a run and its rollbacks, as SVG on standard output.")
     parser.add_argument("--overview", action="store_true", help="by epochs, however short the run is")
     parser.add_argument("--perfetto", action="store_true", help="events for ui.perfetto.dev in the place of SVG")
-    parser.add_argument("--turns", type=turns_of, metavar="FIRST-LAST", help="with --perfetto: all events of these turns, however long the run is")
+    parser.add_argument("--turns", type=turns_of, metavar="FIRST-LAST",
+                        help="with --perfetto: all events of these turns, however long the run is")
     parser.add_argument("--why", metavar="COMMAND", help="the program that says which conflicts rolled back (./why)")
     add_build(parser)
     given = parser.parse_args()

@@ -1,11 +1,12 @@
-"""Plots what loops gain and where the steps of their cores went, from what `./gain CORES` printed; or what their epochs need of one another, from what `./depends
-CORES` printed. The plot is SVG on standard output.
+"""Plots what loops gain and where the steps of their cores went, from what `./gain CORES` printed; or what their epochs
+need of one another, from what `./depends CORES` printed. The plot is SVG on standard output.
 
 Usage: tools/plot [--csv] [--images FOLDER] [NAME=FILE ..] > GAINS.svg
 
-Each FILE has the lines of one loop, called NAME, or without `NAME=` after the file; without a FILE standard input is read. --csv writes a row for each line in the
-place of the plot, of `depends` for each line `dep`. Where FOLDER has NAME.image, its remarks name variables and lines of dependences. The same lines give the same
-bytes. The plot needs Debian's python3-matplotlib. What is no line of either program is refused with a line on standard error and status 2.
+Each FILE has the lines of one loop, called NAME, or without `NAME=` after the file; without a FILE standard input is
+read. --csv writes a row for each line in the place of the plot, of `depends` for each line `dep`. Where FOLDER has
+NAME.image, its remarks name variables and lines of dependences. The same lines give the same bytes. The plot needs
+Debian's python3-matplotlib. What is no line of either program is refused with a line on standard error and status 2.
 """
 
 import argparse
@@ -77,16 +78,20 @@ def plotted(printed: Printed, folder: Path | None, as_table: bool) -> str:
 
 @tool
 def main() -> int:
-    parser = argparse.ArgumentParser(description="Plots what loops gain and where the steps of their cores went, or what their epochs need of one another, as SVG on "
+    parser = argparse.ArgumentParser(description="Plots what loops gain and where the steps of their cores went, or "
+                                                 "what their epochs need of one another, as SVG on "
                                                  "standard output.")
     parser.add_argument("--csv", action="store_true", help="a row for each line, in the place of the plot")
-    parser.add_argument("--images", type=Path, metavar="FOLDER", help="has NAME.image, whose remarks name variables and lines of dependences")
-    parser.add_argument("files", nargs="*", metavar="NAME=FILE", help="what gain or depends printed of a loop (standard input)")
+    parser.add_argument("--images", type=Path, metavar="FOLDER",
+                        help="has NAME.image, whose remarks name variables and lines of dependences")
+    parser.add_argument("files", nargs="*", metavar="NAME=FILE",
+                        help="what gain or depends printed of a loop (standard input)")
     given = parser.parse_args()
     if not given.csv:
         find_matplotlib()
     try:
-        sys.stdout.write(plotted([named(word) for word in given.files] or [("loop", sys.stdin.read())], given.images, given.csv))
+        sys.stdout.write(plotted([named(word) for word in given.files] or [("loop", sys.stdin.read())], given.images,
+                                 given.csv))
     except BrokenPipeError:
         raise
     except (Unreadable, UnicodeError, OSError) as wrong:

@@ -1,4 +1,5 @@
-"""Runs a study: loops x cores x versions x stores x schedules, many runs a job, by Snakemake (Debian's package snakemake), here or on a cluster.
+"""Runs a study: loops x cores x versions x stores x schedules, many runs a job, by Snakemake (Debian's package
+snakemake), here or on a cluster.
 
 Usage: tools/study FILE.toml [--out FOLDER] [--jobs N] [--chunk N] [-- SNAKEMAKE-WORD ..]
 
@@ -13,10 +14,12 @@ FILE.toml has, for example:
     [loops]
     histogram = "histogram.image"
 
-The folder gets runs.csv, pairs.csv, manifest.json and page.html. Each row is kept with the digests of the image and of the programs by which it was made, and a row that
-is there isn't made again: a study that was stopped goes on where it was, and one whose table, images or programs changed runs what is new. A few runs are tried first,
-so that a job takes some 20 seconds; --chunk says how many runs a job has. Words behind `--` are Snakemake's, as `--profile tools/loops/studies/profiles/slurm` of a cluster.
-Needs Debian's python3-jsonschema; the status is 2 where the table is refused, and 1 where a run failed.
+The folder gets runs.csv, pairs.csv, manifest.json and page.html. Each row is kept with the digests of the image and of
+the programs by which it was made, and a row that is there isn't made again: a study that was stopped goes on where it
+was, and one whose table, images or programs changed runs what is new. A few runs are tried first, so that a job takes
+some 20 seconds; --chunk says how many runs a job has. Words behind `--` are Snakemake's, as `--profile
+tools/loops/studies/profiles/slurm` of a cluster. Needs Debian's python3-jsonschema; the status is 2 where the table is
+refused, and 1 where a run failed.
 """
 
 import argparse
@@ -49,11 +52,16 @@ def number(word: str) -> int:
 
 def given_words(words: list[str]) -> argparse.Namespace:
     """The words of the command line; those behind `--` are Snakemake's, wherever it stands."""
-    parser = argparse.ArgumentParser(description="Runs a study of loops, many runs a job, by Snakemake.", epilog="Words behind -- are Snakemake's, as a profile of a cluster.")
-    parser.add_argument("plan", type=Path, metavar="FILE.toml", help="the loops, cores, versions, stores, schedules and seeds")
-    parser.add_argument("--out", type=Path, default=Path("study"), metavar="FOLDER", help="where all of it goes (study)")
-    parser.add_argument("--jobs", type=number, default=cpu_count(), metavar="N", help="as many jobs side by side (one for each processor)")
-    parser.add_argument("--chunk", type=number, metavar="N", help="so many runs a job (as many as take some 20 seconds, by a trial)")
+    parser = argparse.ArgumentParser(description="Runs a study of loops, many runs a job, by Snakemake.",
+                                     epilog="Words behind -- are Snakemake's, as a profile of a cluster.")
+    parser.add_argument("plan", type=Path, metavar="FILE.toml",
+                        help="the loops, cores, versions, stores, schedules and seeds")
+    parser.add_argument("--out", type=Path, default=Path("study"), metavar="FOLDER",
+                        help="where all of it goes (study)")
+    parser.add_argument("--jobs", type=number, default=cpu_count(), metavar="N",
+                        help="as many jobs side by side (one for each processor)")
+    parser.add_argument("--chunk", type=number, metavar="N",
+                        help="so many runs a job (as many as take some 20 seconds, by a trial)")
     add_build(parser)
     at = words.index("--") if "--" in words else len(words)
     given = parser.parse_args(words[:at])
@@ -62,8 +70,10 @@ def given_words(words: list[str]) -> argparse.Namespace:
 
 
 def programs_of(plan: Plan) -> dict[str, Path]:
-    """Where the programs are that a study runs. Those that aren't built are built first with --build, and refused without."""
-    names = {name for schedule in plan.schedules for name in USES[schedule]} | ({"gain"} if plan.gain or "even" in plan.schedules else set())
+    """Where the programs are that a study runs. Those that aren't built are built first with --build, and refused
+    without."""
+    names = {name for schedule in plan.schedules for name in USES[schedule]} | ({"gain"} if plan.gain
+                                                                                or "even" in plan.schedules else set())
     names |= set(USES["even"])
     return {name: Path(built(Programs().folder / name)).resolve(strict=True) for name in sorted(names)}
 
@@ -99,7 +109,8 @@ def put_together(study: Study, kept: Kept) -> None:
     """The tables and the page."""
     rows: list[Row] = study.run_rows()
     write_tables(study, kept, rows)
-    (kept.folder / "page.html").write_text(page(study.plan, rows, plot(study, kept.folder)), encoding="utf-8", errors="backslashreplace")
+    (kept.folder / "page.html").write_text(page(study.plan, rows, plot(study, kept.folder)), encoding="utf-8",
+                                           errors="backslashreplace")
 
 
 def studied(given: argparse.Namespace, plan: Plan) -> str | None:
@@ -107,14 +118,16 @@ def studied(given: argparse.Namespace, plan: Plan) -> str | None:
     programs, kept = programs_of(plan), Kept(given.out)
     kept.begin()
     lock = locked(given.out)
-    study = Study(plan, {loop: kept.keep_image(text) for loop, text in plan.texts.items()}, {name: digest(path.read_bytes()) for name, path in programs.items()})
+    study = Study(plan, {loop: kept.keep_image(text) for loop, text in plan.texts.items()},
+                  {name: digest(path.read_bytes()) for name, path in programs.items()})
     needed, there = study.needed(), kept.all_rows()
     left = [work for work in needed if work not in there]
     wrong = make_rows(kept, programs, left, Wishes(given.jobs, given.chunk, given.words), lock) if left else None
     study.rows = kept.all_rows() if left else there
     missing = sum(work not in study.rows for work in needed)
     if missing:
-        return f"{missing:,} of {len(needed):,} runs have no row{f': {wrong}' if wrong else ''}; called again, the study goes on with these"
+        return (f"{missing:,} of {len(needed):,} runs have no row{f': {wrong}' if wrong else ''}; called again, the "
+                "study goes on with these")
     put_together(study, kept)
     return None
 
@@ -127,7 +140,8 @@ def answer(words: list[str]) -> int:
     for path in (given.out.absolute(), SNAKEFILE):
         bad = unquotable(path)
         if bad:
-            print(f"study: {shown(str(path))}: the path has the character {bad!r}, which Snakemake would hand to a shell", file=sys.stderr)
+            print(f"study: {shown(str(path))}: the path has the character {bad!r}, which Snakemake would hand to a "
+                  "shell", file=sys.stderr)
             return 2
     try:
         plan = read_plan(given.plan)

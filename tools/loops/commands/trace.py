@@ -1,4 +1,5 @@
-"""Runs a loop on threads, and writes its image with the trace of the run below it: what `./why`, `./trace_cli audit` and tools/picture read.
+"""Runs a loop on threads, and writes its image with the trace of the run below it: what `./why`, `./trace_cli audit`
+and tools/picture read.
 
 Usage: tools/trace IMAGE CORES > TRACED.txt
 
@@ -24,9 +25,11 @@ from loops.texts import text_in, write_output
 
 @tool
 def main() -> int:
-    parser = argparse.ArgumentParser(description="Runs a loop on threads, and writes its image with the trace of the run below it.")
+    parser = argparse.ArgumentParser(description="Runs a loop on threads, and writes its image with the trace of the "
+                                                 "run below it.")
     parser.add_argument("image", type=Path, metavar="IMAGE", help="the text of the loop")
-    parser.add_argument("cores", type=int, metavar="CORES", help="how many cores run it, each a thread: 1 to 16, in version 1 of an image to 8")
+    parser.add_argument("cores", type=int, metavar="CORES",
+                        help="how many cores run it, each a thread: 1 to 16, in version 1 of an image to 8")
     add_build(parser)
     given = parser.parse_args()
     text = text_in(given.image.read_bytes())

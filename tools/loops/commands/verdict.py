@@ -6,12 +6,12 @@ Usage: tools/verdict IMAGE [--cores N] [--max-lost PERCENT] [--min-gain G] [--bu
 What it gains is what `gain` says, of one instruction a step on each core and no latency; what holds it back is what
 `why` says of the runs that `replay even plain N` and `replay even caches N` print: over the plain store first, since
 waiting for the caches may hide what epochs need of one another. Where `depends` is built it says whether anything can
-roll back at all, on any schedule, and what an epoch needs earliest of another. Where neighbours of an array share lines it proposes
---chunk of the tool that made the image, tools/image-of or tools/loops-of; the words behind `--` are those by which it
-did, and with them it measures what that gains. Limits are of the run over caches: how many hundredths of the steps of
-all cores may be lost, and what the loop has to gain. The status is 0 within the limits, 5 past them, and 6 where the
-loop ends in a fault; where a program refuses the image or is stopped, its line comes on standard error, and its status
-is that of this program. It builds no program unless `--build` says so.
+roll back at all, on any schedule, and what an epoch needs earliest of another. Where neighbours of an array share lines
+it proposes --chunk of the tool that made the image, tools/image-of or tools/loops-of; the words behind `--` are those
+by which it did, and with them it measures what that gains. Limits are of the run over caches: how many hundredths of
+the steps of all cores may be lost, and what the loop has to gain. The status is 0 within the limits, 5 past them, and 6
+where the loop ends in a fault; where a program refuses the image or is stopped, its line comes on standard error, and
+its status is that of this program. It builds no program unless `--build` says so.
 """
 
 import argparse
@@ -77,7 +77,8 @@ def findings(programs: Programs, path: Path, cores: int, words: list[str]) -> Fi
     chunk = proposal(over_caches.losses)
     tried = measured(programs, maker_of(image), words, chunk.size, cores) if chunk and words else None
     flow = programs.depends(text, image.most_cores) if programs.has_depends() else None
-    return Findings(shown(path.stem), runs["caches", 1], caches, plain, over_caches.losses, over_plain, chunk, tried, flow)
+    return Findings(shown(path.stem), runs["caches", 1], caches, plain, over_caches.losses, over_plain, chunk, tried,
+                    flow)
 
 
 def options_of(words: list[str]) -> tuple[argparse.Namespace, list[str]]:

@@ -1,11 +1,13 @@
-"""A page that steps through a run turn by turn, with the caches at each turn, on standard output. It stands alone and asks nothing of the network.
+"""A page that steps through a run turn by turn, with the caches at each turn, on standard output. It stands alone and
+asks nothing of the network.
 
 Usage: tools/view [--store caches|plain] [--cores N] [--from TURN] [--to TURN] [--why COMMAND] < INPUT > RUN.html
 
-Standard input is what `./replay steps` takes: an image, and below it the trace of a run, or lines of turns, which need --cores. A page has at most 10,000 turns: of a
-longer run --from and --to say which, and the page says what it leaves out. What `./why`, or COMMAND, says of a rollback stands beside its turn. Remarks of the image,
-as tools/image-of writes them, name variables and source lines. Where a program refuses the input, its line comes on standard error, and its status is that of this
-program.
+Standard input is what `./replay steps` takes: an image, and below it the trace of a run, or lines of turns, which need
+--cores. A page has at most 10,000 turns: of a longer run --from and --to say which, and the page says what it leaves
+out. What `./why`, or COMMAND, says of a rollback stands beside its turn. Remarks of the image, as tools/image-of writes
+them, name variables and source lines. Where a program refuses the input, its line comes on standard error, and its
+status is that of this program.
 """
 
 import argparse
@@ -59,17 +61,22 @@ def shown(programs: Programs, given: argparse.Namespace, room: Path) -> str:
     turns.end()
     cores = keep_trace(traced, image, lines)
     hurts = {entry.place for one in turns.shown for entry in one.step.entries if entry.what == "hurt"}
-    violations = {one.place: one for one in programs.iter_why(traced) if isinstance(one, Violation) and one.place in hurts}
+    violations = {one.place: one for one in programs.iter_why(traced) if isinstance(one, Violation)
+                  and one.place in hurts}
     run = Told(read_image(image), named_entries(traced, violations.values()))
     return page(page_data(run, turns, cores, violations, given.store))
 
 
 @tool
 def main() -> int:
-    parser = argparse.ArgumentParser(description="A page that steps through a run turn by turn, with the caches at each turn.")
-    parser.add_argument("--store", choices=("caches", "plain"), default="caches", help="the store that the run is over (caches)")
-    parser.add_argument("--cores", type=int, metavar="N", help="how many cores the lines of turns are for; a trace says it itself")
-    parser.add_argument("--from", type=int, default=0, metavar="TURN", dest="first", help="the first turn that is shown")
+    parser = argparse.ArgumentParser(description="A page that steps through a run turn by turn, with the caches at "
+                                                 "each turn.")
+    parser.add_argument("--store", choices=("caches", "plain"), default="caches",
+                        help="the store that the run is over (caches)")
+    parser.add_argument("--cores", type=int, metavar="N",
+                        help="how many cores the lines of turns are for; a trace says it itself")
+    parser.add_argument("--from", type=int, default=0, metavar="TURN", dest="first",
+                        help="the first turn that is shown")
     parser.add_argument("--to", type=int, metavar="TURN", dest="last", help="the last turn that is shown")
     parser.add_argument("--why", metavar="COMMAND", help="the program that says which conflicts rolled back (./why)")
     add_build(parser)

@@ -247,8 +247,8 @@ def compiled(source: Path, kind: str, number: int, options: Options, directory: 
     convention = [] if options.stack or kind in ("assembly", "llvm") else options.toolchain.no_stack
     strict = ["-Werror=override-module"] if kind == "llvm" and not text_of(source) else []
     # the assembler's preprocessor alone knows -D
-    language = (["-x", "assembler-with-cpp"] if kind == "assembly" and (source.suffix == ".S" or options.define
-                                                                        or options.include) else [])
+    language = (["-x", "assembler-with-cpp"] if kind == "assembly"
+                and (source.suffix == ".S" or options.define or options.include) else [])
     status, errors = run([*words_of(source, kind, options), *convention, *strict, *further_flags(options, kind),
                           *language, "-c", "-o", made, source])
     if status and "override-module" in errors:
@@ -340,8 +340,8 @@ def linked(objects: list[Path], options: Options, directory: str) -> Program:
 def no_entry(program: Program, options: Options) -> str:
     """Why there is no entry, with the functions that are there."""
     reason = missing([options.entry], options.entry, options.exit, bool(options.libc))
-    mangled = next((name for name in program.functions() if re.match(rf"_Z{len(options.entry)}{options.entry}\w*$",
-                                                                     name)), None)
+    mangled = next((name for name in program.functions()
+                    if re.match(rf"_Z{len(options.entry)}{options.entry}\w*$", name)), None)
     if mangled:
         return (f'{reason}\nthere is the C++ function {mangled}; write extern "C" before its definition, or give '
                 f'--entry {mangled}')

@@ -39,9 +39,9 @@ class Steps(ctypes.Structure):
 
 class Iterations(ctypes.Structure):
     """The iterations of a loop, as steps.c counts them."""
-    _fields_ = [("steps", ctypes.POINTER(Steps)), *((name, ctypes.c_uint64)
-                                                    for name in ("count", "open", "began", "number", "longest",
-                                                                 "longest_number"))]
+    _fields_ = [("steps", ctypes.POINTER(Steps)),
+                *((name, ctypes.c_uint64)
+                  for name in ("count", "open", "began", "number", "longest", "longest_number"))]
 
 
 class Counted:

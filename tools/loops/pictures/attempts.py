@@ -9,7 +9,8 @@ from loops.images import there
 
 @dataclass(slots=True)
 class Attempt:
-    """One run of an epoch on a core, from its start or restart until it commits, is violated, is cancelled or faults."""
+    """One run of an epoch on a core, from its start or restart until it commits, is violated, is cancelled or
+    faults."""
     core: int
     epoch: int
     number: int
@@ -44,7 +45,8 @@ def pairs_of(violations: list[Violation]) -> Pairs:
 
 
 class Run:
-    """The attempts of a trace. A turn is what one core did while it had the lock: violations and cancellations first, then its act."""
+    """The attempts of a trace. A turn is what one core did while it had the lock: violations and cancellations first,
+    then its act."""
 
     def __init__(self, traced: Traced, violations: list[Violation]):
         self.image, self.cores, self.entries = traced.image, traced.trace.cores, traced.trace.entries

@@ -30,12 +30,17 @@ def blame(page: Page, run: Run, x: float, y: float) -> float:
         names = sorted({run.image.name_of(first) if found is None else found.name
                         for first in {v.first for v in violations} if first is not None
                         for found in [run.image.variable_of(first)]})
-        counted = ", ".join(f"{count} {kind}" for kind in COLOURS for count in [sum(v.kind == kind for v in violations)] if count)
+        counted = ", ".join(f"{count} {kind}" for kind in COLOURS for count in [sum(v.kind == kind for v in violations)]
+                            if count)
         lost = sum(v.lost for v in violations)
-        page.text(x + BAR + 10, y + 15, f"{lost:,} of {run.lost:,} lost, {plural(len(violations), 'rollback')} on {' and '.join(names)} ({counted})", 11, bold=True)
+        page.text(x + BAR + 10, y + 15,
+                  f"{lost:,} of {run.lost:,} lost, {plural(len(violations), 'rollback')} on {' and '.join(names)} "
+                  f"({counted})", 11, bold=True)
         words = "asks for the line that is held by" if full else "the store {} hits the load {}"
         spelled = run.image.spelled
-        page.text(x + BAR + 10, y + 29, f"{spelled(store)} {words} {spelled(load)}" if full else words.format(spelled(store), spelled(load)), 10.5, PALE)
+        page.text(x + BAR + 10, y + 29,
+                  f"{spelled(store)} {words} {spelled(load)}" if full else words.format(spelled(store), spelled(load)),
+                  10.5, PALE)
         page.text(x + BAR + 10, y + 43, "may help: " + advice(run, violations), 10.5, "#1b7f3b")
         y += 52
     if len(pairs) > MOST_PAIRS:
@@ -68,8 +73,11 @@ def legend(page: Page, run: Run, x: float, y: float, lanes: bool) -> float:
     if lanes:
         rows += [(lambda a, b: page.line(a + 8, b - 6, a + 8, b + 1, INK, 1.4), "a load"),
                  (lambda a, b: page.box(a + 5.5, b - 3, 5, 7, INK), "a store"),
-                 (lambda a, b: page.ring(a + 13, b, COLOURS["true"]), "ringed: the victim's access to blame; a sign as at an arrow's foot in place of a store: what hit it"),
-                 (lambda a, b: page.line(a, b, a + 26, b, COLOURS["true"], 1.2, "2 3"), "violated, not begun again yet"),
+                 (lambda a, b: page.ring(a + 13, b, COLOURS["true"]),
+                  "ringed: the victim's access to blame; a sign as at an arrow's foot in place of a store: what hit "
+                  "it"),
+                 (lambda a, b: page.line(a, b, a + 26, b, COLOURS["true"], 1.2, "2 3"),
+                  "violated, not begun again yet"),
                  (lambda a, b: page.flag(a + 9, b - 5), "commit")]
     for kind in COLOURS:
         if any(violation.kind == kind for violation in run.violations):

@@ -63,9 +63,11 @@ class Lanes:
             if self.x(end) > self.x(right) + 2:
                 page.line(self.x(right), y + BAR / 2, self.x(end), y + BAR / 2, COLOURS["true"], 1.2, "2 3")
         else:
-            page.box(left, y, self.x(right) - left - 1, BAR, USEFUL if attempt.fate in ("committed", "fault") else CANCELLED, INK, tip, 0.8)
+            page.box(left, y, self.x(right) - left - 1, BAR,
+                     USEFUL if attempt.fate in ("committed", "fault") else CANCELLED, INK, tip, 0.8)
             if attempt.straight is not None:
-                page.box(self.x(attempt.straight), y, self.x(right) - self.x(attempt.straight) - 1, BAR, STRAIGHT, INK, tip + "; straight from here", 0.8)
+                page.box(self.x(attempt.straight), y, self.x(right) - self.x(attempt.straight) - 1, BAR, STRAIGHT, INK,
+                         tip + "; straight from here", 0.8)
         self.accesses(attempt)
         if attempt.fate == "committed":
             page.flag(self.x(right) - 11, y + BAR - 12, f"epoch {attempt.epoch} commits")
@@ -85,7 +87,8 @@ class Lanes:
 
     def name(self, attempt: Attempt, left: float) -> None:
         """The longest name that has room before the core's next attempt."""
-        following = [other.first for other in self.run.attempts if other.core == attempt.core and other.first > attempt.first]
+        following = [other.first for other in self.run.attempts if other.core == attempt.core
+                     and other.first > attempt.first]
         room = self.x(min(following)) - left - 3 if following else 1000
         again = [f"e{attempt.epoch} try {attempt.number}", f"e{attempt.epoch} #{attempt.number}", f"#{attempt.number}"]
         names = [f"e{attempt.epoch}"] if attempt.number == 1 else again

@@ -8,7 +8,8 @@ from .page import CANCELLED, COLOURS, DASHES, GRID, INK, LOST, PALE, USEFUL, Pag
 from .words import heading, plural, sentence
 
 LEFT, TOP, HIGH, LANE, COUNTS, MOST_SLOTS = 74, 104, 150, 16, 40, 300
-# A run of more entries is gathered: a block for each kind of an epoch's rollbacks, and of the cores a column for each pixel.
+# A run of more entries is gathered: a block for each kind of an epoch's rollbacks, and of the cores a column for each
+# pixel.
 MOST_ENTRIES = 2000
 STEPS = [step * 10 ** power for power in range(10) for step in (1, 2, 5)]
 
@@ -36,12 +37,15 @@ class Overview:
         return self.page.whole(one)
 
     def lost(self) -> float:
-        """A bar for each epoch, or for so many epochs: a block for each rollback, as high as what it lost. Answers where it ends."""
+        """A bar for each epoch, or for so many epochs: a block for each rollback, as high as what it lost. Answers
+        where it ends."""
         page = self.page
         most = max([sum(v.lost for v in violations) for violations in self.by_slot] + [1])
         scale, base = HIGH / most, TOP + HIGH
         of = "each epoch" if self.epochs_of_slot == 1 else f"{self.epochs_of_slot} epochs each"
-        page.text(LEFT, TOP - 10, f"instructions that {of} lost to rollbacks, a block for each{' kind' if self.gathered else ''}", 11, PALE)
+        page.text(LEFT, TOP - 10,
+                  f"instructions that {of} lost to rollbacks, a block for each{' kind' if self.gathered else ''}", 11,
+                  PALE)
         tick = next(step for step in STEPS if step * 4 >= most)
         for value in range(0, most + 1, tick):
             page.line(LEFT, base - value * scale, LEFT + self.slots * self.column, base - value * scale, GRID)
@@ -51,7 +55,8 @@ class Overview:
         page.line(LEFT, base, LEFT + self.slots * self.column, base, INK, 1.2)
         every = next(step for step in STEPS if step * self.column >= 34)
         for slot in range(0, self.slots, every):
-            page.text(LEFT + (slot + 0.5) * self.column, base + 14, str(slot * self.epochs_of_slot), 9.5, PALE, "middle")
+            page.text(LEFT + (slot + 0.5) * self.column, base + 14, str(slot * self.epochs_of_slot), 9.5, PALE,
+                      "middle")
         page.text(LEFT - 6, base + 14, "epoch", 9.5, PALE, "end")
         page.reach(LEFT + self.slots * self.column, 0)
         return base + 14
@@ -60,7 +65,8 @@ class Overview:
         y = base
         for violation in sorted(violations, key=lambda v: list(COLOURS).index(v.kind)):
             y -= violation.lost * scale
-            self.page.box(LEFT + slot * self.column, y, max(self.column - (1.5 if self.column > 5 else 0.5), 1), violation.lost * scale,
+            self.page.box(LEFT + slot * self.column, y, max(self.column - (1.5 if self.column > 5 else 0.5), 1),
+                          violation.lost * scale,
                           hatched(violation.kind), "#fff", sentence(self.run, violation), 0.6)
 
     def kinds(self, slot: int, violations: list[Violation], base: float, scale: float) -> None:
@@ -70,8 +76,10 @@ class Overview:
             of_kind = [violation.lost for violation in violations if violation.kind == kind]
             if of_kind:
                 y -= sum(of_kind) * scale
-                self.page.box(LEFT + slot * self.column, y, max(self.column - (1.5 if self.column > 5 else 0.5), 1), sum(of_kind) * scale, hatched(kind),
-                              tip=f"{kind}: {plural(len(of_kind), 'rollback')}, {plural(sum(of_kind), 'instruction')} lost")
+                self.page.box(LEFT + slot * self.column, y, max(self.column - (1.5 if self.column > 5 else 0.5), 1),
+                              sum(of_kind) * scale, hatched(kind),
+                              tip=f"{kind}: {plural(len(of_kind), 'rollback')}, {plural(sum(of_kind), 'instruction')} "
+                                  "lost")
 
     def strip(self, y: float) -> float:
         """The cores over the turns. Answers where it ends."""
@@ -109,7 +117,8 @@ class Overview:
         run = self.run
         counts: dict[int, dict[str, int]] = {}
         for violation in run.violations:
-            kinds = counts.setdefault(int(run.turn_of[violation.place] * wide / max(1, run.turns)), dict.fromkeys(COLOURS, 0))
+            kinds = counts.setdefault(int(run.turn_of[violation.place] * wide / max(1, run.turns)),
+                                      dict.fromkeys(COLOURS, 0))
             kinds[violation.kind] += 1
         most = max([sum(kinds.values()) for kinds in counts.values()], default=1)
         steps: dict[str, list[str]] = {}
@@ -133,7 +142,8 @@ class Overview:
         for attempt in run.attempts:
             _, right = run.span(attempt)
             fill = {"violated": LOST, "committed": USEFUL, "fault": USEFUL}.get(attempt.fate, CANCELLED)
-            page.box(LEFT + attempt.first * wide / turns, y + attempt.core * LANE + 2, (right - attempt.first) * wide / turns, LANE - 4, fill, "#fff",
+            page.box(LEFT + attempt.first * wide / turns, y + attempt.core * LANE + 2,
+                     (right - attempt.first) * wide / turns, LANE - 4, fill, "#fff",
                      f"epoch {attempt.epoch}, try {attempt.number}: {attempt.fate}", 0.4)
         for violation in run.violations:
             x = LEFT + (run.turn_of[violation.place] + 0.5) * wide / turns

@@ -14,10 +14,12 @@ MEANINGS = {
 }
 USEFUL, STRAIGHT, GONE, INK, PALE, GRID = "#a9d6e5", "#2a6f97", "#dddddd", "#1d2733", "#6b7785", "#e6e9ec"
 LOST, CANCELLED = "url(#lost)", "url(#cancelled)"
-# What tells a kind without its colour: a hatch over it in boxes, the dashes of its lines, and the corners of its mark, from its middle in units of its size.
+# What tells a kind without its colour: a hatch over it in boxes, the dashes of its lines, and the corners of its mark,
+# from its middle in units of its size.
 HATCHES = {"true": "", "silent": "M0 3h6", "false": "M0 6L6 0", "buffer": "M0 3h6M3 0v6", "other": "M3 3h1.6"}
 DASHES = {"true": "", "silent": "7 2", "false": "3 2", "buffer": "1.5 1.5", "other": "8 2 2 2"}
-MARKS = {"silent": "-1.3 -1 1.3 -1 0 1.3", "false": "0 -1.4 1.4 0 0 1.4 -1.4 0", "buffer": "0 -1.3 1.3 1 -1.3 1", "other": "-1.4 -.5 1.4 -.5 1.4 .5 -1.4 .5"}
+MARKS = {"silent": "-1.3 -1 1.3 -1 0 1.3", "false": "0 -1.4 1.4 0 0 1.4 -1.4 0", "buffer": "0 -1.3 1.3 1 -1.3 1",
+         "other": "-1.4 -.5 1.4 -.5 1.4 .5 -1.4 .5"}
 
 
 def hatched(kind: str) -> str:
@@ -28,9 +30,11 @@ def hatched(kind: str) -> str:
 def patterns() -> str:
     """The fills of boxes: of what was lost, of what was cancelled, and of each kind."""
     def pattern(name: str, ground: str, shapes: str) -> str:
-        return f'<pattern id="{name}" width="6" height="6" patternUnits="userSpaceOnUse"><rect width="6" height="6" fill="{ground}"/>{shapes}</pattern>'
+        return (f'<pattern id="{name}" width="6" height="6" patternUnits="userSpaceOnUse"><rect width="6" height="6" '
+                f'fill="{ground}"/>{shapes}</pattern>')
 
-    kinds = [pattern(f"kind-{kind}", COLOURS[kind], f'<path d="{steps}" stroke="#fff" stroke-width="1.2"/>') for kind, steps in HATCHES.items() if steps]
+    kinds = [pattern(f"kind-{kind}", COLOURS[kind], f'<path d="{steps}" stroke="#fff" stroke-width="1.2"/>')
+             for kind, steps in HATCHES.items() if steps]
     lost = ('<pattern id="lost" width="6" height="6" patternUnits="userSpaceOnUse" patternTransform="rotate(45)">'
             '<rect width="6" height="6" fill="#f6c6c8"/><rect width="2" height="6" fill="#e5989b"/></pattern>')
     return lost + pattern("cancelled", GONE, f'<circle cx="2" cy="2" r="0.9" fill="{PALE}"/>') + "".join(kinds)
@@ -51,26 +55,35 @@ class Page:
     def reach(self, x: float, y: float) -> None:
         self.width, self.height = max(self.width, x), max(self.height, y)
 
-    def text(self, x: float, y: float, words: str, size: float = 11, fill: str = INK, anchor: str = "start", bold: bool = False, halo: bool = False) -> None:
+    def text(self, x: float, y: float, words: str, size: float = 11, fill: str = INK, anchor: str = "start",
+             bold: bool = False, halo: bool = False) -> None:
         style = ' stroke="#fff" stroke-width="3" paint-order="stroke" stroke-linejoin="round"' if halo else ""
         weight = ' font-weight="bold"' if bold else ""
-        self.parts.append(f'<text x="{x:.1f}" y="{y:.1f}" font-size="{size:g}" fill="{fill}" text-anchor="{anchor}"{weight}{style}>'
+        self.parts.append(f'<text x="{x:.1f}" y="{y:.1f}" font-size="{size:g}" fill="{fill}" '
+                          f'text-anchor="{anchor}"{weight}{style}>'
                           f"{escape(words)}</text>")
         self.reach(x + (len(words) * size * CHARACTER if anchor == "start" else 4), y + 6)
 
-    def box(self, x: float, y: float, width: float, height: float, fill: str, stroke: str = "none", tip: str = "", line: float = 1.0) -> None:
+    def box(self, x: float, y: float, width: float, height: float, fill: str, stroke: str = "none", tip: str = "",
+            line: float = 1.0) -> None:
         title = f"<title>{escape(tip)}</title>" if tip else ""
-        self.parts.append(f'<rect x="{x:.1f}" y="{y:.1f}" width="{max(width, 0):.1f}" height="{max(height, 0):.1f}" fill="{fill}" '
+        self.parts.append(f'<rect x="{x:.1f}" y="{y:.1f}" width="{max(width, 0):.1f}" height="{max(height, 0):.1f}" '
+                          f'fill="{fill}" '
                           f'stroke="{stroke}" stroke-width="{line:g}">{title}</rect>')
         self.reach(x + width, y + height)
 
-    def line(self, x1: float, y1: float, x2: float, y2: float, stroke: str, width: float = 1.0, dashes: str = "") -> None:
+    def line(self, x1: float, y1: float, x2: float, y2: float, stroke: str, width: float = 1.0,
+             dashes: str = "") -> None:
         dashed = f' stroke-dasharray="{dashes}"' if dashes else ""
-        self.parts.append(f'<line x1="{x1:.1f}" y1="{y1:.1f}" x2="{x2:.1f}" y2="{y2:.1f}" stroke="{stroke}" stroke-width="{width:g}"{dashed}/>')
+        self.parts.append(f'<line x1="{x1:.1f}" y1="{y1:.1f}" x2="{x2:.1f}" y2="{y2:.1f}" stroke="{stroke}" '
+                          f'stroke-width="{width:g}"{dashed}/>')
 
-    def path(self, steps: str, fill: str = "none", stroke: str = "none", width: float = 1.0, tip: str = "", dashes: str = "") -> None:
-        title, dashed = f"<title>{escape(tip)}</title>" if tip else "", f' stroke-dasharray="{dashes}"' if dashes else ""
-        self.parts.append(f'<path d="{steps}" fill="{fill}" stroke="{stroke}" stroke-width="{width:g}"{dashed}>{title}</path>')
+    def path(self, steps: str, fill: str = "none", stroke: str = "none", width: float = 1.0, tip: str = "",
+             dashes: str = "") -> None:
+        title, dashed = (f"<title>{escape(tip)}</title>" if tip else "",
+                         f' stroke-dasharray="{dashes}"' if dashes else "")
+        self.parts.append(f'<path d="{steps}" fill="{fill}" stroke="{stroke}" '
+                          f'stroke-width="{width:g}"{dashed}>{title}</path>')
 
     def ring(self, x: float, y: float, colour: str) -> None:
         self.parts.append(f'<circle cx="{x:.1f}" cy="{y:.1f}" r="5" fill="none" stroke="{colour}" stroke-width="1.8"/>')
@@ -93,7 +106,8 @@ class Page:
         corners = [(x2 - 8 * along - side * across, y2 - 8 * across + side * along) for side in (4, -4)]
         self.mark(x1, y1, 2.6, kind)
         self.path(f"M{x1:.1f} {y1:.1f} L{x2:.1f} {y2:.1f}", stroke=colour, width=1.8, tip=tip, dashes=DASHES[kind])
-        self.path(f"M{corners[0][0]:.1f} {corners[0][1]:.1f} L{x2:.1f} {y2:.1f} L{corners[1][0]:.1f} {corners[1][1]:.1f} Z", fill=colour, tip=tip)
+        self.path(f"M{corners[0][0]:.1f} {corners[0][1]:.1f} L{x2:.1f} {y2:.1f} L{corners[1][0]:.1f} "
+                  f"{corners[1][1]:.1f} Z", fill=colour, tip=tip)
 
     def flag(self, x: float, y: float, tip: str = "") -> None:
         """The sign of a commit."""
@@ -101,7 +115,8 @@ class Page:
 
     def whole(self, title: str) -> str:
         width, height = math.ceil(self.width) + 24, math.ceil(self.height) + 16
-        return (f'<svg xmlns="http://www.w3.org/2000/svg" width="{width}" height="{height}" viewBox="0 0 {width} {height}" '
+        return (f'<svg xmlns="http://www.w3.org/2000/svg" width="{width}" height="{height}" viewBox="0 0 {width} '
+                f'{height}" '
                 f'font-family="DejaVu Sans, Helvetica, Arial, sans-serif">\n<title>{escape(title)}</title>\n'
                 f'<defs>{patterns()}</defs>\n'
                 '<rect width="100%" height="100%" fill="#fff"/>\n' + "\n".join(self.parts) + "\n</svg>\n")

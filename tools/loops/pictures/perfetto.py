@@ -1,4 +1,5 @@
-"""The run as trace events, which https://ui.perfetto.dev and chrome://tracing show: one microsecond is one turn that made an entry."""
+"""The run as trace events, which https://ui.perfetto.dev and chrome://tracing show: one microsecond is one turn that
+made an entry."""
 
 import json
 from collections import Counter
@@ -9,7 +10,8 @@ from .attempts import Run
 from .page import COLOURS
 from .words import sentence
 
-# A run of more entries is gathered into so many parts of its turns, on many cores into fewer, so that there are at most so many events.
+# A run of more entries is gathered into so many parts of its turns, on many cores into fewer, so that there are at most
+# so many events.
 MOST_ENTRIES, MOST_PARTS, MOST_EVENTS = 2000, 1000, 12_000
 COLOUR_NAMES = {"violated": "terrible", "committed": "good", "fault": "bad"}
 
@@ -70,11 +72,13 @@ def violations(run: Run) -> Iterator[Event]:
 
 
 def gathered(run: Run) -> Iterator[Event]:
-    """For each part of the turns how many of them each core spent on what, and how many rollbacks of each kind there were."""
+    """For each part of the turns how many of them each core spent on what, and how many rollbacks of each kind there
+    were."""
     parts = min(MOST_PARTS, MOST_EVENTS // (run.cores + 2))
     wide = max(1, run.turns) / parts
     for (core, part), (useful, lost, other) in run.shares(parts).items():
-        yield event("C", core, int(part * wide), f"core {core}", args={"useful": round(useful, 1), "lost": round(lost, 1), "other": round(other, 1)})
+        yield event("C", core, int(part * wide), f"core {core}",
+                    args={"useful": round(useful, 1), "lost": round(lost, 1), "other": round(other, 1)})
     kinds = Counter((int(run.turn_of[violation.place] / wide), violation.kind) for violation in run.violations)
     lost_in: Counter[int] = Counter()
     for violation in run.violations:

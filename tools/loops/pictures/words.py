@@ -32,7 +32,8 @@ def plural(count: int, word: str) -> str:
 
 def heading(run: Run) -> tuple[str, str]:
     """Two lines for the top of a picture."""
-    one = f"{plural(run.image.epochs, 'epoch')} on {plural(run.cores, 'core')}: {plural(len(run.violations), 'rollback')}, {run.committed:,} committed"
+    one = (f"{plural(run.image.epochs, 'epoch')} on {plural(run.cores, 'core')}: "
+           f"{plural(len(run.violations), 'rollback')}, {run.committed:,} committed")
     attempts = plural(len(run.attempts), "attempt")
     return one, f"{attempts}; {plural(run.lost, 'instruction')} lost to rollbacks"
 
@@ -48,7 +49,8 @@ def stored_at(run: Lost, violation: Violation) -> int | None:
 
 
 def named_apart(image: Image, places: list[int]) -> list[str]:
-    """The names of bytes that should lie apart: of variables, or where all lie in one, or have no name, of the bytes."""
+    """The names of bytes that should lie apart: of variables, or where all lie in one, or have no name, of the
+    bytes."""
     found = [image.variable_of(place) for place in places]
     names = sorted({one.name for one in found if one})
     return names if len(names) > 1 and None not in found else [image.name_of(place) for place in places]
@@ -67,13 +69,17 @@ def sentence(run: Lost, violation: Violation) -> str:
     if violation.kind == "other" or violation.causers is None or violation.victims is None:
         said = f"epoch {violation.epoch} was violated by epoch {violation.by_epoch}; {lost}; the trace has no cause"
     elif violation.kind == "buffer":
-        said = (f"epoch {violation.by_epoch}'s access at {spelled(violation.causers.pc)} asked for a line that epoch {violation.epoch} held in a full "
+        said = (f"epoch {violation.by_epoch}'s access at {spelled(violation.causers.pc)} asked for a line that epoch "
+                f"{violation.epoch} held in a full "
                 f"buffer by its store at {spelled(violation.victims.pc)}; {lost}")
     else:
-        told = {"publish": ", published", "commit": ", committed", "fault": ", committed by its fault"}.get(violation.cause_what, "")
+        told = {"publish": ", published", "commit": ", committed",
+                "fault": ", committed by its fault"}.get(violation.cause_what, "")
         to = f" to {run.image.name_of(there(stored_at(run, violation)))}" if violation.kind == "false" else ""
-        said = (f"epoch {violation.epoch}'s load at {spelled(violation.victims.pc)} of {bytes_of(run, violation)} was hit by epoch "
-                f"{violation.by_epoch}'s store at {spelled(violation.causers.pc)}{to}{told}; {lost}; {violation.kind} sharing"
+        said = (f"epoch {violation.epoch}'s load at {spelled(violation.victims.pc)} of {bytes_of(run, violation)} was "
+                "hit by epoch "
+                f"{violation.by_epoch}'s store at {spelled(violation.causers.pc)}{to}{told}; {lost}; {violation.kind} "
+                "sharing"
                 .replace("silent sharing", "a silent store"))
     return said + ("; in vain, since that epoch was undone itself" if violation.vain else "")
 

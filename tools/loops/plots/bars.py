@@ -1,11 +1,13 @@
-"""A panel for each loop, and in it for each number of cores two bars, over caches and over the plain store; as SVG that is the same from the same lines."""
+"""A panel for each loop, and in it for each number of cores two bars, over caches and over the plain store; as SVG that
+is the same from the same lines."""
 
 import io
 import logging
 from dataclasses import dataclass
 from typing import Any
 
-logging.getLogger("matplotlib").setLevel(logging.ERROR)     # it tells that it makes its list of fonts, once on each machine
+# it tells that it makes its list of fonts, once on each machine
+logging.getLogger("matplotlib").setLevel(logging.ERROR)
 import matplotlib  # noqa: E402
 from matplotlib.patches import Patch  # noqa: E402
 
@@ -17,10 +19,14 @@ Axes = Any              # matplotlib's, which has no types
 STORES = ("caches", "plain")
 MOST_COLUMNS, PANEL_WIDTH, PANEL_HEIGHT = 3, 3.1, 1.8
 WIDTH, INK, PALE = 0.42, "#1d2733", "#6b7785"
-NOTE = ("Each bar is all steps of all cores of a run at even speed, one instruction a step and no latency; above it stands the gain over one core.\n"
-        "c: over caches, p: over a plain store of bytes, below them the cores. Lost steps are shared out over the kinds by their violations.")
-STYLE = {"svg.fonttype": "none", "text.parse_math": False, "svg.hashsalt": "gain", "font.size": 7.0, "hatch.linewidth": 0.5, "hatch.color": PALE, "text.color": INK,
-         "axes.edgecolor": PALE, "xtick.color": INK, "ytick.color": PALE, "font.family": "sans-serif", "font.sans-serif": ["DejaVu Sans"]}
+NOTE = ("Each bar is all steps of all cores of a run at even speed, one instruction a step and no latency; above it "
+        "stands the gain over one core.\n"
+        "c: over caches, p: over a plain store of bytes, below them the cores. Lost steps are shared out over the "
+        "kinds by their violations.")
+STYLE = {"svg.fonttype": "none", "text.parse_math": False, "svg.hashsalt": "gain", "font.size": 7.0,
+         "hatch.linewidth": 0.5, "hatch.color": PALE, "text.color": INK,
+         "axes.edgecolor": PALE, "xtick.color": INK, "ytick.color": PALE, "font.family": "sans-serif",
+         "font.sans-serif": ["DejaVu Sans"]}
 
 
 @dataclass
@@ -38,7 +44,8 @@ def bar(axes: Axes, loop: Loop, run: Gain, x: float) -> None:
         drawn[0].set_gid(f"{loop.name}-{run.store}-{run.cores}-{part.name}")
         base += share
     said = "full" if run.full else "-" if run.gain is None else f"{run.gain:.2f}"
-    axes.text(x, base + 0.03, said, ha="center", va="bottom", size=6.2, rotation=90 if run.full else 0, weight="bold" if run.store == "caches" else "normal")
+    axes.text(x, base + 0.03, said, ha="center", va="bottom", size=6.2, rotation=90 if run.full else 0,
+              weight="bold" if run.store == "caches" else "normal")
     axes.text(x, -0.04, run.store[0], ha="center", va="top", size=6.2, color=PALE)
 
 
@@ -65,17 +72,20 @@ def drawn(loops: list[Loop]) -> str:
         columns = min(MOST_COLUMNS, max(2, len(loops)))
         rows = -(-len(loops) // columns)
         occur = {part for loop in loops for run in loop.gains.runs if not run.full for part, _ in shares(run)}
-        told = [Patch(facecolor=part.colour, hatch=part.hatch, edgecolor=PALE, linewidth=0.5, label=part.says) for part in PARTS if part in occur]
+        told = [Patch(facecolor=part.colour, hatch=part.hatch, edgecolor=PALE, linewidth=0.5, label=part.says)
+                for part in PARTS if part in occur]
         below = 0.5 + 0.16 * -(-len(told) // columns)
         height = rows * PANEL_HEIGHT + below + 0.1
         figure, grid = pyplot.subplots(rows, columns, figsize=(columns * PANEL_WIDTH, height), squeeze=False)
-        figure.subplots_adjust(left=0.4 / (columns * PANEL_WIDTH), right=0.995, top=1 - 0.42 / height, bottom=(below + 0.35) / height, hspace=0.68, wspace=0.16)
+        figure.subplots_adjust(left=0.4 / (columns * PANEL_WIDTH), right=0.995, top=1 - 0.42 / height,
+                               bottom=(below + 0.35) / height, hspace=0.68, wspace=0.16)
         panels = list(grid.flat)
         for axes, loop in zip(panels, loops):
             panel(axes, loop)
         for axes in panels[len(loops):]:
             axes.set_visible(False)
-        figure.legend(handles=told, loc="lower left", ncol=columns, frameon=False, fontsize=6.8, bbox_to_anchor=(0.0, 0.34 / height), handlelength=2.4,
+        figure.legend(handles=told, loc="lower left", ncol=columns, frameon=False, fontsize=6.8,
+                      bbox_to_anchor=(0.0, 0.34 / height), handlelength=2.4,
                       handleheight=1.1, columnspacing=1.6, labelspacing=0.35, borderaxespad=0.2)
         figure.text(0.006, 0.08 / height, NOTE, size=6.5, color=PALE, va="bottom", linespacing=1.35)
         made = io.StringIO()

@@ -8,7 +8,8 @@ from loops import Dependences, Joined
 from loops.gains import Gain, Gains
 
 NAMES = [one.name for one in fields(Gain)]
-PAIR_NAMES = "store load times least_distance most_distance at bytes first_causer first_victim stored stored_of loaded loaded_of".split()
+PAIR_NAMES = ("store load times least_distance most_distance at bytes first_causer first_victim stored stored_of "
+              "loaded loaded_of").split()
 
 
 def word_of(run: Gain, name: str) -> str:
@@ -29,7 +30,8 @@ def table(named: list[tuple[str, Gains]]) -> str:
 
 def pair_words(pair: Joined) -> list[str | int]:
     """The fields of a pair of instructions; addresses have eight hexadecimal digits."""
-    return [f"{pair.store:08x}", f"{pair.load:08x}", pair.times, pair.least_distance, pair.most_distance, f"{pair.at.first:08x}", pair.at.length,
+    return [f"{pair.store:08x}", f"{pair.load:08x}", pair.times, pair.least_distance, pair.most_distance,
+            f"{pair.at.first:08x}", pair.at.length,
             pair.first_causer, pair.first_victim, pair.stored.done, pair.stored.of, pair.loaded.done, pair.loaded.of]
 
 

@@ -1,4 +1,5 @@
-"""The jobs of a study: the work that is left is shared out over chunks, each a job of Snakemake's, which runs it here or on a cluster."""
+"""The jobs of a study: the work that is left is shared out over chunks, each a job of Snakemake's, which runs it here
+or on a cluster."""
 
 import json
 import os
@@ -51,13 +52,15 @@ def tried(runner: Runner, work: list[Work], rows: Path) -> float:
 
 
 def chunks(work: list[Work], size: int) -> list[list[Work]]:
-    """The work in as many chunks as chunks of this size need; neighbours, which take about as long, are in different ones. In each those of an image stand together."""
+    """The work in as many chunks as chunks of this size need; neighbours, which take about as long, are in different
+    ones. In each those of an image stand together."""
     count = -(-len(work) // size)
     return [sorted(work[start::count], key=lambda one: (one.image, one.version)) for start in range(count)]
 
 
 def size_of_chunks(seconds: float, count: int, jobs: int) -> int:
-    """How many pieces of work a job has, where one takes so long: those of some 20 seconds, and fewer where jobs would be without any."""
+    """How many pieces of work a job has, where one takes so long: those of some 20 seconds, and fewer where jobs would
+    be without any."""
     return max(1, min(MOST_A_JOB, int(SECONDS_A_JOB / max(seconds, 1e-6)), -(-count // max(1, jobs))))
 
 
@@ -65,8 +68,8 @@ def write_chunks(room: Path, kept: Kept, run: int, programs: dict[str, Path], pa
     """The files of the chunks, and those to which their rows will be written."""
     rows = [kept.rows.absolute() / f"{run:04}-{number + 1:05}.jsonl" for number in range(len(parts))]
     for number, (part, path) in enumerate(zip(parts, rows)):
-        told = {"folder": str(kept.folder.absolute()), "programs": {name: str(at) for name, at in programs.items()}, "rows": str(path),
-                "work": [one.text() for one in part]}
+        told = {"folder": str(kept.folder.absolute()), "programs": {name: str(at) for name, at in programs.items()},
+                "rows": str(path), "work": [one.text() for one in part]}
         (room / f"{number}.json").write_text(json.dumps(told), encoding="utf-8")
     return rows
 
@@ -86,19 +89,25 @@ def ended(process: subprocess.Popen[bytes]) -> None:
 
 
 def with_whole_paths(words: list[str]) -> list[str]:
-    """Snakemake's words with the whole path of a profile that is there: it looks for the profile here, and for the scripts of it where it works."""
+    """Snakemake's words with the whole path of a profile that is there: it looks for the profile here, and for the
+    scripts of it where it works."""
     before = ["", *words]
-    told = [("--profile=", word.removeprefix("--profile=")) if word.startswith("--profile=") else ("", word) for word in words]
+    told = [("--profile=", word.removeprefix("--profile=")) if word.startswith("--profile=") else ("", word)
+            for word in words]
     is_path = [lead or last == "--profile" for (lead, _), last in zip(told, before)]
-    return [lead + (os.path.abspath(path) if is_one and os.path.exists(path) else path) for (lead, path), is_one in zip(told, is_path)]
+    return [lead + (os.path.abspath(path) if is_one and os.path.exists(path) else path)
+            for (lead, path), is_one in zip(told, is_path)]
 
 
 def snakemake(room: Path, wishes: Wishes, rows: list[Path], progress: Progress, lock: int) -> int:
-    """Runs Snakemake over the chunks of a folder, and answers its status. The folder stays locked while any of it runs."""
-    own = ["--snakefile", str(SNAKEFILE), "--directory", str(room), "--cores", str(wishes.jobs), "--force-use-threads", "--keep-going", "--quiet", "all", "--nolock"]
+    """Runs Snakemake over the chunks of a folder, and answers its status. The folder stays locked while any of it
+    runs."""
+    own = ["--snakefile", str(SNAKEFILE), "--directory", str(room), "--cores", str(wishes.jobs), "--force-use-threads",
+           "--keep-going", "--quiet", "all", "--nolock"]
     # Python takes no module from the folder that a job is called in, nor writes beside the tree's
     env = {**os.environ, "PYTHONSAFEPATH": "1", "PYTHONDONTWRITEBYTECODE": "1"}
-    process = subprocess.Popen(["snakemake", *own, *with_whole_paths(wishes.words)], env=env, start_new_session=True, pass_fds=[lock], stdout=sys.stderr)
+    process = subprocess.Popen(["snakemake", *own, *with_whole_paths(wishes.words)], env=env, start_new_session=True,
+                               pass_fds=[lock], stdout=sys.stderr)
     try:
         while process.poll() is None:
             progress.look([path for path in rows if path.exists()])
@@ -111,7 +120,8 @@ def snakemake(room: Path, wishes: Wishes, rows: list[Path], progress: Progress, 
 
 def tell_reasons(room: Path) -> None:
     """Tells why rows were not made, each reason once."""
-    reasons = list(dict.fromkeys(line for path in sorted(room.glob("*.failed")) for line in path.read_text(encoding="utf-8", errors="replace").splitlines()))
+    reasons = list(dict.fromkeys(line for path in sorted(room.glob("*.failed"))
+                                 for line in path.read_text(encoding="utf-8", errors="replace").splitlines()))
     for line in reasons[:MOST_REASONS]:
         print(line, file=sys.stderr)
     if len(reasons) > MOST_REASONS:

@@ -1,7 +1,8 @@
 """What a study's folder keeps: rows, each with the digests of that by which it was made, and the images that were run.
 
-A row is found by its work: the digests of the image and of the programs, and what was asked of them. So a row of another image or of other programs is never taken
-for one of these, and one that is there isn't made again. The folder has
+A row is found by its work: the digests of the image and of the programs, and what was asked of them. So a row of
+another image or of other programs is never taken for one of these, and one that is there isn't made again. The folder
+has
 
     rows/RUN-NUMBER.jsonl    a line for each row, written as soon as it is made
     images/DIGEST.image      the images
@@ -45,7 +46,8 @@ class Work:
 
     def says(self) -> str:
         """For people."""
-        ways = [f"version {self.version}", self.store, f"{self.cores} cores", self.schedule, None if self.seed is None else f"seed {self.seed}"]
+        ways = [f"version {self.version}", self.store, f"{self.cores} cores", self.schedule,
+                None if self.seed is None else f"seed {self.seed}"]
         return f"image {self.image[:12]}, {', '.join(filter(None, ways))}"
 
 
@@ -109,4 +111,5 @@ class Kept:
 
     def next_run(self) -> int:
         """A number that no file of rows has."""
-        return 1 + max((int(path.name.partition("-")[0]) for path in self.rows.glob("*-*.jsonl") if path.name.partition("-")[0].isdecimal()), default=0)
+        return 1 + max((int(path.name.partition("-")[0]) for path in self.rows.glob("*-*.jsonl")
+                        if path.name.partition("-")[0].isdecimal()), default=0)

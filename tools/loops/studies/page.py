@@ -1,4 +1,5 @@
-"""The page of a study: a table of what loops gained, seeds taken together, a table of all runs, and the plot. Both tables sort by each column."""
+"""The page of a study: a table of what loops gained, seeds taken together, a table of all runs, and the plot. Both
+tables sort by each column."""
 
 from collections.abc import Iterable
 from html import escape
@@ -12,7 +13,8 @@ from .plans import Plan
 
 HERE = Path(__file__).resolve().parent
 KEYS = ["loop", "version", "store", "cores", "schedule"]
-SHOWN = [*KEYS, "seed", "ending", "steps", "gain", "committed", "useful", "rollbacks", "lost", "dropped", "true", "silent", "false", "buffer"]
+SHOWN = [*KEYS, "seed", "ending", "steps", "gain", "committed", "useful", "rollbacks", "lost", "dropped", "true",
+         "silent", "false", "buffer"]
 # Of these the least, the middle and the most over the seeds.
 SPREAD = ["steps", "gain", "rollbacks", "lost"]
 # A word is sorted as a word, and these are numbers.
@@ -27,7 +29,8 @@ def said(value: object) -> str:
 def spread(values: list[float | None]) -> list[object]:
     """The least, the middle and the most of what is known; of the middle two the mean."""
     known = sorted(float(value) for value in values if value is not None)
-    return [f"{value:.2f}".removesuffix(".00") for value in (known[0], median(known), known[-1])] if known else [None] * 3
+    return [f"{value:.2f}".removesuffix(".00")
+            for value in (known[0], median(known), known[-1])] if known else [None] * 3
 
 
 def seeded(rows: list[Row]) -> list[list[object]]:
@@ -36,12 +39,14 @@ def seeded(rows: list[Row]) -> list[list[object]]:
     for row in rows:
         if row["schedule"] == "seeded":
             groups.setdefault(tuple(row[name] for name in KEYS), []).append(row)
-    return [[*key, len(of), *(one for name in SPREAD for one in spread([row.get(name) for row in of]))] for key, of in groups.items()]
+    return [[*key, len(of), *(one for name in SPREAD for one in spread([row.get(name) for row in of]))]
+            for key, of in groups.items()]
 
 
 def table(name: str, heads: list[str], rows: Iterable[list[object]]) -> str:
     """A table whose heads are buttons that sort it."""
-    head = "".join(f'<th scope="col"{" data-words" if one in WORDS else ""}><button type="button">{said(one)}</button></th>' for one in heads)
+    head = "".join(f'<th scope="col"{" data-words" if one in WORDS else ""}><button '
+                   f'type="button">{said(one)}</button></th>' for one in heads)
     body = "".join("<tr>" + "".join(f"<td>{said(one)}</td>" for one in row) + "</tr>\n" for row in rows)
     return f'<table id="{name}"><thead><tr>{head}</tr></thead>\n<tbody>\n{body}</tbody></table>\n'
 
@@ -55,12 +60,19 @@ def seeds_table(rows: list[Row]) -> str:
 
 def page(plan: Plan, rows: list[Row], plot: str) -> str:
     """The whole page, which stands alone."""
-    title = f"A study of {len(plan.loops)} loop{'s' * (len(plan.loops) != 1)}, {len(rows):,} run{'s' * (len(rows) != 1)}"
-    stopped = "".join(f"<p>{said(row['loop'])} on {row['cores']} cores, {row['schedule']}: {said(row['stopped'])}</p>\n" for row in rows if row["stopped"])
+    title = (f"A study of {len(plan.loops)} loop{'s' * (len(plan.loops) != 1)}, {len(rows):,} "
+             f"run{'s' * (len(rows) != 1)}")
+    stopped = "".join(f"<p>{said(row['loop'])} on {row['cores']} cores, {row['schedule']}: {said(row['stopped'])}</p>\n"
+                      for row in rows if row["stopped"])
     style, script = ((HERE / name).read_text(encoding="utf-8") for name in ("page.css", "page.js"))
-    return (f'<!DOCTYPE html>\n<html lang="en"><head><meta charset="utf-8"><meta name="viewport" content="width=device-width"><title>{title}</title>\n'
+    return ('<!DOCTYPE html>\n<html lang="en"><head><meta charset="utf-8"><meta name="viewport" '
+            f'content="width=device-width"><title>{title}</title>\n'
             f"<style>\n{style}</style></head><body>\n<h1>{title}</h1>\n"
-            f'<p><a href="runs.csv">runs.csv</a>, <a href="pairs.csv">pairs.csv</a>, <a href="manifest.json">manifest.json</a></p>\n{plot}\n{stopped}'
-            f"{seeds_table(rows)}<h2>All runs</h2>\n<p>Steps at even speed are those of <code>gain</code>, an instruction a step; by other schedules they are the turns "
-            "of a run shared out over its cores. The gain is how many times more one core alone takes. A click on a head sorts by it.</p>\n"
-            f"{table('runs', SHOWN, ([row.get(name) for name in SHOWN] for row in rows))}<script>\n{script}</script>\n</body></html>\n")
+            '<p><a href="runs.csv">runs.csv</a>, <a href="pairs.csv">pairs.csv</a>, <a '
+            f'href="manifest.json">manifest.json</a></p>\n{plot}\n{stopped}'
+            f"{seeds_table(rows)}<h2>All runs</h2>\n<p>Steps at even speed are those of <code>gain</code>, an "
+            "instruction a step; by other schedules they are the turns "
+            "of a run shared out over its cores. The gain is how many times more one core alone takes. A click on a "
+            "head sorts by it.</p>\n"
+            f"{table('runs', SHOWN, ([row.get(name) for name in SHOWN] for row in rows))}<script>\n{script}</script>\n"
+            "</body></html>\n")

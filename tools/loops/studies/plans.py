@@ -1,4 +1,5 @@
-"""A study's table: which loops run on how many cores, over which stores, by which schedules; and the cells that follow."""
+"""A study's table: which loops run on how many cores, over which stores, by which schedules; and the cells that
+follow."""
 
 import itertools
 import json
@@ -59,7 +60,8 @@ class Plan:
 
     def count(self) -> int:
         """How many runs there are."""
-        ways = sum((1 if schedule == "threads" else len(self.stores)) * (len(self.seeds) if schedule == "seeded" else 1) for schedule in self.schedules)
+        ways = sum((1 if schedule == "threads" else len(self.stores)) * (len(self.seeds) if schedule == "seeded" else 1)
+                   for schedule in self.schedules)
         return len(self.loops) * len(self.versions) * len(self.cores) * ways
 
     def text(self) -> dict[str, Any]:
@@ -82,13 +84,15 @@ def validator() -> Any:
         except ImportError:
             raise BadPlan("jsonschema is not installed: Debian's package python3-jsonschema") from None
     base = jsonschema.Draft202012Validator
-    whole = base.TYPE_CHECKER.redefine("integer", lambda checker, value: isinstance(value, int) and not isinstance(value, bool))
+    whole = base.TYPE_CHECKER.redefine("integer",
+                                       lambda checker, value: isinstance(value, int) and not isinstance(value, bool))
     return jsonschema.validators.extend(base, type_checker=whole)(json.loads(SCHEMA.read_text(encoding="utf-8")))
 
 
 def place_of(path: list[str | int]) -> str:
     """`seeds[0]`, `loops.histogram`."""
-    told = "".join(f"[{step}]" if isinstance(step, int) else f".{step if step.isidentifier() else repr(step)}" for step in path)
+    told = "".join(f"[{step}]" if isinstance(step, int) else f".{step if step.isidentifier() else repr(step)}"
+                   for step in path)
     return told.removeprefix(".") or "the table"
 
 
@@ -105,7 +109,8 @@ def wrong_places(told: dict[str, Any]) -> list[str]:
         place = place_of(list(error.absolute_path))
         if error.validator == "additionalProperties":
             names = sorted(set(told) - set(error.schema["properties"]))
-            lines.append(f"{', '.join(map(short, names))}: no field of the table; there are {', '.join(error.schema['properties'])}")
+            lines.append(f"{', '.join(map(short, names))}: no field of the table; there are "
+                         f"{', '.join(error.schema['properties'])}")
         elif error.validator == "required":
             lines.append(f"{place}: loops is missing; wanted is {error.schema['properties']['loops']['description']}")
         else:
@@ -151,5 +156,6 @@ def read_plan(path: Path) -> Plan:
         try:
             plan.texts[name] = image_at(path.parent / image, name)
         except (OSError, ValueError) as wrong:
-            raise BadPlan(f"loops.{name}: {shown(str(wrong))}" if not isinstance(wrong, BadPlan) else str(wrong)) from None
+            raise BadPlan(f"loops.{name}: {shown(str(wrong))}" if not isinstance(wrong, BadPlan)
+                          else str(wrong)) from None
     return plan

@@ -4,7 +4,8 @@ import sys
 import time
 from pathlib import Path
 
-# On a terminal the line is written anew each second; elsewhere there is a line now and then, and none of a study that is over before.
+# On a terminal the line is written anew each second; elsewhere there is a line now and then, and none of a study that
+# is over before.
 EACH, NOW_AND_THEN = 1.0, 60.0
 
 
@@ -36,7 +37,8 @@ class Progress:
     def line(self) -> str:
         """What is told now."""
         spent = time.monotonic() - self.began
-        left = f", about {clock(spent * (self.whole - self.done) / self.done)} left" if 0 < self.done < self.whole else ""
+        left = (f", about {clock(spent * (self.whole - self.done) / self.done)} left" if 0 < self.done < self.whole
+                else "")
         return f"study: {self.done:,} of {self.whole:,} cells are done{left}"
 
     def tell(self) -> None:
@@ -44,7 +46,8 @@ class Progress:
         now = time.monotonic()
         if now - self.told >= (EACH if self.is_terminal else NOW_AND_THEN):
             self.told = now
-            print(f"\r\x1b[K{self.line()}" if self.is_terminal else self.line(), end="" if self.is_terminal else "\n", file=sys.stderr, flush=True)
+            print(f"\r\x1b[K{self.line()}" if self.is_terminal else self.line(), end="" if self.is_terminal else "\n",
+                  file=sys.stderr, flush=True)
 
     def end(self) -> None:
         """Takes the line of a terminal away."""

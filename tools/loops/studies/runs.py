@@ -80,10 +80,13 @@ class Runner:
         report = call(self.programs["why"], [], f"{text}trace {trace}", (0,))
         conflicts = read_conflicts("\n".join(line for line in report.split("\n") if line.startswith(SUMS)))
         kinds = {kind: sum(one.rollbacks for one in conflicts.kinds if one.kind == kind) for kind in KINDS}
-        run = {"stopped": None, "ending": output.report.ending, "end_epoch": output.report.epoch, "entries": trace.count("\n") - 1, **asdict(output.counts),
+        run = {"stopped": None, "ending": output.report.ending, "end_epoch": output.report.epoch,
+               "entries": trace.count("\n") - 1, **asdict(output.counts),
                **asdict(conflicts.total), **kinds, "turns": turns}
-        pairs = [{"causer": f"{pair.causer:08x}", "victim": f"{pair.victim:08x}", "causer_line": image.sources.get(pair.causer),
-                  "victim_line": image.sources.get(pair.victim), "name": image.name_of(pair.at.first) if pair.at else None, "rollbacks": pair.rollbacks,
+        pairs = [{"causer": f"{pair.causer:08x}", "victim": f"{pair.victim:08x}",
+                  "causer_line": image.sources.get(pair.causer),
+                  "victim_line": image.sources.get(pair.victim),
+                  "name": image.name_of(pair.at.first) if pair.at else None, "rollbacks": pair.rollbacks,
                   "lost": pair.lost, **asdict(pair.kinds)} for pair in conflicts.pairs]
         return {"run": run, "pairs": pairs}
 
@@ -114,7 +117,8 @@ def made(runner: Runner, work: Iterable[Work], file: TextIO, reasons: TextIO) ->
 
 
 def run_chunk(path: Path) -> int:
-    """Makes the rows of a chunk that aren't there. How many were not made; why stands in a file beside the chunk's, since a cluster may show nobody what a job says."""
+    """Makes the rows of a chunk that aren't there. How many were not made; why stands in a file beside the chunk's,
+    since a cluster may show nobody what a job says."""
     told = json.loads(path.read_text(encoding="utf-8"))
     runner = Runner(Kept(Path(told["folder"])), {name: Path(at) for name, at in told["programs"].items()})
     rows = Path(told["rows"])

@@ -1,4 +1,5 @@
-"""What a study comes to: of each cell the work that it needs, and from the rows of that runs.csv, pairs.csv and manifest.json."""
+"""What a study comes to: of each cell the work that it needs, and from the rows of that runs.csv, pairs.csv and
+manifest.json."""
 
 import csv
 import json
@@ -26,9 +27,11 @@ class Study:
         self.plan, self.images, self.programs = plan, images, programs
         self.rows: dict[Work, Row] = {}
 
-    def work(self, image: str, version: int, cores: int, schedule: str, store: str | None = None, seed: int | None = None) -> Work:
+    def work(self, image: str, version: int, cores: int, schedule: str, store: str | None = None,
+             seed: int | None = None) -> Work:
         """A piece of work, with the digests of the programs that it takes."""
-        return Work(image, version, cores, schedule, store, seed, tuple((name, self.programs[name]) for name in sorted(USES[schedule])))
+        return Work(image, version, cores, schedule, store, seed,
+                    tuple((name, self.programs[name]) for name in sorted(USES[schedule])))
 
     def run_of(self, cell: Cell) -> Work:
         """The run of a cell."""
@@ -47,8 +50,9 @@ class Study:
 
     def plotted(self) -> dict[str, Work]:
         """What `gain` is asked of each loop for the plot, in the version of its image."""
-        return {} if not self.plan.gain else {loop: self.work(image, read_image(text_in(self.plan.texts[loop])).version, self.plan.gain, "gain")
-                                              for loop, image in self.images.items()}
+        return ({} if not self.plan.gain
+                else {loop: self.work(image, read_image(text_in(self.plan.texts[loop])).version, self.plan.gain, "gain")
+                      for loop, image in self.images.items()})
 
     @cached_property
     def cells(self) -> list[Cell]:
@@ -67,13 +71,16 @@ class Study:
     def gained(self, work: Work | None, store: str, cores: int) -> Gain | None:
         """What `gain` said of a run."""
         told = self.rows[work].get("gain") if work else None
-        return next((run for run in gains_in(told).runs if (run.store, run.cores) == (store, cores)), None) if told else None
+        return next((run for run in gains_in(told).runs if (run.store, run.cores) == (store, cores)),
+                    None) if told else None
 
     def speed(self, cell: Cell, row: Row) -> Row:
-        """How many steps a cell took, and how many times fewer these are than on one core: at even speed as `gain` says, else its turns shared out over the cores."""
+        """How many steps a cell took, and how many times fewer these are than on one core: at even speed as `gain`
+        says, else its turns shared out over the cores."""
         if cell.schedule == "even":
             found = self.gained(self.gains_of(cell), cell.store, cell.cores)
-            return {"steps": found and found.steps, "gain": found.told("gain") if found and found.gain is not None else None}
+            return {"steps": found and found.steps,
+                    "gain": found.told("gain") if found and found.gain is not None else None}
         one, turns = self.rows[self.alone(cell)]["run"].get("turns"), row.get("turns")
         steps = None if turns is None else -(-turns // cell.cores)
         return {"steps": steps, "gain": f"{one * cell.cores * 100 // turns / 100:.2f}" if one and turns else None}
@@ -84,8 +91,8 @@ class Study:
         for cell in self.cells:
             work = self.run_of(cell)
             row, programs = self.rows[work]["run"], dict(work.programs)
-            found.append({**asdict(cell), **row, **self.speed(cell, row), "image_sha256": work.image, "runner_sha256": programs[USES[cell.schedule][0]],
-                          "why_sha256": programs["why"]})
+            found.append({**asdict(cell), **row, **self.speed(cell, row), "image_sha256": work.image,
+                          "runner_sha256": programs[USES[cell.schedule][0]], "why_sha256": programs["why"]})
         return found
 
     def pair_rows(self) -> list[Row]:
@@ -97,8 +104,8 @@ class Study:
         works = {cell: self.run_of(cell) for cell in self.cells}
         images = {cell.loop: work.image for cell, work in works.items()}
         programs = dict(sorted(one for work in self.needed() for one in work.programs))
-        return {"commit": commit(), "plan": self.plan.text(), "images": images, "made": {loop: made_from(kept.image(name)) for loop, name in images.items()},
-                "programs": programs}
+        return {"commit": commit(), "plan": self.plan.text(), "images": images,
+                "made": {loop: made_from(kept.image(name)) for loop, name in images.items()}, "programs": programs}
 
 
 @cache
@@ -112,7 +119,8 @@ def commit() -> str:
     if not IN_TREE:
         return ""
     try:
-        return subprocess.run(["git", "-C", str(TREE), "rev-parse", "HEAD"], capture_output=True, text=True, check=False).stdout.strip()
+        return subprocess.run(["git", "-C", str(TREE), "rev-parse", "HEAD"], capture_output=True, text=True,
+                              check=False).stdout.strip()
     except OSError:
         return ""
 

@@ -1,11 +1,13 @@
-"""What epochs need of one another in order, and whether anything can roll back at all, in English: from what `depends` prints."""
+"""What epochs need of one another in order, and whether anything can roll back at all, in English: from what `depends`
+prints."""
 
 from loops import Dependences, Image, Joined, OverStore
 from loops.pictures.words import listed, plural
 
 from .registers import Way, is_at_once, way_of
 
-# Pairs that have fewer than a so many-th of the heaviest one's dependences aren't told; one that so many hundredths of the epochs have is one of each.
+# Pairs that have fewer than a so many-th of the heaviest one's dependences aren't told; one that so many hundredths of
+# the epochs have is one of each.
 RARE, EACH = 10, 80
 NAMES = {"caches": "caches", "plain": "a plain store of bytes"}
 
@@ -18,7 +20,8 @@ def can_roll_back(told: OverStore) -> str:
         return f"over {NAMES[told.store]} none on up to {plural(told.cores, 'core')} does (proved)"
     if told.verdict == "from":
         return f"over {NAMES[told.store]} a schedule rolls it back from {told.cores} cores on"
-    return f"over {NAMES[told.store]} epochs conflict from {told.cores} cores on, but no schedule that rolls back is known"
+    return (f"over {NAMES[told.store]} epochs conflict from {told.cores} cores on, but no schedule that rolls back is "
+            "known")
 
 
 def rolls_back(found: Dependences) -> str:
@@ -28,7 +31,8 @@ def rolls_back(found: Dependences) -> str:
         return f"No schedule on up to {plural(caches.cores, 'core')} can roll this loop back (proved)."
     if caches is not None and plain is not None and caches.verdict == plain.verdict == "from":
         further = "too" if caches.cores == plain.cores else f"from {plain.cores}"
-        return f"A schedule rolls it back over caches from {caches.cores} cores on, and over a plain store of bytes {further}."
+        return (f"A schedule rolls it back over caches from {caches.cores} cores on, and over a plain store of bytes "
+                f"{further}.")
     said = "; ".join(can_roll_back(one) for one in (caches, plain) if one is not None)
     return f"{said[:1].upper()}{said[1:]}."
 
@@ -36,12 +40,14 @@ def rolls_back(found: Dependences) -> str:
 # --- The dependence that begins earliest ---------------------------------------
 
 def earliness(pair: Joined) -> tuple[float, int]:
-    """How early a dependence begins: the earlier it is loaded, the later it is stored and the fewer epochs lie between, the more."""
+    """How early a dependence begins: the earlier it is loaded, the later it is stored and the fewer epochs lie between,
+    the more."""
     return (1 + pair.stored.share - pair.loaded.share) / pair.least_distance, pair.times
 
 
 def earliest(found: Dependences, cores: int) -> Joined | None:
-    """Of the pairs of instructions that so many cores run beside each other that which begins earliest; rare ones don't count."""
+    """Of the pairs of instructions that so many cores run beside each other that which begins earliest; rare ones don't
+    count."""
     near = [pair for pair in found.pairs if pair.least_distance < cores]
     heavy = [pair for pair in near if RARE * pair.times >= max(one.times for one in near)]
     return max(heavy, key=earliness) if heavy else None
@@ -74,7 +80,8 @@ def of_one_word(image: Image, pair: Joined, found: Dependences) -> str | None:
     alike = [one for one in found.pairs if (one.store, one.at.first) == (pair.store, pair.at.first) and one is not pair]
     way = way_of(image, pair.load, pair.store)
     if not is_constant(pair):
-        return (f"Each epoch reads {where}, and some change it: where it is a greatest, a least or the like, it usually helps to let each epoch keep its "
+        return (f"Each epoch reads {where}, and some change it: where it is a greatest, a least or the like, it "
+                "usually helps to let each epoch keep its "
                 "own and put them together at the end")
     if pair.least_distance > 1 or all(way_of(image, one.load, one.store) is Way.NONE for one in [pair, *alike]):
         return None
@@ -85,14 +92,19 @@ def kind_of_word(image: Image, pair: Joined, way: Way, where: str) -> str:
     """What a word looks like of which each epoch makes the next one's."""
     apart, repeats = pair.stored.share - pair.loaded.share, pair.stored.done - pair.loaded.done > pair.store - pair.load
     if way is Way.LOADED and pair.stored.share <= 0.5:
-        return (f"the walk of a list: each epoch finds in {where}, near its start, where the next one begins; it usually helps to put what the list names into "
+        return (f"the walk of a list: each epoch finds in {where}, near its start, where the next one begins; it "
+                "usually helps to put what the list names into "
                 "an array before the loop")
     if way is not Way.NONE and pair.stored.share <= 0.5:
-        return f"an induction: each epoch changes {where} near its start; it usually helps to compute it from the epoch's number"
-    if way is Way.COMPUTED and (is_at_once(image, pair.load, pair.store) or (pair.loaded.share >= 0.5 and apart <= 0.25)):
+        return (f"an induction: each epoch changes {where} near its start; it usually helps to compute it from the "
+                "epoch's number")
+    if way is Way.COMPUTED and (is_at_once(image, pair.load, pair.store)
+                                or (pair.loaded.share >= 0.5 and apart <= 0.25)):
         when = "again and again" if repeats else "at its end"
-        return f"a reduction: each epoch changes {where} {when}; it usually helps to let each epoch keep its own and put them together at the end"
-    return (f"a recurrence: each epoch reads {where} early and changes it late; it usually helps to change it as soon as it is read, or to compute it from the "
+        return (f"a reduction: each epoch changes {where} {when}; it usually helps to let each epoch keep its own and "
+                "put them together at the end")
+    return (f"a recurrence: each epoch reads {where} early and changes it late; it usually helps to change it as soon "
+            "as it is read, or to compute it from the "
             "epoch's number, where that gives it")
 
 
@@ -103,8 +115,10 @@ def shape(image: Image, pair: Joined, found: Dependences) -> str:
         return told
     if is_constant(pair):
         before = "the one before it" if pair.least_distance == 1 else f"the one {pair.least_distance} before it"
-        return f"It looks like a recurrence: an epoch needs what {before} makes; it usually helps to load it later, or to store it earlier"
-    return (f"It joins epochs {pair.least_distance} to {pair.most_distance} apart, as where data decide: speculation pays as far as it is rare; else it usually "
+        return (f"It looks like a recurrence: an epoch needs what {before} makes; it usually helps to load it later, "
+                "or to store it earlier")
+    return (f"It joins epochs {pair.least_distance} to {pair.most_distance} apart, as where data decide: speculation "
+            "pays as far as it is rare; else it usually "
             "helps to load it later, or to store it earlier")
 
 
@@ -116,8 +130,10 @@ def spelled(image: Image, pc: int) -> str:
 def sentence(image: Image, pair: Joined, found: Dependences) -> str:
     """A dependence, and what usually helps."""
     stored, loaded = pair.stored, pair.loaded
-    return (f"What an epoch needs earliest of another: the load at {spelled(image, pair.load)} reads, after {loaded.done:,} of {plural(loaded.of, 'instruction')}, "
-            f"what the store at {spelled(image, pair.store)} left after {stored.done:,} of {stored.of:,}, {plural(pair.first_victim - pair.first_causer, 'epoch')} "
+    return (f"What an epoch needs earliest of another: the load at {spelled(image, pair.load)} reads, after "
+            f"{loaded.done:,} of {plural(loaded.of, 'instruction')}, "
+            f"what the store at {spelled(image, pair.store)} left after {stored.done:,} of {stored.of:,}, "
+            f"{plural(pair.first_victim - pair.first_causer, 'epoch')} "
             f"before; {plural(pair.times, 'time')} in all, at {places(image, pair)}. {shape(image, pair, found)}.")
 
 
@@ -129,7 +145,8 @@ def flow(image: Image, found: Dependences, cores: int) -> str:
         return f"{told} {sentence(image, pair, found)}"
     if found.pairs:
         least = min(one.least_distance for one in found.pairs)
-        return (f"{told} What epochs need of one another is at least {plural(least, 'epoch')} apart, so it holds nothing back on up to "
+        return (f"{told} What epochs need of one another is at least {plural(least, 'epoch')} apart, so it holds "
+                "nothing back on up to "
                 f"{plural(min(least, cores), 'core')}.")
     if any(one.verdict == "from" for one in found.stores):
         return f"{told} In order no epoch reads what another one stores: what rolls back are lines that they share."

@@ -1,4 +1,5 @@
-"""The way of a value through registers, from a load to a store, as far as the code between them says: a guess for advice, and no claim."""
+"""The way of a value through registers, from a load to a store, as far as the code between them says: a guess for
+advice, and no claim."""
 
 from enum import Enum
 
@@ -44,4 +45,5 @@ def way_of(image: Image, load: int, store: int) -> Way:
 def is_at_once(image: Image, load: int, store: int) -> bool:
     """Whether a word is loaded, changed and stored by a few instructions, one behind the other."""
     between = range(load + 4, store, 4)
-    return load < store and len(between) <= MOST_AT_ONCE and all(word_at(image, pc) & 127 not in JUMPS for pc in between)
+    return (load < store and len(between) <= MOST_AT_ONCE
+            and all(word_at(image, pc) & 127 not in JUMPS for pc in between))

@@ -164,7 +164,8 @@ def holding(run: Gain, losses: Losses, before: Told, chunk: str = "") -> list[st
     def share(name: str) -> float:
         return percent(run.count(name), run)
 
-    parts = [("lost", lost(losses, before.pairs, before.flowing) + chunk)] if losses.violations and share("lost") >= LEAST else []
+    parts = [("lost", lost(losses, before.pairs, before.flowing)
+              + chunk)] if losses.violations and share("lost") >= LEAST else []
     parts = [one for one in parts if one[1]]
     parts += [(cause, f"In {share(cause):.0f} % of the steps cores {told}.") for cause, told in waits(losses).items()]
     parts.append(("dropped", f"{share('dropped'):.0f} % of the steps are of epochs that the loop's exit "
@@ -204,7 +205,8 @@ def paragraph(found: Findings) -> str:
     before = Told(set(), set(), (pair.store, pair.load) if pair else None)
     plain = holding(found.plain, found.over_plain, before) if found.over_plain is not None else []
     caches = holding(found.caches, found.over_caches, before, chunk_words(found))
-    head = gained(found) + ("" if found.flow is None else f" {flow(found.over_caches.image, found.flow, found.caches.cores)}")
+    head = gained(found) + ("" if found.flow is None
+                            else f" {flow(found.over_caches.image, found.flow, found.caches.cores)}")
     if not plain and not caches:
         return f"{head} Nothing holds it back."
     told = [f"What holds it back over a plain store already: {' '.join(plain)}"] if plain else []

@@ -1,4 +1,5 @@
-"""What the page has of a run: its turns with what they changed, lanes, code and names. Turns are taken one after another, and those that aren't shown aren't kept."""
+"""What the page has of a run: its turns with what they changed, lanes, code and names. Turns are taken one after
+another, and those that aren't shown aren't kept."""
 
 from collections.abc import Mapping
 from dataclasses import dataclass, field
@@ -22,14 +23,16 @@ class Shown:
     """A turn that is shown: which of the run it is, what it changed, and of its core the epoch and the instruction."""
     number: int
     step: Step
-    wait: str | None                        # what its core waits for now, where that isn't what it waited for before: a cause, or nothing
+    # what its core waits for now, where that isn't what it waited for before: a cause, or nothing
+    wait: str | None
     epoch: int | None
     pc: int
     moved: str
 
 
 class Turns:
-    """The turns of a run from one number to another, and of these at most so many; and what the page needs of all others."""
+    """The turns of a run from one number to another, and of these at most so many; and what the page needs of all
+    others."""
 
     def __init__(self, first: int, last: int | None, most: int):
         self.first, self.last, self.most = first, last, most
@@ -76,7 +79,8 @@ class Turns:
         """Whether the next turn is the first one that is shown, or the first one beyond."""
         if self.low is None and turn >= self.first:
             self.low, self.before, self.waits_before = self.count, dict(self._state), dict(self._waits)
-        if self.high is None and (self.last is not None and turn > self.last or self.low is not None and self.count >= self.low + self.most):
+        if self.high is None and (self.last is not None and turn > self.last or self.low is not None
+                                  and self.count >= self.low + self.most):
             self.high = self.count
         self.lanes.closed = self.low is not None and self.high is not None
 
@@ -85,7 +89,8 @@ class Turns:
         shown = self.low is not None
         moved = moves_told(step, self._state) if shown else ""
         self._state.update((change.place, change) for change in step.changes)
-        wait, running, hart = self._wait(step), self._state.get(f"attempt {step.core}"), self._state.get(f"hart {step.core}")
+        wait, running, hart = (self._wait(step), self._state.get(f"attempt {step.core}"),
+                               self._state.get(f"hart {step.core}"))
         if isinstance(running, OfAttempt) and running.now:
             self._epochs[step.core] = running.now.epoch
         if shown:
@@ -93,7 +98,8 @@ class Turns:
             self.shown.append(Shown(self.count, step, wait, self._epochs.get(step.core), pc, moved))
 
     def _wait(self, step: Step) -> str | None:
-        """What the core of a turn waits for from there on, or nothing, where that is something else than before; None where it isn't."""
+        """What the core of a turn waits for from there on, or nothing, where that is something else than before; None
+        where it isn't."""
         now = step.cause or ""
         before, self._waits[step.core] = self._waits.get(step.core, ""), now
         return None if before == now else now
@@ -120,11 +126,15 @@ def rows_of(address: int, length: int) -> range:
 
 
 def first_memory(image: Image, touched: set[int]) -> dict[str, Change]:
-    """The rows of 16 committed bytes that are shown: those that a turn touches, and those of variables and data, where they are few; as they are loaded."""
-    named = {row for one in image.variables for row in rows_of(one.address, one.length)} | {row for part in image.data for row in rows_of(part.address, len(part.data))}
+    """The rows of 16 committed bytes that are shown: those that a turn touches, and those of variables and data, where
+    they are few; as they are loaded."""
+    named = {row for one in image.variables
+             for row in rows_of(one.address, one.length)} | {row for part in image.data
+                                                             for row in rows_of(part.address, len(part.data))}
     rows = touched | (named if len(named - touched) <= MOST_UNTOUCHED else set())
     memory = loaded(image)
-    return {it.place: it for it in (OfMemory(row, bytes(memory[row:row + ROW])) for row in sorted(rows) if row < image.size)}
+    return {it.place: it for it in (OfMemory(row, bytes(memory[row:row + ROW])) for row in sorted(rows)
+                                    if row < image.size)}
 
 
 def rollbacks(turns: Turns, violations: Mapping[int, Violation]) -> list[list[int]]:
@@ -174,7 +184,8 @@ def changed(one: Shown) -> dict[str, Value | str]:
 
 def first_values(image: Image, turns: Turns) -> dict[str, Value | str]:
     """What stands at each place before the first turn that is shown."""
-    found: dict[str, Value | str] = {place: value_of(change) for place, change in (first_memory(image, turns.rows) | turns.before).items()}
+    found: dict[str, Value | str] = {place: value_of(change)
+                                     for place, change in (first_memory(image, turns.rows) | turns.before).items()}
     return found | {f"wait {core}": cause for core, cause in turns.waits_before.items()}
 
 
@@ -198,7 +209,8 @@ class PageData(Cut):
     start: dict[str, Value | str]                       # what stands at each place before the first turn that is shown
     attempts: list[list[int | str | None]]
     rollbacks: list[list[int]]
-    steps: list[list[object]]                           # turn, core, entries, changes, two sentences, and how many it hurts
+    # turn, core, entries, changes, two sentences, and how many it hurts
+    steps: list[list[object]]
 
 
 def page_data(run: Told, turns: Turns, cores: int, violations: Mapping[int, Violation], store: str) -> PageData:

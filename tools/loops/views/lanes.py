@@ -10,7 +10,8 @@ from .words import OF_OTHERS
 
 @dataclass(slots=True)
 class Lane:
-    """One attempt of an epoch, in turns of the run: which began it, at which it ends, how it ended, and which rolled it back."""
+    """One attempt of an epoch, in turns of the run: which began it, at which it ends, how it ended, and which rolled it
+    back."""
     core: int
     epoch: int
     number: int
@@ -21,7 +22,8 @@ class Lane:
 
 
 class Lanes:
-    """The attempts of a run whose turns are taken one after another. Of those that have ended, only the ones that are shown need be kept."""
+    """The attempts of a run whose turns are taken one after another. Of those that have ended, only the ones that are
+    shown need be kept."""
 
     def __init__(self) -> None:
         self.closed = False                             # no attempt that begins from here on is shown

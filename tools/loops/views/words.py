@@ -5,7 +5,7 @@ from collections.abc import Mapping
 from loops import Change, Entry, Image, Step, Violation
 from loops.changes import Copy, OfBuffer, OfWay
 from loops.images import there
-from loops.pictures.words import Lost, plural, sentence
+from loops.pictures.words import Lost, sentence
 
 CAUSES = {
     "NoEpoch": "no epoch is left for it",
@@ -14,7 +14,8 @@ CAUSES = {
     "OrbFull": "the line would have to enter its buffer, which is full",
     "OrbBusy": "an earlier core holds the line, whose buffer has no place for it",
 }
-ENDS = {"done": "all epochs have committed, and the loop is over", "exit": "its exit ends the loop", "fault": "the loop is over"}
+ENDS = {"done": "all epochs have committed, and the loop is over", "exit": "its exit ends the loop",
+        "fault": "the loop is over"}
 OF_OTHERS = ("hurt", "cancel", "publish")
 
 
@@ -86,7 +87,9 @@ def moves_told(step: Step, state: Mapping[str, Change]) -> str:
     for change in step.changes:
         before = state.get(change.place)
         if isinstance(change, OfWay):
-            said.setdefault(change.core, []).extend(copy_moved(before.now if isinstance(before, OfWay) else None, change.now))
+            said.setdefault(change.core,
+                            []).extend(copy_moved(before.now if isinstance(before, OfWay) else None, change.now))
         elif isinstance(change, OfBuffer):
-            said.setdefault(change.core, []).extend(buffer_moved(before.lines if isinstance(before, OfBuffer) else (), change.lines))
+            said.setdefault(change.core,
+                            []).extend(buffer_moved(before.lines if isinstance(before, OfBuffer) else (), change.lines))
     return " ".join(f"Core {core}: {', '.join(moved)}." for core, moved in said.items() if moved)
