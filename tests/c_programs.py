@@ -23,7 +23,7 @@ from collections.abc import Iterator
 from functools import partial
 from pathlib import Path
 
-from common import ROOT, Check, Script, called, called_bytes, called_well, left_out
+from common import ROOT, Check, Script, called, called_bytes, called_well, left_out, there
 
 # What a check is of, and what is wrong or None
 Results = Iterator[Check]
@@ -31,7 +31,7 @@ TOOL = ROOT / "tools" / "image-of"
 PROGRAMS = ROOT / "tests" / "c"
 ARITHMETIC = ROOT / "tools" / "arithmetic.c"
 # Programs of tests/c and their further sources.
-SOURCES = {
+SOURCES: dict[str, list[Path]] = {
     "arrays": [], "counter": [], "crc": [], "divisors": [PROGRAMS / "divisors.remainder.c"], "far_apart": [],
     "globals": [],
     "quotients": [ARITHMETIC], "recursion": [], "search": [], "sort": [ARITHMETIC], "strings": [ARITHMETIC], "wide": [],
@@ -63,7 +63,7 @@ PRINT = ('for (unsigned i = 0; i < {length}; i++) printf("%s%02x", i == 0 ? "{na
 def native(source: Path, further: list[Path]) -> tuple[str, dict[str, bytes]]:
     """How the loop ends, and the bytes of each variable then, as this machine computes them."""
     text = source.read_text()
-    epochs = re.search(r"--epochs (\d+)", text)[1]
+    epochs = there(re.search(r"--epochs (\d+)", text))[1]
     exits = "--exit" in text
     with tempfile.TemporaryDirectory() as folder:
         objects = []
@@ -154,7 +154,7 @@ def image_of(words: list[str | Path]) -> tuple[str, str, int]:
 # --- Sources that can't be an image, and what is shown ----------------------
 
 BODY = "unsigned a[4]; void body(unsigned e) "
-REFUSED_WITHOUT_LIBGCC = [
+REFUSED_WITHOUT_LIBGCC: list[tuple[str | bytes, list[str], str]] = [
     (BODY + "{ a[e] = e * e; }", [], "undefined: __mulsi3: RV32I has no multiplication or division"),
     ("unsigned long long a[4]; void body(unsigned e) { a[e] = a[0] * a[1]; }", ["--stack", "64"],
      "undefined: __muldi3: RV32I has no multiplication or division"),
@@ -165,14 +165,14 @@ REFUSED_WITHOUT_LIBGCC = [
     ("double a[4]; void body(unsigned e) { a[e] = (double)e; }", ["--stack", "64"],
      "undefined: __floatunsidf: the machine has no float or double"),
 ]
-REFUSED_WITH_LIBGCC = [
+REFUSED_WITH_LIBGCC: list[tuple[str | bytes, list[str], str]] = [
     (BODY + "{ a[e] = e * e; }", [],
      "the code needs a stack; it calls __mulsi3, since RV32I has no multiplication or division"),
     ("unsigned long long a[4]; void body(unsigned e) { a[e] = a[0] / a[1]; }", [], "the code needs a stack; it calls "),
     ("float a[4]; void body(unsigned e) { a[e] = a[0] + a[1]; }", [],
      "the code needs a stack; it calls __addsf3, since the machine has no float or double"),
 ]
-REFUSED = [
+REFUSED: list[tuple[str | bytes, list[str], str]] = [
     *(REFUSED_WITH_LIBGCC if list(Path("/usr/lib/gcc/riscv64-unknown-elf").glob("*/rv32i/ilp32/libgcc.a"))
       else REFUSED_WITHOUT_LIBGCC),
     ("unsigned long strlen(const char *); " + BODY + '{ a[e] = strlen((const char *)&a[e]); }', ["--stack", "64"],

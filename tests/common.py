@@ -15,7 +15,7 @@ import sys
 from collections.abc import Callable, Iterable, Iterator, Sequence
 from functools import wraps
 from pathlib import Path
-from typing import Any, ParamSpec
+from typing import Any, ParamSpec, TypeVar
 
 # A check: what it shows, and what is wrong or None
 Check = tuple[str, str | None]
@@ -23,6 +23,7 @@ Part = Callable[[], Iterable[Check]]
 # What it shows, what there is, and what there has to be
 Row = tuple[str, object, object]
 Words = ParamSpec("Words")
+Thing = TypeVar("Thing")
 ROOT = Path(__file__).resolve().parent.parent
 # A called program takes at most so many seconds; one that takes longer is ended, and has the status that `timeout`
 # gives.
@@ -96,6 +97,13 @@ def comparing(rows: Callable[Words, Iterator[Row]]) -> Callable[Words, Iterator[
     def part(*words: Words.args, **named: Words.kwargs) -> Iterator[Check]:
         return ((name, differs(got, wanted)) for name, got, wanted in rows(*words, **named))
     return part
+
+
+def there(value: Thing | None) -> Thing:
+    """What has to be there."""
+    if value is None:
+        raise ValueError("nothing is there")
+    return value
 
 
 def called(words: Sequence[str | bytes | Path], given: str | None = None, seconds: float = SECONDS,

@@ -7,7 +7,7 @@ Usage: tests/depends.py [--many N] [COMMAND ..]
 COMMAND is a command of `trace_cli` that ends with the word `seq`, such as crates/trace_cli/out/trace_cli seq;
 `depends`, `replay` and `why` are the programs that were built beside it. Without it those of this repository are
 tested. Where no such program is beside it the test is left out, and a line says so. N random loops are compared with
-the reference model, model/depends.py, 60 without it. Exits with 1 where an outcome differs.
+the reference model, model/dependences.py, 60 without it. Exits with 1 where an outcome differs.
 """
 
 import argparse
@@ -23,7 +23,7 @@ from seq_rows import image, run
 
 sys.path.insert(0, str(ROOT / "tests" / "model"))
 
-import depends as model  # noqa: E402
+import dependences as model  # noqa: E402
 import rv32_seq  # noqa: E402
 from fuzz import MATCH, RETURN, word_of_b, word_of_i, word_of_s  # noqa: E402
 from stress import loop_of  # noqa: E402

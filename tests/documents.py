@@ -13,8 +13,10 @@ with 1 where a check failed.
 
 import re
 import sys
+from collections.abc import Iterator
+from pathlib import Path
 
-from common import ROOT, Script, called
+from common import ROOT, Check, Script, called, there
 
 DOCS = ROOT / "docs"
 MOST_WORDS = 34_000
@@ -23,26 +25,32 @@ MOST_WORDS_OF_README = 1600
 # Crates whose functions nobody outside uses: tests.
 WITHOUT_CONTRACTS = {"machine_tests"}
 NAME = r"[^\s(){}.,;λ]+"
+# A definition: crate, file below specs/ and name
+Name = tuple[str, str, str]
+# The names that a crate exports, its public modules, and whether it is a program
+Exports = tuple[set[str], set[str], bool]
 
 
 # --- The definitions that contracts cite ------------------------------------
 
-def imports(text):
+def imports(text: str) -> tuple[dict[str, Name], dict[str, tuple[str, str]]]:
     """The definitions and the modules that a source imports: by the name that it uses, the crate, the file and the name
     there."""
-    names, modules = {}, {}
+    names: dict[str, Name] = {}
+    modules: dict[str, tuple[str, str]] = {}
     for crate, path, what in re.findall(r"ghost use Rattle\.(\w+)\.specs\.([\w.]+?)(?:\.\{([^}]*)\}|(?= as ))", text):
         if path.startswith("declared"):
             continue
-        for name in filter(None, (part.strip() for part in what.split(","))):
-            names[name] = (crate, path, name)
+        for name in (part.strip() for part in what.split(",")):
+            if name:
+                names[name] = (crate, path, name)
     for crate, path, alias in re.findall(r"ghost use Rattle\.(\w+)\.specs\.([\w.]+) as (\w+);", text):
         if not path.startswith("declared"):
             modules[alias] = (crate, path)
     return names, modules
 
 
-def block(text, start):
+def block(text: str, start: int) -> str:
     """The text between the brace at a place and the one that closes it."""
     depth = 0
     for place in range(start, len(text)):
@@ -52,7 +60,7 @@ def block(text, start):
     return text[start + 1:]
 
 
-def exports(crate):
+def exports(crate: str) -> Exports:
     """The names that a crate's root file exports, and its public modules."""
     root = next(path for path in ((ROOT / "crates" / crate / "src" / name) for name in ("lib.rt", "main.rt"))
                 if path.is_file())
@@ -64,25 +72,25 @@ def exports(crate):
     return names, set(re.findall(r"(?m)^pub mod (\w+);", text)), root.stem == "main"
 
 
-def owner(text, place):
+def owner(text: str, place: int) -> str | None:
     """The type, or the trait, whose function stands at a place; None for a free function."""
     depth_0 = re.findall(r"(?m)^(?:pub(?:\([^)]*\))? )?(impl|trait|fn|struct|enum|mod)\b([^\n]*)", text[:place])
     kind, rest = depth_0[-1] if depth_0 else ("", "")
     if kind == "trait":
-        return re.match(r"\s*(\w+)", rest)[1]
+        return there(re.match(r"\s*(\w+)", rest))[1]
     if kind == "impl":
         whole = re.sub(r"<[^<>]*(<[^<>]*>[^<>]*)*>", "", rest)
-        return re.search(r"(\w+)\s*(?:\{|where|$)", whole.split(" for ")[-1])[1]
+        return there(re.search(r"(\w+)\s*(?:\{|where|$)", whole.split(" for ")[-1]))[1]
     return None
 
 
-def of_trait(text, place):
+def of_trait(text: str, place: int) -> bool:
     """The function that stands at a place is one of a trait: those of its own that a type keeps to itself are not."""
     kind, rest = re.findall(r"(?m)^(?:pub(?:\([^)]*\))? )?(impl|trait|fn|struct|enum|mod)\b([^\n]*)", text[:place])[-1]
     return kind == "trait" or " for " in rest
 
 
-def clauses(text, module, exported):
+def clauses(text: str, module: str, exported: Exports) -> Iterator[str]:
     """The clauses of each exported function."""
     names, modules, is_program = exported
     for found in re.finditer(r"(?m)^( *)((?:pub )?)fn (\w+)", text):
@@ -97,7 +105,7 @@ def clauses(text, module, exported):
             yield block(head, clause.start(1))
 
 
-def cited():
+def cited() -> list[Name]:
     """Each definition that a contract cites: crate, file below specs/ and name."""
     listed = set(listed_crates())
     found = set()
@@ -117,11 +125,11 @@ def cited():
     return sorted(one for one in found if one[0] in listed and file_of(*one[:2]).is_file())
 
 
-def file_of(crate, path):
+def file_of(crate: str, path: str) -> Path:
     return ROOT / "crates" / crate / "specs" / (path.replace(".", "/") + ".antt")
 
 
-def definitions():
+def definitions() -> Iterator[Check]:
     """Each definition that a contract cites, and whether it is in its file."""
     for crate, path, name in cited():
         there = re.search(rf"(?m)^ *(?:[a-z]+ )*{re.escape(name)}(?=[ :]|$)", file_of(crate, path).read_text())
@@ -130,11 +138,11 @@ def definitions():
 
 # --- Reading lists -----------------------------------------------------------
 
-def printed(*words):
+def printed(*words: str) -> str:
     return called([sys.executable, ROOT / "tools/definitions", *words]).stdout
 
 
-def reading():
+def reading() -> Iterator[Check]:
     """The page of reading lists, and what the README says of that of the sentence."""
     page = (DOCS / "reading.md").read_text()
     yield "docs/reading.md", None if page == printed() else "isn't what tools/definitions writes"
@@ -151,15 +159,15 @@ def reading():
 
 # --- Floors -------------------------------------------------------------------
 
-def floors():
+def floors() -> list[list[str]]:
     """The crates by floors, the lowest first, as crates.txt has them."""
     parts = re.split(r"(?m)^# .*\n", (ROOT / "crates.txt").read_text())
     return list(filter(None, (re.findall(r"(?m)^(\w+)[^:#\n]*:", part) for part in parts)))
 
 
-def drawn():
+def drawn() -> list[list[str]]:
     """The rows of the drawing of the crates, the lowest first: the names in each."""
-    drawing = re.search(r"(?ms)^```\n(.*?)^```", (DOCS / "architecture.md").read_text())[1]
+    drawing = there(re.search(r"(?ms)^```\n(.*?)^```", (DOCS / "architecture.md").read_text()))[1]
     rows, every = [], set(listed_crates())
     for line in drawing.splitlines():
         names = [word for word in re.findall(r"\w+", line) if word in every]
@@ -170,7 +178,7 @@ def drawn():
     return rows[::-1]
 
 
-def architecture():
+def architecture() -> Iterator[Check]:
     """The drawing, the README's list and the crates' pages have every crate, at its floor."""
     listed, rows = floors(), drawn()
     yield ("the floors of docs/architecture.md",
@@ -185,7 +193,7 @@ def architecture():
         yield f"crates/{name}/README.md", None if (ROOT / "crates" / name / "README.md").is_file() else "isn't there"
 
 
-def named_in(name):
+def named_in(name: str) -> set[str]:
     """The words before `::` or a dot, and behind `use`, of a crate's sources, definitions and proofs: the crates that
     they name, and more."""
     files = (path for part in ("src", "specs", "proofs") for path in (ROOT / "crates" / name / part).rglob("*")
@@ -194,7 +202,7 @@ def named_in(name):
             for word in re.findall(r"\b\w+(?=::)|(?<=Rattle\.)\w+|(?<=use )\w+", path.read_text())}
 
 
-def dependencies():
+def dependencies() -> Iterator[Check]:
     """Each crate names in crates.txt no crate that nothing of it names. (One that is missing there, the checker
     refuses.)"""
     for name, uses in re.findall(r"(?m)^(\w+)[^:#\n]*:(.*)", (ROOT / "crates.txt").read_text()):
@@ -204,20 +212,20 @@ def dependencies():
 
 # --- Links and lengths ------------------------------------------------------
 
-def pages():
+def pages() -> list[Path]:
     listed = called(["git", "ls-files", "-z", "--cached", "--others", "--exclude-standard", "*.md"],
                     cwd=ROOT).stdout.split("\0")
     names = [name for name in listed if name and (ROOT / name).is_file()]
     return sorted(ROOT / name for name in names) or sorted(ROOT.glob("**/*.md"))
 
 
-def anchors(page):
+def anchors(page: Path) -> set[str]:
     """The names of a page's headings, as links write them."""
     heads = re.findall(r"(?m)^#+ +(.+?)\s*$", page.read_text())
     return {re.sub(r"[^\w\- ]", "", head.lower()).replace(" ", "-") for head in heads}
 
 
-def links():
+def links() -> Iterator[Check]:
     """Each link of each page that leads into the project."""
     for page in pages():
         text = re.sub(r"(?ms)^ *```.*?^ *```", "", page.read_text())
@@ -232,7 +240,7 @@ def links():
             yield f"{page.relative_to(ROOT)}: the link {target}", wrong
 
 
-def lengths():
+def lengths() -> Iterator[Check]:
     """The words of the README and of all pages, and the lines that could be wrapped."""
     count = len((ROOT / "README.md").read_text().split())
     yield "README.md", None if count <= MOST_WORDS_OF_README else f"has {count} words, more than {MOST_WORDS_OF_README}"
@@ -243,7 +251,7 @@ def lengths():
                     for number in too_long(page.read_text()))
 
 
-def too_long(text):
+def too_long(text: str) -> Iterator[int]:
     """The lines of a page that are too long and could be broken: those of prose, with a space within the length."""
     fenced = False
     for number, line in enumerate(text.splitlines(), 1):
@@ -261,11 +269,11 @@ COUNTED = re.compile(r"\b(?:all|the)\s+(\d[\d,]*|" + "|".join(NUMBERS[2:])
 TIMED = re.compile(r"\b(?:\d+|" + "|".join(NUMBERS[2:]) + r")\s+(?:processor\s+)?minutes\b[^.]*\bprocessors?\b", re.I)
 
 
-def listed_crates():
+def listed_crates() -> list[str]:
     return re.findall(r"(?m)^(\w+)[^:#\n]*:", (ROOT / "crates.txt").read_text())
 
 
-def true_counts():
+def true_counts() -> dict[str, int]:
     """How many there are of what pages may count."""
     crates = listed_crates()
     edits = len([*(ROOT / "tests/wrong-bodies").glob("*/*.edit")])
@@ -273,7 +281,7 @@ def true_counts():
     return {"crates": len(crates), "test crates": tests, "wrong bodies": edits, "edits": edits}
 
 
-def counts():
+def counts() -> Iterator[Check]:
     """Each count on a page of what the project has; that of minutes, which no test can know, may stand on one page
     alone."""
     truth, timed = true_counts(), []

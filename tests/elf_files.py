@@ -94,7 +94,8 @@ def tool() -> ModuleType:
 
 def answer_of(module: ModuleType, words: list[str]) -> Answer:
     """Calls the tool with these words."""
-    out, err = io.TextIOWrapper(io.BytesIO(), encoding="utf-8"), io.StringIO()
+    data, err = io.BytesIO(), io.StringIO()
+    out = io.TextIOWrapper(data, encoding="utf-8")
     begun, status, raised = time.process_time(), None, None
     with contextlib.redirect_stdout(out), contextlib.redirect_stderr(err):
         try:
@@ -102,7 +103,7 @@ def answer_of(module: ModuleType, words: list[str]) -> Answer:
         except Exception as wrong:      # what a person would see as a traceback
             raised = f"{type(wrong).__name__}: {wrong}"
     out.flush()
-    return Answer(status, out.buffer.getvalue().decode("utf-8", "surrogateescape"), err.getvalue(), raised,
+    return Answer(status, data.getvalue().decode("utf-8", "surrogateescape"), err.getvalue(), raised,
                   time.process_time() - begun)
 
 
@@ -298,7 +299,7 @@ def main() -> int:
         left_out("tools/image-of on damaged ELF files", f"{' and '.join(lacking())} isn't installed")
         return 0
     module = tool()
-    module.CALLED = "image-of"
+    vars(module)["CALLED"] = "image-of"
     from loops.image_of import limits
     from loops.image_of.elf import ELFFile
     if ELFFile is None:

@@ -29,12 +29,12 @@ TOOL = "riscv64-unknown-elf-"
 FEWEST = 10
 
 
-def cut_out(text, mark):
+def cut_out(text: str, mark: str) -> str:
     """The lines of a text that begin with a mark, without it."""
     return "".join(line[len(mark):] + "\n" for line in text.splitlines() if line.startswith(mark))
 
 
-def differences(command, text, expected):
+def differences(command: list[str], text: str, expected: str) -> str | None:
     """What is wrong with the output for an image text, or None."""
     status = 1 if expected.startswith("end fault ") else 0
     result = called_bytes(command, text.encode())
@@ -44,7 +44,7 @@ def differences(command, text, expected):
     return f"expected {expected!r} and status {status}\n  got {got!r}, {result.stderr!r}, {result.returncode}"
 
 
-def reports(command):
+def reports(command: list[str]) -> Iterator[Check]:
     """Each example image against its own report."""
     for path in sorted(EXAMPLES.glob("*.image")):
         text = path.read_text()
@@ -53,7 +53,7 @@ def reports(command):
         yield f"report of {path.name}", wrong
 
 
-def assembled(listing):
+def assembled(listing: str) -> str:
     """The code that the assembler makes of a listing, in hexadecimal digits."""
     with tempfile.TemporaryDirectory() as directory:
         source, made, linked, raw = (Path(directory, name) for name in ("l.s", "l.o", "l.elf", "l.bin"))
@@ -61,11 +61,11 @@ def assembled(listing):
         for words in (["as", "-march=rv32i", "-mabi=ilp32", "-mno-relax", "-o", made, source],
                       ["ld", "-m", "elf32lriscv", "-Ttext=0", "-e", "0", "-o", linked, made],
                       ["objcopy", "-O", "binary", "-j", ".text", linked, raw]):
-            called_well([TOOL + words[0], *map(str, words[1:])])
+            called_well([f"{TOOL}{words[0]}", *map(str, words[1:])])
         return raw.read_bytes().hex()
 
 
-def listings():
+def listings() -> Iterator[Check]:
     """The assembly in remarks against the code."""
     for path in sorted(EXAMPLES.glob("*.image")):
         text = path.read_text()
@@ -76,12 +76,12 @@ def listings():
             yield f"listing of {path.name}", wrong
 
 
-def image_of(source):
+def image_of(source: Path) -> tuple[str, str]:
     done = called_bytes([sys.executable, str(IMAGE_OF), str(source)])
     return done.stdout.decode(), done.stderr.decode()
 
 
-def compiled(command):
+def compiled(command: list[str]) -> Iterator[Check]:
     """The C sources, compiled twice and run."""
     others = []
     # LLVM IR is left out: another release of clang may not read it

@@ -21,7 +21,7 @@ from collections.abc import Iterator
 from functools import partial
 from pathlib import Path
 
-from common import ROOT, Check, Script, beside, called, differs, left_out
+from common import ROOT, Check, Script, beside, called, differs, left_out, there
 
 sys.path.insert(0, str(ROOT / "tools"))
 
@@ -124,8 +124,10 @@ REFUSED = [
 ]
 
 
-def wrong_with(form, text):
+def wrong_with(form: str, text: str | None) -> str | None:
     """What is wrong with a text's way through its class and through JSON, or None."""
+    if text is None:
+        return "is refused"
     if form_of(text) != form:
         return f"is taken for {form_of(text)}"
     told = json.loads(json.dumps(document(text)))
@@ -213,12 +215,12 @@ def refused_back() -> Iterator[Check]:
     yield "a key that is said twice", None if tool("json", twice, "--back") == (TEXTS[1][1], "", 0) else "is another"
 
 
-def tool(name, text, *words):
+def tool(name: str, text: str, *words: str) -> tuple[str, str, int]:
     done = called([ROOT / "tools" / name, *words], text)
     return done.stdout, done.stderr, done.returncode
 
 
-def unread(name, *words):
+def unread(name: str, *words: str) -> tuple[str, int]:
     """What a tool says on standard error, and its status, where the reader of its standard output has gone."""
     reader, writer = os.pipe()
     os.close(reader)
@@ -227,7 +229,7 @@ def unread(name, *words):
     return done.stderr, done.returncode
 
 
-def by_hand():
+def by_hand() -> Iterator[Check]:
     """(what it shows, what is wrong or None)"""
     for form, text in TEXTS:
         yield f"{form}: {text[:30]!r}", wrong_with(form, text)
@@ -238,22 +240,22 @@ def by_hand():
     got = tool("json", '{"form": "image", "version": 2, "content": {}}', "--back")
     yield "another version", None if got[2] == 2 and "version 1 is known" in got[1] else f"got {got}"
     image = read_image(TEXTS[0][1])
-    facts = (image.version, image.exit, image.size, image.registers, image.data[0].data, image.remarks)
-    yield "what an image says", None if facts == (2, True, 64, {2: 0xFF00}, b"\x01\xff",
-                                                  [" One.", "> end done 3"]) else f"got {facts}"
+    said_of_image = (image.version, image.exit, image.size, image.registers, image.data[0].data, image.remarks)
+    yield ("what an image says",
+           differs(said_of_image, (2, True, 64, {2: 0xFF00}, b"\x01\xff", [" One.", "> end done 3"])))
     violation = read_conflicts(TEXTS[9][1]).violations[0]
-    facts = (violation.cause_what, violation.victims.pc, violation.also[0].kind, violation.later.entry, violation.vain,
-             violation.moot)
-    yield "what a violation says", None if facts == ("commit", 4, "silent", 7, True, True) else f"got {facts}"
+    said_of_violation = (violation.cause_what, there(violation.victims).pc, violation.also[0].kind,
+                         there(violation.later).entry, violation.vain, violation.moot)
+    yield "what a violation says", differs(said_of_violation, ("commit", 4, "silent", 7, True, True))
     steps = FORMS["steps"][1](STEPS)
-    facts = (len(steps.steps), steps.steps[1].answer, steps.steps[2].entries[1].place, steps.steps[1].cause,
-             steps.steps[2].end, steps.output.counts.stores)
-    yield "what steps say", differs(facts, (3, "again NoWay", 2, "NoWay", "done", 1))
+    said_of_steps = (len(steps.steps), steps.steps[1].answer, steps.steps[2].entries[1].place, steps.steps[1].cause,
+                     steps.steps[2].end, steps.output.counts.stores)
+    yield "what steps say", differs(said_of_steps, (3, "again NoWay", 2, "NoWay", "done", 1))
     yield "what turns change", differs([step.changes for step in steps.steps], CHANGES)
     told = FORMS["dependences"][1](DEPENDS)
-    facts = (told.pairs[0].at.length, told.pairs[0].stored.of, told.over("caches").turns, told.over("caches").causer,
-             told.over("plain").verdict)
-    yield "what dependences say", None if facts == (13, 27, [0, 1, 1, 0, 0], 0x34, "never") else f"got {facts}"
+    said_of_dependences = (told.pairs[0].at.length, told.pairs[0].stored.of, told.over("caches").turns,
+                           told.over("caches").causer, told.over("plain").verdict)
+    yield "what dependences say", differs(said_of_dependences, (13, 27, [0, 1, 1, 0, 0], 0x34, "never"))
     for name in TOOLS:
         out, errors, status = tool(name, "", "--help")
         yield (f"tools/{name} --help",
@@ -262,8 +264,8 @@ def by_hand():
         said, _ = unread(name, "--help")
         yield f"tools/{name} --help, which nobody reads", f"says {said!r}" if said else None
     for words in ((), ("--cited",), ("do_why",)):
-        got = unread("definitions", *words)
-        yield f"tools/definitions {' '.join(words)}, which nobody reads", None if got == ("", UNREAD) else f"got {got}"
+        yield (f"tools/definitions {' '.join(words)}, which nobody reads",
+               differs(unread("definitions", *words), ("", UNREAD)))
     for name in ("build", "definitions"):
         out, errors, status = tool(name, "", "one", "two")
         yield (f"tools/{name} with two words",
@@ -271,25 +273,25 @@ def by_hand():
                else f"got {out!r}, {errors!r}, {status}")
 
 
-def packages():
+def packages() -> Iterator[Check]:
     """`pip install .` installs each package of tools/, and the tools, in the version that the changelog released
     last."""
     project = (ROOT / "pyproject.toml").read_text()
-    told = json.loads(re.search(r"(?m)^packages = (.*)$", project)[1])
-    there = sorted(".".join(path.parent.relative_to(ROOT / "tools").parts)
-                   for path in (ROOT / "tools").rglob("__init__.py"))
-    yield "the packages that are installed", None if sorted(told) == there else f"{told}, there are {there}"
+    packed = json.loads(there(re.search(r"(?m)^packages = (.*)$", project))[1])
+    folders = sorted(".".join(path.parent.relative_to(ROOT / "tools").parts)
+                     for path in (ROOT / "tools").rglob("__init__.py"))
+    yield "the packages that are installed", differs(sorted(packed), folders)
     told = re.findall(r'(?m)^(loops-[\w-]+) = "loops\.commands\.(\w+):main"$', project)
     names = {path.stem: path.stem.replace("_", "-")
              for path in (ROOT / "tools" / "loops" / "commands").glob("[a-z]*.py")}
-    there = [(name if name.startswith("loops-") else f"loops-{name}", module) for module, name in names.items()]
-    yield "the tools that are installed", None if sorted(told) == sorted(there) else f"{told}, there are {there}"
-    version = re.search(r'(?m)^version = "(.*)"$', project)[1]
-    released = re.search(r"(?m)^## \[(\d.*?)\]", (ROOT / "CHANGELOG.md").read_text())[1]
-    yield "the version", None if version == released else f"{version} of the packages, {released} released last"
+    tools = [(name if name.startswith("loops-") else f"loops-{name}", module) for module, name in names.items()]
+    yield "the tools that are installed", differs(sorted(told), sorted(tools))
+    version = there(re.search(r'(?m)^version = "(.*)"$', project))[1]
+    released = there(re.search(r"(?m)^## \[(\d.*?)\]", (ROOT / "CHANGELOG.md").read_text()))[1]
+    yield "the version that was released last", differs(version, released)
 
 
-def schema():
+def schema() -> Iterator[Check]:
     """The schema refuses what isn't a document."""
     if Draft202012Validator is None:
         left_out("the schema", "python3-jsonschema isn't installed")
@@ -308,7 +310,7 @@ def schema():
         yield f"the schema: {name}", wrong
 
 
-def printed(program, words, text):
+def printed(program: str | Path, words: list[str], text: str) -> str | None:
     """What a program prints, or None where it refuses."""
     try:
         return call(program, words, text, (0, 1, 4))
@@ -316,7 +318,7 @@ def printed(program, words, text):
         return None
 
 
-def examples(command):
+def examples(command: list[str]) -> Iterator[Check]:
     """All examples, and what the programs print of them."""
     found = {name: beside(command, name) for name in ("why", "replay", "gain", "depends")}
     programs = {name: path for name, path in found.items() if path and path.is_file()}
@@ -338,7 +340,7 @@ def examples(command):
             continue
         yield f"{path.name}: its report", wrong_with("output", seq)
         yield f"{path.name}: a run", wrong_with("output", run)
-        traced = with_trace(image.text(), read_output(run).trace)
+        traced = with_trace(image.text(), there(read_output(run).trace))
         yield f"{path.name}: its trace", wrong_with("traced", traced)
         yield f"{path.name}: its verdict", wrong_with("verdict", printed(command[0], [*command[1:-1], "audit"], traced))
         if "why" in programs:

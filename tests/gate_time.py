@@ -12,7 +12,7 @@ import time
 from collections.abc import Iterator
 from pathlib import Path
 
-from common import Check, Script, called, differs
+from common import Check, Script, called, differs, there
 
 TOOL = Path(__file__).resolve().parent / "gate-time"
 # Works until it has used so much processor time.
@@ -59,9 +59,9 @@ def runs(pid: str) -> bool:
 
 def goes_on() -> bool:
     """Whether what a command started still runs once a SIGTERM has ended it."""
-    command = [TOOL, "note", "/dev/null", "bash", "-c", "sleep 60 & echo $!; wait"]
+    command = [str(TOOL), "note", "/dev/null", "bash", "-c", "sleep 60 & echo $!; wait"]
     with subprocess.Popen(command, stdout=subprocess.PIPE, text=True) as it:
-        started = it.stdout.readline().strip()
+        started = there(it.stdout).readline().strip()
         it.terminate()
     for _ in range(50):
         if not runs(started):

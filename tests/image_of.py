@@ -20,7 +20,7 @@ from collections.abc import Iterator
 from functools import partial
 from pathlib import Path
 
-from common import ROOT, Check, Script, beside, called, called_bytes, left_out
+from common import ROOT, Check, Script, beside, called, called_bytes, differs, left_out, there
 
 # What a check is of, and what is wrong or None; the words of a command line, how the loop ends, and the bytes of its
 # variables then
@@ -157,8 +157,9 @@ def made(folder: Path, compiler: str) -> None:
        f"add-{compiler}.o", cwd=folder)
     do(archive, "rc", f"lib-long-{compiler}.a", long_name, f"add-{compiler}.o", cwd=folder)
     do(*link, "-Ttext=0", f"loop-{compiler}.o", "-o", f"first-{compiler}.elf", cwd=folder)
-    for name, further in (("own", []), ("rows", []), ("turns", ["-falign-functions=64", "-mno-relax"]),
-                          ("dead", ["-ffunction-sections"])):
+    sources: dict[str, list[str]] = {"own": [], "rows": [], "turns": ["-falign-functions=64", "-mno-relax"],
+                                     "dead": ["-ffunction-sections"]}
+    for name, further in sources.items():
         do(*compile_, "-g", *further, "-c", f"{name}.c", "-o", f"{name}-{compiler}.o", cwd=folder)
     do(*link, "-Ttext=0x100", "-Tdata=0x800", "-Tbss=0x900", f"own-{compiler}.o", "-o", f"own-{compiler}.elf",
        cwd=folder)
@@ -221,8 +222,8 @@ def further_programs(compiler: str, by: list[str], some: list[str]) -> Iterator[
     if PICOLIBC.is_file():
         yield ([*by, *some, "--stack", "1024", "--libc", "picolibc", "--heap", "1024", "libc.c"], "end done 4",
                {"out": words(14, 15, 16, 17), "errno": words(3)})
-    for name, there in (("libgcc", LIBGCC), ("picolibc-riscv64-unknown-elf", PICOLIBC.is_file())):
-        if not there:
+    for name, is_there in (("libgcc", LIBGCC), ("picolibc-riscv64-unknown-elf", PICOLIBC.is_file())):
+        if not is_there:
             left_out(f"programs with {name} by {compiler}", f"{name} isn't installed")
     if LIBGCC and has_unicorn():
         prepared = {"out": words(1495, 865, 588, 415, 295, 211, 157, 130), "given": words(5)}
@@ -300,7 +301,7 @@ def right(command: list[str], folder: Path, compiler: str) -> Results:
 
 def accesses_told(text: str) -> tuple[set[str | None], set[str | None]]:
     """The lines of the loads and the stores of an image, and those of all else."""
-    code = bytes.fromhex(re.search(r"(?m)^code (\w+)", text)[1])
+    code = bytes.fromhex(there(re.search(r"(?m)^code (\w+)", text))[1])
     told = {int(pc, 16): line for pc, line in re.findall(r"(?m)^# code ([0-9a-f]{8}) (\S+)$", text)}
     kinds = {pc: code[pc] & 127 in (0x03, 0x23) for pc in range(0, len(code), 4)}
     return ({told.get(pc) for pc, access in kinds.items() if access},
@@ -317,10 +318,10 @@ def linked_lines(folder: Path, compiler: str) -> Results:
         yield (f"the lines of {' and '.join(inputs)} by {compiler}", None if got - {"other.cpp:9"} == body | kept
                else f"got {got}")
     for place in ("0", "0x100"):
-        got = accesses_told(image_of(folder, "-g", "--epochs", "4", "--version", "2",
-                                     f"dead-{place}-{compiler}.elf")[0])
-        yield (f"the lines of what is left at {place} by {compiler}", None if got == ({"dead.c:9", "dead.c:11"}, set())
-               else f"got {got}")
+        left = accesses_told(image_of(folder, "-g", "--epochs", "4", "--version", "2",
+                                      f"dead-{place}-{compiler}.elf")[0])
+        yield (f"the lines of what is left at {place} by {compiler}",
+               differs(left, ({"dead.c:9", "dead.c:11"}, set())))
 
 
 def lines_at_zero(folder: Path, compiler: str) -> Results:
@@ -366,7 +367,8 @@ def lines_told(folder: Path) -> Results:
             yield from warned(folder, compiler)
             text = image_of(folder, "--compiler", compiler, "-g", "--epochs", "4", "lines.c")[0]
             stores = [pc for pc in range(0, 400, 4)
-                      for word in [int.from_bytes(bytes.fromhex(re.search(r"(?m)^code (\w+)", text)[1])[pc:pc + 4],
+                      for word in [int.from_bytes(bytes.fromhex(there(re.search(r"(?m)^code (\w+)",
+                                                                                text))[1])[pc:pc + 4],
                                                   "little")]
                       if word & 127 == 0x23]
             told = dict(re.findall(r"(?m)^# code ([0-9a-f]{8}) (\S+)$", text))
@@ -392,7 +394,7 @@ def whole_way(command: list[str], folder: Path) -> Results:
         made = re.search(r"(?m)^# Made from own_counters\.c by image-of, with (.+) -O2 -g\.$", image)
         yield f"what it was made with, by {compiler}", None if made and compiler in made[1] else f"got {made}"
         done = called([replay, "caches", "2"], image + "turns" + " 0 1" * 200 + "\n")
-        traced = image + done.stdout[re.search(r"(?m)^trace ", done.stdout).start():]
+        traced = image + done.stdout[there(re.search(r"(?m)^trace ", done.stdout)).start():]
         told = [called([TOOLS / name, "--why", why], traced).stdout for name in ("named", "picture")]
         found = set(re.findall(r"(?m)^pc .* (\S+:\d+) [ls]w ", told[0]))
         yield (f"the lines in the report, by {compiler}",

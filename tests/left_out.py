@@ -15,10 +15,10 @@ import tempfile
 from collections.abc import Iterator
 from pathlib import Path
 
-from common import ROOT, Check, Script, called, differs
+from common import ROOT, Check, Script, called, differs, there
 
 # The last lines of tests/run: what stubs say, what is left out, how many fail, and its status, also with --strict.
-LINES = [
+LINES: list[tuple[str, dict[str, str], str, int, int, int]] = [
     ("nothing is left out", {}, "0 left out", 0, 0, 0),
     ("two", {"why.py": "echo 'left out: why, since it is away'",
              "view.py": "echo 'left out: a page; two, since $(nothing)'; echo 3 checks passed"},
@@ -47,7 +47,7 @@ def runs() -> Iterator[Check]:
     for name, says, wanted, failed, status, strictly in LINES:
         with tempfile.TemporaryDirectory() as folder:
             program = stubs(Path(folder), says)
-            for words, right in ([], status), (["--strict"], strictly):
+            for words, right in ((list[str](), status), (["--strict"], strictly)):
                 done = called([program, *words, "false", "seq"])
                 ends = f"\n{wanted}\n{done.stdout.count('== ') - failed} passed, {failed} failed\n"
                 good = done.stdout.endswith(ends) and done.returncode == right and done.stdout.count("== ") > 20
@@ -73,7 +73,7 @@ def packages() -> Iterator[Check]:
     whole = called([program])
     with tempfile.TemporaryDirectory() as folder:
         for name in ("env", "python3"):
-            Path(folder, name).symlink_to(sys.executable if name == "python3" else shutil.which(name))
+            Path(folder, name).symlink_to(sys.executable if name == "python3" else there(shutil.which(name)))
         bare = called([program], env={**os.environ, "PATH": folder})
     right = whole.returncode == bare.returncode == 0 and bare.stdout.startswith("not installed: chromium "
                                                                                 "chromium-driver clang csmith ")

@@ -66,7 +66,8 @@ def main() -> int:
     if len(sys.argv) != 2 or not Path(sys.argv[1]).is_dir():
         print("usage: tests/loops_table.py FOLDER", file=sys.stderr)
         return 2
-    folder, total, told = Path(sys.argv[1]), Counter(), []
+    folder, total = Path(sys.argv[1]), Counter[str]()
+    told: list[str] = []
     print(f"{'program':28}" + "".join(f"{kind:>12}" for kind in KINDS))
     for name, sources, options in programs_of(folder):
         counts, lines = tabled(folder, name, sources, options)

@@ -140,7 +140,7 @@ def shapes(root: xml.Element, tag: str) -> set[str]:
              for fill in root.iter(f"{SVG}pattern")}
     told = [one for one in root.iter(f"{SVG}{tag}") if one.find(f"{SVG}title") is not None
             and one.get("width") != "0.0"]
-    return {f"{fills.get(one.get('fill'), 'plain')} {one.get('stroke-dasharray')}" for one in told}
+    return {f"{fills.get(one.get('fill', ''), 'plain')} {one.get('stroke-dasharray')}" for one in told}
 
 
 def signs(root: xml.Element) -> set[tuple[int, bool]]:
@@ -156,7 +156,7 @@ def kinds(folder: str) -> Iterator[Claim]:
     """Each kind is told by its hatch, its dashes and its sign, not by its colour alone."""
     reports = [REPORT, REPORT.replace("true", "silent"), BESIDE, FULL, BARE]
     drawn = [[xml.fromstring(picture(folder, report, *words).stdout) for report in reports]
-             for words in ([], ["--overview"])]
+             for words in (list[str](), ["--overview"])]
     yield "a hatch for each kind", len({frozenset(shapes(root, "rect")) for root in drawn[1]}) == 5
     yield "dashes for each kind", len({frozenset(shapes(root, "path")) for root in drawn[0]}) == 5
     for name, roots in zip(("an arrow's foot", "a line's foot"), drawn):
@@ -189,7 +189,7 @@ def gathered(folder: str) -> Iterator[Claim]:
     text, report = long_run(10_000)
     drawn = picture(folder, report, text=text).stdout
     root = xml.fromstring(drawn)
-    tips = [tip.text for tip in root.iter(f"{SVG}title")]
+    tips = [tip.text or "" for tip in root.iter(f"{SVG}title")]
     counted = [int(tip.split()[1].replace(",", "")) for tip in tips if tip.startswith(("true: ", "false: "))
                and "rollback" in tip]
     yield "a long run is at most 2 MB", 20_000 < len(drawn) < 2_000_000
@@ -207,7 +207,8 @@ def gathered(folder: str) -> Iterator[Claim]:
     yield "its events count what was lost", sum(one["args"]["lost"] for one in events
                                                 if one["name"] == "lost instructions") == 30_000
     wide, report_of_wide = long_run(10_000, cores=16)
-    drawn, told = (picture(folder, report_of_wide, *words, text=wide).stdout for words in ([], ["--perfetto"]))
+    drawn, told = (picture(folder, report_of_wide, *words, text=wide).stdout
+                   for words in (list[str](), ["--perfetto"]))
     yield ("on 16 cores its elements are at most 2,000 too",
            len(drawn) < 2_000_000 and len(list(xml.fromstring(drawn).iter())) < 2_000)
     yield ("on 16 cores its events are at most 12,100 too",

@@ -14,10 +14,11 @@ import re
 import sys
 import tempfile
 import xml.etree.ElementTree as xml
+from collections.abc import Iterator
 from functools import partial
 from pathlib import Path
 
-from common import ROOT, Script, called, left_out
+from common import ROOT, Check, Script, called, left_out, there
 
 SVG = "{http://www.w3.org/2000/svg}"
 NAMES = ("store cores steps gain useful lost dropped waiting idle restarts true silent false buffer nothomefree noway "
@@ -63,32 +64,32 @@ IMAGE = ("# counter 00000040 16\n# code 00000034 flows.c:20\n# code 00000014 flo
          "50\ncode 67800000\n")
 
 
-def text_of(rows):
+def text_of(rows: str) -> str:
     """The lines of `gain` of a table."""
     return "".join(" ".join(f"{name} {word}" for name, word in zip(NAMES, row.split())) + "\n"
                    for row in rows.splitlines())
 
 
-def plot(*words, text=""):
+def plot(*words: str | Path, text: str = "") -> tuple[str, str, int]:
     done = called([ROOT / "tools" / "plot", *words], text)
     return done.stdout, done.stderr, done.returncode
 
 
-def files(folder):
+def files(folder: str) -> Iterator[str]:
     """The inputs, as words NAME=FILE."""
     for name, rows in [*LINES.items(), ("grown", None)]:
         Path(folder, f"{name}.txt").write_text(FULL if rows is None else text_of(rows))
         yield f"{name}={folder}/{name}.txt"
 
 
-def bars(root):
+def bars(root: xml.Element) -> dict[str, list[tuple[str, float, float]]]:
     """Of each bar the heights of its parts, from below."""
-    found = {}
+    found: dict[str, list[tuple[str, float, float]]] = {}
     for group in root.iter(f"{SVG}g"):
         named = re.fullmatch(r"(\w+-(?:caches|plain)-\d+)-(\w+)", group.get("id", ""))
         if named:
             heights = [float(point.split()[-1])
-                       for point in re.findall(r"[ML] ([-\d.]+ [-\d.]+)", group.find(f"{SVG}path").get("d"))]
+                       for point in re.findall(r"[ML] ([-\d.]+ [-\d.]+)", there(group.find(f"{SVG}path")).get("d", ""))]
             found.setdefault(named[1], []).append((named[2], min(heights), max(heights)))
     return {name: sorted(parts, key=lambda part: -part[2]) for name, parts in found.items()}
 
@@ -101,12 +102,12 @@ def hatches(root: xml.Element) -> dict[str, str]:
     for group in root.iter(f"{SVG}g"):
         named = re.fullmatch(r"\w+-(?:caches|plain)-\d+-(\w+)", group.get("id", ""))
         if named:
-            fill = re.match(r"fill: ([^;]+)", group.find(f"{SVG}path").get("style"))
+            fill = there(re.match(r"fill: ([^;]+)", there(group.find(f"{SVG}path")).get("style", "")))
             found[named[1]] = lines.get(fill[1], "")
     return found
 
 
-def plots(words):
+def plots(words: list[str]) -> Iterator[Check]:
     """(what it shows, what is wrong or None) of the plot of all inputs."""
     out, errors, status = plot(*words)
     if "is not installed" in errors:
@@ -126,18 +127,18 @@ def plots(words):
     yield "what occurs is explained, and nothing else", None if told == wanted else f"{told}"
     found = bars(root)
     yield "a bar for each run that isn't full", None if len(found) == 10 else f"{sorted(found)}"
-    for name, wanted in PARTS.items():
+    for name, parts in PARTS.items():
         whole = sum(high - low for _, low, high in found[name])
         got = {part: round(100 * (high - low) / whole) for part, low, high in found[name]}
-        yield f"the parts of {name}", None if list(got.items()) == list(wanted.items()) else f"{got}"
+        yield f"the parts of {name}", None if list(got.items()) == list(parts.items()) else f"{got}"
     yield "the same bytes again", None if plot(*words)[0] == out else "others"
-    found = hatches(root)
+    hatched = hatches(root)
     yield ("no colour alone",
-           None if len(found) >= 6 and len(set(found.values())) == len(found)
-           else f"{ {name: hash(one) for name, one in found.items()} }")
+           None if len(hatched) >= 6 and len(set(hatched.values())) == len(hatched)
+           else f"{ {name: hash(one) for name, one in hatched.items()} }")
 
 
-def tables(words, folder):
+def tables(words: list[str], folder: str) -> Iterator[Check]:
     """The same of the table, and what is refused."""
     out, errors, status = plot("--csv", *words)
     rows = list(csv.DictReader(io.StringIO(out)))
@@ -157,7 +158,7 @@ def tables(words, folder):
         yield f"refused: {name}", None if got[0] == "" and said in got[1] and got[2] == 2 else f"{got}"
 
 
-def depends(folder):
+def depends(folder: str) -> Iterator[Check]:
     """(what it shows, what is wrong or None) of what `depends` printed."""
     Path(folder, "flows.image").write_text(IMAGE)
     for name, text in DEPENDS.items():

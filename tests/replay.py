@@ -21,7 +21,7 @@ import resource
 import shutil
 import sys
 import tempfile
-from collections.abc import Iterator
+from collections.abc import Iterator, Sequence
 from functools import partial
 from pathlib import Path
 
@@ -235,7 +235,7 @@ def trace_of(printed: str) -> str:
 
 
 # (words, image, the lines below it, status, standard output, standard error)
-ROWS: list[tuple[list[str], str, str, int, str, str]] = [
+ROWS: list[tuple[Sequence[str | bytes], str, str, int, str, str]] = [
     (PLAIN, SIGNAL, "turns 0 1 0 1 0 1 1 1\n", 0, VIOLATED, ""),
     (CACHES, SIGNAL, "turns 0 1 0 1 0 1 1 1\n", 0, VIOLATED, ""),
     (PLAIN, LOAD_FIRST, "turns 0 1 0 1 0 1\n", 0, NOT_VIOLATED, ""),

@@ -35,12 +35,12 @@ COUNTED = ("load", "store", "restart", "commit")
 
 # --- Loops -----------------------------------------------------------------
 
-def conflicting(rng):
+def conflicting(rng: random.Random) -> list[int]:
     """Epochs that often touch the same bytes; some exit, some fault."""
     return audit_fuzz.conflicting(rng)
 
 
-def counting(rng):
+def counting(rng: random.Random) -> list[int]:
     """Epochs that count in one of a few words, so that each third or so has a conflict."""
     words = [word_of_i(MATCH["andi"], 5, 10, rng.choice([0, 1, 3, 7])),
              MATCH["slli"] | 5 << 7 | 5 << 15 | rng.choice([0, 2, 4]) << 20]
@@ -51,7 +51,7 @@ def counting(rng):
                     word_of_s(MATCH[name[1]], 5, 6, 64), RETURN]
 
 
-def waiting(rng):
+def waiting(rng: random.Random) -> list[int]:
     """Epochs that wait for a word that the one before them sets."""
     words = [MATCH["slli"] | 5 << 7 | 10 << 15 | 2 << 20, word_of_b(MATCH["beq"], 10, 0, 12),
              word_of_i(MATCH["lw"], 6, 5, 60), word_of_b(MATCH["beq"], 6, 0, -4)]
@@ -61,7 +61,7 @@ def waiting(rng):
     return words + [word_of_i(MATCH["addi"], 6, 0, 1), word_of_s(MATCH["sw"], 5, 6, 64), RETURN]
 
 
-def loop_of(rng):
+def loop_of(rng: random.Random) -> tuple[bytes, int]:
     """The text of an image, and on how many cores it runs."""
     version = rng.choice([None, 1, 2])
     cores = rng.randint(1, 16 if version == 2 else 8)
@@ -81,12 +81,12 @@ def loop_of(rng):
 
 # --- Comparing -------------------------------------------------------------
 
-def outcome_of(program, words, text, limit):
+def outcome_of(program: list[str], words: list[str], text: bytes, limit: float) -> tuple[str, str, int]:
     result = subprocess.run(program + words, input=text, capture_output=True, timeout=limit, check=False)
     return result.stdout.decode("latin-1"), result.stderr.decode("latin-1"), result.returncode
 
 
-def wrong_of(program, text, cores, limit):
+def wrong_of(program: list[str], text: bytes, cores: int, limit: float) -> tuple[str | None, int, int]:
     """What is wrong with a run of this loop, and how many entries and restarts it had."""
     expected = outcome_of(program, ["seq"], text, limit)
     try:
@@ -111,12 +111,12 @@ def wrong_of(program, text, cores, limit):
     return None, len(entries), entries.count("restart")
 
 
-def case(seed, index):
+def case(seed: str, index: int) -> tuple[bytes, int]:
     """One loop, and on how many cores it runs."""
     return loop_of(random.Random(f"stress/{seed}/{index}"))
 
 
-def arguments():
+def arguments() -> argparse.Namespace:
     parser = argparse.ArgumentParser(description="Runs random loops on threads, many times.")
     parser.add_argument("--seed", default="1")
     parser.add_argument("--count", type=int, default=10_000)
@@ -127,7 +127,7 @@ def arguments():
     return parser.parse_args()
 
 
-def main():
+def main() -> int:
     given = arguments()
     program = (given.command or [str(ROOT / "trace_cli"), "seq"])[:-1]
     begun = time.monotonic()

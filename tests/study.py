@@ -101,7 +101,8 @@ def study(folder: Path, text: str, programs: Path | None, *further: str, out: st
 
 def furnished(folder: Path, command: list[str]) -> Path | None:
     """A folder with the programs, or None where one isn't built."""
-    found = {"trace_cli": Path(command[0]).resolve(), **{name: beside(command, name) for name in NAMES[1:]}}
+    found: dict[str, Path | None] = {name: beside(command, name) for name in NAMES[1:]}
+    found["trace_cli"] = Path(command[0]).resolve()
     for name, path in found.items():
         if path and path.is_file():
             (folder / name).symlink_to(path)
@@ -189,7 +190,7 @@ def grown(folder: Path, programs: Path) -> Results:
     wrong = []
     for row in rows:
         if row["schedule"] == "seeded":
-            words = [programs / "replay", "seeded", row["seed"], row["store"], row["cores"]]
+            words = [str(programs / "replay"), "seeded", row["seed"], row["store"], row["cores"]]
             turns = len(called_well(words, (folder / "own_counters.image").read_text()).split("\n")[0].split()) - 1
             cores = int(row["cores"])
             wanted = (str(turns), str((turns + cores - 1) // cores), f"{int(100 * 64 * cores / turns) / 100:.2f}")
@@ -200,9 +201,9 @@ def grown(folder: Path, programs: Path) -> Results:
                                                       row["cores"]) == ("seeded", "caches", "4")]
     lost = sorted(int(row["lost"]) for row in one)
     told = page.partition('<table id="seeds">')[2].partition("</table>")[0]
-    wanted = "".join(f"<td>{value:g}</td>" for value in (lost[0], sum(lost) / 2, lost[1]))
+    cells = "".join(f"<td>{value:g}</td>" for value in (lost[0], sum(lost) / 2, lost[1]))
     yield ("least, middle and most over the seeds",
-           None if wanted in told and told.count("<tr>") == 5 else f"{wanted} isn't in {told}")
+           None if cells in told and told.count("<tr>") == 5 else f"{cells} isn't in {told}")
     before = rows_made(out)
     said, status = study(folder, SEEDS.format("1, 2, 7"), programs, "--chunk", "100")
     new = {name: count for name, count in rows_made(out).items() if name not in before}
@@ -214,7 +215,7 @@ def grown(folder: Path, programs: Path) -> Results:
            None if status == 0 and rows_made(out) == before and len(table(out)) == 8 else f"{said!r}, {status}")
 
 
-def wait_for(out: Path, rows: int, run: subprocess.Popen[str]) -> None:
+def wait_for(out: Path, rows: int, run: subprocess.Popen[str] | subprocess.Popen[bytes]) -> None:
     """Waits until a study that runs has so many rows."""
     end = time.monotonic() + SECONDS
     while time.monotonic() < end and run.poll() is None and (not (out / "rows").is_dir()
@@ -234,6 +235,7 @@ def begun(folder: Path, programs: Path, text: str, rows: int, sign: int) -> str 
             for pid in called(["ps", "-o", "pid=", "--ppid", str(run.pid)]).stdout.split():
                 os.killpg(int(pid), sign)       # snakemake, which has a session of its own
         run.send_signal(sign)
+        assert run.stderr
         said = run.stderr.read()
     made = (out / "runs.csv").exists() or there < rows or run.returncode in (0, 1)
     return f"{there} rows, {said!r}, {run.returncode}" if made else None
@@ -361,7 +363,7 @@ def sorted_page(folder: Path) -> Results:
         browser.quit()
 
 
-def in_a_folder(part: Callable[[Path, Path | None], Results], programs: Path | None) -> Callable[[], Results]:
+def in_a_folder(part: Callable[[Path, Path], Results], programs: Path) -> Callable[[], Results]:
     """A part that has a folder with images for itself."""
     @wraps(part)
     def alone() -> Results:
@@ -383,7 +385,7 @@ def lacking(programs: Path | None) -> str | None:
     return f"{' and '.join(missing)} isn't installed" if missing else None
 
 
-def plans(folder: Path, _: Path | None) -> Iterator[Check]:
+def plans(folder: Path, _: Path) -> Iterator[Check]:
     return refused(folder)
 
 
@@ -397,7 +399,7 @@ def main() -> int:
         if lacks:
             left_out("studies", lacks)
             parts = parts[:1] if has_module("jsonschema") else []
-        script.run(*[in_a_folder(part, programs) for part in parts])
+        script.run(*[in_a_folder(part, programs or Path(room)) for part in parts])
     return script.ended()
 
 

@@ -75,7 +75,7 @@ def tools(folder: Path) -> Results:
                None if (errors, status, unseen_in(told)) == (b"", 0, [])
                else f"{errors!r}, {status}, {unseen_in(told)}")
         if out.startswith(b"<svg"):
-            texts = [text.text for text in xml.fromstring(out).iter("{http://www.w3.org/2000/svg}text")]
+            texts = [text.text or "" for text in xml.fromstring(out).iter("{http://www.w3.org/2000/svg}text")]
             yield (f"{' '.join(words)}: it is XML",
                    None if any(text.startswith("Ein Zähler, 計数 <&>\ufffd") for text in texts) else f"{texts}")
 

@@ -133,7 +133,8 @@ def seconds(call: Call, program: str, given: Path) -> float:
     if child.returncode != 0:
         raise Failed(f"{call.program} {' '.join(call.words)} ended with {child.returncode} after {used.ru_utime:.1f} "
                      "seconds")
-    return used.ru_utime + used.ru_stime
+    taken: float = used.ru_utime + used.ru_stime
+    return taken
 
 
 def least_times(row: Bound, programs: dict[str, str], folder: Path) -> tuple[float, float]:

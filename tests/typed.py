@@ -1,5 +1,5 @@
 #!/usr/bin/env python3
-"""Tests that the types of the Python in tools/ hold, by mypy, as pyproject.toml says: the package and each program.
+"""Tests that the types of the Python in tools/ and of the scripts in tests/ hold, by mypy, as pyproject.toml says.
 
 Usage: tests/typed.py
 
@@ -16,8 +16,8 @@ from pathlib import Path
 
 from common import ROOT, Check, Script, called, left_out
 
-# What a check is of, and what is wrong or None
-Results = Iterator[Check]
+# Scripts of tests/ that have no types in places yet: most stand on others without, of tests/model, or on selenium.
+UNTYPED = {"depends", "gain", "long_inputs", "loops_of", "stress", "time_bounds", "view", "wrong_bodies"}
 # A function without types, and a field that isn't there: each has to be found.
 WRONG = "from loops import read_image\n\n\ndef size(text):\n    return read_image(text).length\n"
 
@@ -48,8 +48,8 @@ def programs() -> list[Path]:
     return [*sorted((ROOT / "tools").glob("*.py")), *found]
 
 
-def results(checker: Checker) -> Results:
-    """(what it shows, what is wrong or None)"""
+def tools(checker: Checker) -> Iterator[Check]:
+    """The package, each program, and one that is wrong."""
     yield "packages", checker.says(*(word for name in packages() for word in ("-p", name)))
     for path in programs():
         yield path.name, checker.says(str(path))
@@ -59,6 +59,12 @@ def results(checker: Checker) -> Results:
     yield "a wrong program is refused", None if "[no-untyped-def]" in said and "[attr-defined]" in said else repr(said)
 
 
+def scripts(checker: Checker) -> Iterator[Check]:
+    """The scripts of tests/."""
+    found = [str(path) for path in sorted((ROOT / "tests").glob("*.py")) if path.stem not in UNTYPED]
+    yield "the scripts of tests/", checker.says("--follow-imports", "silent", *found)
+
+
 def main() -> int:
     script = Script()
     program = shutil.which("mypy")
@@ -66,7 +72,8 @@ def main() -> int:
         left_out("types", "mypy is not installed")
         return 0
     with tempfile.TemporaryDirectory() as folder:
-        script.run(partial(results, Checker(program, Path(folder))))
+        checker = Checker(program, Path(folder))
+        script.run(partial(tools, checker), partial(scripts, checker))
     return script.ended()
 
 

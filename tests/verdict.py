@@ -166,7 +166,8 @@ def by_hand(folder: Path | str) -> Results:
     image.write_text(IMAGE)
     for name, output in (("gain", GAIN), ("replay", RUN), ("why", WHY)):
         stub(folder, name, output)
-    for words, ending, status in (([], "", 0), (["--max-lost", "20", "--min-gain", "1.2"], " Within the limits.", 0),
+    for words, ending, status in ((list[str](), "", 0),
+                                  (["--max-lost", "20", "--min-gain", "1.2"], " Within the limits.", 0),
                                   (["--max-lost", "19"],
                                    " Past the limits: 20.0 % of the steps are lost, more than 19 %.", 5),
                                   (["--min-gain", "1.5"], " Past the limits: it gains 1.20, less than 1.50.", 5)):
@@ -328,9 +329,9 @@ def examples(folder: Path | str, command: list[str]) -> Results:
     yield ("past the least gain", None if got[2] == 5 and got[0].endswith("it gains 1.08, less than 2.00.")
            else f"got {got}")
     got = verdict(folder, ROOT / "examples" / "fault.image")
-    wanted = ("fault ends in a fault: end fault 3 2: epoch 3 stops at 00000008, with cause 2, ECALL or EBREAK. What it "
-              "would gain isn't told.")
-    yield "the verdict on fault", None if got == (wanted, "", 6) else f"got {got}"
+    told = ("fault ends in a fault: end fault 3 2: epoch 3 stops at 00000008, with cause 2, ECALL or EBREAK. What it "
+            "would gain isn't told.")
+    yield "the verdict on fault", None if got == (told, "", 6) else f"got {got}"
     yield from hidden(folder)
     yield from chunks(folder)
     yield from chunk_of_a_program(folder)

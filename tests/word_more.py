@@ -147,7 +147,7 @@ def rows(names: list[str]) -> int:
                 proved, seconds, said = checks.check(line)
                 failed += not proved
                 told = "proved" if proved else next((it for it in said if "not proved" in it or "no proof" in it
-                                                     or "error" in it), said[-1:])
+                                                     or "error" in it), "".join(said[-1:]))
                 print(f"{name}: {line.name}: {told}, {seconds:.0f} s", flush=True)
     return failed
 

@@ -16,7 +16,7 @@ import re
 import shutil
 import sys
 import tempfile
-from collections.abc import Iterator
+from collections.abc import Iterator, Sequence
 from functools import partial
 from pathlib import Path
 
@@ -189,7 +189,9 @@ LONG_STEP = "number_that_comes_one_step_after_it"
 # Where a step has another name, `two-steps` names one that isn't there, and `returns` depends on it, "which was
 # rejected". Name of an edit: its pairs of old and new text, and of a file that isn't the source, or a line; and what
 # has to be told of it.
-EDITS = {
+# An old and a new text, and where it isn't the usual one, the file; or a line
+Pair = tuple[str, ...] | str
+EDITS: dict[str, tuple[Sequence[Pair], str]] = {
     "next_is_two_more": ([("    n + 1", "    n + 2")], "refused: "),
     "next_but_one_adds_the_limit": ([("    next(one)", "    next(one) + 1")], "refused: "),
     "next_changes_nothing": ([("    n + 1", "    n + 1")], "FAILED, BAD EDIT: it changes nothing"),
@@ -319,13 +321,13 @@ OVER_EDIT = [("    one() + 1", "    one() + 2")]
 NOTES = "rattle-kept/wrong-bodies"
 
 
-def write(path, text):
+def write(path: Path, text: str) -> Path:
     path.parent.mkdir(parents=True, exist_ok=True)
     path.write_text(text)
     return path
 
 
-def edit_text(pairs):
+def edit_text(pairs: Sequence[Pair]) -> str:
     """The lines of an edit; a pair of several lines is one pair for each line, and a third part is its file. What isn't
     a pair is a line."""
     lines = [it for it in pairs if isinstance(it, str)]
@@ -336,7 +338,7 @@ def edit_text(pairs):
     return "\n".join(lines) + "\n"
 
 
-def repository(top):
+def repository(top: Path) -> None:
     """Lays out a repository with the crate `steps`, its edits and the tool."""
     called_well(["git", "init", "--quiet", str(top)])
     write(top / "crates.txt", "steps:\nlow:\nover: low\n")
@@ -359,7 +361,7 @@ def repository(top):
         shutil.copy(file, top / file.relative_to(TOP))
 
 
-def kit_of_its_own(folder):
+def kit_of_its_own(folder: Path) -> str:
     """A folder with links to all that the kit has, beside which nothing is kept yet, and an `rt` that names it: the
     path on which it stands."""
     rt = shutil.which("rt")
@@ -372,7 +374,7 @@ def kit_of_its_own(folder):
     return f"{folder}/bin:{os.environ['PATH']}"
 
 
-def told(top, path, *words):
+def told(top: Path, path: str, *words: str) -> tuple[dict[str, str], list[str], int]:
     """What the tool prints of each edit, its lines and its status."""
     ran = called([top / "tests/wrong-bodies/run", *words], env={**os.environ, "PATH": path})
     return dict(re.findall(r"(?m)^\w+/(\w+): (.*)$",
@@ -380,7 +382,7 @@ def told(top, path, *words):
 
 
 @contextlib.contextmanager
-def changed(path, aside):
+def changed(path: Path, aside: Path) -> Iterator[None]:
     """A time in which a file has a line feed more, or what a crate promises is written otherwise; meanwhile it lies
     aside. One of the kit is a link."""
     path.rename(aside)
@@ -392,7 +394,7 @@ def changed(path, aside):
     aside.rename(path)
 
 
-def what_is_read(top, folder):
+def what_is_read(top: Path, folder: Path) -> list[Path]:
     """The files that a trial of the edit of the crate `over` reads, one of each kind."""
     scripts = [*sorted((top / "tests/wrong-bodies").glob("*.py")), top / "tests/wrong-bodies/run",
                top / "tools/crates.py"]
@@ -400,7 +402,7 @@ def what_is_read(top, folder):
     return [top / "tests/wrong-bodies/over/next_to_one_is_three.edit", *crate, folder / "kit/KIT-ID", *scripts]
 
 
-def keeping(top, folder, path):
+def keeping(top: Path, folder: Path, path: str) -> Iterator[tuple[str, str, str]]:
     """What is told of the edit of `over`, with what has to be told: of trials that find a refusal kept, and of those
     that may not take it."""
     notes = folder / NOTES
@@ -424,7 +426,7 @@ def keeping(top, folder, path):
     yield "with notes that others can read", left(top, path), "1 to be tried, 0 kept"
 
 
-def tried(top, path):
+def tried(top: Path, path: str) -> str:
     """Whether the edit of `over` was tried, or a note taken; what was told, where that is neither."""
     said, lines, status = told(top, path, "over")
     why = said.get("next_to_one_is_three", "nothing")
@@ -436,7 +438,7 @@ def tried(top, path):
     return "\n".join(lines)
 
 
-def left(top, path, *words):
+def left(top: Path, path: str, *words: str) -> str:
     """The last line of what is told of the edits that would be tried."""
     return told(top, path, "--left", *words, "over")[1][-1]
 

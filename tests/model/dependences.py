@@ -1,7 +1,7 @@
 #!/usr/bin/env python3
 """Reference model of `depends`, independent of the proved program.
 
-Usage: depends.py CORES [STORE ..] < IMAGE
+Usage: dependences.py CORES [STORE ..] < IMAGE
 
 Runs the loop of an image in order, and each epoch alone over the memory that the epochs before its window leave. It
 prints the lines `dep` of `depends`, and for each store, `caches plain` without one, whether epochs conflict on up to so
