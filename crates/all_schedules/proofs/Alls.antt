@@ -13,33 +13,34 @@ use Rattle.trace_commands.specs.declared.outcome.Outcome.TheVariants.{BadImage, 
 use Rattle.trace_commands.specs.declared.outcome.CommandStop.TheVariants.{NoMemory}
 use Rattle.trace_commands.specs.Outcome.{AppendsPrefix, error_line, outcome_of_fault, status_of}
 use Rattle.trace_commands.proofs.Audits.{keeps_itself}
-use Rattle.all_schedules.specs.Made.{loop_on}
+use Rattle.all_schedules.specs.declared.settings.Settings.{Settings}
+use Rattle.all_schedules.specs.Settings.{loop_with}
 use Rattle.all_schedules.specs.AllSchedules.{AllAnswers, IsUnwritten, IsUnwrittenOf, IsWritten, IsWrittenOf}
 use Rattle.trace_commands.specs.Program.{Stream}
 
-module _ {S : Type 0} (starts : LoadedImage → ℕ → S → Type 0) (makes : S → Call → S → Type 0) (view : S → StoreView) (waits : S → Waits) (cores room turns : ℕ) (text : List ℕ) (image : LoadedImage) (old new : Option (List ℕ)) (said : image_text text ≡ Ok image) where
+module _ {S : Type 0} (starts : LoadedImage → ℕ → S → Type 0) (makes : S → Call → S → Type 0) (view : S → StoreView) (waits : S → Waits) (cores : ℕ) (settings : Settings) (turns : ℕ) (text : List ℕ) (image : LoadedImage) (old new : Option (List ℕ)) (said : image_text text ≡ Ok image) where
   by_image : (P : LoadedImage → Type 0) → P image → MatchResult (image_text text) P (λ fault. ⊥)
   by_image P is = subst (λ (r : Result LoadedImage ImageFault). MatchResult r P (λ fault. ⊥)) (sym said) is
 
-  unwritten_of : (outcome : Outcome) → IsUnwrittenOf starts makes view waits (loop_on image cores room) turns old new outcome → IsUnwritten starts makes view waits cores room turns text old new outcome
+  unwritten_of : (outcome : Outcome) → IsUnwrittenOf starts makes view waits (loop_with image cores settings) turns old new outcome → IsUnwritten starts makes view waits cores settings turns text old new outcome
   unwritten_of (BadImage fault) is = absurd is
   unwritten_of (Stopped NoMemory) is = is.1
-  unwritten_of outcome is = by_image (λ i. IsUnwrittenOf starts makes view waits (loop_on i cores room) turns old new outcome) is
+  unwritten_of outcome is = by_image (λ i. IsUnwrittenOf starts makes view waits (loop_with i cores settings) turns old new outcome) is
 
   pub of_image : {A : Type 0} (result : Result A Outcome)
-      → MatchResult result (λ _. IsWrittenOf starts makes view waits (loop_on image cores room) turns old new) (IsUnwrittenOf starts makes view waits (loop_on image cores room) turns old new)
-      → MatchResult result (λ _. IsWritten starts makes view waits cores room turns text old new) (IsUnwritten starts makes view waits cores room turns text old new)
-  of_image (Ok done) is = by_image (λ i. IsWrittenOf starts makes view waits (loop_on i cores room) turns old new) is
+      → MatchResult result (λ _. IsWrittenOf starts makes view waits (loop_with image cores settings) turns old new) (IsUnwrittenOf starts makes view waits (loop_with image cores settings) turns old new)
+      → MatchResult result (λ _. IsWritten starts makes view waits cores settings turns text old new) (IsUnwritten starts makes view waits cores settings turns text old new)
+  of_image (Ok done) is = by_image (λ i. IsWrittenOf starts makes view waits (loop_with i cores settings) turns old new) is
   of_image (Err outcome) is = unwritten_of outcome is
 
-module _ {S : Type 0} (starts : LoadedImage → ℕ → S → Type 0) (makes : S → Call → S → Type 0) (view : S → StoreView) (waits : S → Waits) (cores room turns : ℕ) (output errors : Stream) where
+module _ {S : Type 0} (starts : LoadedImage → ℕ → S → Type 0) (makes : S → Call → S → Type 0) (view : S → StoreView) (waits : S → Waits) (cores : ℕ) (settings : Settings) (turns : ℕ) (output errors : Stream) where
   pub unwritten_answers : (text : List ℕ) (outcome : Outcome) (status : ℕ) → status ≡ status_of outcome → AppendsPrefix errors.old errors.new (error_line outcome)
-      → IsUnwritten starts makes view waits cores room turns text output.old output.new outcome → AllAnswers starts makes view waits cores room turns text output errors status
+      → IsUnwritten starts makes view waits cores settings turns text output.old output.new outcome → AllAnswers starts makes view waits cores settings turns text output errors status
   unwritten_answers text outcome status is line so = inr (record { outcome = outcome; output = so; status = is; line = line })
 
 -- the image is refused
-pub refused : {S : Type 0} (starts : LoadedImage → ℕ → S → Type 0) (makes : S → Call → S → Type 0) (view : S → StoreView) (waits : S → Waits) (cores room turns : ℕ) (text : List ℕ) (output : Option (List ℕ)) (line : ℕ) (kind : ImageFaultKind)
+pub refused : {S : Type 0} (starts : LoadedImage → ℕ → S → Type 0) (makes : S → Call → S → Type 0) (view : S → StoreView) (waits : S → Waits) (cores : ℕ) (settings : Settings) (turns : ℕ) (text : List ℕ) (output : Option (List ℕ)) (line : ℕ) (kind : ImageFaultKind)
     → IsReadFaultOf kind (record { line = line; kind = kind }) (image_text text)
-    → IsUnwritten starts makes view waits cores room turns text output output (outcome_of_fault kind (record { line = line; kind = kind }))
-refused starts makes view waits cores room turns text output line kind.NoMemory is = keeps_itself output
-refused starts makes view waits cores room turns text output line other is = (is, keeps_itself output)
+    → IsUnwritten starts makes view waits cores settings turns text output output (outcome_of_fault kind (record { line = line; kind = kind }))
+refused starts makes view waits cores settings turns text output line kind.NoMemory is = keeps_itself output
+refused starts makes view waits cores settings turns text output line other is = (is, keeps_itself output)

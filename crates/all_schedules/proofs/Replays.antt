@@ -7,7 +7,6 @@ use Rattle.rv32_exec.specs.declared.sequential.End.{End}
 use Rattle.spec_history.specs.declared.entry.Entry.{Entry}
 use Rattle.violations.specs.View.{StoreView, Waits}
 use Rattle.violations.specs.Calls.{Call}
-use Rattle.violations.specs.Rule.{IsCoreCount}
 use Rattle.homefree.specs.declared.book.Loop.{Loop}
 use Rattle.homefree.specs.declared.fault.TurnFault.{TurnFault}
 use Rattle.homefree.specs.declared.fault.TurnFault.TheVariants as fault
@@ -22,7 +21,9 @@ use Rattle.trace_commands.specs.Outcome.{outcome_of_turns_fault}
 use Rattle.trace_commands.specs.Audit.{IsNoVerdict, IsTracedBy}
 use Rattle.trace_commands.proofs.Audits.{keeps_itself}
 use Rattle.turn_steps.specs.Writing.{AppendsFirst}
-use Rattle.all_schedules.specs.Made.{IsFault, IsFull, Makes, loop_on}
+use Rattle.all_schedules.specs.declared.settings.Settings.{Settings}
+use Rattle.all_schedules.specs.Settings.{RunsWith, loop_with}
+use Rattle.all_schedules.specs.Made.{IsFault, IsFull, Makes}
 use Rattle.all_schedules.specs.Shown.{IsShown}
 use Rattle.all_schedules.specs.Replay.{IsFullOutcome, IsLinesOutcome, IsNoReplay, IsPrinted, IsReplay, IsTurnsOutcome, IsUnprinted, IsUnreadOutcome, HasBegunOn, OfText, cause_of}
 use Rattle.all_schedules.specs.Fixed.{HistoryIsFixed}
@@ -74,26 +75,31 @@ module _ {S : Type 0} (starts : LoadedImage → ℕ → S → Type 0) (makes : S
   full_comes l schedule (BadTurns f) is = absurd is
   full_comes l schedule (Differs place) is = absurd is
 
-  pub lines_come : (cores room : ℕ) (text : List ℕ) (image : LoadedImage) (schedule : List ℕ) (old new : Option (List ℕ)) (outcome : Outcome) → image_text (image_part text) ≡ Ok image
-      → IsCoreCount image cores → schedule_text cores text ≡ Ok schedule → IsTurnsOutcome starts makes view waits heads (loop_on image cores room) schedule old new outcome
-      → IsLinesOutcome starts makes view waits heads cores room text old new outcome
-  lines_come cores room text image schedule old new outcome said allowed turns so =
-      let l = loop_on image cores room in
-      comes_by (IsReplay starts makes view waits heads l schedule) (λ o printed. OfText cores room text (λ l schedule. IsReplay starts makes view waits heads l schedule o printed))
-      (IsFullOutcome starts makes view waits l schedule) (IsNoReplay starts makes view waits cores room text)
-      (HasBegun heads l schedule old new) (OfText cores room text (λ l schedule. HasBegun heads l schedule old new)) old new outcome
-      (λ o printed is. by_text cores room text image schedule (λ l schedule. IsReplay starts makes view waits heads l schedule o printed) said allowed turns is)
-      (λ o is. let full = full_comes l schedule o is in subst (IsNoReplay starts makes view waits cores room text) (sym full.0) (by_text cores room text image schedule (IsFull starts makes view waits) said allowed turns full.1))
-      (λ begun. by_text cores room text image schedule (λ l schedule. HasBegun heads l schedule old new) said allowed turns begun) so
+  pub lines_come : (cores : ℕ) (settings : Settings) (text : List ℕ) (image : LoadedImage) (schedule : List ℕ) (old new : Option (List ℕ)) (outcome : Outcome) → image_text (image_part text) ≡ Ok image
+      → RunsWith image cores settings → schedule_text cores text ≡ Ok schedule → IsTurnsOutcome starts makes view waits heads (loop_with image cores settings) schedule old new outcome
+      → IsLinesOutcome starts makes view waits heads cores settings text old new outcome
+  lines_come cores settings text image schedule old new outcome said allowed turns so =
+      let l = loop_with image cores settings in
+      comes_by (IsReplay starts makes view waits heads l schedule) (λ o printed. OfText cores settings text (λ l schedule. IsReplay starts makes view waits heads l schedule o printed))
+      (IsFullOutcome starts makes view waits l schedule) (IsNoReplay starts makes view waits cores settings text)
+      (HasBegun heads l schedule old new) (OfText cores settings text (λ l schedule. HasBegun heads l schedule old new)) old new outcome
+      (λ o printed is. by_text cores settings text image schedule (λ l schedule. IsReplay starts makes view waits heads l schedule o printed) said allowed turns is)
+      (λ o is. let full = full_comes l schedule o is in subst (IsNoReplay starts makes view waits cores settings text) (sym full.0) (by_text cores settings text image schedule (IsFull starts makes view waits) said allowed turns full.1))
+      (λ begun. by_text cores settings text image schedule (λ l schedule. HasBegun heads l schedule old new) said allowed turns begun) so
+
+  -- the machine can't run the image
+  pub lines_cannot : (cores : ℕ) (settings : Settings) (text : List ℕ) (old : Option (List ℕ)) (image : LoadedImage) → image_text (image_part text) ≡ Ok image → (RunsWith image cores settings → ⊥)
+      → IsLinesOutcome starts makes view waits heads cores settings text old old Usage
+  lines_cannot cores settings text old image said cannot = (by_image text image (λ i. RunsWith i cores settings → ⊥) said cannot, keeps_itself old)
 
   -- the lines of turns are refused
-  pub turns_refused : (cores room : ℕ) (text : List ℕ) (old : Option (List ℕ)) (line : ℕ) (kind : TraceFaultKind) (image : LoadedImage) → image_text (image_part text) ≡ Ok image → IsCoreCount image cores
+  pub turns_refused : (cores : ℕ) (settings : Settings) (text : List ℕ) (old : Option (List ℕ)) (line : ℕ) (kind : TraceFaultKind) (image : LoadedImage) → image_text (image_part text) ≡ Ok image → RunsWith image cores settings
       → IsFaultOf kind (record { line = line; kind = kind }) (schedule_text cores text)
-      → IsLinesOutcome starts makes view waits heads cores room text old old (outcome_of_turns_fault kind (record { line = line; kind = kind }))
-  turns_refused cores room text old line trace.Read image said allowed is = absurd is
-  turns_refused cores room text old line trace.NoMemory image said allowed is = inl (keeps_itself old)
-  turns_refused cores room text old line kind image said allowed is =
-      (by_image text image (λ l. IsCoreCount l cores × (schedule_text cores text ≡ Err (record { line = line; kind = kind }))) said (allowed, is), keeps_itself old)
+      → IsLinesOutcome starts makes view waits heads cores settings text old old (outcome_of_turns_fault kind (record { line = line; kind = kind }))
+  turns_refused cores settings text old line trace.Read image said allowed is = absurd is
+  turns_refused cores settings text old line trace.NoMemory image said allowed is = inl (keeps_itself old)
+  turns_refused cores settings text old line kind image said allowed is =
+      (by_image text image (λ l. RunsWith l cores settings × (schedule_text cores text ≡ Err (record { line = line; kind = kind }))) said (allowed, is), keeps_itself old)
 
   -- ---- a trace
 
@@ -144,78 +150,84 @@ module _ {S : Type 0} (starts : LoadedImage → ℕ → S → Type 0) (makes : S
         (λ o no. absurd no) (λ begun. begun) so
 
   -- the input has no image and no trace
-  pub verdict_comes : (cores : Option ℕ) (room : ℕ) (text : List ℕ) (old : Option (List ℕ)) (o : Outcome) → IsNoVerdict text o → IsRetraceOutcome starts makes view waits heads cores room text old old o
-  verdict_comes cores room text old (BadImage f) is = (is, keeps_itself old)
-  verdict_comes cores room text old (BadTrace f) is = (is, keeps_itself old)
-  verdict_comes cores room text old (Stopped cause.NoMemory) is = inl (keeps_itself old)
-  verdict_comes cores room text old (Stopped cause.HistoryFull) is = absurd is
-  verdict_comes cores room text old (Stopped cause.Write) is = absurd is
-  verdict_comes cores room text old (Stopped cause.NoThread) is = absurd is
-  verdict_comes cores room text old (Stopped cause.Spent) is = absurd is
-  verdict_comes cores room text old (Stopped cause.Shut) is = absurd is
-  verdict_comes cores room text old (Reported end) is = absurd is
-  verdict_comes cores room text old (Audited verdict) is = absurd is
-  verdict_comes cores room text old Usage is = absurd is
-  verdict_comes cores room text old (Open homefree) is = absurd is
-  verdict_comes cores room text old (BadTurns f) is = absurd is
-  verdict_comes cores room text old (Differs place) is = absurd is
+  pub verdict_comes : (cores : Option ℕ) (settings : Settings) (text : List ℕ) (old : Option (List ℕ)) (o : Outcome) → IsNoVerdict text o → IsRetraceOutcome starts makes view waits heads cores settings text old old o
+  verdict_comes cores settings text old (BadImage f) is = (is, keeps_itself old)
+  verdict_comes cores settings text old (BadTrace f) is = (is, keeps_itself old)
+  verdict_comes cores settings text old (Stopped cause.NoMemory) is = inl (keeps_itself old)
+  verdict_comes cores settings text old (Stopped cause.HistoryFull) is = absurd is
+  verdict_comes cores settings text old (Stopped cause.Write) is = absurd is
+  verdict_comes cores settings text old (Stopped cause.NoThread) is = absurd is
+  verdict_comes cores settings text old (Stopped cause.Spent) is = absurd is
+  verdict_comes cores settings text old (Stopped cause.Shut) is = absurd is
+  verdict_comes cores settings text old (Reported end) is = absurd is
+  verdict_comes cores settings text old (Audited verdict) is = absurd is
+  verdict_comes cores settings text old Usage is = absurd is
+  verdict_comes cores settings text old (Open homefree) is = absurd is
+  verdict_comes cores settings text old (BadTurns f) is = absurd is
+  verdict_comes cores settings text old (Differs place) is = absurd is
 
-  no_retrace : (cores : Option ℕ) (room : ℕ) (text : List ℕ) (image : LoadedImage) (number : ℕ) (entries : List Entry) → IsTracedBy text image number entries → is_other cores number ≡ false
-      → (o : Outcome) → IsNotRetraced starts makes view waits (loop_on image number room) entries o → IsNoRetrace starts makes view waits cores room text o
-  no_retrace cores room text image number entries traced same (Differs place) is =
-      record { image = image; number = number; entries = entries; traced = traced; same = same; holds = is }
-  no_retrace cores room text image number entries traced same (Stopped cause.HistoryFull) is =
-      record { image = image; number = number; entries = entries; traced = traced; same = same; holds = is }
-  no_retrace cores room text image number entries traced same (Stopped cause.NoMemory) is = tt
-  no_retrace cores room text image number entries traced same (Stopped cause.Write) is = absurd is
-  no_retrace cores room text image number entries traced same (Stopped cause.NoThread) is = absurd is
-  no_retrace cores room text image number entries traced same (Stopped cause.Spent) is = absurd is
-  no_retrace cores room text image number entries traced same (Stopped cause.Shut) is = absurd is
-  no_retrace cores room text image number entries traced same (Reported end) is = absurd is
-  no_retrace cores room text image number entries traced same (Audited verdict) is = absurd is
-  no_retrace cores room text image number entries traced same Usage is = absurd is
-  no_retrace cores room text image number entries traced same (BadImage f) is = absurd is
-  no_retrace cores room text image number entries traced same (BadTrace f) is = absurd is
-  no_retrace cores room text image number entries traced same (Open homefree) is = absurd is
-  no_retrace cores room text image number entries traced same (BadTurns f) is = absurd is
+  no_retrace : (cores : Option ℕ) (settings : Settings) (text : List ℕ) (image : LoadedImage) (number : ℕ) (entries : List Entry) → IsTracedBy text image number entries → is_other cores number ≡ false → RunsWith image number settings
+      → (o : Outcome) → IsNotRetraced starts makes view waits (loop_with image number settings) entries o → IsNoRetrace starts makes view waits cores settings text o
+  no_retrace cores settings text image number entries traced same runs (Differs place) is =
+      record { image = image; number = number; entries = entries; traced = traced; same = same; runs = runs; holds = is }
+  no_retrace cores settings text image number entries traced same runs (Stopped cause.HistoryFull) is =
+      record { image = image; number = number; entries = entries; traced = traced; same = same; runs = runs; holds = is }
+  no_retrace cores settings text image number entries traced same runs (Stopped cause.NoMemory) is = tt
+  no_retrace cores settings text image number entries traced same runs (Stopped cause.Write) is = absurd is
+  no_retrace cores settings text image number entries traced same runs (Stopped cause.NoThread) is = absurd is
+  no_retrace cores settings text image number entries traced same runs (Stopped cause.Spent) is = absurd is
+  no_retrace cores settings text image number entries traced same runs (Stopped cause.Shut) is = absurd is
+  no_retrace cores settings text image number entries traced same runs (Reported end) is = absurd is
+  no_retrace cores settings text image number entries traced same runs (Audited verdict) is = absurd is
+  no_retrace cores settings text image number entries traced same runs Usage is = absurd is
+  no_retrace cores settings text image number entries traced same runs (BadImage f) is = absurd is
+  no_retrace cores settings text image number entries traced same runs (BadTrace f) is = absurd is
+  no_retrace cores settings text image number entries traced same runs (Open homefree) is = absurd is
+  no_retrace cores settings text image number entries traced same runs (BadTurns f) is = absurd is
 
-  pub trace_comes : (cores : Option ℕ) (room : ℕ) (text : List ℕ) (image : LoadedImage) (number : ℕ) (entries : List Entry) (old new : Option (List ℕ)) (outcome : Outcome)
-      → IsTracedBy text image number entries → is_other cores number ≡ false → IsTraceOutcome starts makes view waits heads (loop_on image number room) entries old new outcome
-      → IsRetraceOutcome starts makes view waits heads cores room text old new outcome
-  trace_comes cores room text image number entries old new outcome traced same so =
-      let l = loop_on image number room in
-      comes_by (IsRetraced starts makes view waits heads l entries) (λ o printed. OfTrace cores room text (λ l entries. IsRetraced starts makes view waits heads l entries o printed))
-      (IsNotRetraced starts makes view waits l entries) (IsNoRetrace starts makes view waits cores room text)
-      (HasBegun heads l (turns_of l.cores entries) old new) (OfTrace cores room text (λ l entries. HasBegun heads l (turns_of l.cores entries) old new)) old new outcome
-      (λ o printed is. record { image = image; number = number; entries = entries; traced = traced; same = same; holds = is })
-      (no_retrace cores room text image number entries traced same)
-      (λ begun. record { image = image; number = number; entries = entries; traced = traced; same = same; holds = begun }) so
+  pub trace_comes : (cores : Option ℕ) (settings : Settings) (text : List ℕ) (image : LoadedImage) (number : ℕ) (entries : List Entry) (old new : Option (List ℕ)) (outcome : Outcome)
+      → IsTracedBy text image number entries → is_other cores number ≡ false → RunsWith image number settings
+      → IsTraceOutcome starts makes view waits heads (loop_with image number settings) entries old new outcome
+      → IsRetraceOutcome starts makes view waits heads cores settings text old new outcome
+  trace_comes cores settings text image number entries old new outcome traced same runs so =
+      let l = loop_with image number settings in
+      comes_by (IsRetraced starts makes view waits heads l entries) (λ o printed. OfTrace cores settings text (λ l entries. IsRetraced starts makes view waits heads l entries o printed))
+      (IsNotRetraced starts makes view waits l entries) (IsNoRetrace starts makes view waits cores settings text)
+      (HasBegun heads l (turns_of l.cores entries) old new) (OfTrace cores settings text (λ l entries. HasBegun heads l (turns_of l.cores entries) old new)) old new outcome
+      (λ o printed is. record { image = image; number = number; entries = entries; traced = traced; same = same; runs = runs; holds = is })
+      (no_retrace cores settings text image number entries traced same runs)
+      (λ begun. record { image = image; number = number; entries = entries; traced = traced; same = same; runs = runs; holds = begun }) so
+
+  -- the machine can't run the image of the trace
+  pub no_machine : (cores : Option ℕ) (settings : Settings) (text : List ℕ) (image : LoadedImage) (number : ℕ) (entries : List Entry) (old : Option (List ℕ)) → IsTracedBy text image number entries
+      → (RunsWith image number settings → ⊥) → IsRetraceOutcome starts makes view waits heads cores settings text old old Usage
+  no_machine cores settings text image number entries old traced cannot = (inr (record { image = image; number = number; entries = entries; traced = traced; cannot = cannot }), keeps_itself old)
 
   -- ---- a text
 
-  pub from_trace : (cores : Option ℕ) (room : ℕ) (text : List ℕ) (old new : Option (List ℕ)) (outcome : Outcome) (b : Bool) → b ≡ true → IsRetraceOutcome starts makes view waits heads cores room text old new outcome
-      → Comes (λ o printed. IsPrinted starts makes view waits heads b cores room text o printed) (λ o. IsUnreadOutcome text o ⊎ IsUnprinted starts makes view waits b cores room text o)
-      (HasBegunOn heads b cores room text old new) old new outcome
-  from_trace cores room text old new outcome false is so = absurd cc
-  from_trace cores room text old new outcome true is so =
-      comes_by (λ o printed. IsPrinted starts makes view waits heads true cores room text o printed) (λ o printed. IsPrinted starts makes view waits heads true cores room text o printed)
-      (IsNoRetrace starts makes view waits cores room text) (λ o. IsUnreadOutcome text o ⊎ IsUnprinted starts makes view waits true cores room text o)
-      (HasBegunOn heads true cores room text old new) (HasBegunOn heads true cores room text old new) old new outcome (λ o printed p. p) (λ o u. inr u) (λ begun. begun) so
+  pub from_trace : (cores : Option ℕ) (settings : Settings) (text : List ℕ) (old new : Option (List ℕ)) (outcome : Outcome) (b : Bool) → b ≡ true → IsRetraceOutcome starts makes view waits heads cores settings text old new outcome
+      → Comes (λ o printed. IsPrinted starts makes view waits heads b cores settings text o printed) (λ o. IsUnreadOutcome text o ⊎ IsUnprinted starts makes view waits b cores settings text o)
+      (HasBegunOn heads b cores settings text old new) old new outcome
+  from_trace cores settings text old new outcome false is so = absurd cc
+  from_trace cores settings text old new outcome true is so =
+      comes_by (λ o printed. IsPrinted starts makes view waits heads true cores settings text o printed) (λ o printed. IsPrinted starts makes view waits heads true cores settings text o printed)
+      (IsNoRetrace starts makes view waits cores settings text) (λ o. IsUnreadOutcome text o ⊎ IsUnprinted starts makes view waits true cores settings text o)
+      (HasBegunOn heads true cores settings text old new) (HasBegunOn heads true cores settings text old new) old new outcome (λ o printed p. p) (λ o u. inr u) (λ begun. begun) so
 
-  pub from_lines : (cores room : ℕ) (text : List ℕ) (old new : Option (List ℕ)) (outcome : Outcome) (b : Bool) → b ≡ false → IsLinesOutcome starts makes view waits heads cores room text old new outcome
-      → Comes (λ o printed. IsPrinted starts makes view waits heads b (Some cores) room text o printed) (λ o. IsUnreadOutcome text o ⊎ IsUnprinted starts makes view waits b (Some cores) room text o)
-      (HasBegunOn heads b (Some cores) room text old new) old new outcome
-  from_lines cores room text old new outcome true is so = absurd cc
-  from_lines cores room text old new outcome false is so =
-      comes_by (λ o printed. IsPrinted starts makes view waits heads false (Some cores) room text o printed) (λ o printed. IsPrinted starts makes view waits heads false (Some cores) room text o printed)
-      (IsNoReplay starts makes view waits cores room text) (λ o. IsUnreadOutcome text o ⊎ IsUnprinted starts makes view waits false (Some cores) room text o)
-      (HasBegunOn heads false (Some cores) room text old new) (HasBegunOn heads false (Some cores) room text old new) old new outcome (λ o printed p. p) (λ o u. inr u) (λ begun. begun) so
+  pub from_lines : (cores : ℕ) (settings : Settings) (text : List ℕ) (old new : Option (List ℕ)) (outcome : Outcome) (b : Bool) → b ≡ false → IsLinesOutcome starts makes view waits heads cores settings text old new outcome
+      → Comes (λ o printed. IsPrinted starts makes view waits heads b (Some cores) settings text o printed) (λ o. IsUnreadOutcome text o ⊎ IsUnprinted starts makes view waits b (Some cores) settings text o)
+      (HasBegunOn heads b (Some cores) settings text old new) old new outcome
+  from_lines cores settings text old new outcome true is so = absurd cc
+  from_lines cores settings text old new outcome false is so =
+      comes_by (λ o printed. IsPrinted starts makes view waits heads false (Some cores) settings text o printed) (λ o printed. IsPrinted starts makes view waits heads false (Some cores) settings text o printed)
+      (IsNoReplay starts makes view waits cores settings text) (λ o. IsUnreadOutcome text o ⊎ IsUnprinted starts makes view waits false (Some cores) settings text o)
+      (HasBegunOn heads false (Some cores) settings text old new) (HasBegunOn heads false (Some cores) settings text old new) old new outcome (λ o printed p. p) (λ o u. inr u) (λ begun. begun) so
 
-  pub from_none : (room : ℕ) (text : List ℕ) (old : Option (List ℕ)) (b : Bool) → b ≡ false
-      → Comes (λ o printed. IsPrinted starts makes view waits heads b None room text o printed) (λ o. IsUnreadOutcome text o ⊎ IsUnprinted starts makes view waits b None room text o)
-      (HasBegunOn heads b None room text old old) old old Usage
-  from_none room text old true is = absurd cc
-  from_none room text old false is = (inr tt, keeps_itself old)
+  pub from_none : (settings : Settings) (text : List ℕ) (old : Option (List ℕ)) (b : Bool) → b ≡ false
+      → Comes (λ o printed. IsPrinted starts makes view waits heads b None settings text o printed) (λ o. IsUnreadOutcome text o ⊎ IsUnprinted starts makes view waits b None settings text o)
+      (HasBegunOn heads b None settings text old old) old old Usage
+  from_none settings text old true is = absurd cc
+  from_none settings text old false is = (inr tt, keeps_itself old)
 
 -- ---- a history that is made once more, while its turns are told
 

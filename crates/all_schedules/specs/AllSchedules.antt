@@ -3,11 +3,9 @@
 use Rattle.std.specs.Prelude.{◌≡◌, ◌⊎◌, ℕ, ◌<◌, List, Option, MatchResult, Contains}
 use Rattle.std.specs.Io.KnownBytes.{Appends, Keeps}
 use Rattle.rv32_image.specs.ImageText.{image_text}
-use Rattle.rv32_image.specs.Version.{limits_of}
 use Rattle.rv32_image.specs.Image.{LoadedImage}
 use Rattle.violations.specs.View.{StoreView, Waits}
 use Rattle.violations.specs.Calls.{Call}
-use Rattle.violations.specs.Rule.{IsCoreCount}
 use Rattle.homefree.specs.declared.book.Loop.{Loop}
 use Rattle.trace_commands.specs.declared.outcome.Outcome.{Outcome}
 use Rattle.trace_commands.specs.declared.outcome.Outcome.TheVariants.{Usage, BadImage, Stopped}
@@ -15,7 +13,9 @@ use Rattle.trace_commands.specs.declared.outcome.CommandStop.{CommandStop}
 use Rattle.trace_commands.specs.declared.outcome.CommandStop.TheVariants.{Write, NoMemory, HistoryFull}
 use Rattle.trace_commands.specs.Outcome.{AppendsPrefix, Conclusion, IsRefusal}
 use Rattle.all_schedules.specs.declared.survey.Survey.{Survey}
-use Rattle.all_schedules.specs.Made.{IsFull, loop_on}
+use Rattle.all_schedules.specs.declared.settings.Settings.{Settings}
+use Rattle.all_schedules.specs.Settings.{IsRunnable, loop_with}
+use Rattle.all_schedules.specs.Made.{IsFull}
 use Rattle.all_schedules.specs.Schedules.{AreAllSchedules}
 use Rattle.all_schedules.specs.Survey.{Surveys}
 use Rattle.all_schedules.specs.SurveyText.{survey_text}
@@ -47,29 +47,29 @@ IsAllStop starts makes view waits l turns other = ⊥
 
 -- it was written
 abbrev pub IsWrittenOf : {S : Type 0} → (LoadedImage → ℕ → S → Type 0) → (S → Call → S → Type 0) → (S → StoreView) → (S → Waits) → Loop → ℕ → Option (List ℕ) → Option (List ℕ) → Type 0
-IsWrittenOf starts makes view waits l turns old new = IsCoreCount l.image l.cores × (text : List ℕ) × IsAll starts makes view waits l turns text × Appends old new text
+IsWrittenOf starts makes view waits l turns old new = IsRunnable l.image l.cores × (text : List ℕ) × IsAll starts makes view waits l turns text × Appends old new text
 
--- it wasn't: the version doesn't allow so many cores, the history of a schedule is full, memory ran out or a write failed
+-- it wasn't: the machine or the number of cores is refused, the history of a schedule is full, memory ran out or a write failed
 abbrev pub IsUnwrittenOf : {S : Type 0} → (LoadedImage → ℕ → S → Type 0) → (S → Call → S → Type 0) → (S → StoreView) → (S → Waits) → Loop → ℕ → Option (List ℕ) → Option (List ℕ) → Outcome → Type 0
-IsUnwrittenOf starts makes view waits l turns old new Usage = ((limits_of l.image.version).most_cores < l.cores) × Keeps old new
-IsUnwrittenOf starts makes view waits l turns old new (Stopped Write) = IsCoreCount l.image l.cores × (text : List ℕ) × IsAll starts makes view waits l turns text × AppendsPrefix old new text
+IsUnwrittenOf starts makes view waits l turns old new Usage = (IsRunnable l.image l.cores → ⊥) × Keeps old new
+IsUnwrittenOf starts makes view waits l turns old new (Stopped Write) = IsRunnable l.image l.cores × (text : List ℕ) × IsAll starts makes view waits l turns text × AppendsPrefix old new text
 IsUnwrittenOf starts makes view waits l turns old new (Stopped cause) = IsAllStop starts makes view waits l turns cause × Keeps old new
 IsUnwrittenOf starts makes view waits l turns old new outcome = ⊥
 
 -- ---- of a text
 
-abbrev pub IsWritten : {S : Type 0} → (LoadedImage → ℕ → S → Type 0) → (S → Call → S → Type 0) → (S → StoreView) → (S → Waits) → ℕ → ℕ → ℕ → List ℕ → Option (List ℕ) → Option (List ℕ) → Type 0
-IsWritten starts makes view waits cores room turns text old new =
-    MatchResult (image_text text) (λ image. IsWrittenOf starts makes view waits (loop_on image cores room) turns old new) (λ fault. ⊥)
+abbrev pub IsWritten : {S : Type 0} → (LoadedImage → ℕ → S → Type 0) → (S → Call → S → Type 0) → (S → StoreView) → (S → Waits) → ℕ → Settings → ℕ → List ℕ → Option (List ℕ) → Option (List ℕ) → Type 0
+IsWritten starts makes view waits cores settings turns text old new =
+    MatchResult (image_text text) (λ image. IsWrittenOf starts makes view waits (loop_with image cores settings) turns old new) (λ fault. ⊥)
 
-abbrev pub IsUnwritten : {S : Type 0} → (LoadedImage → ℕ → S → Type 0) → (S → Call → S → Type 0) → (S → StoreView) → (S → Waits) → ℕ → ℕ → ℕ → List ℕ → Option (List ℕ) → Option (List ℕ) → Outcome → Type 0
-IsUnwritten starts makes view waits cores room turns text old new (BadImage fault) = IsRefusal fault.kind fault (image_text text) × Keeps old new
-IsUnwritten starts makes view waits cores room turns text old new (Stopped NoMemory) = Keeps old new
-IsUnwritten starts makes view waits cores room turns text old new outcome =
-    MatchResult (image_text text) (λ image. IsUnwrittenOf starts makes view waits (loop_on image cores room) turns old new outcome) (λ fault. ⊥)
+abbrev pub IsUnwritten : {S : Type 0} → (LoadedImage → ℕ → S → Type 0) → (S → Call → S → Type 0) → (S → StoreView) → (S → Waits) → ℕ → Settings → ℕ → List ℕ → Option (List ℕ) → Option (List ℕ) → Outcome → Type 0
+IsUnwritten starts makes view waits cores settings turns text old new (BadImage fault) = IsRefusal fault.kind fault (image_text text) × Keeps old new
+IsUnwritten starts makes view waits cores settings turns text old new (Stopped NoMemory) = Keeps old new
+IsUnwritten starts makes view waits cores settings turns text old new outcome =
+    MatchResult (image_text text) (λ image. IsUnwrittenOf starts makes view waits (loop_with image cores settings) turns old new outcome) (λ fault. ⊥)
 
 -- it was written, and the status is 0; or the program concludes with what kept it from being written
-abbrev pub AllAnswers : {S : Type 0} → (LoadedImage → ℕ → S → Type 0) → (S → Call → S → Type 0) → (S → StoreView) → (S → Waits) → ℕ → ℕ → ℕ → List ℕ → Stream → Stream → ℕ → Type 0
-AllAnswers starts makes view waits cores room turns text output errors status =
-    ((status ≡ 0) × IsWritten starts makes view waits cores room turns text output.old output.new × Keeps errors.old errors.new)
-    ⊎ Conclusion (IsUnwritten starts makes view waits cores room turns text output.old output.new) errors.old errors.new status
+abbrev pub AllAnswers : {S : Type 0} → (LoadedImage → ℕ → S → Type 0) → (S → Call → S → Type 0) → (S → StoreView) → (S → Waits) → ℕ → Settings → ℕ → List ℕ → Stream → Stream → ℕ → Type 0
+AllAnswers starts makes view waits cores settings turns text output errors status =
+    ((status ≡ 0) × IsWritten starts makes view waits cores settings turns text output.old output.new × Keeps errors.old errors.new)
+    ⊎ Conclusion (IsUnwritten starts makes view waits cores settings turns text output.old output.new) errors.old errors.new status

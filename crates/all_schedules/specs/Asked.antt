@@ -11,20 +11,12 @@ use Rattle.all_schedules.specs.declared.detail.Detail.{Detail}
 use Rattle.all_schedules.specs.declared.detail.Detail.TheVariants.{Whole, Steps}
 use Rattle.all_schedules.specs.declared.paced.Pace.{Pace}
 use Rattle.all_schedules.specs.declared.paced.Pace.TheVariants.{Even, Seeded}
-use Rattle.all_schedules.specs.declared.words.Store.{Store}
-use Rattle.all_schedules.specs.declared.words.Store.TheVariants.{Caches, Plain}
+use Rattle.trace_commands.specs.Stores.{store_named}
 use Rattle.all_schedules.specs.declared.words.Turns.{Turns}
 use Rattle.all_schedules.specs.declared.words.Turns.TheVariants.{Given, Every, Paced}
 use Rattle.all_schedules.specs.declared.words.Request.{Request}
 
 -- ---- words
-
--- `caches` or `plain`
-abbrev pub store_named : List ℕ → Option Store
-store_named word =
-    if bytes_eq word (codes "caches") then Some Caches
-    else if bytes_eq word (codes "plain") then Some Plain
-    else None
 
 -- decimal digits, with no leading 0 except 0 itself
 abbrev pub is_decimal : List ℕ → Bool

@@ -1,6 +1,7 @@
 -- Definitions to believe: which schedules there are, what a schedule makes, and what schedules come to together.
 pub mod Schedules
 pub mod Made
+pub mod Settings
 pub mod Evenly
 pub mod Drawn
 pub mod Survey

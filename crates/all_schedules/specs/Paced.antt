@@ -2,13 +2,11 @@
 -- Source: this project.
 use Rattle.std.specs.Prelude.{◌≡◌, ℕ, ◌<◌, ◌++◌, List, Option, Some, Ok, MatchResult}
 use Rattle.std.specs.Io.KnownBytes.{Appends, Keeps}
-use Rattle.rv32_image.specs.Version.{limits_of}
 use Rattle.rv32_image.specs.ImageText.{image_text}
 use Rattle.rv32_image.specs.Image.{LoadedImage}
 use Rattle.spec_history.specs.declared.entry.Entry.{Entry}
 use Rattle.violations.specs.View.{StoreView, Waits}
 use Rattle.violations.specs.Calls.{Call}
-use Rattle.violations.specs.Rule.{IsCoreCount}
 use Rattle.homefree.specs.declared.book.Loop.{Loop}
 use Rattle.homefree.specs.declared.fault.TurnFault.TheVariants as fault
 use Rattle.trace_commands.specs.declared.outcome.Outcome.{Outcome}
@@ -19,7 +17,8 @@ use Rattle.trace_commands.specs.Outcome.{AppendsPrefix, IsRefusal}
 use Rattle.homefree.specs.declared.fault.TurnFault.{TurnFault}
 use Rattle.rv32_exec.specs.declared.sequential.End.{End}
 use Rattle.even_speed.specs.declared.run.Ran.{Ran}
-use Rattle.all_schedules.specs.Made.{loop_on}
+use Rattle.all_schedules.specs.declared.settings.Settings.{Settings}
+use Rattle.all_schedules.specs.Settings.{IsRunnable, loop_with}
 use Rattle.all_schedules.specs.Evenly.{IsEvenFault, MakesEvenly}
 use Rattle.all_schedules.specs.Drawn.{IsDrawnFault, MakesDrawn}
 use Rattle.all_schedules.specs.SurveyText.{turns_line}
@@ -54,21 +53,21 @@ IsPacedStop starts makes view waits pace l other = ⊥
 
 -- it was written
 abbrev pub IsPacedWritten : {S : Type 0} → (LoadedImage → ℕ → S → Type 0) → (S → Call → S → Type 0) → (S → StoreView) → (S → Waits) → Pace → Loop → Option (List ℕ) → Option (List ℕ) → Outcome → Type 0
-IsPacedWritten starts makes view waits pace l old new outcome = IsCoreCount l.image l.cores × (text : List ℕ) × IsPacedText starts makes view waits pace l outcome text × Appends old new text
+IsPacedWritten starts makes view waits pace l old new outcome = IsRunnable l.image l.cores × (text : List ℕ) × IsPacedText starts makes view waits pace l outcome text × Appends old new text
 
 -- what the run of an image came to is right, and this was written
 abbrev pub IsPacedOf : {S : Type 0} → (LoadedImage → ℕ → S → Type 0) → (S → Call → S → Type 0) → (S → StoreView) → (S → Waits) → Pace → Loop → Option (List ℕ) → Option (List ℕ) → Outcome → Type 0
 IsPacedOf starts makes view waits pace l old new (Reported end) = IsPacedWritten starts makes view waits pace l old new (Reported end)
 IsPacedOf starts makes view waits pace l old new (Open homefree) = IsPacedWritten starts makes view waits pace l old new (Open homefree)
 IsPacedOf starts makes view waits pace l old new (Stopped Write) =
-    IsCoreCount l.image l.cores × (outcome : Outcome) × (text : List ℕ) × IsPacedText starts makes view waits pace l outcome text × AppendsPrefix old new text
+    IsRunnable l.image l.cores × (outcome : Outcome) × (text : List ℕ) × IsPacedText starts makes view waits pace l outcome text × AppendsPrefix old new text
 IsPacedOf starts makes view waits pace l old new (Stopped cause) = IsPacedStop starts makes view waits pace l cause × Keeps old new
-IsPacedOf starts makes view waits pace l old new Usage = ((limits_of l.image.version).most_cores < l.cores) × Keeps old new
+IsPacedOf starts makes view waits pace l old new Usage = (IsRunnable l.image l.cores → ⊥) × Keeps old new
 IsPacedOf starts makes view waits pace l old new outcome = ⊥
 
 -- and so of a text
-abbrev pub IsPacedOutcome : {S : Type 0} → (LoadedImage → ℕ → S → Type 0) → (S → Call → S → Type 0) → (S → StoreView) → (S → Waits) → Pace → ℕ → ℕ → List ℕ → Option (List ℕ) → Option (List ℕ) → Outcome → Type 0
-IsPacedOutcome starts makes view waits pace cores room text old new (BadImage fault) = IsRefusal fault.kind fault (image_text text) × Keeps old new
-IsPacedOutcome starts makes view waits pace cores room text old new (Stopped NoMemory) = Keeps old new
-IsPacedOutcome starts makes view waits pace cores room text old new outcome =
-    MatchResult (image_text text) (λ image. IsPacedOf starts makes view waits pace (loop_on image cores room) old new outcome) (λ fault. ⊥)
+abbrev pub IsPacedOutcome : {S : Type 0} → (LoadedImage → ℕ → S → Type 0) → (S → Call → S → Type 0) → (S → StoreView) → (S → Waits) → Pace → ℕ → Settings → List ℕ → Option (List ℕ) → Option (List ℕ) → Outcome → Type 0
+IsPacedOutcome starts makes view waits pace cores settings text old new (BadImage fault) = IsRefusal fault.kind fault (image_text text) × Keeps old new
+IsPacedOutcome starts makes view waits pace cores settings text old new (Stopped NoMemory) = Keeps old new
+IsPacedOutcome starts makes view waits pace cores settings text old new outcome =
+    MatchResult (image_text text) (λ image. IsPacedOf starts makes view waits pace (loop_with image cores settings) old new outcome) (λ fault. ⊥)

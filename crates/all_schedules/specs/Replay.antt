@@ -1,14 +1,12 @@
 -- What the replay of a schedule or of a trace comes to, and what it wrote.
 -- Source: this project.
 use Rattle.std.specs.Prelude.{◌≡◌, ◌⊎◌, ℕ, ◌<◌, ◌≤◌, Bool, true, false, List, ◌++◌, length, Option, Some, None, Ok, Err, MatchResult}
-use Rattle.rv32_image.specs.Version.{limits_of}
 use Rattle.rv32_image.specs.ImageText.{image_text}
 use Rattle.rv32_image.specs.Image.{LoadedImage}
 use Rattle.rv32_exec.specs.declared.sequential.End.{End}
 use Rattle.spec_history.specs.declared.entry.Entry.{Entry}
 use Rattle.violations.specs.View.{StoreView, Waits}
 use Rattle.violations.specs.Calls.{Call}
-use Rattle.violations.specs.Rule.{IsCoreCount}
 use Rattle.homefree.specs.declared.book.Loop.{Loop}
 use Rattle.homefree.specs.declared.fault.TurnFault.{TurnFault}
 use Rattle.homefree.specs.declared.fault.TurnFault.TheVariants as fault
@@ -20,7 +18,9 @@ use Rattle.trace_commands.specs.declared.outcome.Outcome.{Outcome}
 use Rattle.trace_commands.specs.declared.outcome.Outcome.TheVariants.{Usage, BadImage, BadTurns, Stopped}
 use Rattle.trace_commands.specs.declared.outcome.CommandStop.{CommandStop}
 use Rattle.trace_commands.specs.declared.outcome.CommandStop.TheVariants.{NoMemory, HistoryFull}
-use Rattle.all_schedules.specs.Made.{IsFull, Makes, loop_on}
+use Rattle.all_schedules.specs.declared.settings.Settings.{Settings}
+use Rattle.all_schedules.specs.Settings.{RunsWith, loop_with}
+use Rattle.all_schedules.specs.Made.{IsFull, Makes}
 use Rattle.all_schedules.specs.Shown.{IsShown}
 use Rattle.all_schedules.specs.Told.{Comes, HasBegun}
 use Rattle.all_schedules.specs.Traced.{IsNoRetrace, IsRetraced, OfTrace, has_trace, turns_of}
@@ -63,44 +63,44 @@ IsTurnsOutcome starts makes view waits heads l schedule old new outcome =
 
 -- ---- lines of turns
 
--- of the image and the schedule that a text says for so many cores, which the image's version allows
-abbrev pub OfText : ℕ → ℕ → List ℕ → (Loop → List ℕ → Type 0) → Type 0
-OfText cores room text P =
+-- of the image and the schedule that a text says for so many cores, on which the machine can run it
+abbrev pub OfText : ℕ → Settings → List ℕ → (Loop → List ℕ → Type 0) → Type 0
+OfText cores settings text P =
     MatchResult (image_text (image_part text))
-    (λ image. IsCoreCount image cores × MatchResult (schedule_text cores text) (P (loop_on image cores room)) (λ fault. ⊥))
+    (λ image. RunsWith image cores settings × MatchResult (schedule_text cores text) (P (loop_with image cores settings)) (λ fault. ⊥))
     (λ fault. ⊥)
 
--- nothing is printed, since the image, the number of cores or the lines of turns are refused, the history is full or memory ran out
-abbrev pub IsNoReplay : {S : Type 0} → (LoadedImage → ℕ → S → Type 0) → (S → Call → S → Type 0) → (S → StoreView) → (S → Waits) → ℕ → ℕ → List ℕ → Outcome → Type 0
-IsNoReplay starts makes view waits cores room text Usage =
-    MatchResult (image_text (image_part text)) (λ image. (limits_of image.version).most_cores < cores) (λ fault. ⊥)
-IsNoReplay starts makes view waits cores room text (BadImage fault) = (image_text (image_part text) ≡ Err fault) × (length text ≤ longest_trace_text)
-IsNoReplay starts makes view waits cores room text (BadTurns fault) =
-    MatchResult (image_text (image_part text)) (λ image. IsCoreCount image cores × (schedule_text cores text ≡ Err fault)) (λ fault. ⊥)
-IsNoReplay starts makes view waits cores room text (Stopped HistoryFull) = OfText cores room text (IsFull starts makes view waits)
-IsNoReplay starts makes view waits cores room text (Stopped NoMemory) = Unit {0}
-IsNoReplay starts makes view waits cores room text outcome = ⊥
+-- nothing is printed, since the image, the machine, the number of cores or the lines of turns are refused, the history is full or memory ran out
+abbrev pub IsNoReplay : {S : Type 0} → (LoadedImage → ℕ → S → Type 0) → (S → Call → S → Type 0) → (S → StoreView) → (S → Waits) → ℕ → Settings → List ℕ → Outcome → Type 0
+IsNoReplay starts makes view waits cores settings text Usage =
+    MatchResult (image_text (image_part text)) (λ image. RunsWith image cores settings → ⊥) (λ fault. ⊥)
+IsNoReplay starts makes view waits cores settings text (BadImage fault) = (image_text (image_part text) ≡ Err fault) × (length text ≤ longest_trace_text)
+IsNoReplay starts makes view waits cores settings text (BadTurns fault) =
+    MatchResult (image_text (image_part text)) (λ image. RunsWith image cores settings × (schedule_text cores text ≡ Err fault)) (λ fault. ⊥)
+IsNoReplay starts makes view waits cores settings text (Stopped HistoryFull) = OfText cores settings text (IsFull starts makes view waits)
+IsNoReplay starts makes view waits cores settings text (Stopped NoMemory) = Unit {0}
+IsNoReplay starts makes view waits cores settings text outcome = ⊥
 
 -- what the replay of a text's lines of turns comes to is right, and this was written
-abbrev pub IsLinesOutcome : {S : Type 0} → (LoadedImage → ℕ → S → Type 0) → (S → Call → S → Type 0) → (S → StoreView) → (S → Waits) → (Loop → List ℕ → List Entry → List ℕ → Type 0) → ℕ → ℕ → List ℕ → Option (List ℕ) → Option (List ℕ) → Outcome → Type 0
-IsLinesOutcome starts makes view waits heads cores room text old new outcome =
-    Comes (λ o printed. OfText cores room text (λ l schedule. IsReplay starts makes view waits heads l schedule o printed)) (IsNoReplay starts makes view waits cores room text)
-    (OfText cores room text (λ l schedule. HasBegun heads l schedule old new)) old new outcome
+abbrev pub IsLinesOutcome : {S : Type 0} → (LoadedImage → ℕ → S → Type 0) → (S → Call → S → Type 0) → (S → StoreView) → (S → Waits) → (Loop → List ℕ → List Entry → List ℕ → Type 0) → ℕ → Settings → List ℕ → Option (List ℕ) → Option (List ℕ) → Outcome → Type 0
+IsLinesOutcome starts makes view waits heads cores settings text old new outcome =
+    Comes (λ o printed. OfText cores settings text (λ l schedule. IsReplay starts makes view waits heads l schedule o printed)) (IsNoReplay starts makes view waits cores settings text)
+    (OfText cores settings text (λ l schedule. HasBegun heads l schedule old new)) old new outcome
 
 -- ---- the whole input: a trace, or lines of turns for so many cores
 
 -- this is printed
-abbrev pub IsPrinted : {S : Type 0} → (LoadedImage → ℕ → S → Type 0) → (S → Call → S → Type 0) → (S → StoreView) → (S → Waits) → (Loop → List ℕ → List Entry → List ℕ → Type 0) → Bool → Option ℕ → ℕ → List ℕ → Outcome → List ℕ → Type 0
-IsPrinted starts makes view waits heads true cores room text outcome printed = OfTrace cores room text (λ l entries. IsRetraced starts makes view waits heads l entries outcome printed)
-IsPrinted starts makes view waits heads false (Some cores) room text outcome printed = OfText cores room text (λ l schedule. IsReplay starts makes view waits heads l schedule outcome printed)
-IsPrinted starts makes view waits heads false None room text outcome printed = ⊥
+abbrev pub IsPrinted : {S : Type 0} → (LoadedImage → ℕ → S → Type 0) → (S → Call → S → Type 0) → (S → StoreView) → (S → Waits) → (Loop → List ℕ → List Entry → List ℕ → Type 0) → Bool → Option ℕ → Settings → List ℕ → Outcome → List ℕ → Type 0
+IsPrinted starts makes view waits heads true cores settings text outcome printed = OfTrace cores settings text (λ l entries. IsRetraced starts makes view waits heads l entries outcome printed)
+IsPrinted starts makes view waits heads false (Some cores) settings text outcome printed = OfText cores settings text (λ l schedule. IsReplay starts makes view waits heads l schedule outcome printed)
+IsPrinted starts makes view waits heads false None settings text outcome printed = ⊥
 
 -- nothing is
-abbrev pub IsUnprinted : {S : Type 0} → (LoadedImage → ℕ → S → Type 0) → (S → Call → S → Type 0) → (S → StoreView) → (S → Waits) → Bool → Option ℕ → ℕ → List ℕ → Outcome → Type 0
-IsUnprinted starts makes view waits true cores room text outcome = IsNoRetrace starts makes view waits cores room text outcome
-IsUnprinted starts makes view waits false (Some cores) room text outcome = IsNoReplay starts makes view waits cores room text outcome
-IsUnprinted starts makes view waits false None room text Usage = Unit {0}
-IsUnprinted starts makes view waits false None room text outcome = ⊥
+abbrev pub IsUnprinted : {S : Type 0} → (LoadedImage → ℕ → S → Type 0) → (S → Call → S → Type 0) → (S → StoreView) → (S → Waits) → Bool → Option ℕ → Settings → List ℕ → Outcome → Type 0
+IsUnprinted starts makes view waits true cores settings text outcome = IsNoRetrace starts makes view waits cores settings text outcome
+IsUnprinted starts makes view waits false (Some cores) settings text outcome = IsNoReplay starts makes view waits cores settings text outcome
+IsUnprinted starts makes view waits false None settings text Usage = Unit {0}
+IsUnprinted starts makes view waits false None settings text outcome = ⊥
 
 -- the input is too long, or a read failed
 abbrev pub IsUnread : TraceFaultKind → TraceFault → List ℕ → Type 0
@@ -113,14 +113,14 @@ IsUnreadOutcome text (BadTurns fault) = IsUnread fault.kind fault text
 IsUnreadOutcome text outcome = ⊥
 
 -- the first turns have been told
-abbrev pub HasBegunOn : (Loop → List ℕ → List Entry → List ℕ → Type 0) → Bool → Option ℕ → ℕ → List ℕ → Option (List ℕ) → Option (List ℕ) → Type 0
-HasBegunOn heads true cores room text old new = OfTrace cores room text (λ l entries. HasBegun heads l (turns_of l.cores entries) old new)
-HasBegunOn heads false (Some cores) room text old new = OfText cores room text (λ l schedule. HasBegun heads l schedule old new)
-HasBegunOn heads false None room text old new = ⊥
+abbrev pub HasBegunOn : (Loop → List ℕ → List Entry → List ℕ → Type 0) → Bool → Option ℕ → Settings → List ℕ → Option (List ℕ) → Option (List ℕ) → Type 0
+HasBegunOn heads true cores settings text old new = OfTrace cores settings text (λ l entries. HasBegun heads l (turns_of l.cores entries) old new)
+HasBegunOn heads false (Some cores) settings text old new = OfText cores settings text (λ l schedule. HasBegun heads l schedule old new)
+HasBegunOn heads false None settings text old new = ⊥
 
 -- what `replay` came to over this store is right for this input, and this was written, with such a head
-abbrev pub IsReplayOutcome : {S : Type 0} → (LoadedImage → ℕ → S → Type 0) → (S → Call → S → Type 0) → (S → StoreView) → (S → Waits) → (Loop → List ℕ → List Entry → List ℕ → Type 0) → Option ℕ → ℕ → List ℕ → Option (List ℕ) → Option (List ℕ) → Outcome → Type 0
-IsReplayOutcome starts makes view waits heads cores room text old new outcome =
-    Comes (λ o printed. IsPrinted starts makes view waits heads (has_trace text) cores room text o printed)
-    (λ o. IsUnreadOutcome text o ⊎ IsUnprinted starts makes view waits (has_trace text) cores room text o)
-    (HasBegunOn heads (has_trace text) cores room text old new) old new outcome
+abbrev pub IsReplayOutcome : {S : Type 0} → (LoadedImage → ℕ → S → Type 0) → (S → Call → S → Type 0) → (S → StoreView) → (S → Waits) → (Loop → List ℕ → List Entry → List ℕ → Type 0) → Option ℕ → Settings → List ℕ → Option (List ℕ) → Option (List ℕ) → Outcome → Type 0
+IsReplayOutcome starts makes view waits heads cores settings text old new outcome =
+    Comes (λ o printed. IsPrinted starts makes view waits heads (has_trace text) cores settings text o printed)
+    (λ o. IsUnreadOutcome text o ⊎ IsUnprinted starts makes view waits (has_trace text) cores settings text o)
+    (HasBegunOn heads (has_trace text) cores settings text old new) old new outcome

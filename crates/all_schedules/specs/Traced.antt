@@ -1,6 +1,6 @@
 -- What the replay of a trace comes to: the schedule that the trace shows, driven again.
 -- Source: this project.
-use Rattle.std.specs.Prelude.{◌≡◌, ◌≢◌, ℕ, Bool, true, false, not, nat_lt, ◌==◌, ◌&&◌, List, [], ◌∷◌, ◌++◌, length, take, slice_get, Option, Some, None, Ok, if◌then◌else◌}
+use Rattle.std.specs.Prelude.{◌≡◌, ◌≢◌, ◌⊎◌, ℕ, Bool, true, false, not, nat_lt, ◌==◌, ◌&&◌, List, [], ◌∷◌, ◌++◌, length, take, slice_get, Option, Some, None, Ok, if◌then◌else◌}
 use Rattle.std.specs.List.{flat_map}
 use Rattle.rv32_image.specs.Image.{LoadedImage}
 use Rattle.rv32_exec.specs.declared.sequential.End.{End}
@@ -15,7 +15,9 @@ use Rattle.trace_commands.specs.declared.outcome.Outcome.{Outcome}
 use Rattle.trace_commands.specs.declared.outcome.Outcome.TheVariants.{Differs, Stopped, Usage}
 use Rattle.trace_commands.specs.declared.outcome.CommandStop.TheVariants.{NoMemory, HistoryFull}
 use Rattle.trace_commands.specs.Audit.{IsNoVerdict, IsTracedBy}
-use Rattle.all_schedules.specs.Made.{IsFull, Makes, loop_on}
+use Rattle.all_schedules.specs.declared.settings.Settings.{Settings}
+use Rattle.all_schedules.specs.Settings.{RunsWith, loop_with}
+use Rattle.all_schedules.specs.Made.{IsFull, Makes}
 use Rattle.all_schedules.specs.Shown.{IsShown}
 use Rattle.all_schedules.specs.Told.{Comes, HasBegun}
 
@@ -93,14 +95,15 @@ abbrev pub is_other : Option ℕ → ℕ → Bool
 is_other (Some cores) number = not (cores == number)
 is_other None number = false
 
--- of the image and the trace that a text says, where no other number of cores is said
-pub record OfTrace (cores : Option ℕ) (room : ℕ) (text : List ℕ) (P : Loop → List Entry → Type 0) : Type 0 where
+-- of the image and the trace that a text says, where no other number of cores is said and the machine can run it
+pub record OfTrace (cores : Option ℕ) (settings : Settings) (text : List ℕ) (P : Loop → List Entry → Type 0) : Type 0 where
   pub image : LoadedImage
   pub number : ℕ
   pub entries : List Entry
   pub traced : IsTracedBy text image number entries
   pub same : is_other cores number ≡ false
-  pub holds : P (loop_on image number room) entries
+  pub runs : RunsWith image number settings
+  pub holds : P (loop_with image number settings) entries
 
 -- where another is
 pub record IsOfOther (cores : Option ℕ) (text : List ℕ) : Type 0 where
@@ -110,15 +113,23 @@ pub record IsOfOther (cores : Option ℕ) (text : List ℕ) : Type 0 where
   pub traced : IsTracedBy text image number entries
   pub other : is_other cores number ≡ true
 
--- nothing is printed, since the image, the trace or the number of cores is refused, or the trace isn't made again
-abbrev pub IsNoRetrace : {S : Type 0} → (LoadedImage → ℕ → S → Type 0) → (S → Call → S → Type 0) → (S → StoreView) → (S → Waits) → Option ℕ → ℕ → List ℕ → Outcome → Type 0
-IsNoRetrace starts makes view waits cores room text Usage = IsOfOther cores text
-IsNoRetrace starts makes view waits cores room text (Differs place) = OfTrace cores room text (λ l entries. Parts starts makes view waits l entries place)
-IsNoRetrace starts makes view waits cores room text (Stopped HistoryFull) = OfTrace cores room text (λ l entries. IsFull starts makes view waits l (turns_of l.cores entries))
-IsNoRetrace starts makes view waits cores room text outcome = IsNoVerdict text outcome
+-- where the machine that is asked for can't run it
+pub record IsOfNoMachine (settings : Settings) (text : List ℕ) : Type 0 where
+  pub image : LoadedImage
+  pub number : ℕ
+  pub entries : List Entry
+  pub traced : IsTracedBy text image number entries
+  pub cannot : RunsWith image number settings → ⊥
+
+-- nothing is printed, since the image, the trace, the number of cores or the machine is refused, or the trace isn't made again
+abbrev pub IsNoRetrace : {S : Type 0} → (LoadedImage → ℕ → S → Type 0) → (S → Call → S → Type 0) → (S → StoreView) → (S → Waits) → Option ℕ → Settings → List ℕ → Outcome → Type 0
+IsNoRetrace starts makes view waits cores settings text Usage = IsOfOther cores text ⊎ IsOfNoMachine settings text
+IsNoRetrace starts makes view waits cores settings text (Differs place) = OfTrace cores settings text (λ l entries. Parts starts makes view waits l entries place)
+IsNoRetrace starts makes view waits cores settings text (Stopped HistoryFull) = OfTrace cores settings text (λ l entries. IsFull starts makes view waits l (turns_of l.cores entries))
+IsNoRetrace starts makes view waits cores settings text outcome = IsNoVerdict text outcome
 
 -- what the replay of a text's trace comes to is right, and this was written
-abbrev pub IsRetraceOutcome : {S : Type 0} → (LoadedImage → ℕ → S → Type 0) → (S → Call → S → Type 0) → (S → StoreView) → (S → Waits) → (Loop → List ℕ → List Entry → List ℕ → Type 0) → Option ℕ → ℕ → List ℕ → Option (List ℕ) → Option (List ℕ) → Outcome → Type 0
-IsRetraceOutcome starts makes view waits heads cores room text old new outcome =
-    Comes (λ o printed. OfTrace cores room text (λ l entries. IsRetraced starts makes view waits heads l entries o printed)) (IsNoRetrace starts makes view waits cores room text)
-    (OfTrace cores room text (λ l entries. HasBegun heads l (turns_of l.cores entries) old new)) old new outcome
+abbrev pub IsRetraceOutcome : {S : Type 0} → (LoadedImage → ℕ → S → Type 0) → (S → Call → S → Type 0) → (S → StoreView) → (S → Waits) → (Loop → List ℕ → List Entry → List ℕ → Type 0) → Option ℕ → Settings → List ℕ → Option (List ℕ) → Option (List ℕ) → Outcome → Type 0
+IsRetraceOutcome starts makes view waits heads cores settings text old new outcome =
+    Comes (λ o printed. OfTrace cores settings text (λ l entries. IsRetraced starts makes view waits heads l entries o printed)) (IsNoRetrace starts makes view waits cores settings text)
+    (OfTrace cores settings text (λ l entries. HasBegun heads l (turns_of l.cores entries) old new)) old new outcome

@@ -12,8 +12,10 @@ use Rattle.trace_text.specs.TraceText.{longest_trace_text}
 use Rattle.turn_steps.specs.Caches.{cached_changes}
 use Rattle.turn_steps.specs.KeptCores.{plain_changes}
 use Rattle.trace_commands.specs.Outcome.{Conclusion}
-use Rattle.all_schedules.specs.declared.words.Store.{Store}
-use Rattle.all_schedules.specs.declared.words.Store.TheVariants.{Caches, Plain}
+use Rattle.trace_commands.specs.declared.store.Store.{Store}
+use Rattle.trace_commands.specs.declared.store.Store.TheVariants.{Caches, Plain}
+use Rattle.trace_commands.specs.Stores.{asked_by}
+use Rattle.all_schedules.specs.declared.settings.Settings.{Settings}
 use Rattle.all_schedules.specs.declared.words.Turns.{Turns}
 use Rattle.all_schedules.specs.declared.words.Turns.TheVariants.{Given, Every, Paced}
 use Rattle.all_schedules.specs.declared.words.Request.{Request}
@@ -32,19 +34,23 @@ AreTurns (Paced pace cores) = IsUpTo16 cores
 
 -- over a store: the trace or the schedule of the input was replayed, every schedule of so many turns was driven, or the run was by
 -- this pace; and of the input no more than it may be long, and one byte, was taken
-abbrev pub TurnsAnswer : {S : Type 0} → (LoadedImage → ℕ → S → Type 0) → (S → Call → S → Type 0) → (S → StoreView) → (S → Waits) → (ℕ → S → S → List ℕ) → ℕ → Turns → List ℕ → Stream → Stream → Stream → ℕ → Type 0
-TurnsAnswer starts makes view waits changes room (Given detail cores) text input output errors status =
-    Conclusion (IsReplayOutcome starts makes view waits (IsHead starts makes view waits changes detail) cores room text output.old output.new) errors.old errors.new status
+abbrev pub TurnsAnswer : {S : Type 0} → (LoadedImage → ℕ → S → Type 0) → (S → Call → S → Type 0) → (S → StoreView) → (S → Waits) → (ℕ → S → S → List ℕ) → Settings → Turns → List ℕ → Stream → Stream → Stream → ℕ → Type 0
+TurnsAnswer starts makes view waits changes settings (Given detail cores) text input output errors status =
+    Conclusion (IsReplayOutcome starts makes view waits (IsHead starts makes view waits changes detail) cores settings text output.old output.new) errors.old errors.new status
     × TakesAtMost input.old input.new (longest_trace_text + 1)
-TurnsAnswer starts makes view waits changes room (Every cores turns) text input output errors status =
-    AllAnswers starts makes view waits cores room turns text output errors status × TakesAtMost input.old input.new (longest_image_text + 1)
-TurnsAnswer starts makes view waits changes room (Paced pace cores) text input output errors status =
-    Conclusion (IsPacedOutcome starts makes view waits pace cores room text output.old output.new) errors.old errors.new status
+TurnsAnswer starts makes view waits changes settings (Every cores turns) text input output errors status =
+    AllAnswers starts makes view waits cores settings turns text output errors status × TakesAtMost input.old input.new (longest_image_text + 1)
+TurnsAnswer starts makes view waits changes settings (Paced pace cores) text input output errors status =
+    Conclusion (IsPacedOutcome starts makes view waits pace cores settings text output.old output.new) errors.old errors.new status
     × TakesAtMost input.old input.new (longest_image_text + 1)
 
+-- what the store asks for, and so much room for a history
+abbrev pub settings_of : Store → ℕ → Settings
+settings_of store room = record { asked = asked_by store; room = room }
+
 abbrev pub StoreAnswers : Store → ℕ → Turns → List ℕ → Stream → Stream → Stream → ℕ → Type 0
-StoreAnswers Caches room turns text input output errors status = TurnsAnswer cache.Starts cache.Makes caches.store_view caches.waits cached_changes room turns text input output errors status
-StoreAnswers Plain room turns text input output errors status = TurnsAnswer plain.Starts plain.Makes plain.store_view (λ _. never_waits) plain_changes room turns text input output errors status
+StoreAnswers (Caches asked) room turns text input output errors status = TurnsAnswer cache.Starts cache.Makes caches.store_view caches.waits cached_changes (settings_of (Caches asked) room) turns text input output errors status
+StoreAnswers Plain room turns text input output errors status = TurnsAnswer plain.Starts plain.Makes plain.store_view (λ _. never_waits) plain_changes (settings_of Plain room) turns text input output errors status
 
 -- a request was answered; or, where the words ask for nothing, `usage`
 abbrev pub RequestAnswers : Option Request → ℕ → List ℕ → Stream → Stream → Stream → ℕ → Type 0

@@ -5,10 +5,12 @@ ghost use Rattle.rv32_image.specs.ImageText.{longest_image_text};
 ghost use Rattle.rv32_image.specs.Reading.{ForText};
 ghost use Rattle.violations.specs.Rule.{IsCoreCount};
 ghost use Rattle.all_schedules.specs.Made.{loop_on};
+ghost use Rattle.all_schedules.specs.Settings.{loop_with};
 ghost use Rattle.all_schedules.specs.AllSchedules as spec;
 
 use crate::replay::cause_of;
 use crate::schedules::every_schedule;
+use crate::settings::{Settings, runnable};
 use crate::survey::survey_schedules;
 use crate::text::print_survey;
 use rv32_image::{Image, read_image};
@@ -20,26 +22,26 @@ use violations::EpochStore;
 /// Drives every schedule of so many turns of the image that the reader gives, and writes what they come to together. The cores are at
 /// least 1, and the room is 16 to 1,048,576 entries.
 ///
-/// The status is 0 where that was written; 2 where the image is refused, or is good and its version doesn't allow so many cores; 3 where
+/// The status is 0 where that was written; 2 where the image, the machine or the number of cores is refused; 3 where
 /// the history of a schedule is full, memory ran out or a write failed. With 2 and 3 one line on the error stream says which. All
 /// that is written was made before the first byte: after a failed write a prefix of it was written.
 pub fn do_all<S: EpochStore, R: Read, W: Write, E: Write>(
     alloc: Global,
     cores: u32,
-    room: u32,
+    settings: Settings,
     turns: u32,
     reader: &mut R,
     writer: &mut W,
     errors: &mut E,
 ) -> u8
     requires cores { 1 ≤ cores }
-    requires least { 16 ≤ room }
-    requires most { room ≤ 1048576 }
-    ensures outcome { ForText (R.remaining reader.old) (λ text. spec.AllAnswers S.starts S.makes S.view S.waits cores room turns text
+    requires least { 16 ≤ settings.room }
+    requires most { settings.room ≤ 1048576 }
+    ensures outcome { ForText (R.remaining reader.old) (λ text. spec.AllAnswers S.starts S.makes S.view S.waits cores settings turns text
         (record { old = W.contents writer.old; new = W.contents writer.new }) (record { old = E.contents errors.old; new = E.contents errors.new }) result) }
     ensures taken { TakesAtMost (R.remaining reader.old) (R.remaining reader.new) (longest_image_text + 1) }
 {
-    match all_of_input::<S, R, W>(alloc, cores, room, turns, reader, writer) {
+    match all_of_input::<S, R, W>(alloc, cores, settings, turns, reader, writer) {
         Ok(()) => 0,
         Err(outcome) => outcome.conclude(errors),
     }
@@ -49,44 +51,44 @@ pub fn do_all<S: EpochStore, R: Read, W: Write, E: Write>(
 fn all_of_input<S: EpochStore, R: Read, W: Write>(
     alloc: Global,
     cores: u32,
-    room: u32,
+    settings: Settings,
     turns: u32,
     reader: &mut R,
     writer: &mut W,
 ) -> Result<(), Outcome>
     requires cores { 1 ≤ cores }
-    requires least { 16 ≤ room }
-    requires most { room ≤ 1048576 }
+    requires least { 16 ≤ settings.room }
+    requires most { settings.room ≤ 1048576 }
     ensures outcome { ForText (R.remaining reader.old) (λ text. MatchResult result
-        (λ _. spec.IsWritten S.starts S.makes S.view S.waits cores room turns text (W.contents writer.old) (W.contents writer.new))
-        (spec.IsUnwritten S.starts S.makes S.view S.waits cores room turns text (W.contents writer.old) (W.contents writer.new))) }
+        (λ _. spec.IsWritten S.starts S.makes S.view S.waits cores settings turns text (W.contents writer.old) (W.contents writer.new))
+        (spec.IsUnwritten S.starts S.makes S.view S.waits cores settings turns text (W.contents writer.old) (W.contents writer.new))) }
     ensures taken { TakesAtMost (R.remaining reader.old) (R.remaining reader.new) (longest_image_text + 1) }
 {
     match read_image(alloc, reader) {
-        Ok(image) => all_of_image::<S, W>(alloc, &image, cores, room, turns, writer),
+        Ok(image) => all_of_image::<S, W>(alloc, image, cores, settings, turns, writer),
         Err(fault) => Err(Outcome::of_fault(fault)),
     }
 }
 
 fn all_of_image<S: EpochStore, W: Write>(
     alloc: Global,
-    image: &Image,
+    image: Image,
     cores: u32,
-    room: u32,
+    settings: Settings,
     turns: u32,
     writer: &mut W,
 ) -> Result<(), Outcome>
     requires cores { 1 ≤ cores }
-    requires least { 16 ≤ room }
-    requires most { room ≤ 1048576 }
+    requires least { 16 ≤ settings.room }
+    requires most { settings.room ≤ 1048576 }
     ensures { MatchResult result
-        (λ _. spec.IsWrittenOf S.starts S.makes S.view S.waits (loop_on image.now cores room) turns (W.contents writer.old) (W.contents writer.new))
-        (spec.IsUnwrittenOf S.starts S.makes S.view S.waits (loop_on image.now cores room) turns (W.contents writer.old) (W.contents writer.new)) }
+        (λ _. spec.IsWrittenOf S.starts S.makes S.view S.waits (loop_with image cores settings) turns (W.contents writer.old) (W.contents writer.new))
+        (spec.IsUnwrittenOf S.starts S.makes S.view S.waits (loop_with image cores settings) turns (W.contents writer.old) (W.contents writer.new)) }
 {
-    if image.version().limits().most_cores < cores {
+    let Some(image) = runnable(image, settings.asked, cores) else {
         return Err(Outcome::Usage);
-    }
-    let printed = match print_all::<S>(alloc, image, cores, room, turns) {
+    };
+    let printed = match print_all::<S>(alloc, &image, cores, settings.room, turns) {
         Ok(printed) => printed,
         Err(cause) => return Err(Outcome::Stopped(cause)),
     };

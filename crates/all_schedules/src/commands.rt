@@ -5,12 +5,13 @@ ghost use Rattle.all_schedules.specs.Work as spec;
 use crate::all::do_all;
 use crate::paced::do_paced;
 use crate::replay::do_replay;
-use crate::words::{Request, Store, Turns, request_of};
+use crate::settings::Settings;
+use crate::words::{Turns, request_of};
 use spec_bus::CachedBus;
 use std::alloc::Global;
 use std::convert::AsStr;
 use std::io::{Read, Write};
-use trace_commands::Outcome;
+use trace_commands::{MachineAsked, Outcome, Store};
 use turn_steps::ShownStore;
 use violations::PlainStore;
 
@@ -35,43 +36,53 @@ pub fn work<S: AsStr, R: Read, W: Write, E: Write>(
 {
     match request_of(words) {
         Some(request) => match request.store {
-            Store::Caches => {
-                answer::<CachedBus, R, W, E>(alloc, request, room, reader, writer, errors)
+            Store::Caches(asked) => {
+                let settings = Settings { asked, room };
+                answer::<CachedBus, R, W, E>(alloc, request.turns, settings, reader, writer, errors)
             }
             Store::Plain => {
-                answer::<PlainStore, R, W, E>(alloc, request, room, reader, writer, errors)
+                let asked = MachineAsked::NOTHING;
+                let settings = Settings { asked, room };
+                answer::<PlainStore, R, W, E>(
+                    alloc,
+                    request.turns,
+                    settings,
+                    reader,
+                    writer,
+                    errors,
+                )
             }
         },
         None => Outcome::Usage.conclude(errors),
     }
 }
 
-/// Answers a request over this store.
+/// Takes these turns over this store.
 fn answer<S: ShownStore, R: Read, W: Write, E: Write>(
     alloc: Global,
-    request: Request,
-    room: u32,
+    turns: Turns,
+    settings: Settings,
     reader: &mut R,
     writer: &mut W,
     errors: &mut E,
 ) -> u8
-    requires turns { spec.AreTurns request.turns }
-    requires least { 16 ≤ room }
-    requires most { room ≤ 1048576 }
-    ensures { ForText (R.remaining reader.old) (λ text. spec.TurnsAnswer S.starts S.makes S.view S.waits S.changes room request.turns text
+    requires turns { spec.AreTurns turns }
+    requires least { 16 ≤ settings.room }
+    requires most { settings.room ≤ 1048576 }
+    ensures { ForText (R.remaining reader.old) (λ text. spec.TurnsAnswer S.starts S.makes S.view S.waits S.changes settings turns text
         (record { old = R.remaining reader.old; new = R.remaining reader.new })
         (record { old = W.contents writer.old; new = W.contents writer.new })
         (record { old = E.contents errors.old; new = E.contents errors.new }) result) }
 {
-    match request.turns {
+    match turns {
         Turns::Given { detail, cores } => {
-            do_replay::<S, R, W, E>(alloc, detail, cores, room, reader, writer, errors)
+            do_replay::<S, R, W, E>(alloc, detail, cores, settings, reader, writer, errors)
         }
         Turns::Every { cores, turns } => {
-            do_all::<S, R, W, E>(alloc, cores, room, turns, reader, writer, errors)
+            do_all::<S, R, W, E>(alloc, cores, settings, turns, reader, writer, errors)
         }
         Turns::Paced { pace, cores } => {
-            do_paced::<S, R, W, E>(alloc, pace, cores, room, reader, writer, errors)
+            do_paced::<S, R, W, E>(alloc, pace, cores, settings, reader, writer, errors)
         }
     }
 }

@@ -6,6 +6,7 @@ ghost use Rattle.rv32_image.specs.Reading.{ForText};
 ghost use Rattle.trace_commands.specs.Outcome.{Conclusion};
 ghost use Rattle.violations.specs.Rule.{IsCoreCount};
 ghost use Rattle.all_schedules.specs.Made.{loop_on};
+ghost use Rattle.all_schedules.specs.Settings.{loop_with};
 ghost use Rattle.all_schedules.specs.SurveyText.{turns_line};
 ghost use Rattle.all_schedules.specs.Shown.{IsShown};
 ghost use Rattle.all_schedules.specs.Paced as spec;
@@ -13,6 +14,7 @@ ghost use Rattle.all_schedules.specs.Paced as spec;
 use crate::even::run_evenly;
 use crate::print::print_book;
 use crate::seeded::run_seeded;
+use crate::settings::{Settings, runnable};
 use crate::text::push_turns;
 use homefree::{Book, TurnFault};
 use rv32_image::{Image, read_image};
@@ -33,26 +35,26 @@ pub enum Pace {
 /// Runs the image that the reader gives by this pace over a fresh store, and writes the line of its turns, and below it what
 /// `do_replay` writes of them. The cores are at least 1, and the room is 16 to 1,048,576 entries.
 ///
-/// The status is 0 where the loop is done or exited, or the most turns were drawn before; 1 where an epoch faulted; 2 where the image or
-/// the number of cores is refused; 3 where the history is full, memory ran out or a write failed. With 2 and 3 one line on the error
+/// The status is 0 where the loop is done or exited, or the most turns were drawn before; 1 where an epoch faulted; 2 where the image,
+/// the machine or the number of cores is refused; 3 where the history is full, memory ran out or a write failed. With 2 and 3 one line on the error
 /// stream says which. All that is written was made before the first byte: after a failed write a prefix of it was written.
 pub fn do_paced<S: EpochStore, R: Read, W: Write, E: Write>(
     alloc: Global,
     pace: Pace,
     cores: u32,
-    room: u32,
+    settings: Settings,
     reader: &mut R,
     writer: &mut W,
     errors: &mut E,
 ) -> u8
     requires cores { 1 ≤ cores }
-    requires least { 16 ≤ room }
-    requires most { room ≤ 1048576 }
+    requires least { 16 ≤ settings.room }
+    requires most { settings.room ≤ 1048576 }
     ensures outcome { ForText (R.remaining reader.old) (λ text.
-        Conclusion (spec.IsPacedOutcome S.starts S.makes S.view S.waits pace cores room text (W.contents writer.old) (W.contents writer.new)) (E.contents errors.old) (E.contents errors.new) result) }
+        Conclusion (spec.IsPacedOutcome S.starts S.makes S.view S.waits pace cores settings text (W.contents writer.old) (W.contents writer.new)) (E.contents errors.old) (E.contents errors.new) result) }
     ensures taken { TakesAtMost (R.remaining reader.old) (R.remaining reader.new) (longest_image_text + 1) }
 {
-    paced_input::<S, R, W>(alloc, pace, cores, room, reader, writer).conclude(errors)
+    paced_input::<S, R, W>(alloc, pace, cores, settings, reader, writer).conclude(errors)
 }
 
 /// Runs an input, all but its line on the error stream.
@@ -60,19 +62,19 @@ fn paced_input<S: EpochStore, R: Read, W: Write>(
     alloc: Global,
     pace: Pace,
     cores: u32,
-    room: u32,
+    settings: Settings,
     reader: &mut R,
     writer: &mut W,
 ) -> Outcome
     requires cores { 1 ≤ cores }
-    requires least { 16 ≤ room }
-    requires most { room ≤ 1048576 }
+    requires least { 16 ≤ settings.room }
+    requires most { settings.room ≤ 1048576 }
     ensures outcome { ForText (R.remaining reader.old) (λ text.
-        spec.IsPacedOutcome S.starts S.makes S.view S.waits pace cores room text (W.contents writer.old) (W.contents writer.new) result) }
+        spec.IsPacedOutcome S.starts S.makes S.view S.waits pace cores settings text (W.contents writer.old) (W.contents writer.new) result) }
     ensures taken { TakesAtMost (R.remaining reader.old) (R.remaining reader.new) (longest_image_text + 1) }
 {
     match read_image(alloc, reader) {
-        Ok(image) => paced_image::<S, W>(alloc, pace, &image, cores, room, writer),
+        Ok(image) => paced_image::<S, W>(alloc, pace, image, cores, settings, writer),
         Err(fault) => Outcome::of_fault(fault),
     }
 }
@@ -80,20 +82,20 @@ fn paced_input<S: EpochStore, R: Read, W: Write>(
 fn paced_image<S: EpochStore, W: Write>(
     alloc: Global,
     pace: Pace,
-    image: &Image,
+    image: Image,
     cores: u32,
-    room: u32,
+    settings: Settings,
     writer: &mut W,
 ) -> Outcome
     requires cores { 1 ≤ cores }
-    requires least { 16 ≤ room }
-    requires most { room ≤ 1048576 }
-    ensures { spec.IsPacedOf S.starts S.makes S.view S.waits pace (loop_on image.now cores room) (W.contents writer.old) (W.contents writer.new) result }
+    requires least { 16 ≤ settings.room }
+    requires most { settings.room ≤ 1048576 }
+    ensures { spec.IsPacedOf S.starts S.makes S.view S.waits pace (loop_with image cores settings) (W.contents writer.old) (W.contents writer.new) result }
 {
-    if image.version().limits().most_cores < cores {
+    let Some(image) = runnable(image, settings.asked, cores) else {
         return Outcome::Usage;
-    }
-    let (outcome, printed) = match show_paced::<S>(alloc, pace, image, cores, room) {
+    };
+    let (outcome, printed) = match show_paced::<S>(alloc, pace, &image, cores, settings.room) {
         Ok(shown) => shown,
         Err(cause) => return Outcome::Stopped(cause),
     };

@@ -12,6 +12,7 @@ ghost use Rattle.all_schedules.specs.Told.{IsHead};
 
 use crate::detail::Detail;
 use crate::driving::drive_schedule;
+use crate::settings::{Settings, runnable};
 use crate::told::{show_told, tell_turns};
 use crate::traced::{begins_trace, retrace};
 use crate::turns::read_turns;
@@ -28,26 +29,26 @@ use turn_steps::ShownStore;
 /// taken, and a line `end`. The cores are at least 1; where none are said, the trace says how many. The room is 16 to 1,048,576 entries.
 ///
 /// The status is 0 where the loop is done or exited, or the schedule was used up before; 1 where an epoch faulted; 2 where the image, the
-/// number of cores, the trace or the lines of turns are refused; 3 where the history is full, memory ran out or a write failed; 4 where the
+/// machine, the number of cores, the trace or the lines of turns are refused; 3 where the history is full, memory ran out or a write failed; 4 where the
 /// turns of a trace make another history. With 2 to 4 one line on the error stream says which, and nothing was written; but after a
 /// failed write a prefix, and where memory ran out while turns were told, the first of them.
 pub fn do_replay<S: ShownStore, R: Read, W: Write, E: Write>(
     alloc: Global,
     detail: Detail,
     cores: Option<u32>,
-    room: u32,
+    settings: Settings,
     reader: &mut R,
     writer: &mut W,
     errors: &mut E,
 ) -> u8
     requires cores { IfSome cores (λ k. 1 ≤ k) }
-    requires least { 16 ≤ room }
-    requires most { room ≤ 1048576 }
+    requires least { 16 ≤ settings.room }
+    requires most { settings.room ≤ 1048576 }
     ensures outcome { ForText (R.remaining reader.old) (λ text.
-        Conclusion (spec.IsReplayOutcome S.starts S.makes S.view S.waits (IsHead S.starts S.makes S.view S.waits S.changes detail) cores room text (W.contents writer.old) (W.contents writer.new)) (E.contents errors.old) (E.contents errors.new) result) }
+        Conclusion (spec.IsReplayOutcome S.starts S.makes S.view S.waits (IsHead S.starts S.makes S.view S.waits S.changes detail) cores settings text (W.contents writer.old) (W.contents writer.new)) (E.contents errors.old) (E.contents errors.new) result) }
     ensures taken { TakesAtMost (R.remaining reader.old) (R.remaining reader.new) (longest_trace_text + 1) }
 {
-    replay_input::<S, R, W>(alloc, detail, cores, room, reader, writer).conclude(errors)
+    replay_input::<S, R, W>(alloc, detail, cores, settings, reader, writer).conclude(errors)
 }
 
 /// Replays an input, all but its line on the error stream.
@@ -55,19 +56,19 @@ fn replay_input<S: ShownStore, R: Read, W: Write>(
     alloc: Global,
     detail: Detail,
     cores: Option<u32>,
-    room: u32,
+    settings: Settings,
     reader: &mut R,
     writer: &mut W,
 ) -> Outcome
     requires cores { IfSome cores (λ k. 1 ≤ k) }
-    requires least { 16 ≤ room }
-    requires most { room ≤ 1048576 }
+    requires least { 16 ≤ settings.room }
+    requires most { settings.room ≤ 1048576 }
     ensures outcome { ForText (R.remaining reader.old) (λ text.
-        spec.IsReplayOutcome S.starts S.makes S.view S.waits (IsHead S.starts S.makes S.view S.waits S.changes detail) cores room text (W.contents writer.old) (W.contents writer.new) result) }
+        spec.IsReplayOutcome S.starts S.makes S.view S.waits (IsHead S.starts S.makes S.view S.waits S.changes detail) cores settings text (W.contents writer.old) (W.contents writer.new) result) }
     ensures taken { TakesAtMost (R.remaining reader.old) (R.remaining reader.new) (longest_trace_text + 1) }
 {
     match read_input(alloc, reader, LONGEST_TRACE_TEXT) {
-        Ok(text) => replay_text::<S, W>(alloc, detail, cores, room, text.as_slice(), writer),
+        Ok(text) => replay_text::<S, W>(alloc, detail, cores, settings, text.as_slice(), writer),
         Err(fault) => Outcome::of_turns_fault(TraceFault::from(fault)),
     }
 }
@@ -77,21 +78,21 @@ fn replay_text<S: ShownStore, W: Write>(
     alloc: Global,
     detail: Detail,
     cores: Option<u32>,
-    room: u32,
+    settings: Settings,
     text: &[u8],
     writer: &mut W,
 ) -> Outcome
     requires cores { IfSome cores (λ k. 1 ≤ k) }
-    requires least { 16 ≤ room }
-    requires most { room ≤ 1048576 }
+    requires least { 16 ≤ settings.room }
+    requires most { settings.room ≤ 1048576 }
     requires short { length text.now ≤ longest_trace_text }
-    ensures { spec.IsReplayOutcome S.starts S.makes S.view S.waits (IsHead S.starts S.makes S.view S.waits S.changes detail) cores room text.now (W.contents writer.old) (W.contents writer.new) result }
+    ensures { spec.IsReplayOutcome S.starts S.makes S.view S.waits (IsHead S.starts S.makes S.view S.waits S.changes detail) cores settings text.now (W.contents writer.old) (W.contents writer.new) result }
 {
     if begins_trace(text) {
-        return retrace::<S, W>(alloc, detail, cores, room, text, writer);
+        return retrace::<S, W>(alloc, detail, cores, settings, text, writer);
     }
     match cores {
-        Some(cores) => replay_of::<S, W>(alloc, detail, cores, room, text, writer),
+        Some(cores) => replay_of::<S, W>(alloc, detail, cores, settings, text, writer),
         None => Outcome::Usage,
     }
 }
@@ -101,24 +102,25 @@ fn replay_of<S: ShownStore, W: Write>(
     alloc: Global,
     detail: Detail,
     cores: u32,
-    room: u32,
+    settings: Settings,
     text: &[u8],
     writer: &mut W,
 ) -> Outcome
     requires cores { 1 ≤ cores }
-    requires least { 16 ≤ room }
-    requires most { room ≤ 1048576 }
+    requires least { 16 ≤ settings.room }
+    requires most { settings.room ≤ 1048576 }
     requires short { length text.now ≤ longest_trace_text }
-    ensures { spec.IsLinesOutcome S.starts S.makes S.view S.waits (IsHead S.starts S.makes S.view S.waits S.changes detail) cores room text.now (W.contents writer.old) (W.contents writer.new) result }
+    ensures { spec.IsLinesOutcome S.starts S.makes S.view S.waits (IsHead S.starts S.makes S.view S.waits S.changes detail) cores settings text.now (W.contents writer.old) (W.contents writer.new) result }
 {
     let parts = parts_of(text, b"turns ");
     let image = match image_of(alloc, parts.image) {
         Ok(image) => image,
         Err(fault) => return Outcome::of_fault(fault),
     };
-    if image.version().limits().most_cores < cores {
-        return Outcome::Usage;
-    }
+    let image = match runnable(image, settings.asked, cores) {
+        Some(image) => image,
+        None => return Outcome::Usage,
+    };
     let schedule = match read_turns(alloc, cores, parts.below) {
         Ok(schedule) => schedule,
         Err(fault) => return Outcome::of_turns_fault(fault),
@@ -128,7 +130,7 @@ fn replay_of<S: ShownStore, W: Write>(
         detail,
         &image,
         cores,
-        room,
+        settings.room,
         schedule.as_slice(),
         writer,
     )

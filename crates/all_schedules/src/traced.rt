@@ -11,6 +11,7 @@ ghost use Rattle.all_schedules.specs.Traced as spec;
 use crate::detail::Detail;
 use crate::driving::drive_schedule;
 use crate::replay::cause_of;
+use crate::settings::{Settings, runnable};
 use crate::told::{show_told, tell_turns};
 use homefree::Book;
 use rv32_image::Image;
@@ -35,14 +36,14 @@ pub fn retrace<S: ShownStore, W: Write>(
     alloc: Global,
     detail: Detail,
     cores: Option<u32>,
-    room: u32,
+    settings: Settings,
     text: &[u8],
     writer: &mut W,
 ) -> Outcome
-    requires least { 16 ≤ room }
-    requires most { room ≤ 1048576 }
+    requires least { 16 ≤ settings.room }
+    requires most { settings.room ≤ 1048576 }
     requires short { length text.now ≤ longest_trace_text }
-    ensures { spec.IsRetraceOutcome S.starts S.makes S.view S.waits (IsHead S.starts S.makes S.view S.waits S.changes detail) cores room text.now (W.contents writer.old) (W.contents writer.new) result }
+    ensures { spec.IsRetraceOutcome S.starts S.makes S.view S.waits (IsHead S.starts S.makes S.view S.waits S.changes detail) cores settings text.now (W.contents writer.old) (W.contents writer.new) result }
 {
     let traced = match traced_in(alloc, text) {
         Ok(traced) => traced,
@@ -51,13 +52,17 @@ pub fn retrace<S: ShownStore, W: Write>(
     if is_other(cores, traced.cores) {
         return Outcome::Usage;
     }
+    let image = match runnable(traced.image, settings.asked, traced.cores) {
+        Some(image) => image,
+        None => return Outcome::Usage,
+    };
     let entries = traced.entries.as_slice();
     drive_trace::<S, W>(
         alloc,
         detail,
-        &traced.image,
+        &image,
         traced.cores,
-        room,
+        settings.room,
         entries,
         writer,
     )

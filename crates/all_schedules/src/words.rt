@@ -7,16 +7,7 @@ ghost use Rattle.all_schedules.specs.Work.{AreTurns};
 use crate::detail::Detail;
 use crate::paced::Pace;
 use std::convert::AsStr;
-use trace_commands::{first_word, number_up_to_16, only_number};
-
-/// The store that a schedule runs over.
-#[derive(Clone, Copy, Debug, PartialEq, Eq)]
-pub enum Store {
-    /// Caches on a coherent bus, over which `run` runs.
-    Caches,
-    /// The plain store.
-    Plain,
-}
+use trace_commands::{Store, first_word, number_up_to_16, only_number, store_named};
 
 /// Whose turns are taken, on 1 to 16 cores.
 #[derive(Clone, Copy, Debug, PartialEq, Eq)]
@@ -150,19 +141,6 @@ fn is_small(cores: u32, turns: u32) -> bool
     match cores.checked_pow(turns) {
         Some(count) => count <= 65_536,
         None => false,
-    }
-}
-
-/// The store that a word names. None: it names none.
-pub fn store_named(word: &str) -> Option<Store>
-    ensures { result ≡ spec.store_named word.now }
-{
-    if word == "caches" {
-        Some(Store::Caches)
-    } else if word == "plain" {
-        Some(Store::Plain)
-    } else {
-        None
     }
 }
 

@@ -1,64 +1,50 @@
--- The addresses of lines of 16 or of 32 bytes, and the bytes of a line of memory.
+-- The addresses of lines, and the bytes of a line of memory.
 use Rattle.std.proofs.Common.{◌≡◌, ℕ, ◌+◌, ◌-◌, ◌%◌, ◌<◌, ◌≤◌, ◌==◌, ◌⊎◌, inl, inr, nat_lt, true, false, cond, refl, sym, subst, arith}
 use Rattle.std.proofs.lemmas.Bool.Decides.{nat_tests}
 use Rattle.spec_states.specs.Mask.{is_within}
-use Rattle.cache_lines.specs.Lines.{is_line_length}
+use Rattle.rv32_image.specs.Machine.{is_line_length}
+use Rattle.rv32_image.proofs.Bounds.{by_length}
 use Rattle.bus_states.specs.Bus.{line_of, offset_of, memory_line}
 use Rattle.bus_states.specs.Messages.{with_line}
 
-pub either_length : (length : ℕ) → is_line_length length ≡ true → (length ≡ 16) ⊎ (length ≡ 32)
-either_length length e =
-    elim (length == 16) as (λ b. (length == 16) ≡ b → (length ≡ 16) ⊎ (length ≡ 32)) [
-      | true ↦ λ f. inl (grind (arith, nat_tests))
-      | false ↦ λ f. inr (grind (arith, nat_tests))
-    ] refl
-
--- a fact of lines of 16 bytes and of lines of 32 bytes is one of all lines
-pub by_length : (P : ℕ → Type 0) (length : ℕ) → is_line_length length ≡ true → P 16 → P 32 → P length
-by_length P length e small large =
-    elim (either_length length e) [
-      | inl f ↦ subst P (sym f) small
-      | inr f ↦ subst P (sym f) large
-    ]
-
 pub line-aligned : (length addr : ℕ) → is_line_length length ≡ true → line_of length addr % length ≡ 0
-line-aligned length addr h = by_length (λ (n : ℕ). line_of n addr % n ≡ 0) length h (omega arith) (omega arith)
+line-aligned length addr h = by_length (λ (n : ℕ). line_of n addr % n ≡ 0) length h (omega arith) (omega arith) (omega arith)
 
 pub line-and_offset : (length addr : ℕ) → is_line_length length ≡ true → line_of length addr + offset_of length addr ≡ addr
 line-and_offset length addr h =
-    by_length (λ (n : ℕ). line_of n addr + offset_of n addr ≡ addr) length h (omega arith) (omega arith)
+    by_length (λ (n : ℕ). line_of n addr + offset_of n addr ≡ addr) length h (omega arith) (omega arith) (omega arith)
 
 pub offset-in_line : (length addr : ℕ) → is_line_length length ≡ true → offset_of length addr < length
-offset-in_line length addr h = by_length (λ (n : ℕ). offset_of n addr < n) length h (omega arith) (omega arith)
+offset-in_line length addr h = by_length (λ (n : ℕ). offset_of n addr < n) length h (omega arith) (omega arith) (omega arith)
 
 -- a byte of the line at `addr`
 pub line-of : (length addr x : ℕ) → is_line_length length ≡ true → addr % length ≡ 0 → x < length → line_of length (addr + x) ≡ addr
 line-of length addr x h =
-    by_length (λ (n : ℕ). addr % n ≡ 0 → x < n → line_of n (addr + x) ≡ addr) length h (λ a l. omega arith) (λ a l. omega arith)
+    by_length (λ (n : ℕ). addr % n ≡ 0 → x < n → line_of n (addr + x) ≡ addr) length h (λ a l. omega arith) (λ a l. omega arith) (λ a l. omega arith)
 
 pub offset-of : (length addr x : ℕ) → is_line_length length ≡ true → addr % length ≡ 0 → x < length → offset_of length (addr + x) ≡ x
 offset-of length addr x h =
-    by_length (λ (n : ℕ). addr % n ≡ 0 → x < n → offset_of n (addr + x) ≡ x) length h (λ a l. omega arith) (λ a l. omega arith)
+    by_length (λ (n : ℕ). addr % n ≡ 0 → x < n → offset_of n (addr + x) ≡ x) length h (λ a l. omega arith) (λ a l. omega arith) (λ a l. omega arith)
 
 -- a line of memory that lies below the end
 pub line-inside : (length size addr : ℕ) → is_line_length length ≡ true → size % length ≡ 0 → addr < size
     → line_of length addr + length ≤ size
 line-inside length size addr h =
-    by_length (λ (n : ℕ). size % n ≡ 0 → addr < size → line_of n addr + n ≤ size) length h (λ a l. omega arith) (λ a l. omega arith)
+    by_length (λ (n : ℕ). size % n ≡ 0 → addr < size → line_of n addr + n ≤ size) length h (λ a l. omega arith) (λ a l. omega arith) (λ a l. omega arith)
 
 -- an access does not cross the end of its line: the offset is aligned too
 pub offset-aligned : (length addr width : ℕ) → is_line_length length ≡ true → (width ≡ 1) ⊎ (width ≡ 2) ⊎ (width ≡ 4)
     → addr % width ≡ 0 → offset_of length addr % width ≡ 0
 offset-aligned length addr width h widths aligned =
     elim widths [
-      | inl one ↦ rw one (by_length (λ (n : ℕ). offset_of n addr % 1 ≡ 0) length h (omega arith) (omega arith))
+      | inl one ↦ rw one (by_length (λ (n : ℕ). offset_of n addr % 1 ≡ 0) length h (omega arith) (omega arith) (omega arith))
       | inr rest ↦ elim rest [
         | inl two ↦
             let even : addr % 2 ≡ 0 = rw two at aligned in
-            rw two (by_length (λ (n : ℕ). offset_of n addr % 2 ≡ 0) length h (omega arith) (omega arith))
+            rw two (by_length (λ (n : ℕ). offset_of n addr % 2 ≡ 0) length h (omega arith) (omega arith) (omega arith))
         | inr four ↦
             let fourth : addr % 4 ≡ 0 = rw four at aligned in
-            rw four (by_length (λ (n : ℕ). offset_of n addr % 4 ≡ 0) length h (omega arith) (omega arith))
+            rw four (by_length (λ (n : ℕ). offset_of n addr % 4 ≡ 0) length h (omega arith) (omega arith) (omega arith))
       ]
     ]
 
@@ -69,7 +55,7 @@ same_line : (length addr a x : ℕ) → is_line_length length ≡ true → addr 
     → is_within addr length (a + x) ≡ (addr == a)
 same_line length addr a x h =
     by_length (λ (n : ℕ). addr % n ≡ 0 → a % n ≡ 0 → x < n → is_within addr n (a + x) ≡ (addr == a)) length h
-    (λ p q l. grind (arith, nat_tests)) (λ p q l. grind (arith, nat_tests))
+    (λ p q l. grind (arith, nat_tests)) (λ p q l. grind (arith, nat_tests)) (λ p q l. grind (arith, nat_tests))
 
 pub memory_line-past : (length : ℕ) (memory : ℕ → ℕ) (a x : ℕ) → length ≤ x → memory_line length memory a x ≡ 0
 memory_line-past length memory a x le = let out : nat_lt x length ≡ false = grind (arith, nat_tests) in rw out refl

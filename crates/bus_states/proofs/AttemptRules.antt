@@ -2,9 +2,9 @@
 use Rattle.std.proofs.Common.{◌≡◌, ◌≢◌, ℕ, ◌+◌, ◌%◌, ◌<◌, ◌≤◌, true, false, cond, nat_lt, Option, Some, None, slice_index, refl, sym, ap, subst, ◌∙◌, arith}
 use Rattle.std.proofs.lemmas.Bool.Decides.{nat_tests}
 use Rattle.rv32_image.specs.Image.{LoadedImage}
-use Rattle.rv32_image.specs.Version.{limits_of}
+use Rattle.cache_lines.specs.Lines.{geometry_of}
 use Rattle.rv32_image.proofs.SmallFacts.{none_and_some}
-use Rattle.cache_lines.specs.Lines.{is_line_length}
+use Rattle.rv32_image.specs.Machine.{is_line_length}
 use Rattle.violations.specs.declared.attempt.Attempt.{Attempt}
 use Rattle.violations.specs.View.{Shape, attempt_of, MayBegin, Runs}
 use Rattle.violations.specs.Rule.{IsFresh, IsSameCore, Begins, Ends, shape_of}
@@ -30,19 +30,21 @@ pub record IsOpened (bus : Bus) (image : LoadedImage) (cores : ℕ) : Type 0 whe
   pub shape : bus.shape ≡ shape_of image cores
   pub memory : (a : ℕ) → bus.memory a ≡ slice_index image.bytes a
   pub length_is : is_line_length bus.line_length ≡ true
-  pub length_of : bus.line_length ≡ (limits_of image.version).line_length
+  pub length_of : bus.line_length ≡ image.machine.line_length
+  pub geometry_is : bus.geometry ≡ geometry_of image.machine
   pub whole_lines : bus.shape.size % bus.line_length ≡ 0
   pub lengths : (k : ℕ) → k < bus.shape.cores → (bus.core k).line_length ≡ bus.line_length
   pub geometries : (k : ℕ) → k < bus.shape.cores → (bus.core k).geometry ≡ bus.geometry
-  pub limits : (k : ℕ) → k < bus.shape.cores → (bus.core k).buffer.limit ≡ (limits_of image.version).buffer_lines
+  pub limits : (k : ℕ) → k < bus.shape.cores → (bus.core k).buffer.limit ≡ image.machine.buffer_lines
   pub idle : (k : ℕ) → IsIdle (bus.core k)
   pub absent : (k : ℕ) → bus.shape.cores ≤ k → bus.core k ≡ no_core
 
 opened-with : (bus : Bus) (image : LoadedImage) (cores : ℕ) → IsOpened bus image cores
     → IsCoherentWith bus (memory_line bus.line_length bus.memory)
 opened-with bus image cores h =
-    idle-with bus h.length_is (h.length_of ∙ sym (ap (λ (shape : Shape). shape.limits.line_length) h.shape)) h.whole_lines h.lengths h.geometries
-    (λ k inside. h.limits k inside ∙ sym (ap (λ (shape : Shape). shape.limits.buffer_lines) h.shape)) h.idle h.absent
+    idle-with bus h.length_is (h.length_of ∙ sym (ap (λ (shape : Shape). shape.machine.line_length) h.shape))
+    (h.geometry_is ∙ sym (ap (λ (shape : Shape). geometry_of shape.machine) h.shape)) h.whole_lines h.lengths h.geometries
+    (λ k inside. h.limits k inside ∙ sym (ap (λ (shape : Shape). shape.machine.buffer_lines) h.shape)) h.idle h.absent
 
 pub opened-coherent : (bus : Bus) (image : LoadedImage) (cores : ℕ) → IsOpened bus image cores → IsCoherent bus
 opened-coherent bus image cores h = coherent-with bus (memory_line bus.line_length bus.memory) (opened-with bus image cores h)

@@ -7,7 +7,8 @@ use Rattle.spec_states.specs.Mask.{has}
 use Rattle.spec_states.specs.States.{is_valid, is_exclusive, is_modified}
 use Rattle.spec_states.proofs.CopyLaws.{seen_is}
 use Rattle.spec_states.proofs.MaskLaws.{has-zero}
-use Rattle.cache_lines.specs.Lines.{is_line_length}
+use Rattle.rv32_image.specs.Machine.{is_line_length}
+use Rattle.cache_lines.specs.Lines.{geometry_of}
 use Rattle.cache_lines.specs.Protocol.{IsInPlace}
 use Rattle.bus_states.specs.Bus.{Bus, no_core, committed, committed_among, sees, memory_line, some_core}
 use Rattle.bus_states.specs.Coherent.{IsCoherent, IsCoherentLine, IsCoherentCore}
@@ -18,11 +19,12 @@ use Rattle.bus_states.proofs.Copies.{not_so}
 -- coherent, with c in the place of the committed lines
 pub record IsCoherentWith (bus : Bus) (c : ℕ → ℕ → ℕ) : Type 0 where
   pub length_is : is_line_length bus.line_length ≡ true
-  pub length_of : bus.line_length ≡ bus.shape.limits.line_length
+  pub length_of : bus.line_length ≡ bus.shape.machine.line_length
+  pub geometry_is : bus.geometry ≡ geometry_of bus.shape.machine
   pub whole_lines : bus.shape.size % bus.line_length ≡ 0
   pub lengths : (k : ℕ) → k < bus.shape.cores → (bus.core k).line_length ≡ bus.line_length
   pub geometries : (k : ℕ) → k < bus.shape.cores → (bus.core k).geometry ≡ bus.geometry
-  pub limits : (k : ℕ) → k < bus.shape.cores → (bus.core k).buffer.limit ≡ bus.shape.limits.buffer_lines
+  pub limits : (k : ℕ) → k < bus.shape.cores → (bus.core k).buffer.limit ≡ bus.shape.machine.buffer_lines
   pub lines : (addr : ℕ) → addr % bus.line_length ≡ 0
       → IsCoherentLine (λ k. (bus.core k).copy addr) (memory_line bus.line_length bus.memory addr) (c addr)
   pub cores : (k : ℕ) → IsCoherentCore (bus.core k)
@@ -41,6 +43,7 @@ coherent-with bus c h =
     record {
       length_is = h.length_is;
       length_of = h.length_of;
+      geometry_is = h.geometry_is;
       whole_lines = h.whole_lines;
       lengths = h.lengths;
       geometries = h.geometries;
@@ -60,6 +63,7 @@ with-itself bus h =
     record {
       length_is = h.length_is;
       length_of = h.length_of;
+      geometry_is = h.geometry_is;
       whole_lines = h.whole_lines;
       lengths = h.lengths;
       geometries = h.geometries;
@@ -78,6 +82,7 @@ with-same bus c d same h =
     record {
       length_is = h.length_is;
       length_of = h.length_of;
+      geometry_is = h.geometry_is;
       whole_lines = h.whole_lines;
       lengths = h.lengths;
       geometries = h.geometries;

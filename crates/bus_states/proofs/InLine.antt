@@ -5,11 +5,12 @@ use Rattle.memory_bytes.specs.Bytes.{byte_of, number_at}
 use Rattle.memory_bytes.specs.Maps.{over, stored}
 use Rattle.spec_states.specs.Mask.{is_within}
 use Rattle.spec_states.proofs.MaskLaws.{access-within, width-bounds}
-use Rattle.cache_lines.specs.Lines.{is_line_length}
+use Rattle.rv32_image.specs.Machine.{is_line_length}
 use Rattle.violations.specs.View.{Shape, is_accessed, IsLoad}
 use Rattle.bus_states.specs.Bus.{Bus, line_of, offset_of}
 use Rattle.bus_states.specs.Coherent.{IsCoherent}
-use Rattle.bus_states.proofs.Addresses.{by_length, line-aligned, line-and_offset, line-of, offset-of, line-inside, offset-aligned, offset-in_line}
+use Rattle.rv32_image.proofs.Bounds.{by_length}
+use Rattle.bus_states.proofs.Addresses.{line-aligned, line-and_offset, line-of, offset-of, line-inside, offset-aligned, offset-in_line}
 
 -- ---- a load or a store of the store's rule
 
@@ -26,7 +27,7 @@ lies-in_line length shape address width length_is whole access =
       length_is = length_is;
       ends =
           access-within (offset_of length address) width length access.wide (offset-aligned length address width length_is access.wide access.aligned)
-          (offset-in_line length address length_is) (by_length (λ (n : ℕ). n % 4 ≡ 0) length length_is refl refl);
+          (offset-in_line length address length_is) (by_length (λ (n : ℕ). n % 4 ≡ 0) length length_is refl refl refl);
       inside = line-inside length shape.size address length_is whole (below shape.size (width-bounds width access.wide).0 access.within);
     }
   where
@@ -63,7 +64,7 @@ accessed_by : (length q o p x width : ℕ) → is_line_length length ≡ true �
     → is_accessed (q + o) width (p + x) ≡ ((q == p) && is_within o width x)
 accessed_by length q o p x width h =
     by_length (λ (n : ℕ). q % n ≡ 0 → p % n ≡ 0 → o + width ≤ n → x < n → is_accessed (q + o) width (p + x) ≡ ((q == p) && is_within o width x)) length h
-    (λ a b c d. grind (arith, nat_tests)) (λ a b c d. grind (arith, nat_tests))
+    (λ a b c d. grind (arith, nat_tests)) (λ a b c d. grind (arith, nat_tests)) (λ a b c d. grind (arith, nat_tests))
 
 pub accessed-line : (length size address width a : ℕ) → LiesInLine length size address width
     → is_accessed address width a

@@ -2,7 +2,9 @@
 use Rattle.std.proofs.Common.{◌≡◌, ℕ, ◌%◌, ◌≤◌, ◌<◌, true, [], None, refl, arith}
 use Rattle.spec_states.specs.Copies.{no_copy}
 use Rattle.spec_states.proofs.CopyLaws.{IsUpToDate-gone}
-use Rattle.cache_lines.specs.Lines.{is_line_length}
+use Rattle.rv32_image.specs.Machine.{is_line_length}
+use Rattle.cache_lines.specs.Lines.{geometry_of}
+use Rattle.orb.specs.Lines.{largest_limit}
 use Rattle.bus_states.specs.Bus.{CoreState, Bus, no_core, memory_line}
 use Rattle.bus_states.specs.Coherent.{IsCoherentCore}
 use Rattle.bus_states.proofs.Coherence.{IsCoherentWith}
@@ -12,20 +14,21 @@ use Rattle.bus_states.proofs.Copies.{none-in_place}
 pub record IsIdle (core : CoreState) : Type 0 where
   pub copy : (addr : ℕ) → core.copy addr ≡ no_copy
   pub lines : core.buffer.lines ≡ []
-  pub limit : core.buffer.limit ≤ 8
+  pub limit : core.buffer.limit ≤ largest_limit
   pub attempt : core.attempt ≡ None
 
-pub idle-with : (bus : Bus) → is_line_length bus.line_length ≡ true → bus.line_length ≡ bus.shape.limits.line_length
-    → bus.shape.size % bus.line_length ≡ 0
+pub idle-with : (bus : Bus) → is_line_length bus.line_length ≡ true → bus.line_length ≡ bus.shape.machine.line_length
+    → bus.geometry ≡ geometry_of bus.shape.machine → bus.shape.size % bus.line_length ≡ 0
     → ((k : ℕ) → k < bus.shape.cores → (bus.core k).line_length ≡ bus.line_length)
     → ((k : ℕ) → k < bus.shape.cores → (bus.core k).geometry ≡ bus.geometry)
-    → ((k : ℕ) → k < bus.shape.cores → (bus.core k).buffer.limit ≡ bus.shape.limits.buffer_lines)
+    → ((k : ℕ) → k < bus.shape.cores → (bus.core k).buffer.limit ≡ bus.shape.machine.buffer_lines)
     → ((k : ℕ) → IsIdle (bus.core k)) → ((k : ℕ) → bus.shape.cores ≤ k → bus.core k ≡ no_core)
     → IsCoherentWith bus (memory_line bus.line_length bus.memory)
-idle-with bus length_is length_of whole_lines lengths geometries limits idle absent =
+idle-with bus length_is length_of geometry_is whole_lines lengths geometries limits idle absent =
     record {
       length_is = length_is;
       length_of = length_of;
+      geometry_is = geometry_is;
       whole_lines = whole_lines;
       lengths = lengths;
       geometries = geometries;

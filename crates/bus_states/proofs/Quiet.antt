@@ -81,6 +81,7 @@ quiet-with bus core own memory c h t =
     record {
       length_is = h.length_is;
       length_of = h.length_of;
+      geometry_is = h.geometry_is;
       whole_lines = h.whole_lines;
       lengths =
           λ k inside. by_core (λ (k : ℕ). k < bus.shape.cores → ((quietly bus core own memory).core k).line_length ≡ bus.line_length) core k
@@ -91,7 +92,7 @@ quiet-with bus core own memory c h t =
           (rw (at_own bus core own memory) (λ i. t.same_geometry ∙ h.geometries core i))
           (λ away. rw (at_other bus core own memory k away) (h.geometries k)) inside;
       limits =
-          λ k inside. by_core (λ (k : ℕ). k < bus.shape.cores → ((quietly bus core own memory).core k).buffer.limit ≡ bus.shape.limits.buffer_lines) core k
+          λ k inside. by_core (λ (k : ℕ). k < bus.shape.cores → ((quietly bus core own memory).core k).buffer.limit ≡ bus.shape.machine.buffer_lines) core k
           (rw (at_own bus core own memory) (λ i. t.same_limit ∙ h.limits core i))
           (λ away. rw (at_other bus core own memory k away) (h.limits k)) inside;
       lines = line bus core own memory c h t;

@@ -14,6 +14,7 @@ use Rattle.cache_lines.specs.Cells.{with_number}
 use Rattle.cache_lines.specs.Protocol.{IsInPlace, changed_copy, copy_with_number}
 use Rattle.cache_lines.proofs.CopyLaws.{IsUpToDate-rolled_back}
 use Rattle.violations.specs.declared.attempt.Attempt.{Attempt}
+use Rattle.cache_lines.proofs.Written.{number-past}
 use Rattle.bus_states.specs.Bus.{CoreState, Bus, committed, memory_line}
 use Rattle.bus_states.specs.Coherent.{IsCoherent, IsCoherentCore, speculates}
 use Rattle.bus_states.specs.Messages.{with_copy, with_line, dropped_core}
@@ -231,14 +232,6 @@ pub record Writes (bus : Bus) (core addr offset width : ℕ) : Type 0 where
   pub held : is_valid (own bus core addr).state ≡ true
   pub in_line : offset + width ≤ bus.line_length
   pub masked : (x : ℕ) → is_within offset width x ≡ true → has (own bus core addr).marks.bytes x ≡ true
-
--- a store past the end of which there is nothing
-pub number-past : (cell : ℕ → ℕ) (length offset width value x : ℕ) → offset + width ≤ length → length ≤ x → cell x ≡ 0
-    → with_number cell offset width value x ≡ 0
-number-past cell length offset width value x inside le e =
-    let past : offset + width ≤ x = omega arith in
-    let out : is_within offset width x ≡ false = grind (arith, nat_tests) in
-    rw out e
 
 written-one : (bus : Bus) (core addr offset width value : ℕ) → IsCoherent bus → Writes bus core addr offset width
     → ChangesOne bus core addr (copy_with_number offset width value (own bus core addr)) bus.memory (committed bus addr)

@@ -272,6 +272,7 @@ sent-with bus message room own mine h t =
     record {
       length_is = h.length_is;
       length_of = h.length_of;
+      geometry_is = h.geometry_is;
       whole_lines = h.whole_lines;
       lengths =
           λ k inside. by_core (λ (k : ℕ). k < bus.shape.cores → ((sent bus message room own).core k).line_length ≡ bus.line_length) message.sender k
@@ -282,7 +283,7 @@ sent-with bus message room own mine h t =
           (rw (at_sender bus message room own) (λ i. t.same_geometry ∙ h.geometries message.sender i))
           (λ away. rw (at_other bus message room own k away) (λ i. Heard.heard-geometry (bus.core k) message.addr (violates bus message k) (reply bus message k) _ ∙ h.geometries k i)) inside;
       limits =
-          λ k inside. by_core (λ (k : ℕ). k < bus.shape.cores → ((sent bus message room own).core k).buffer.limit ≡ bus.shape.limits.buffer_lines) message.sender k
+          λ k inside. by_core (λ (k : ℕ). k < bus.shape.cores → ((sent bus message room own).core k).buffer.limit ≡ bus.shape.machine.buffer_lines) message.sender k
           (rw (at_sender bus message room own) (λ i. t.same_limit ∙ h.limits message.sender i))
           (λ away. rw (at_other bus message room own k away) (λ i. Heard.heard-limit (bus.core k) message.addr (violates bus message k) (reply bus message k) _ ∙ h.limits k i)) inside;
       lines = every-line bus message room own mine h t;

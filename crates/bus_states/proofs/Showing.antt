@@ -10,7 +10,7 @@ use Rattle.spec_states.specs.States.{is_valid, is_speculative}
 use Rattle.spec_states.specs.Tables.{no_marks}
 use Rattle.spec_states.proofs.MaskLaws.{has-zero}
 use Rattle.spec_states.proofs.RowLaws.{speculative-valid}
-use Rattle.cache_lines.specs.Lines.{is_line_length}
+use Rattle.rv32_image.specs.Machine.{is_line_length}
 use Rattle.violations.specs.Rule.{IsSameCore, IsSpared}
 use Rattle.bus_states.specs.declared.notice.Notice.{Notice}
 use Rattle.bus_states.specs.declared.notice.Notice.TheVariants.{Load, Store, Publish}

@@ -27,7 +27,8 @@ use Rattle.bus_states.proofs.Copies.{itself, unrequired}
 use Rattle.bus_states.proofs.Cores.{with_copy-coherent}
 use Rattle.bus_states.proofs.Heard.{message-gives_way}
 use Rattle.bus_states.proofs.Quiet.{ChangesQuietly, quiet-with}
-use Rattle.bus_states.proofs.QuietCalls.{ChangesOne, one-quietly, one_line, same-lines, number-past}
+use Rattle.bus_states.proofs.QuietCalls.{ChangesOne, one-quietly, one_line, same-lines}
+use Rattle.cache_lines.proofs.Written.{number-past}
 
 -- ---- nobody holds a straight core up
 

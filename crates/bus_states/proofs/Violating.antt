@@ -91,7 +91,7 @@ overflows-crowded bus message k address h at inside over =
       cached = refl;
       here = subst (λ (line : ℕ). OwnsIn (view_of bus) k line) (sym line) (modified-owns bus k message.addr h valid entering.0);
       others = (bus.core k).buffer.lines;
-      full = most (length (bus.core k).buffer.lines) (bus.core k).buffer.limit bus.shape.limits.buffer_lines (and_parts (reply bus message k).enters (is_full (bus.core k).buffer) over).1 (h.limits k inside);
+      full = most (length (bus.core k).buffer.lines) (bus.core k).buffer.limit bus.shape.machine.buffer_lines (and_parts (reply bus message k).enters (is_full (bus.core k).buffer) over).1 (h.limits k inside);
       apart = once-apart (bus.core k).buffer.lines (h.cores k).buffer.each_once;
       each =
           λ i d lt.

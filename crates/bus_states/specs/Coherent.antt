@@ -3,7 +3,8 @@ use Rattle.std.specs.Prelude.{◌≡◌, ◌≢◌, ◌≤◌, ◌<◌, ◌+◌,
 use Rattle.spec_states.specs.Copies.{LineCopy, IsUpToDate}
 use Rattle.spec_states.specs.Rows.{requires_ownership}
 use Rattle.spec_states.specs.States.{is_valid, is_exclusive, is_modified, is_speculative}
-use Rattle.cache_lines.specs.Lines.{is_line_length}
+use Rattle.rv32_image.specs.Machine.{is_line_length}
+use Rattle.cache_lines.specs.Lines.{geometry_of}
 use Rattle.cache_lines.specs.Protocol.{IsInPlace}
 use Rattle.orb.specs.Lines.{holds, IsBuffer}
 use Rattle.violations.specs.declared.attempt.Attempt.{Attempt}
@@ -33,12 +34,13 @@ pub record IsCoherentCore (core : CoreState) : Type 0 where
 
 pub record IsCoherent (bus : Bus) : Type 0 where
   pub length_is : is_line_length bus.line_length ≡ true
-  pub length_of : bus.line_length ≡ bus.shape.limits.line_length
+  pub length_of : bus.line_length ≡ bus.shape.machine.line_length
+  pub geometry_is : bus.geometry ≡ geometry_of bus.shape.machine
   pub whole_lines : bus.shape.size % bus.line_length ≡ 0
   pub lengths : (k : ℕ) → k < bus.shape.cores → (bus.core k).line_length ≡ bus.line_length
   pub geometries : (k : ℕ) → k < bus.shape.cores → (bus.core k).geometry ≡ bus.geometry
-  -- each core's buffer takes as many lines as the limits say
-  pub limits : (k : ℕ) → k < bus.shape.cores → (bus.core k).buffer.limit ≡ bus.shape.limits.buffer_lines
+  -- each core's buffer takes as many lines as the machine's
+  pub limits : (k : ℕ) → k < bus.shape.cores → (bus.core k).buffer.limit ≡ bus.shape.machine.buffer_lines
   pub lines : (addr : ℕ) → addr % bus.line_length ≡ 0
       → IsCoherentLine (λ k. (bus.core k).copy addr) (memory_line bus.line_length bus.memory addr) (committed bus addr)
   pub cores : (k : ℕ) → IsCoherentCore (bus.core k)

@@ -3,7 +3,8 @@ use Rattle.std.proofs.Common.{◌≡◌, ℕ, ◌*◌, ◌<◌, true, false, tru
 use Rattle.spec_states.specs.declared.line.LineState.TheVariants.{I}
 use Rattle.spec_states.specs.Copies.{no_copy}
 use Rattle.spec_states.specs.States.{is_valid}
-use Rattle.cache_lines.specs.Lines.{Contents, IsGeometry, is_line_length, place, invalid_line, line_in, is_copy_of, way_at}
+use Rattle.cache_lines.specs.Lines.{Contents, IsGeometry, place, invalid_line, line_in, is_copy_of, way_at}
+use Rattle.rv32_image.specs.Machine.{is_line_length}
 use Rattle.cache_lines.specs.Placed.{IsPlaced}
 use Rattle.cache_lines.specs.Protocol.{copy_at, copy_or_none}
 use Rattle.cache_lines.proofs.LineLaws.{way_at-none, held_none, place-lt}

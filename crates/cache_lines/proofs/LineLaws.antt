@@ -8,7 +8,8 @@ use Rattle.std.proofs.lemmas.Grind.{get_or-set_at}
 use Rattle.std.proofs.lemmas.List.{get_or_default, length-set}
 use Rattle.spec_states.specs.States.{is_valid}
 use Rattle.cache_lines.specs.declared.line.Line.{Line}
-use Rattle.cache_lines.specs.Lines.{Contents, IsGeometry, is_set_count, set_of, place, invalid_line, line_in, with_line, is_copy_of, way_at, held_line}
+use Rattle.cache_lines.specs.Lines.{Contents, IsGeometry, set_of, place, invalid_line, line_in, with_line, is_copy_of, way_at, held_line}
+use Rattle.rv32_image.specs.Machine.{is_set_count}
 use Rattle.cache_lines.proofs.Firsts.{first_is, none_is, found_first, found_none}
 use Rattle.cache_lines.specs.Placed.{IsNotElsewhere, FitsLength, IsPlaced, MayStand}
 

@@ -4,7 +4,8 @@ use Rattle.spec_states.specs.Mask.{IsWithinLine}
 use Rattle.spec_states.specs.States.{is_valid}
 use Rattle.cache_lines.specs.declared.line.Line.{Line}
 use Rattle.cache_lines.specs.Cells.{cell_of}
-use Rattle.cache_lines.specs.Lines.{Contents, IsGeometry, is_line_length, set_of, line_in, is_copy_of}
+use Rattle.cache_lines.specs.Lines.{Contents, IsGeometry, set_of, line_in, is_copy_of}
+use Rattle.rv32_image.specs.Machine.{is_line_length}
 
 -- no other way of its set has a valid copy of the line at this address
 abbrev pub IsNotElsewhere : Contents → ℕ → ℕ → Type 0

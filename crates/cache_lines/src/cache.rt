@@ -5,7 +5,8 @@ ghost use Rattle.memory_bytes.specs.Bytes.{IsWidth};
 ghost use Rattle.spec_states.specs.States.{is_valid, is_speculative};
 ghost use Rattle.cache_lines.specs.Cells.{line_with_number};
 ghost use Rattle.cache_lines.specs.Changes.{victim_of, rolled_back_line, published_line, with_each_line, IsFound, IsAbsent, CopiesAreFilled, CopiesChange, CopiesAllChange, StandIn};
-ghost use Rattle.cache_lines.specs.Lines.{Contents, IsGeometry, default_geometry, is_line_length, set_of, invalid_line, line_in, with_line, is_copy_of, way_at};
+ghost use Rattle.cache_lines.specs.Lines.{Contents, IsGeometry, default_geometry, set_of, invalid_line, line_in, with_line, is_copy_of, way_at};
+ghost use Rattle.rv32_image.specs.Machine.{is_line_length};
 ghost use Rattle.cache_lines.specs.Placed.{IsNotElsewhere, FitsLength, IsPlaced, MayStand};
 ghost use Rattle.cache_lines.specs.Protocol.{IsInPlace, copy_at, copy_of_line, rolled_back_copy, published_copy, copy_with_number};
 
@@ -20,7 +21,7 @@ pub const SETS: usize = 4;
 /// The ways of its sets.
 pub const WAYS: usize = 2;
 
-/// A core's cache, of lines of 16 or of 32 bytes. Contracts see it as its lines, set by set, and in a set way by way.
+/// A core's cache, of lines of 16, 32 or 64 bytes. Contracts see it as its lines, set by set, and in a set way by way.
 #[derive(Debug, Drop)]
 pub struct Cache {
     stored: Stored,
@@ -42,7 +43,7 @@ impl Model for Cache {
 }
 
 impl Cache {
-    /// A cache of 4 sets of 2 ways, of lines of `length` bytes, 16 or 32, all of which are invalid.
+    /// A cache of 4 sets of 2 ways, of lines of `length` bytes, 16, 32 or 64, all of which are invalid.
     pub fn new(length: usize) -> Cache
         requires { IsTrue (is_line_length length) }
         ensures line_length { result.line_length ≡ length }
@@ -60,7 +61,8 @@ impl Cache {
         }
     }
 
-    /// A cache of so many sets and ways of lines of `line_length` bytes, 16 or 32, all of which are invalid.
+    /// A cache of so many sets and ways of lines of `line_length` bytes, all of which are invalid. The sets are a power of two up to
+    /// 1,024, the ways 1 to 16, the bytes 16, 32 or 64.
     ///
     /// `AllocError`: there was no memory for it.
     pub fn with_geometry(
@@ -78,9 +80,9 @@ impl Cache {
         ensures copies { IfOk result (λ cache. (addr : ℕ) → copy_at cache addr ≡ no_copy) }
         ensures ways { IfOk result (λ cache. (addr : ℕ) → way_at cache addr ≡ None) }
     {
-        let lines = vec![in alloc; Line::INVALID; sets * ways]?;
+        let stored = Stored::invalid(alloc, sets * ways)?;
         Ok(Cache {
-            stored: Stored::Many(lines),
+            stored,
             line_length,
             sets,
             ways,

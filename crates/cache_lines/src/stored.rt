@@ -1,18 +1,20 @@
 //! Where the lines of a cache stand.
-ghost use Rattle.std.specs.Prelude.{◌≡◌, ◌<◌, map, true, length, slice_set};
+ghost use Rattle.std.specs.Prelude.{◌≡◌, ◌<◌, map, true, length, slice_set, IfOk};
 ghost use Rattle.cache_lines.specs.Changes.{rolled_back_line, published_line};
-ghost use Rattle.cache_lines.specs.Stored.{stored_lines};
+ghost use Rattle.cache_lines.specs.Stored.{stored_lines, AreInvalid};
 
 use crate::line::Line;
+use crate::noted::Noted;
+use std::alloc::{AllocError, Global};
 
 /// How many lines a cache has in itself.
 pub(crate) const FEW: usize = 8;
 
-/// The lines of a cache: in the cache itself, or in memory that it took.
+/// The lines of a cache: in the cache itself, or in memory that it took, with a list of those that may carry marks.
 #[derive(Debug, Drop)]
 pub(crate) enum Stored {
     Few([Line; FEW]),
-    Many(Vec<Line>),
+    Many(Noted),
 }
 
 /// Gives every line the state and the marks that the violation of its core's epoch leaves.
@@ -43,13 +45,26 @@ fn put_line(lines: &mut [Line], place: usize, line: Line)
 }
 
 impl Stored {
+    /// So many invalid lines.
+    ///
+    /// `AllocError`: there was no memory for them.
+    pub(crate) fn invalid(alloc: Global, count: usize) -> Result<Stored, AllocError>
+        ensures { IfOk result (λ stored. AreInvalid count (stored_lines stored)) }
+    {
+        if count == FEW {
+            return Ok(Stored::Few([Line::INVALID; FEW]));
+        }
+        let noted = Noted::invalid(alloc, count)?;
+        Ok(Stored::Many(noted))
+    }
+
     /// All lines, set by set, and in a set way by way.
     pub(crate) fn lines(&self) -> &[Line]
         ensures { result.now ≡ stored_lines self.now }
     {
         match self {
             Stored::Few(lines) => lines,
-            Stored::Many(lines) => lines.as_slice(),
+            Stored::Many(noted) => noted.lines(),
         }
     }
 
@@ -60,7 +75,7 @@ impl Stored {
     {
         match self {
             Stored::Few(lines) => put_line(lines, place, line),
-            Stored::Many(lines) => put_line(lines.as_mut_slice(), place, line),
+            Stored::Many(noted) => noted.put(place, line),
         }
     }
 
@@ -70,7 +85,7 @@ impl Stored {
     {
         match self {
             Stored::Few(lines) => roll_back_lines(lines),
-            Stored::Many(lines) => roll_back_lines(lines.as_mut_slice()),
+            Stored::Many(noted) => noted.roll_back(),
         }
     }
 
@@ -80,7 +95,7 @@ impl Stored {
     {
         match self {
             Stored::Few(lines) => settle_lines(lines),
-            Stored::Many(lines) => settle_lines(lines.as_mut_slice()),
+            Stored::Many(noted) => noted.settle(),
         }
     }
 }

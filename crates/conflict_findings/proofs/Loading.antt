@@ -3,7 +3,6 @@ use Rattle.std.proofs.Common.{◌≡◌, ℕ, zero, suc, ◌+◌, ◌*◌, ◌<�
 use Rattle.std.specs.Option.{option_or}
 use Rattle.std.proofs.lemmas.Bool.{cases_eq, false_from_ne_true, both_ways}
 use Rattle.rv32_image.specs.Image.{LoadedImage}
-use Rattle.rv32_image.specs.Version.{limits_of}
 use Rattle.rv32_image.proofs.SmallFacts.{one_value, none_and_some}
 use Rattle.spec_history.specs.declared.entry.Entry.{Entry}
 use Rattle.spec_history.specs.Searches.{first_below}
@@ -107,7 +106,7 @@ most_by n test k (Some o) is below passes = (
 -- ---- of a line
 
 abbrev pub At : LoadedImage → ℕ → ℕ → ℕ
-At image line x = line * (limits_of image.version).line_length + x
+At image line x = line * image.machine.line_length + x
 
 abbrev pub Reads : LoadedImage → List Entry → ℕ → ℕ → ℕ → ℕ → Option ℕ
 Reads image entries core before line x = first_read entries core before (At image line x)
@@ -117,20 +116,20 @@ unread_by : (image : LoadedImage) (entries : List Entry) (core before line j y :
 unread_by image entries core before line j y never below = false_from_ne_true (reads_outside entries core before (At image line y) j) (λ is.
     let at = most_by before (reads_outside entries core before (At image line y)) j _ refl below is in never at.0 at.1 at.2)
 
-pub byte_found : (image : LoadedImage) (entries : List Entry) (core before line load a : ℕ) → IsFirst (At image line) (Reads image entries core before line) (limits_of image.version).line_length load a
+pub byte_found : (image : LoadedImage) (entries : List Entry) (core before line load a : ℕ) → IsFirst (At image line) (Reads image entries core before line) image.machine.line_length load a
     → byte_in image entries core before line load ≡ Some a
 byte_found image entries core before line load a found =
     let reads = found_at before (reads_outside entries core before (At image line found.x)) load found.read in
-    ap (option_map (At image line)) (first_at (limits_of image.version).line_length (λ x. reads_outside entries core before (At image line x) load) found.x found.below reads.1
+    ap (option_map (At image line)) (first_at image.machine.line_length (λ x. reads_outside entries core before (At image line x) load) found.x found.below reads.1
     (λ y before_it. unread_by image entries core before line load y (λ o is most. let less = found.lowest y o before_it is in omega (arith, less, most)) reads.0))
     ∙ ap Some (sym found.at_is)
 
-no_byte : (image : LoadedImage) (entries : List Entry) (core before line j : ℕ) → ((y : ℕ) → y < (limits_of image.version).line_length → reads_outside entries core before (At image line y) j ≡ false)
+no_byte : (image : LoadedImage) (entries : List Entry) (core before line j : ℕ) → ((y : ℕ) → y < image.machine.line_length → reads_outside entries core before (At image line y) j ≡ false)
     → is_some (byte_in image entries core before line j) ≡ false
 no_byte image entries core before line j none =
-    ap (λ o. is_some (option_map (At image line) o)) (first_none (limits_of image.version).line_length (λ x. reads_outside entries core before (At image line x) j) none)
+    ap (λ o. is_some (option_map (At image line) o)) (first_none image.machine.line_length (λ x. reads_outside entries core before (At image line x) j) none)
 
-pub load_found : (image : LoadedImage) (entries : List Entry) (core before line load a : ℕ) → IsFirst (At image line) (Reads image entries core before line) (limits_of image.version).line_length load a
+pub load_found : (image : LoadedImage) (entries : List Entry) (core before line load a : ℕ) → IsFirst (At image line) (Reads image entries core before line) image.machine.line_length load a
     → load_in image entries core before line ≡ Some load
 load_found image entries core before line load a found =
     let reads = found_at before (reads_outside entries core before (At image line found.x)) load found.read in
@@ -139,19 +138,19 @@ load_found image entries core before line load a found =
     (λ o is most. let less = found.least y o below is in omega (arith, less, most, early)) (omega (arith, early, reads.0))))
 
 pub none_found : (image : LoadedImage) (entries : List Entry) (core before line : ℕ)
-    → ((x : ℕ) → x < (limits_of image.version).line_length → Reads image entries core before line x ≡ None) → load_in image entries core before line ≡ None
+    → ((x : ℕ) → x < image.machine.line_length → Reads image entries core before line x ≡ None) → load_in image entries core before line ≡ None
 none_found image entries core before line none =
     first_none before (λ j. is_some (byte_in image entries core before line j)) (λ j below. no_byte image entries core before line j (λ y inside.
     unread_by image entries core before line j y (λ o is most. none_and_some (Reads image entries core before line y) o (none y inside) is) below))
 
 -- ---- where all were asked
 
-pub none_so : (image : LoadedImage) (entries : List Entry) (core before line n : ℕ) (found : Option (ℕ × ℕ)) → n ≡ (limits_of image.version).line_length
+pub none_so : (image : LoadedImage) (entries : List Entry) (core before line n : ℕ) (found : Option (ℕ × ℕ)) → n ≡ image.machine.line_length
     → IsEarliest (At image line) (Reads image entries core before line) n found → IfNone found (load_in image entries core before line ≡ None)
 none_so image entries core before line n None same was = none_found image entries core before line (λ x below. was x (omega (arith, below, same)))
 none_so image entries core before line n (Some found) same was = tt
 
-pub some_so : (image : LoadedImage) (entries : List Entry) (core before line n : ℕ) (found : Option (ℕ × ℕ)) → n ≡ (limits_of image.version).line_length
+pub some_so : (image : LoadedImage) (entries : List Entry) (core before line n : ℕ) (found : Option (ℕ × ℕ)) → n ≡ image.machine.line_length
     → IsEarliest (At image line) (Reads image entries core before line) n found
     → IfSome found (λ f. (load_in image entries core before line ≡ Some f.0) × (byte_in image entries core before line f.0 ≡ Some f.1))
 some_so image entries core before line n None same was = tt

@@ -11,9 +11,7 @@ use Rattle.std.proofs.lemmas.List.Sorted.{Contains-permutation, IsPermutation-sy
 use Rattle.std.proofs.lemmas.Nat.{div-mul-add}
 use Rattle.memory_bytes.specs.Shadow.{IsAmong}
 use Rattle.rv32_image.specs.Image.{LoadedImage}
-use Rattle.rv32_image.specs.declared.version.Version.{Version}
-use Rattle.rv32_image.specs.declared.version.Version.TheVariants.{One, Two}
-use Rattle.rv32_image.specs.Version.{limits_of}
+use Rattle.rv32_image.proofs.Bounds.{number_up}
 use Rattle.rv32_image.proofs.SmallFacts.{value_of}
 use Rattle.spec_history.proofs.OneEntry.Legal.{some_below}
 use Rattle.spec_history.specs.Conflict.{Meeting, is_shared, line_has, line_number}
@@ -34,10 +32,10 @@ pub line_listed : (image : LoadedImage) (m : Meeting) (addresses : List ℕ) (j 
     → (k : ℕ) × (k < length addresses) × (line_number image (slice_index addresses k) ≡ j)
 line_listed image m addresses j listed is =
     let read = (and_parts (line_has image j (λ a. is_some (m.reads a))) _ is).0 in
-    let at = some_below (limits_of image.version).line_length (λ x. is_some (m.reads (j * (limits_of image.version).line_length + x))) read in
-    let byte = value_of (m.reads (j * (limits_of image.version).line_length + at.0)) at.2 in
-    let among = listed (j * (limits_of image.version).line_length + at.0) byte.0 byte.1 in
-    (among.place, among.within, ap (λ a. a / (limits_of image.version).line_length) among.is ∙ div-mul-add j (limits_of image.version).line_length at.0 at.1)
+    let at = some_below image.machine.line_length (λ x. is_some (m.reads (j * image.machine.line_length + x))) read in
+    let byte = value_of (m.reads (j * image.machine.line_length + at.0)) at.2 in
+    let among = listed (j * image.machine.line_length + at.0) byte.0 byte.1 in
+    (among.place, among.within, ap (λ a. a / image.machine.line_length) among.is ∙ div-mul-add j image.machine.line_length at.0 at.1)
 
 -- ---- lines of memory
 
@@ -75,10 +73,6 @@ not_between size reads addresses index from j k are inside passed after before w
     (λ early. let less = passed k (ltb-true k index early) in omega (arith, less, is, after))
     (λ late. let more = rise addresses are.ordered index k (ltb-false k index late) within in omega (arith, more, is, before))
 
-line_up : (v : Version) (a b : ℕ) → a ≤ b → a / (limits_of v).line_length ≤ b / (limits_of v).line_length
-line_up One a b up = omega (arith, up)
-line_up Two a b up = omega (arith, up)
-
 -- and so is a line
 pub no_line_between : (image : LoadedImage) (reads : ℕ → Option ℕ) (addresses : List ℕ) (index from j k : ℕ) → AreRead image.size reads addresses → index < length addresses
     → ((k : ℕ) → k < index → line_number image (slice_index addresses k) < from) → from ≤ j → j < line_number image (slice_index addresses index) → k < length addresses
@@ -86,5 +80,5 @@ pub no_line_between : (image : LoadedImage) (reads : ℕ → Option ℕ) (addres
 no_line_between image reads addresses index from j k are inside passed after before within is = either_way (nat_lt k index) ⊥
     (λ early. let less = passed k (ltb-true k index early) in omega (arith, less, is, after))
     (λ late.
-    let more = line_up image.version (slice_index addresses index) (slice_index addresses k) (rise addresses are.ordered index k (ltb-false k index late) within) in
+    let more = number_up image.machine.line_length (slice_index addresses index) (slice_index addresses k) (rise addresses are.ordered index k (ltb-false k index late) within) in
     omega (arith, more, is, before))

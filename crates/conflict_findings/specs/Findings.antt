@@ -3,7 +3,6 @@
 -- Source: this project.
 use Rattle.std.specs.Prelude.{ℕ, ◌*◌, ◌-◌, List, Option, Some, None, is_some, map, slice_get, option_and_then, option_map}
 use Rattle.rv32_image.specs.Image.{LoadedImage}
-use Rattle.rv32_image.specs.Version.{limits_of}
 use Rattle.spec_history.specs.declared.entry.Entry.{Entry}
 use Rattle.spec_history.specs.FlatState.{FlatState}
 use Rattle.conflicts.specs.declared.explanation.Blame.{Blame}
@@ -73,7 +72,7 @@ met_line image entries e = met_line_by image e.blame (asked_line image entries e
 
 -- the bytes of the line of the caches that has this number
 abbrev pub bytes_of_line : LoadedImage → ℕ → ByteRange
-bytes_of_line image line = record { first = line * (limits_of image.version).line_length; length = (limits_of image.version).line_length }
+bytes_of_line image line = record { first = line * image.machine.line_length; length = image.machine.line_length }
 
 -- those of the line that was asked for
 abbrev pub asked_bytes : LoadedImage → List Entry → Explanation → Option ByteRange

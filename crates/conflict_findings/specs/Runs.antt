@@ -5,7 +5,6 @@ use Rattle.std.specs.List.Sorted.{IsSorted}
 use Rattle.std.specs.Ordering.{nat_cmp}
 use Rattle.memory_bytes.specs.Shadow.{IsAmong}
 use Rattle.rv32_image.specs.Image.{LoadedImage}
-use Rattle.rv32_image.specs.Version.{limits_of}
 use Rattle.spec_history.specs.declared.entry.Entry.{Entry}
 use Rattle.spec_history.specs.declared.entry.What.{What}
 use Rattle.spec_history.specs.FlatState.{FlatState}
@@ -68,7 +67,7 @@ is_falsely_shared image m line =
 -- the lowest byte of a line that the load at a place read from outside, of the attempt that a core runs before another place
 abbrev pub byte_in : LoadedImage → List Entry → ℕ → ℕ → ℕ → ℕ → Option ℕ
 byte_in image entries core before line load =
-    let long = (limits_of image.version).line_length in
+    let long = image.machine.line_length in
     option_map (λ x. line * long + x) (first_below long (λ x. reads_outside entries core before (line * long + x) load))
 
 -- the first load of the attempt that read one
@@ -108,7 +107,7 @@ violation_of s e cause what kind = record {
 abbrev pub runs_by : LoadedImage → FlatState → List Entry → Explanation → Option ℕ → Option What → List Run
 runs_by image s entries e (Some cause) (Some what) =
     runs_below image.size (shared_run image entries e.blame (violation_of s e cause what SilentStore))
-    ++ runs_below (image.size / (limits_of image.version).line_length) (line_run image entries e.blame (violation_of s e cause what FalseSharing))
+    ++ runs_below (image.size / image.machine.line_length) (line_run image entries e.blame (violation_of s e cause what FalseSharing))
 runs_by image s entries e cause what = []
 
 -- the further runs of a violation, in the state before it

@@ -1,7 +1,6 @@
 //! What is found of a violation: all that is told and summed of it.
 
 ghost use Rattle.std.specs.Prelude.{◌≡◌, ◌<◌, ◌*◌, ◌^◌, IfOk, IfSome, map, option_map};
-ghost use Rattle.rv32_image.specs.Version.{limits_of};
 ghost use Rattle.spec_history.specs.Conflict as conflict;
 ghost use Rattle.conflict_findings.specs.Findings as spec;
 ghost use Rattle.conflict_findings.specs.Followed.{IsFollowedTo};
@@ -211,7 +210,7 @@ fn victim_place(image: &Image, entries: &[Entry], e: &Explanation) -> Option<usi
 /// The line that was asked for of a full buffer.
 fn asked_line(image: &Image, entries: &[Entry], e: &Explanation) -> Option<u32>
     ensures line { result ≡ spec.asked_line image.now entries.now e.now }
-    ensures first { IfSome result (λ line. line * (limits_of image.now.version).line_length < 2 ^ 32) }
+    ensures first { IfSome result (λ line. line * image.now.machine.line_length < 2 ^ 32) }
 {
     accessed_line(image, what_at(entries, asked_at(e))?)
 }
@@ -228,10 +227,10 @@ fn met_line(image: &Image, entries: &[Entry], e: &Explanation) -> Option<u32>
 
 /// The bytes of the line of the caches that has this number.
 fn bytes_of_line(image: &Image, line: u32) -> ByteRange
-    requires { line * (limits_of image.now.version).line_length < 2 ^ 32 }
+    requires { line * image.now.machine.line_length < 2 ^ 32 }
     ensures { result ≡ spec.bytes_of_line image.now line }
 {
-    let length = image.version().limits().line_length;
+    let length = image.machine().line_length;
     ByteRange {
         first: line * length,
         length,

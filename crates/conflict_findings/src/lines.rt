@@ -1,7 +1,6 @@
 //! The runs of lines of which the cause writes a byte and the victim had read one, but none is both.
 
 ghost use Rattle.std.specs.Prelude.{◌≡◌, ◌<◌, ◌+◌, ◌*◌, ◌/◌, ◌^◌, ◌++◌, is_some, IfNone, IfSome, OnOk, None, Some};
-ghost use Rattle.rv32_image.specs.Version.{limits_of};
 ghost use Rattle.conflicts.specs.Behind.{IsBehind};
 ghost use Rattle.spec_history.specs.Conflict as conflict;
 ghost use Rattle.conflicts.specs.Parties.{meeting_in};
@@ -17,10 +16,10 @@ use std::alloc::AllocError;
 impl Told {
     /// The victim has read a byte of the line.
     fn has_read(&self, image: &Image, flat: &Flat, line: u32) -> bool
-        requires { line * (limits_of image.now.version).line_length + (limits_of image.now.version).line_length < 2 ^ 32 }
+        requires { line * image.now.machine.line_length + image.now.machine.line_length < 2 ^ 32 }
         ensures { result ≡ conflict.line_has image.now line (λ a. is_some ((meeting_in flat.now self.now.violated.parties).reads a)) }
     {
-        let long = image.version().limits().line_length;
+        let long = image.machine().line_length;
         for x in 0..long {
             if flat
                 .outside(self.violated.parties.victim, line * long + x)
@@ -34,10 +33,10 @@ impl Told {
 
     /// The cause writes a byte of the line that the victim has read.
     fn has_shared(&self, image: &Image, flat: &Flat, line: u32) -> bool
-        requires { line * (limits_of image.now.version).line_length + (limits_of image.now.version).line_length < 2 ^ 32 }
+        requires { line * image.now.machine.line_length + image.now.machine.line_length < 2 ^ 32 }
         ensures { result ≡ conflict.line_has image.now line (conflict.is_shared (meeting_in flat.now self.now.violated.parties)) }
     {
-        let long = image.version().limits().line_length;
+        let long = image.machine().line_length;
         for x in 0..long {
             if self.violated.parties.is_shared(flat, line * long + x) {
                 return true;
@@ -48,7 +47,7 @@ impl Told {
 
     /// The line is falsely shared.
     fn is_falsely_shared(&self, image: &Image, flat: &Flat, line: u32) -> bool
-        requires { line * (limits_of image.now.version).line_length + (limits_of image.now.version).line_length < 2 ^ 32 }
+        requires { line * image.now.machine.line_length + image.now.machine.line_length < 2 ^ 32 }
         ensures { result ≡ spec.is_falsely_shared image.now (meeting_in flat.now self.now.violated.parties) line }
     {
         self.has_read(image, flat, line)
@@ -71,7 +70,7 @@ impl Told {
     ) -> Option<Run>
         requires image { flat.now.image ≡ image.now }
         requires known { IsBehind image.now.size entries.now behind.now }
-        requires within { line < image.now.size / (limits_of image.now.version).line_length }
+        requires within { line < image.now.size / image.now.machine.line_length }
         ensures { result ≡ spec.run_in image.now entries.now (violation_in flat.now self.now.violated) line }
     {
         let Violated { parties, place, .. } = self.violated;
@@ -90,8 +89,8 @@ impl Told {
     ) -> Option<Run>
         requires image { flat.now.image ≡ image.now }
         requires known { IsBehind image.now.size entries.now behind.now }
-        requires within { line < image.now.size / (limits_of image.now.version).line_length }
-        requires room { line * (limits_of image.now.version).line_length + (limits_of image.now.version).line_length < 2 ^ 32 }
+        requires within { line < image.now.size / image.now.machine.line_length }
+        requires room { line * image.now.machine.line_length + image.now.machine.line_length < 2 ^ 32 }
         ensures { result ≡ spec.line_run image.now entries.now self.now.blame (violation_in flat.now self.now.violated) line }
     {
         if !self.is_falsely_shared(image, flat, line) {
@@ -119,7 +118,7 @@ impl Told {
         requires known { IsBehind image.now.size entries.now behind.now }
         requires read { spec.AreRead image.now.size (meeting_in flat.now self.now.violated.parties).reads read.now }
         ensures { OnOk result (runs.new.items ≡ runs.old.items
-            ++ spec.runs_below (image.now.size / (limits_of image.now.version).line_length)
+            ++ spec.runs_below (image.now.size / image.now.machine.line_length)
             (spec.line_run image.now entries.now self.now.blame (violation_in flat.now self.now.violated))) }
     {
         let mut from = 0;
@@ -162,13 +161,13 @@ fn first_in(
     line: u32,
 ) -> Option<(usize, u32)>
     requires known { IsBehind image.now.size entries.now behind.now }
-    requires within { line < image.now.size / (limits_of image.now.version).line_length }
+    requires within { line < image.now.size / image.now.machine.line_length }
     ensures none { IfNone result (spec.load_in image.now entries.now core before line ≡ None) }
     ensures some { IfSome result (λ found. (spec.load_in image.now entries.now core before line ≡ Some found.0)
         × (spec.byte_in image.now entries.now core before line found.0 ≡ Some found.1)) }
     ensures within { IfSome result (λ found. found.1 < image.now.size) }
 {
-    let long = image.version().limits().line_length;
+    let long = image.machine().line_length;
     let mut first = None;
     for x in 0..long {
         let addr = line * long + x;

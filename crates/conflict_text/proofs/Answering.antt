@@ -29,17 +29,18 @@ use Rattle.conflict_text.specs.declared.report.Totals.{Totals}
 use Rattle.conflict_text.specs.Report.{IsSummary}
 use Rattle.conflict_text.specs.Explaining.{IsReport, found_of}
 use Rattle.conflict_text.specs.Totals.{IsSummed}
-use Rattle.conflict_text.specs.Why.{AreCounted, IsAnswer, IsToldBy, IsTracedOutcome, IsWhyOutcome}
+use Rattle.conflict_text.specs.Why.{AreCounted, IsAnswer, IsOutcomeOn, IsToldBy, IsTracedOutcome, IsWhyOutcome}
+use Rattle.trace_commands.specs.declared.store.MachineAsked.{MachineAsked}
 
 -- the trace that the input says was explained
-pub traced_outcome : (text : List ℕ) (image : LoadedImage) (cores : ℕ) (history : List Entry) (old new : Option (List ℕ)) (outcome : Outcome)
-    → IsTracedBy text image cores history → IsTracedOutcome image cores history old new outcome → IsWhyOutcome text old new outcome
-traced_outcome text image cores history old new outcome by is =
+pub traced_outcome : (asked : MachineAsked) (text : List ℕ) (image : LoadedImage) (cores : ℕ) (history : List Entry) (old new : Option (List ℕ)) (outcome : Outcome)
+    → IsTracedBy text image cores history → IsOutcomeOn asked image cores history old new outcome → IsWhyOutcome asked text old new outcome
+traced_outcome asked text image cores history old new outcome by is =
     inl (record { image = image; cores = cores; history = history; said = by; came = is })
 
 -- there was none to explain
-pub without_verdict : (text : List ℕ) (output : Option (List ℕ)) (outcome : Outcome) → IsNoVerdict text outcome → IsWhyOutcome text output output outcome
-without_verdict text output outcome is = inr (is, keeps_itself output)
+pub without_verdict : (asked : MachineAsked) (text : List ℕ) (output : Option (List ℕ)) (outcome : Outcome) → IsNoVerdict text outcome → IsWhyOutcome asked text output output outcome
+without_verdict asked text output outcome is = inr (is, keeps_itself output)
 
 -- an entry is refused, and memory was there
 pub refused_at : (image : LoadedImage) (cores : ℕ) (history : List Entry) (place : ℕ) (refusal : Illegal) → IsAuditFault image cores history place refusal → refusal ≢ why.NoMemory

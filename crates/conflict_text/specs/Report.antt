@@ -4,7 +4,6 @@ use Rattle.std.specs.Prelude.{◌≡◌, ℕ, ◌-◌, ◌*◌, ◌^◌, ◌==�
 use Rattle.std.specs.BTreeMap.{BTreeMap}
 use Rattle.std.specs.List.{flat_map}
 use Rattle.rv32_image.specs.Image.{LoadedImage}
-use Rattle.rv32_image.specs.Version.{limits_of}
 use Rattle.conflict_findings.specs.declared.ended.Ended.{Ended}
 use Rattle.conflict_findings.specs.declared.ended.Ending.TheVariants.{Committed}
 use Rattle.conflict_findings.specs.declared.ended.Running.{Running}
@@ -79,7 +78,7 @@ pair_line p =
 -- the address of the line that has this number
 abbrev pub line_address : LoadedImage → ℕ → Option ℕ
 line_address image line =
-    let first = line * (limits_of image.version).line_length in
+    let first = line * image.machine.line_length in
     if nat_lt first (2 ^ 32) then Some first else None
 
 unfoldable pub line_text : LoadedImage → ℕ × Sum → CountsByKind → List ℕ

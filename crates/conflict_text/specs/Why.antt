@@ -2,15 +2,18 @@
 use Rattle.std.specs.Prelude.{◌≡◌, ◌⊎◌, ℕ, List, [], Option, None, Some, length, map, All}
 use Rattle.std.specs.Io.KnownBytes.{Appends, Keeps}
 use Rattle.rv32_image.specs.Image.{LoadedImage}
+use Rattle.rv32_image.specs.Machine.{IsMachineFor}
 use Rattle.spec_history.specs.declared.entry.Entry.{Entry}
 use Rattle.spec_history.specs.FlatState.{FlatState}
 use Rattle.trace_commands.specs.declared.outcome.Outcome.{Outcome}
-use Rattle.trace_commands.specs.declared.outcome.Outcome.TheVariants.{Audited, Stopped}
+use Rattle.trace_commands.specs.declared.outcome.Outcome.TheVariants.{Audited, Stopped, Usage}
 use Rattle.trace_commands.specs.declared.outcome.CommandStop.TheVariants.{Write, NoMemory}
 use Rattle.trace_commands.specs.declared.outcome.Verdict.{Verdict}
 use Rattle.trace_commands.specs.declared.outcome.Verdict.TheVariants.{Legal, Illegal}
 use Rattle.trace_commands.specs.Audit.{IsNoVerdict, IsTracedBy, IsVerdict, verdict_line}
 use Rattle.trace_commands.specs.Outcome.{AppendsPrefix, Conclusion}
+use Rattle.trace_commands.specs.declared.store.MachineAsked.{MachineAsked}
+use Rattle.trace_commands.specs.Stores.{machine_with, on_machine}
 use Rattle.conflicts.specs.declared.explanation.Explanation.{Explanation}
 use Rattle.conflicts.specs.declared.standing.Site.{Site}
 use Rattle.conflicts.specs.Explained.{IsExplained, places_of, violations_before}
@@ -75,18 +78,24 @@ IsTracedOutcome image cores history old new (Stopped Write) =
 IsTracedOutcome image cores history old new (Stopped NoMemory) = Keeps old new
 IsTracedOutcome image cores history old new outcome = ⊥
 
+-- so it is on the machine that is asked for; or there is no such machine, or memory isn't a whole number of its lines
+abbrev pub IsOutcomeOn : MachineAsked → LoadedImage → ℕ → List Entry → Option (List ℕ) → Option (List ℕ) → Outcome → Type 0
+IsOutcomeOn asked image cores history old new outcome =
+    (IsMachineFor image.size (machine_with asked image.machine) × IsTracedOutcome (on_machine asked image) cores history old new outcome)
+    ⊎ ((IsMachineFor image.size (machine_with asked image.machine) → ⊥) × (outcome ≡ Usage) × Keeps old new)
+
 -- the input says an image and a trace, and what explaining the trace came to is right
-pub record IsExplainedOutcome (text : List ℕ) (old new : Option (List ℕ)) (outcome : Outcome) : Type 0 where
+pub record IsExplainedOutcome (asked : MachineAsked) (text : List ℕ) (old new : Option (List ℕ)) (outcome : Outcome) : Type 0 where
   pub image : LoadedImage
   pub cores : ℕ
   pub history : List Entry
   pub said : IsTracedBy text image cores history
-  pub came : IsTracedOutcome image cores history old new outcome
+  pub came : IsOutcomeOn asked image cores history old new outcome
 
 -- what `why` came to is right for this input, and this was written: that of its trace, or, where an audit has no verdict, nothing
-abbrev pub IsWhyOutcome : List ℕ → Option (List ℕ) → Option (List ℕ) → Outcome → Type 0
-IsWhyOutcome text old new outcome = IsExplainedOutcome text old new outcome ⊎ (IsNoVerdict text outcome × Keeps old new)
+abbrev pub IsWhyOutcome : MachineAsked → List ℕ → Option (List ℕ) → Option (List ℕ) → Outcome → Type 0
+IsWhyOutcome asked text old new outcome = IsExplainedOutcome asked text old new outcome ⊎ (IsNoVerdict text outcome × Keeps old new)
 
 -- what `why` answers for an input
-abbrev pub WhyAnswers : List ℕ → Option (List ℕ) → Option (List ℕ) → Option (List ℕ) → Option (List ℕ) → ℕ → Type 0
-WhyAnswers text old new errors errors' status = Conclusion (IsWhyOutcome text old new) errors errors' status
+abbrev pub WhyAnswers : MachineAsked → List ℕ → Option (List ℕ) → Option (List ℕ) → Option (List ℕ) → Option (List ℕ) → ℕ → Type 0
+WhyAnswers asked text old new errors errors' status = Conclusion (IsWhyOutcome asked text old new) errors errors' status

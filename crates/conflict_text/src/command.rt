@@ -9,37 +9,69 @@ use spec_history::Illegal;
 use std::alloc::Global;
 use std::io::{Read, Write};
 use trace_commands::{
-    CommandStop, Outcome, Traced, Verdict, read_traced, verdict_line, write_bytes, write_whole,
+    CommandStop, MachineAsked, Outcome, Traced, Verdict, read_traced, verdict_line, write_bytes,
+    write_whole,
 };
 
 /// `why`: replays the trace that the reader gives below its image on the flat machine, and writes the report of which conflicts
-/// rolled back; where the trace is illegal, the line of an audit.
+/// rolled back, on the machine that is asked for; where the trace is illegal, the line of an audit.
 ///
-/// The status is 0 where the trace is legal, 4 where it is illegal, 2 where the image or the trace can't be read, and 3
-/// where memory ran out or a write failed. In the last two cases one line on the error stream says which. Where the image or the trace
+/// The status is 0 where the trace is legal, 4 where it is illegal, 2 where the image or the trace can't be read or the machine is
+/// refused, and 3 where memory ran out or a write failed. In the last two cases one line on the error stream says which. Where anything
 /// is refused, or memory ran out, nothing was written; after a failed write a prefix of the report or of that line was.
 pub fn do_why<R: Read, W: Write, E: Write>(
     alloc: Global,
+    asked: MachineAsked,
     reader: &mut R,
     writer: &mut W,
     errors: &mut E,
 ) -> u8
     ensures outcome { ForText (R.remaining reader.old) (λ text.
-        spec.WhyAnswers text (W.contents writer.old) (W.contents writer.new) (E.contents errors.old) (E.contents errors.new) result) }
+        spec.WhyAnswers asked text (W.contents writer.old) (W.contents writer.new) (E.contents errors.old) (E.contents errors.new) result) }
     ensures taken { TakesAtMost (R.remaining reader.old) (R.remaining reader.new) (longest_trace_text + 1) }
 {
-    run_why(alloc, reader, writer).conclude(errors)
+    run_why(alloc, asked, reader, writer).conclude(errors)
 }
 
 /// Runs `why`, all but its line on the error stream.
-fn run_why<R: Read, W: Write>(alloc: Global, reader: &mut R, writer: &mut W) -> Outcome
-    ensures outcome { ForText (R.remaining reader.old) (λ text. spec.IsWhyOutcome text (W.contents writer.old) (W.contents writer.new) result) }
+fn run_why<R: Read, W: Write>(
+    alloc: Global,
+    asked: MachineAsked,
+    reader: &mut R,
+    writer: &mut W,
+) -> Outcome
+    ensures outcome { ForText (R.remaining reader.old) (λ text. spec.IsWhyOutcome asked text (W.contents writer.old) (W.contents writer.new) result) }
     ensures taken { TakesAtMost (R.remaining reader.old) (R.remaining reader.new) (longest_trace_text + 1) }
 {
     match read_traced(alloc, reader) {
-        Ok(traced) => explain_traced(alloc, traced, writer),
+        Ok(traced) => explain_on(alloc, asked, traced, writer),
         Err(outcome) => outcome,
     }
+}
+
+/// Explains a trace on the machine that is asked for.
+fn explain_on<W: Write>(
+    alloc: Global,
+    asked: MachineAsked,
+    traced: Traced,
+    writer: &mut W,
+) -> Outcome
+    ensures { spec.IsOutcomeOn asked traced.image traced.cores traced.entries.items (W.contents writer.old) (W.contents writer.new) result }
+{
+    let Traced {
+        image,
+        cores,
+        entries,
+    } = traced;
+    let Some(image) = asked.on(image) else {
+        return Outcome::Usage;
+    };
+    let traced = Traced {
+        image,
+        cores,
+        entries,
+    };
+    explain_traced(alloc, traced, writer)
 }
 
 fn explain_traced<W: Write>(alloc: Global, traced: Traced, writer: &mut W) -> Outcome

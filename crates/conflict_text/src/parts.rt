@@ -103,7 +103,7 @@ fn give_back(sums: &mut Vec<PairSum>)
 fn line_address(image: &Image, line: u32) -> Option<u32>
     ensures { result ≡ spec.line_address image.now line }
 {
-    line.checked_mul(image.version().limits().line_length)
+    line.checked_mul(image.machine().line_length)
 }
 
 /// What the violations in a line cost, with so many of each kind.

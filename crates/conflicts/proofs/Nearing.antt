@@ -4,7 +4,6 @@ use Rattle.std.proofs.lemmas.Bool.{cases_eq, lt-leb, false_from_ne_true, and_par
 use Rattle.std.proofs.lemmas.Nat.{div-mul-add}
 use Rattle.memory_bytes.specs.Shadow.{IsAmong}
 use Rattle.rv32_image.specs.Image.{LoadedImage}
-use Rattle.rv32_image.specs.Version.{limits_of}
 use Rattle.rv32_image.proofs.SmallFacts.{value_of}
 use Rattle.spec_history.proofs.OneEntry.Legal.{some_below}
 use Rattle.spec_history.specs.Searches.{IsNext, count_below}
@@ -79,10 +78,10 @@ pub held_line : (image : LoadedImage) (m : Meeting) (addresses : List ℕ) (line
     → holds_other image m line j ≡ true → (k : ℕ) × (k < length addresses) × (line_number image (slice_index addresses k) ≡ j)
 held_line image m addresses line j listed holds =
     let both = and_parts (not (j == line)) (holds_line image m j) holds in
-    let at = some_below (limits_of image.version).line_length (λ x. is_some (m.stores (j * (limits_of image.version).line_length + x))) both.1 in
-    let byte = value_of (m.stores (j * (limits_of image.version).line_length + at.0)) at.2 in
-    let among = listed (j * (limits_of image.version).line_length + at.0) byte.0 byte.1 in
-    (among.place, among.within, ap (λ a. a / (limits_of image.version).line_length) among.is ∙ div-mul-add j (limits_of image.version).line_length at.0 at.1)
+    let at = some_below image.machine.line_length (λ x. is_some (m.stores (j * image.machine.line_length + x))) both.1 in
+    let byte = value_of (m.stores (j * image.machine.line_length + at.0)) at.2 in
+    let among = listed (j * image.machine.line_length + at.0) byte.0 byte.1 in
+    (among.place, among.within, ap (λ a. a / image.machine.line_length) among.is ∙ div-mul-add j image.machine.line_length at.0 at.1)
 
 -- ---- a count that goes from one to the next
 

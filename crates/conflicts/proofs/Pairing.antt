@@ -1,18 +1,18 @@
 -- The store of a blamed byte.
-use Rattle.std.proofs.Common.{◌≡◌, ℕ, ◌+◌, ◌*◌, ◌/◌, ◌<◌, ◌&&◌, Bool, true, false, is_some, List, Option, Some, None, option_map, unwrap_or, refl, ap, ◌∙◌, arith}
-use Rattle.rv32_image.specs.Image.{LoadedImage}
-use Rattle.rv32_image.specs.Version.{limits_of}
-use Rattle.rv32_image.specs.declared.version.Version.{Version}
+use Rattle.std.proofs.Common.{◌≡◌, ℕ, ◌+◌, ◌*◌, ◌/◌, ◌<◌, ◌&&◌, Bool, true, false, is_some, List, Option, Some, None, option_map, option_and_then, unwrap_or, refl, ap, ◌==◌, ◌∙◌, arith}
+use Rattle.rv32_image.specs.Image.{LoadedImage, IsImage}
+use Rattle.rv32_image.specs.Machine.{is_line_length}
 use Rattle.rv32_image.proofs.Bounds.{byte_within}
 use Rattle.spec_history.specs.declared.entry.Entry.{Entry}
 use Rattle.spec_history.specs.declared.entry.What.{What}
 use Rattle.spec_history.specs.declared.entry.What.TheVariants.{Start, Load, Store, Hurt, Cancel, Publish, Commit, Fault, Restart}
 use Rattle.spec_history.specs.declared.kind.Kind.{Kind}
 use Rattle.spec_history.specs.declared.kind.Kind.TheVariants.{TrueSharing, SilentStore, FalseSharing, FullBuffer, Unexplained}
-use Rattle.spec_history.specs.Conflict.{Meeting}
+use Rattle.std.proofs.lemmas.Bool.{and_parts, eq-eqb, eqb-true}
+use Rattle.spec_history.specs.Conflict.{Meeting, is_beside, line_number}
 use Rattle.spec_history.specs.Searches.{first_below}
 use Rattle.conflicts.specs.Attempts.{last_store}
-use Rattle.conflicts.specs.Blame.{Violation, blamed_store, store_beside, store_to, stored_by, written_in}
+use Rattle.conflicts.specs.Blame.{Violation, blamed_store, goes_with, is_place, store_beside, store_to, stored_by, written_in}
 use Rattle.conflicts.specs.Violated.{has_one_store, is_store}
 use Rattle.conflicts.proofs.Finding.{first_found}
 
@@ -47,19 +47,49 @@ pub by_last_store : (image : LoadedImage) (entries : List Entry) (v : Violation)
 by_last_store image entries v byte one =
     to_byte image entries v byte v.kind one ∙ by_last entries v.place v.causer v.cause byte v.what (no_store v.kind v.what one)
 
+-- where they have one store for all, it is that of each byte
+one_cause : (entries : List Entry) (place causer cause a byte : ℕ) (what : What) → is_store what ≡ true → stored_by entries place causer cause what a ≡ stored_by entries place causer cause what byte
+one_cause entries place causer cause a byte (Start epoch) is = absurd cc
+one_cause entries place causer cause a byte (Load address width value) is = absurd cc
+one_cause entries place causer cause a byte (Store address width value) is = refl
+one_cause entries place causer cause a byte (Hurt epoch) is = absurd cc
+one_cause entries place causer cause a byte (Cancel epoch) is = absurd cc
+one_cause entries place causer cause a byte Publish is = absurd cc
+one_cause entries place causer cause a byte Commit is = absurd cc
+one_cause entries place causer cause a byte (Fault reason pc) is = absurd cc
+one_cause entries place causer cause a byte Restart is = absurd cc
+
+one_of_kind : (image : LoadedImage) (entries : List Entry) (v : Violation) (a byte : ℕ) (kind : Kind) → has_one_store kind v.what ≡ true → goes_with image kind v.bytes byte a ≡ true
+    → store_beside image entries v kind a ≡ store_beside image entries v kind byte
+one_of_kind image entries v a byte TrueSharing one goes = one_cause entries v.place v.causer v.cause a byte v.what one
+one_of_kind image entries v a byte SilentStore one goes = one_cause entries v.place v.causer v.cause a byte v.what one
+one_of_kind image entries v a byte FalseSharing one goes =
+    let line = eqb-true (line_number image a) (line_number image byte) (and_parts (is_beside image v.bytes a) (line_number image a == line_number image byte) goes).1 in
+    ap (λ n. option_and_then (store_to entries v) (written_in image v.bytes n)) line
+one_of_kind image entries v a byte FullBuffer one goes = one_cause entries v.place v.causer v.cause a byte v.what one
+one_of_kind image entries v a byte Unexplained one goes = one_cause entries v.place v.causer v.cause a byte v.what one
+
+pub by_one_store : (image : LoadedImage) (entries : List Entry) (v : Violation) (a byte : ℕ) → has_one_store v.kind v.what ≡ true → goes_with image v.kind v.bytes byte a ≡ true
+    → blamed_store image entries v a ≡ blamed_store image entries v byte
+by_one_store image entries v a byte one goes = one_of_kind image entries v a byte v.kind one goes
+
+pub is_there : (place : ℕ) → is_place (Some place) place ≡ true
+is_there place = eq-eqb place place refl
+
 pub through : (a b c : Bool) → a ≡ true → b ≡ true → c ≡ (a && (b && c))
 through a b c is also = rw (is, also) refl
 
 -- ---- the lowest byte of a line that is written
 
-by_written : (v : Version) (size line byte : ℕ) (test : ℕ → Bool) (found : Option ℕ) → first_below (limits_of v).line_length test ≡ found → line < size / (limits_of v).line_length
-    → Some byte ≡ option_map (λ (x : ℕ). line * (limits_of v).line_length + x) found → byte < size
-by_written v size line byte test None at below is = absurd cc
-by_written v size line byte test (Some x) at below is =
-    let same : byte ≡ line * (limits_of v).line_length + x = ap (λ (o : Option ℕ). unwrap_or o 0) is in
-    omega (arith, same, byte_within v size line x below (first_found (limits_of v).line_length test x at).within)
+by_written : (long size line byte : ℕ) (test : ℕ → Bool) (found : Option ℕ) → is_line_length long ≡ true → first_below long test ≡ found → line < size / long
+    → Some byte ≡ option_map (λ (x : ℕ). line * long + x) found → byte < size
+by_written long size line byte test None h at below is = absurd cc
+by_written long size line byte test (Some x) h at below is =
+    let same : byte ≡ line * long + x = ap (λ (o : Option ℕ). unwrap_or o 0) is in
+    omega (arith, same, byte_within long size line x h below (first_found long test x at).within)
 
 -- it lies in memory
-pub beside_within : (image : LoadedImage) (m : Meeting) (line byte : ℕ) → line < image.size / (limits_of image.version).line_length → Some byte ≡ written_in image m line → byte < image.size
-beside_within image m line byte below is =
-    by_written image.version image.size line byte (λ x. is_some (m.writes (line * (limits_of image.version).line_length + x))) _ refl below is
+pub beside_within : (image : LoadedImage) (m : Meeting) (line byte : ℕ) → IsImage image → line < image.size / image.machine.line_length → Some byte ≡ written_in image m line → byte < image.size
+beside_within image m line byte allowed below is =
+    by_written image.machine.line_length image.size line byte (λ x. is_some (m.writes (line * image.machine.line_length + x))) _
+    allowed.machine_allowed.is.line_length refl below is

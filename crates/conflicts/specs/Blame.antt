@@ -1,7 +1,6 @@
 -- Which load and which store a violation is blamed on, and at which bytes.
 use Rattle.std.specs.Prelude.{ℕ, ◌+◌, ◌-◌, ◌*◌, ◌==◌, ◌&&◌, not, nat_lt, Bool, false, List, Option, Some, None, is_some, option_and_then, option_map, unwrap_or}
 use Rattle.rv32_image.specs.Image.{LoadedImage}
-use Rattle.rv32_image.specs.Version.{limits_of}
 use Rattle.spec_history.specs.declared.entry.Entry.{Entry}
 use Rattle.spec_history.specs.declared.entry.What.{What}
 use Rattle.spec_history.specs.declared.entry.What.TheVariants.{Load, Store}
@@ -64,7 +63,7 @@ store_to entries v a = stored_by entries v.place v.causer v.cause v.what a
 -- the lowest byte of a line that the cause writes
 abbrev pub written_in : LoadedImage → Meeting → ℕ → Option ℕ
 written_in image m line =
-    let long = (limits_of image.version).line_length in
+    let long = image.machine.line_length in
     option_map (λ x. line * long + x) (first_below long (λ x. is_some (m.writes (line * long + x))))
 
 -- the store to blame for a byte: that to the byte itself, or, where only the line is shared, to the lowest byte of the line that is written

@@ -1,7 +1,6 @@
 //! Which store held the line of a full buffer.
 
 ghost use Rattle.std.specs.Prelude.{◌≡◌, ◌<◌, ◌*◌, ◌^◌, ℕ, IfSome, Some};
-ghost use Rattle.rv32_image.specs.Version.{limits_of};
 ghost use Rattle.spec_history.specs.declared.kind.Kind.TheVariants.{FullBuffer};
 ghost use Rattle.conflicts.specs.Attempts as attempts;
 ghost use Rattle.conflicts.specs.Blame as blame;
@@ -16,7 +15,7 @@ use spec_history::{Entry, Kind, What};
 /// The number of the line of the caches that an access is to. None: it is no access.
 pub fn accessed_line(image: &Image, what: What) -> Option<u32>
     ensures line { result ≡ blame.accessed_line image.now what }
-    ensures first { IfSome result (λ line. line * (limits_of image.now.version).line_length < 2 ^ 32) }
+    ensures first { IfSome result (λ line. line * image.now.machine.line_length < 2 ^ 32) }
 {
     match what {
         What::Load { addr, .. } | What::Store { addr, .. } => Some(line_number(image, addr)),

@@ -2,7 +2,7 @@
 
 ghost use Rattle.std.specs.Prelude.{◌≡◌, ◌<◌, ◌≤◌, ◌+◌, ◌*◌, ◌/◌, ◌^◌, ◌&&◌, nat_le, nat_lt};
 ghost use Rattle.memory_bytes.specs.Maps.{stored};
-ghost use Rattle.rv32_image.specs.Version.{limits_of};
+ghost use Rattle.rv32_image.specs.Image.{IsImage};
 ghost use Rattle.spec_history.specs.Refusal.{any_below};
 ghost use Rattle.spec_history.specs.Searches.{IsNext, count_below};
 ghost use Rattle.conflicts.specs.Blame as blame;
@@ -106,10 +106,10 @@ impl Parties {
 
     /// Some byte of the line passes the test.
     fn line_has(&self, image: &Image, flat: &Flat, test: LineTest, line: u32) -> bool
-        requires { line * (limits_of image.now.version).line_length + (limits_of image.now.version).line_length < 2 ^ 32 }
+        requires { line * image.now.machine.line_length + image.now.machine.line_length < 2 ^ 32 }
         ensures { result ≡ conflict.line_has image.now line (spec.is_of (spec.meeting_in flat.now self.now) test) }
     {
-        let long = image.version().limits().line_length;
+        let long = image.machine().line_length;
         for x in 0..long {
             if self.is_of(flat, test, line * long + x) {
                 return true;
@@ -120,10 +120,10 @@ impl Parties {
 
     /// The lowest byte of the line that the cause writes.
     pub fn written_in(&self, image: &Image, flat: &Flat, line: u32) -> Option<u32>
-        requires { line * (limits_of image.now.version).line_length + (limits_of image.now.version).line_length < 2 ^ 32 }
+        requires { line * image.now.machine.line_length + image.now.machine.line_length < 2 ^ 32 }
         ensures { result ≡ blame.written_in image.now (spec.meeting_in flat.now self.now) line }
     {
-        let long = image.version().limits().line_length;
+        let long = image.machine().line_length;
         for x in 0..long {
             if self.written(flat, line * long + x).is_some() {
                 return Some(line * long + x);
@@ -169,7 +169,7 @@ impl Parties {
 
     /// It is another line, and the victim has stored in it.
     fn holds_other(&self, image: &Image, flat: &Flat, line: u32, other: u32) -> bool
-        requires { other * (limits_of image.now.version).line_length + (limits_of image.now.version).line_length < 2 ^ 32 }
+        requires { other * image.now.machine.line_length + image.now.machine.line_length < 2 ^ 32 }
         ensures { result ≡ spec.holds_other image.now (spec.meeting_in flat.now self.now) line other }
     {
         other != line && self.line_has(image, flat, LineTest::Stored, other)
@@ -185,7 +185,7 @@ impl Parties {
         next: u32,
         other: u32,
     ) -> bool
-        requires { other * (limits_of image.now.version).line_length + (limits_of image.now.version).line_length < 2 ^ 32 }
+        requires { other * image.now.machine.line_length + image.now.machine.line_length < 2 ^ 32 }
         ensures { result ≡ (nat_le from other && (nat_lt other next && spec.holds_other image.now (spec.meeting_in flat.now self.now) line other)) }
     {
         from <= other && other < next && self.holds_other(image, flat, line, other)
@@ -196,7 +196,7 @@ impl Parties {
     fn next_beside(&self, image: &Image, flat: &Flat, line: u32, from: u32) -> u32
         requires { flat.now.image ≡ image.now }
         ensures { IsNext (spec.holds_other image.now (spec.meeting_in flat.now self.now) line) from
-            (image.now.size / (limits_of image.now.version).line_length) result }
+            (image.now.size / image.now.machine.line_length) result }
     {
         let mut next = lines_of(image);
         for addr in flat.own_addresses(self.victim) {
@@ -211,7 +211,7 @@ impl Parties {
     /// The victim has stored in so many other lines.
     fn holds_beside(&self, image: &Image, flat: &Flat, line: u32, wanted: u32) -> bool
         requires { flat.now.image ≡ image.now }
-        ensures { result ≡ nat_le wanted (count_below (image.now.size / (limits_of image.now.version).line_length)
+        ensures { result ≡ nat_le wanted (count_below (image.now.size / image.now.machine.line_length)
             (spec.holds_other image.now (spec.meeting_in flat.now self.now) line)) }
     {
         let lines = lines_of(image);
@@ -229,11 +229,11 @@ impl Parties {
     /// The victim has stored in the line, and in as many other lines as its buffer takes.
     fn is_full_at(&self, image: &Image, flat: &Flat, line: u32) -> bool
         requires image { flat.now.image ≡ image.now }
-        requires within { line * (limits_of image.now.version).line_length + (limits_of image.now.version).line_length < 2 ^ 32 }
+        requires within { line * image.now.machine.line_length + image.now.machine.line_length < 2 ^ 32 }
         ensures { result ≡ conflict.is_full_at image.now (spec.meeting_in flat.now self.now) line }
     {
         self.line_has(image, flat, LineTest::Stored, line)
-            && self.holds_beside(image, flat, line, image.version().limits().buffer_lines)
+            && self.holds_beside(image, flat, line, image.machine().buffer_lines)
     }
 
     /// The cause is an access to a line for which the victim's full buffer has no place.
@@ -270,17 +270,18 @@ impl Parties {
 
 /// How many lines of the caches memory has.
 fn lines_of(image: &Image) -> u32
-    ensures { result ≡ image.now.size / (limits_of image.now.version).line_length }
+    ensures { result ≡ image.now.size / image.now.machine.line_length }
 {
-    image.size() / image.version().limits().line_length
+    image.size() / image.machine().line_length
 }
 
 /// The number of the line of the caches in which a byte lies, in memory or not.
 pub fn line_number(image: &Image, addr: u32) -> u32
     ensures line { result ≡ conflict.line_number image.now addr }
-    ensures first { result * (limits_of image.now.version).line_length ≤ addr }
-    ensures inside { addr < image.now.size → result < image.now.size / (limits_of image.now.version).line_length }
-    ensures within { addr < image.now.size → result * (limits_of image.now.version).line_length + (limits_of image.now.version).line_length < 2 ^ 32 }
+    ensures first { result * image.now.machine.line_length ≤ addr }
+    ensures inside { addr < image.now.size → result < image.now.size / image.now.machine.line_length }
+    ensures within { addr < image.now.size → result * image.now.machine.line_length + image.now.machine.line_length < 2 ^ 32 }
+    ensures limits { IsImage image.now }
 {
-    addr / image.version().limits().line_length
+    addr / image.machine().line_length
 }

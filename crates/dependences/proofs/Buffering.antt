@@ -4,7 +4,6 @@ use Rattle.std.proofs.lemmas.Bool.{and_parts, cases_eq, cases_lt}
 use Rattle.std.proofs.lemmas.Bool.Decides.{nat_tests}
 use Rattle.std.proofs.lemmas.Option.{slice_get-get_or, slice_get_past, unwrap_or-slice_get}
 use Rattle.rv32_image.specs.Image.{LoadedImage}
-use Rattle.rv32_image.specs.Version.{limits_of}
 use Rattle.memory_bytes.specs.Bytes.{number_at, with_number}
 use Rattle.memory_bytes.specs.Maps.{first_of, joined, nothing, stored}
 use Rattle.memory_bytes.proofs.Bytes.{stored_within}
@@ -467,7 +466,7 @@ module _ (image : LoadedImage) (cores epoch : ℕ) (memory now : List ℕ) (t : 
       let parts = and_parts (not (k == line)) (is_stored t epoch k) is in
       (line_differs_by (k == line) k line refl parts.0, stores_in k (true_is t epoch k parts.1))
 
-  overflow_by : epoch < image.epochs → IsInOrder image (first_beside cores epoch) → (limits_of image.version).buffer_lines < t.count
+  overflow_by : epoch < image.epochs → IsInOrder image (first_beside cores epoch) → image.machine.buffer_lines < t.count
       → (line : ℕ) → slice_index t.stored line ≡ epoch + 1 → (d : ℕ) × (first_beside cores epoch ≤ d) × (d < epoch) × TouchesInLine image cores line d
       → (o : OverflowInOrder image cores) × (o.later ≡ epoch)
   overflow_by within starts full line here (d, from, low, p) =
@@ -495,7 +494,7 @@ module _ (image : LoadedImage) (cores epoch : ℕ) (memory now : List ℕ) (t : 
   pub buffer_conflict : epoch < image.epochs → IsInOrder image (first_beside cores epoch) → overflows image t ≡ true
       → (o : OverflowInOrder image cores) × (o.later ≡ epoch)
   buffer_conflict within starts is =
-      let parts = and_parts (nat_lt (limits_of image.version).buffer_lines t.count) t.shared is in
+      let parts = and_parts (nat_lt image.machine.buffer_lines t.count) t.shared is in
       let one = x.counted.some parts.1 in
       overflow_by within starts (ltb-true _ _ parts.0) one.0 one.1 (some_from (TouchesInLine image cores one.0) epoch _ (first_beside cores epoch) (x.toucher one.0) one.2)
 
@@ -525,7 +524,7 @@ module _ (image : LoadedImage) (cores epoch : ℕ) (memory now : List ℕ) (t : 
       let count = full_by (line_number image o.touched) o.lines o.others here o.apart each in
       let shared = shared_by (line_number image o.touched) o.earlier here (subst (λ n. first_beside cores n ≤ o.earlier) is from) (omega (arith, before, is))
       (record { at = o.touched; in_line = refl; touches = o.touches }) t.shared refl in
-      overflow_false (nat_lt (limits_of image.version).buffer_lines t.count) t.shared (limits_of image.version).buffer_lines t.count refl none (omega (arith, full, count)) shared
+      overflow_false (nat_lt image.machine.buffer_lines t.count) t.shared image.machine.buffer_lines t.count refl none (omega (arith, full, count)) shared
 
 -- a store, after its lines are touched
 pub stored_from : (image : LoadedImage) (t mid new : Touched) (epoch first address width : ℕ) → mid.stored ≡ t.stored → AreStoredIn image mid new epoch first address width

@@ -40,6 +40,20 @@ pub record Following (image : LoadedImage) (epoch : ℕ) (memory writers : List 
   pub others : (a : ℕ) → own a ≡ None → IsLastWriter image epoch a (slice_index writers a)
   pub least : IsLeast (DependsUpTo image epoch h.done) nearest
 
+-- ---- who wrote last
+
+last_below : (image : LoadedImage) (epoch a writer : ℕ) → IsLastWriter image epoch a writer → writer ≤ epoch + 1
+last_below image epoch a zero last = omega arith
+last_below image epoch a (suc writer) last = let before = last.0 in omega (arith, before)
+
+pub writers_below : (image : LoadedImage) (epoch : ℕ) (memory writers : List ℕ) (h : HartState) (nearest : Option ℕ) → Following image epoch memory writers h nearest
+    → (a : ℕ) → slice_index writers a ≤ epoch + 1
+writers_below image epoch memory writers h nearest x a = by_own (x.own a) refl
+  where
+    by_own : (o : Option ℕ) → x.own a ≡ o → slice_index writers a ≤ epoch + 1
+    by_own (Some byte) is = let mine = x.mine a byte is in omega (arith, mine)
+    by_own None is = last_below image epoch a (slice_index writers a) (x.others a is)
+
 -- ---- the start
 
 start_back : (image : LoadedImage) (epoch k : ℕ) → DependsUpTo image epoch 0 k → DependsBefore image epoch k

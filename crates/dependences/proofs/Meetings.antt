@@ -3,7 +3,6 @@ use Rattle.std.proofs.Common.{◌≡◌, ◌≢◌, ◌⊎◌, ℕ, zero, suc, �
 use Rattle.std.proofs.lemmas.Bool.{and_parts, cases_Bool}
 use Rattle.std.proofs.lemmas.Nat.{div-mul-add}
 use Rattle.rv32_image.specs.Image.{LoadedImage}
-use Rattle.rv32_image.specs.Version.{limits_of}
 use Rattle.memory_bytes.specs.Bytes.{IsWidth}
 use Rattle.memory_bytes.specs.Maps.{over}
 use Rattle.rv32_exec.specs.declared.stop.Stop.TheVariants as stop
@@ -126,7 +125,7 @@ some_width width (inr (inr e)) = omega (arith, e)
 -- a byte of a line
 line_byte : (image : LoadedImage) (line : ℕ) (test : ℕ → Bool) → line_has image line test ≡ true → (a : ℕ) × (line_number image a ≡ line) × (test a ≡ true)
 line_byte image line test is =
-    let long = (limits_of image.version).line_length in
+    let long = image.machine.line_length in
     let found = some_below long (λ x. test (line * long + x)) is in
     (line * long + found.0, div-mul-add line long found.0 found.1, found.2)
 
@@ -290,18 +289,18 @@ module _ (image : LoadedImage) (cores : ℕ) (s : FlatState) (going : Going imag
       → is_full_at image (meeting s by what k) (line_number image touched) ≡ true → Overflow image cores
   full_overflow what touched touches is =
       let line = line_number image touched in
-      let limits = limits_of image.version in
+      let machine = image.machine in
       let test : ℕ → Bool = other_line image cores s going window orderly by k c v causer victim before what line in
-      let parts = and_parts (holds_line image (meeting s by what k) line) (nat_le limits.buffer_lines (count_below (image.size / limits.line_length) test)) is in
+      let parts = and_parts (holds_line image (meeting s by what k) line) (nat_le machine.buffer_lines (count_below (image.size / machine.line_length) test)) is in
       let most = leb-true _ _ parts.1 in
       let lines = passing (λ other. (other ≢ line) × StoresIn image v.epoch (path_memory image cores v.epoch) other) test
-      (other_path image cores s going window orderly by k c v causer victim before what line) (image.size / limits.line_length) in
+      (other_path image cores s going window orderly by k c v causer victim before what line) (image.size / machine.line_length) in
       let long = lines.long in record {
         earlier = c.epoch;
         later = v.epoch;
         touched = touched;
         others = lines.list;
-        lines = image.size / limits.line_length;
+        lines = image.size / machine.line_length;
         beside = two_beside image cores s going window orderly by k c v causer victim before;
         touches = touches;
         stores = holds_path image cores s going window orderly by k c v causer victim before line what parts.0;

@@ -6,7 +6,6 @@ use Rattle.std.specs.Prelude.{◌≡◌, ◌≢◌, ℕ, ◌-◌, ◌<◌, ◌�
 use Rattle.rv32_exec.specs.declared.sequential.End.{End}
 use Rattle.rv32_exec.specs.declared.sequential.End.TheVariants.{Done, Exit, Fault}
 use Rattle.rv32_image.specs.Image.{LoadedImage}
-use Rattle.rv32_image.specs.Version.{limits_of}
 use Rattle.rv32_exec.specs.Sequential.{first_epochs}
 use Rattle.spec_history.specs.Conflict.{line_number}
 use Rattle.dependences.specs.Paths.{ReadsOutside, Stores, Touches}
@@ -97,7 +96,7 @@ pub record OverflowOver (image : LoadedImage) (cores : ℕ) (memory : ℕ → Li
   pub touches : Touches image earlier (memory earlier) touched
   pub stores : StoresIn image later (memory later) (line_number image touched)
   pub apart : AreFalling lines others
-  pub full : (limits_of image.version).buffer_lines ≤ length others
+  pub full : image.machine.buffer_lines ≤ length others
   pub each : All (λ line. (line ≢ line_number image touched) × StoresIn image later (memory later) line) others
 
 -- so on the paths of the epochs

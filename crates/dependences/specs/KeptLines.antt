@@ -1,7 +1,6 @@
 -- What the code keeps of the lines of the caches: who did something in each last, and who stored in each.
 use Rattle.std.specs.Prelude.{◌≡◌, ◌≢◌, ℕ, zero, suc, ◌+◌, ◌/◌, ◌==◌, ◌<◌, ◌≤◌, List, length, slice_index, if◌then◌else◌}
 use Rattle.rv32_image.specs.Image.{LoadedImage}
-use Rattle.rv32_image.specs.Version.{limits_of}
 use Rattle.spec_history.specs.Conflict.{line_number}
 use Rattle.dependences.specs.Paths.{ReadsOutside}
 use Rattle.dependences.specs.Conflict.{StoresIn, first_beside, run_memory}
@@ -32,7 +31,7 @@ other_before s epoch line = if slice_index s.last line == epoch + 1 then slice_i
 
 -- memory has so many lines of this version
 abbrev pub line_count : LoadedImage → ℕ
-line_count image = image.size / (limits_of image.version).line_length
+line_count image = image.size / image.machine.line_length
 
 pub record AreLines (image : LoadedImage) (s : LastTwo) : Type 0 where
   pub last : length s.last ≡ line_count image

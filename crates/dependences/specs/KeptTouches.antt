@@ -1,7 +1,6 @@
 -- What the code keeps of the lines that epochs touch, and of those that this one stores in; and what is found over caches.
 use Rattle.std.specs.Prelude.{◌≡◌, ◌≢◌, ℕ, ◌+◌, ◌==◌, ◌<◌, ◌≤◌, Bool, true, false, List, length, Option, Some, None, nat_lt, ◌&&◌, slice_index}
 use Rattle.rv32_image.specs.Image.{LoadedImage}
-use Rattle.rv32_image.specs.Version.{limits_of}
 use Rattle.spec_history.specs.Conflict.{line_number}
 use Rattle.spec_history.specs.Searches.{count_below}
 use Rattle.dependences.specs.declared.caches.CacheConflict.{CacheConflict}
@@ -89,4 +88,4 @@ pub record IsNever (image : LoadedImage) (cores : ℕ) : Type 0 where
 
 -- the epoch has stored in more lines than its buffer takes, and one of these is shared
 abbrev pub overflows : LoadedImage → Touched → Bool
-overflows image t = nat_lt (limits_of image.version).buffer_lines t.count && t.shared
+overflows image t = nat_lt image.machine.buffer_lines t.count && t.shared

@@ -13,7 +13,7 @@ pub(crate) fn line_of(image: &Image, addr: u32) -> u32
     ensures line { result ≡ line_number image.now addr }
     ensures inside { addr < image.now.size → result < spec.line_count image.now }
 {
-    addr / image.version().limits().line_length
+    addr / image.machine().line_length
 }
 
 /// Of each line the last epoch that did something in it, and 1, and the last before that one. 0 for none.

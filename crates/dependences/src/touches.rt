@@ -106,6 +106,6 @@ impl Touches {
     pub(crate) fn overflows(&self, image: &Image) -> bool
         ensures { result ≡ spec.overflows image.now self.now }
     {
-        self.count > image.version().limits().buffer_lines && self.shared
+        self.count > image.machine().buffer_lines && self.shared
     }
 }

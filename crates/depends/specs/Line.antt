@@ -5,11 +5,10 @@ use Rattle.rv32_image.specs.Image.{LoadedImage}
 use Rattle.trace_text.specs.Printing.{hex_word}
 use Rattle.violations.specs.View.{StoreView, Waits}
 use Rattle.violations.specs.Calls.{Call}
-use Rattle.all_schedules.specs.declared.words.Store.{Store}
-use Rattle.all_schedules.specs.declared.words.Store.TheVariants.{Caches, Plain}
 use Rattle.all_schedules.specs.Made.{loop_on}
 use Rattle.all_schedules.specs.SurveyText.{turns_line}
 use Rattle.depends.specs.declared.least.Found.{Found}
+use Rattle.depends.specs.declared.least.Grain.{Grain}
 use Rattle.depends.specs.declared.line.Line.{Line}
 use Rattle.depends.specs.declared.line.Line.TheVariants.{Never, From, Open}
 use Rattle.depends.specs.declared.shown.Met.{Met}
@@ -28,19 +27,16 @@ IsFrom starts calls view waits image cores room (From n turns shown) = (n ≡ co
 IsFrom starts calls view waits image cores room (Open n) = n ≡ cores
 
 -- no schedule has a violation; or so many cores are the fewest on which epochs conflict, and the turns make one, where there are any
-abbrev pub IsLine : {S : Type 0} → (LoadedImage → ℕ → S → Type 0) → (S → Call → S → Type 0) → (S → StoreView) → (S → Waits) → LoadedImage → Store → ℕ → ℕ → Line → Type 0
-IsLine starts calls view waits image store most room Never = NeverRollsBack image store most
-IsLine starts calls view waits image store most room line =
-    (least : Found) × IsLeast image store most (Some least) × IsFrom starts calls view waits image least.cores room line
+abbrev pub IsLine : {S : Type 0} → (LoadedImage → ℕ → S → Type 0) → (S → Call → S → Type 0) → (S → StoreView) → (S → Waits) → LoadedImage → Grain → ℕ → ℕ → Line → Type 0
+IsLine starts calls view waits image grain most room Never = NeverRollsBack image grain most
+IsLine starts calls view waits image grain most room line =
+    (least : Found) × IsLeast image grain most (Some least) × IsFrom starts calls view waits image least.cores room line
 
 -- ---- the text
 
-abbrev pub store_name : Store → List ℕ
-store_name Caches = codes "caches"
-store_name Plain = codes "plain"
-
-unfoldable pub head_text : List ℕ → Store → ℕ → List ℕ
-head_text name store cores = labelled name (store_name store) ++ named (codes " ") cores
+-- a name, the word of the store as it was given, and so many cores
+unfoldable pub head_text : List ℕ → List ℕ → ℕ → List ℕ
+head_text name word cores = labelled name word ++ named (codes " ") cores
 
 abbrev pub victim_text : Met → List ℕ
 victim_text (Instructions load store) = labelled (codes " load ") (hex_word load)
@@ -53,17 +49,17 @@ causer_text Buffer = []
 unfoldable pub shown_text : Shown → List ℕ
 shown_text x = named (codes " epoch ") x.victim ++ victim_text x.met ++ named (codes " by epoch ") x.causer ++ causer_text x.met
 
-unfoldable pub never_text : Store → ℕ → List ℕ
-never_text store cores = head_text (codes "never ") store cores ++ codes "\n"
+unfoldable pub never_text : List ℕ → ℕ → List ℕ
+never_text word cores = head_text (codes "never ") word cores ++ codes "\n"
 
-unfoldable pub from_text : Store → ℕ → Shown → List ℕ
-from_text store cores shown = head_text (codes "from ") store cores ++ shown_text shown ++ codes "\n"
+unfoldable pub from_text : List ℕ → ℕ → Shown → List ℕ
+from_text word cores shown = head_text (codes "from ") word cores ++ shown_text shown ++ codes "\n"
 
-unfoldable pub open_text : Store → ℕ → List ℕ
-open_text store cores = head_text (codes "open ") store cores ++ codes "\n"
+unfoldable pub open_text : List ℕ → ℕ → List ℕ
+open_text word cores = head_text (codes "open ") word cores ++ codes "\n"
 
 -- the turns stand below what they show
-abbrev pub line_text : Store → ℕ → Line → List ℕ
-line_text store most Never = never_text store most
-line_text store most (From cores turns shown) = from_text store cores shown ++ turns_line turns.items
-line_text store most (Open cores) = open_text store cores
+abbrev pub line_text : List ℕ → ℕ → Line → List ℕ
+line_text word most Never = never_text word most
+line_text word most (From cores turns shown) = from_text word cores shown ++ turns_line turns.items
+line_text word most (Open cores) = open_text word cores

@@ -2,10 +2,16 @@
 ghost use Rattle.std.specs.Prelude.{◌≡◌, ◌≤◌, IfOk};
 ghost use Rattle.depends.specs.Never as spec;
 
-use all_schedules::Store;
 use dependences::{CacheConflict, conflict_over_caches, conflicts_over_bytes};
 use rv32_exec::Image;
 use std::alloc::{AllocError, Global};
+
+/// What a store watches for conflicts: the lines and buffers of caches, or bytes.
+#[derive(Clone, Copy)]
+pub enum Grain {
+    Lines,
+    Bytes,
+}
 
 /// Two epochs that conflict.
 #[derive(Clone, Copy)]
@@ -16,27 +22,27 @@ pub struct Found {
     pub later: Option<u32>,
 }
 
-/// Two epochs that conflict over a store on the fewest cores, up to these, which are at most 16. None: on none of them any do, and no
+/// Two epochs that conflict over a store of this grain on the fewest cores, up to these, which are at most 16. None: on none of them any do, and no
 /// schedule has a violation.
 ///
 /// `AllocError`: memory ran out.
 pub fn least_conflict(
     alloc: Global,
     image: &Image,
-    store: Store,
+    grain: Grain,
     cores: u32,
 ) -> Result<Option<Found>, AllocError>
     requires few { cores ≤ 16 }
-    ensures { IfOk result (spec.IsLeast image.now store cores) }
+    ensures { IfOk result (spec.IsLeast image.now grain cores) }
 {
-    let Some(found) = conflict_on(alloc, image, store, cores)? else {
+    let Some(found) = conflict_on(alloc, image, grain, cores)? else {
         return Ok(None);
     };
     let mut least = found;
     let mut low = 0;
     'halves: while low < least.cores {
         let middle = (low + least.cores) / 2;
-        match conflict_on(alloc, image, store, middle)? {
+        match conflict_on(alloc, image, grain, middle)? {
             Some(found) => least = found,
             None => low = middle + 1,
         }
@@ -48,19 +54,19 @@ pub fn least_conflict(
 fn conflict_on(
     alloc: Global,
     image: &Image,
-    store: Store,
+    grain: Grain,
     cores: u32,
 ) -> Result<Option<Found>, AllocError>
-    ensures { IfOk result (spec.IsFound image.now store cores) }
+    ensures { IfOk result (spec.IsFound image.now grain cores) }
 {
-    match store {
-        Store::Caches => conflict_on_caches(alloc, image, cores),
-        Store::Plain => conflict_on_plain(alloc, image, cores),
+    match grain {
+        Grain::Lines => conflict_on_caches(alloc, image, cores),
+        Grain::Bytes => conflict_on_plain(alloc, image, cores),
     }
 }
 
 fn conflict_on_caches(alloc: Global, image: &Image, cores: u32) -> Result<Option<Found>, AllocError>
-    ensures { IfOk result (spec.IsFound image.now Store.Caches cores) }
+    ensures { IfOk result (spec.IsFound image.now Grain.Lines cores) }
 {
     let Ok(found) = conflict_over_caches(alloc, image, cores) else {
         return Err(AllocError);
@@ -81,7 +87,7 @@ fn later_of(conflict: CacheConflict) -> u32 {
 }
 
 fn conflict_on_plain(alloc: Global, image: &Image, cores: u32) -> Result<Option<Found>, AllocError>
-    ensures { IfOk result (spec.IsFound image.now Store.Plain cores) }
+    ensures { IfOk result (spec.IsFound image.now Grain.Bytes cores) }
 {
     match conflicts_over_bytes(alloc, image, cores) {
         Ok(true) => Ok(Some(Found { cores, later: None })),

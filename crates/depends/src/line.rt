@@ -4,10 +4,10 @@ ghost use Rattle.violations.specs.Rule.{IsCoreCount};
 ghost use Rattle.depends.specs.Line as spec;
 
 use crate::ahead::run_ahead;
-use crate::least::{Found, least_conflict};
+use crate::least::{Found, Grain, least_conflict};
 use crate::shown::{Met, Shown, show};
 use crate::text::{push_address, push_named, push_word};
-use all_schedules::{Store, push_turns};
+use all_schedules::push_turns;
 use dependences::Dependence;
 use rv32_exec::Image;
 use std::alloc::{AllocError, Global};
@@ -18,13 +18,13 @@ use violations::EpochStore;
 pub enum Line {
     /// No schedule has a violation.
     Never,
-    /// Epochs conflict on so many cores, and on no fewer, and these turns make a violation.
+    /// Epochs conflict on so many cores, and these turns make a violation; on fewer no schedule has one.
     From {
         cores: u32,
         turns: Vec<u32>,
         shown: Shown,
     },
-    /// Epochs conflict on so many cores, and on no fewer; the schedule that was tried makes no violation.
+    /// Epochs conflict on so many cores, and the schedule that was tried makes no violation; on fewer none has one.
     Open {
         cores: u32,
     },
@@ -39,13 +39,13 @@ pub struct Known<'a> {
     pub epochs: u32,
 }
 
-/// What is told of a store and up to so many cores. The cores are at least 1, and the room is 16 to 1,048,576 entries.
+/// What is told of a store that watches so, and up to so many cores. The cores are at least 1, and the room is 16 to 1,048,576 entries.
 ///
 /// `AllocError`: memory ran out.
 pub fn line_over<S: EpochStore>(
     alloc: Global,
     image: &Image,
-    store: Store,
+    grain: Grain,
     cores: u32,
     room: u32,
     known: Known<'_>,
@@ -53,9 +53,9 @@ pub fn line_over<S: EpochStore>(
     requires cores { IsCoreCount image.now cores }
     requires least { 16 ≤ room }
     requires most { room ≤ 1048576 }
-    ensures { IfOk result (spec.IsLine S.starts S.makes S.view S.waits image.now store cores room) }
+    ensures { IfOk result (spec.IsLine S.starts S.makes S.view S.waits image.now grain cores room) }
 {
-    match least_conflict(alloc, image, store, cores)? {
+    match least_conflict(alloc, image, grain, cores)? {
         Some(least) => {
             let (from, to) = laters(image, known, least);
             line_from::<S>(alloc, image, least.cores, room, from, to)
@@ -114,58 +114,58 @@ fn first_near(found: &[Dependence], cores: u32) -> Option<u32> {
     None
 }
 
-/// Adds what is told of a store on up to so many cores.
+/// Adds what is told of the store that this word names, on up to so many cores.
 ///
 /// `AllocError`: memory ran out.
 #[tactic(auto, using(crate::proofs::Joining::joined))]
-pub fn push_line(text: &mut Vec<u8>, store: Store, most: u32, line: &Line) -> Result<(), AllocError>
-    ensures { OnOk result (text.new.items ≡ text.old.items ++ spec.line_text store most line.now) }
+pub fn push_line(text: &mut Vec<u8>, word: &str, most: u32, line: &Line) -> Result<(), AllocError>
+    ensures { OnOk result (text.new.items ≡ text.old.items ++ spec.line_text word.now most line.now) }
 {
     match line {
-        Line::Never => push_never(text, store, most),
+        Line::Never => push_never(text, word, most),
         Line::From {
             cores,
             turns,
             shown,
         } => {
-            push_from(text, store, *cores, *shown)?;
+            push_from(text, word, *cores, *shown)?;
             push_turns(text, turns.as_slice())
         }
-        Line::Open { cores } => push_open(text, store, *cores),
+        Line::Open { cores } => push_open(text, word, *cores),
     }
 }
 
 #[tactic(auto, using(crate::proofs::Joining::joined), unfolding(crate::specs::Line::never_text))]
-fn push_never(text: &mut Vec<u8>, store: Store, cores: u32) -> Result<(), AllocError>
-    ensures { OnOk result (text.new.items ≡ text.old.items ++ spec.never_text store cores) }
+fn push_never(text: &mut Vec<u8>, word: &str, cores: u32) -> Result<(), AllocError>
+    ensures { OnOk result (text.new.items ≡ text.old.items ++ spec.never_text word.now cores) }
 {
-    push_head(text, b"never ", store, cores)?;
+    push_head(text, b"never ", word, cores)?;
     text.extend_from_slice(b"\n")
 }
 
 #[tactic(auto, using(crate::proofs::Joining::joined), unfolding(crate::specs::Line::open_text))]
-fn push_open(text: &mut Vec<u8>, store: Store, cores: u32) -> Result<(), AllocError>
-    ensures { OnOk result (text.new.items ≡ text.old.items ++ spec.open_text store cores) }
+fn push_open(text: &mut Vec<u8>, word: &str, cores: u32) -> Result<(), AllocError>
+    ensures { OnOk result (text.new.items ≡ text.old.items ++ spec.open_text word.now cores) }
 {
-    push_head(text, b"open ", store, cores)?;
+    push_head(text, b"open ", word, cores)?;
     text.extend_from_slice(b"\n")
 }
 
 #[tactic(auto, using(crate::proofs::Joining::joined), unfolding(crate::specs::Line::from_text))]
-fn push_from(text: &mut Vec<u8>, store: Store, cores: u32, shown: Shown) -> Result<(), AllocError>
-    ensures { OnOk result (text.new.items ≡ text.old.items ++ spec.from_text store cores shown) }
+fn push_from(text: &mut Vec<u8>, word: &str, cores: u32, shown: Shown) -> Result<(), AllocError>
+    ensures { OnOk result (text.new.items ≡ text.old.items ++ spec.from_text word.now cores shown) }
 {
-    push_head(text, b"from ", store, cores)?;
+    push_head(text, b"from ", word, cores)?;
     push_shown(text, shown)?;
     text.extend_from_slice(b"\n")
 }
 
-/// A name, which ends with a space, the store, and so many cores.
+/// A name, which ends with a space, the word of the store, and so many cores.
 #[tactic(auto, using(crate::proofs::Joining::joined), unfolding(crate::specs::Line::head_text))]
-fn push_head(text: &mut Vec<u8>, name: &[u8], store: Store, cores: u32) -> Result<(), AllocError>
-    ensures { OnOk result (text.new.items ≡ text.old.items ++ spec.head_text name.now store cores) }
+fn push_head(text: &mut Vec<u8>, name: &[u8], word: &str, cores: u32) -> Result<(), AllocError>
+    ensures { OnOk result (text.new.items ≡ text.old.items ++ spec.head_text name.now word.now cores) }
 {
-    push_word(text, name, store_name(store).as_bytes())?;
+    push_word(text, name, word.as_bytes())?;
     push_named(text, b" ", cores as u64)
 }
 
@@ -195,15 +195,5 @@ fn push_causer(text: &mut Vec<u8>, met: Met) -> Result<(), AllocError>
     match met {
         Met::Instructions { store, .. } => push_address(text, b" store ", store),
         Met::Buffer => Ok(()),
-    }
-}
-
-/// The word that names a store.
-fn store_name(store: Store) -> &'static str
-    ensures { result.now ≡ spec.store_name store }
-{
-    match store {
-        Store::Caches => "caches",
-        Store::Plain => "plain",
     }
 }

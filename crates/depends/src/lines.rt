@@ -1,33 +1,38 @@
 //! All lines.
-ghost use Rattle.std.specs.Prelude.{◌≡◌, ◌≤◌, ◌++◌, IfOk, OnOk};
+ghost use Rattle.std.specs.Prelude.{◌≡◌, ◌≤◌, IfOk, OnOk, map};
 ghost use Rattle.violations.specs.Rule.{IsCoreCount};
+ghost use Rattle.trace_commands.specs.Stores.{store_named};
+ghost use Rattle.all_schedules.specs.Settings.{IsRunnable};
+ghost use Rattle.depends.specs.Runs.{RunsOn, RunsOnAll, on_store};
 ghost use Rattle.depends.specs.Lines as spec;
 
+use crate::least::Grain;
 use crate::line::{Known, Line, line_over, push_line};
 use crate::rows::rows_of;
 use crate::text::push_rows;
-use crate::words::Request;
-use all_schedules::Store;
 use dependences::{Dependence, dependences_in_order, lengths_in_order};
 use rv32_exec::Image;
 use spec_bus::CachedBus;
 use std::alloc::{AllocError, Global};
+use std::convert::AsStr;
+use trace_commands::{Store, store_named};
 use violations::PlainStore;
 
-/// The lines of the dependences, and then those of each store that is asked for. The cores are at least 1, and the room is 16 to
-/// 1,048,576 entries.
+/// The lines of the dependences, and then those of each store that these words name, whose machine can run the image on so many cores.
+/// The room is 16 to 1,048,576 entries.
 ///
 /// `AllocError`: memory ran out.
-pub fn print_lines(
+pub fn print_lines<S: AsStr>(
     alloc: Global,
     image: &Image,
-    request: Request,
+    cores: u32,
+    stores: &[S],
     room: u32,
 ) -> Result<Vec<u8>, AllocError>
-    requires cores { IsCoreCount image.now request.cores }
+    requires stores { RunsOnAll image.now cores (map S.text stores.now) }
     requires least { 16 ≤ room }
     requires most { room ≤ 1048576 }
-    ensures { IfOk result (λ text. spec.AreLines image.now request room text.items) }
+    ensures { IfOk result (λ text. spec.AreLines image.now cores room (map S.text stores.now) text.items) }
 {
     let Ok(found) = dependences_in_order(alloc, image) else {
         return Err(AllocError);
@@ -40,16 +45,7 @@ pub fn print_lines(
         epochs: lengths.len().min(image.epochs() as usize) as u32,
     };
     let mut text = print_rows(alloc, found.as_slice(), lengths.as_slice())?;
-    push_store(
-        alloc,
-        &mut text,
-        image,
-        request.first,
-        request.cores,
-        room,
-        known,
-    )?;
-    push_second(alloc, &mut text, image, request, room, known)?;
+    push_stores(alloc, &mut text, image, cores, stores, room, known)?;
     Ok(text)
 }
 
@@ -63,46 +59,65 @@ fn print_rows(alloc: Global, found: &[Dependence], lengths: &[u64]) -> Result<Ve
     Ok(text)
 }
 
-/// The lines of the second store, where there is one.
-fn push_second(
+/// Adds the lines of each store that these words name.
+fn push_stores<S: AsStr>(
     alloc: Global,
     text: &mut Vec<u8>,
     image: &Image,
-    request: Request,
+    cores: u32,
+    words: &[S],
     room: u32,
     known: Known<'_>,
 ) -> Result<(), AllocError>
-    requires cores { IsCoreCount image.now request.cores }
+    requires stores { RunsOnAll image.now cores (map S.text words.now) }
     requires least { 16 ≤ room }
     requires most { room ≤ 1048576 }
-    ensures { OnOk result (spec.AddsSecond image.now request.second request.cores room text.old.items text.new.items) }
+    ensures { OnOk result (spec.AddStores image.now cores room (map S.text words.now) text.old.items text.new.items) }
 {
-    match request.second {
-        Some(store) => push_store(alloc, text, image, store, request.cores, room, known),
-        None => Ok(()),
+    for word in words {
+        push_store(alloc, text, image, cores, word.as_str(), room, known)?;
     }
+    Ok(())
 }
 
-/// The lines of a store.
+/// Adds the lines of the store that this word names.
 fn push_store(
     alloc: Global,
     text: &mut Vec<u8>,
     image: &Image,
-    store: Store,
     cores: u32,
+    word: &str,
     room: u32,
     known: Known<'_>,
 ) -> Result<(), AllocError>
-    requires cores { IsCoreCount image.now cores }
+    requires store { RunsOn image.now cores (store_named word.now) }
     requires least { 16 ≤ room }
     requires most { room ≤ 1048576 }
-    ensures { OnOk result (spec.AddsStore image.now store cores room text.old.items text.new.items) }
+    ensures { OnOk result (spec.AddStore image.now cores room word.now (store_named word.now) text.old.items text.new.items) }
 {
-    let line = line_of(alloc, image, store, cores, room, known)?;
-    push_line(text, store, cores, &line)
+    let Some(store) = store_named(word) else {
+        unreachable!()
+    };
+    let image = image_on(alloc, image, store, cores)?;
+    let line = line_of(alloc, &image, store, cores, room, known)?;
+    push_line(text, word, cores, &line)
 }
 
-/// What is told of a store.
+/// The loop on the machine that a store asks for, which can run it on so many cores.
+fn image_on(alloc: Global, image: &Image, store: Store, cores: u32) -> Result<Image, AllocError>
+    requires { IsRunnable (on_store store image.now) cores }
+    ensures { IfOk result (λ on. on ≡ on_store store image.now) }
+{
+    let Ok(image) = image.copy(alloc) else {
+        return Err(AllocError);
+    };
+    match store.asked().on(image) {
+        Some(image) => Ok(image),
+        None => unreachable!(),
+    }
+}
+
+/// What is told of a store, of the loop on its machine.
 fn line_of(
     alloc: Global,
     image: &Image,
@@ -117,7 +132,7 @@ fn line_of(
     ensures { IfOk result (spec.IsLineOf image.now store cores room) }
 {
     match store {
-        Store::Caches => line_over::<CachedBus>(alloc, image, store, cores, room, known),
-        Store::Plain => line_over::<PlainStore>(alloc, image, store, cores, room, known),
+        Store::Caches(_) => line_over::<CachedBus>(alloc, image, Grain::Lines, cores, room, known),
+        Store::Plain => line_over::<PlainStore>(alloc, image, Grain::Bytes, cores, room, known),
     }
 }

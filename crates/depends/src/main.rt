@@ -1,4 +1,4 @@
-//! What a loop can roll back through: `depends CORES` takes an image on standard input, and prints a line for each pair of instructions
+//! What a loop can roll back through: `depends CORES STORE ..` takes an image on standard input, and prints a line for each pair of instructions
 //! that a dependence of the run in order joins, and for each store whether a schedule of up to so many cores can violate an epoch.
 #![tactic(auto)]
 
@@ -13,9 +13,9 @@ mod least;
 mod line;
 mod lines;
 mod rows;
+mod runs;
 mod shown;
 mod text;
-mod words;
 mod work;
 
 fn main(rt: HostRuntime) -> ExitCode {

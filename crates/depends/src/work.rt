@@ -1,16 +1,20 @@
-ghost use Rattle.std.specs.Prelude.{◌≤◌, map};
+ghost use Rattle.std.specs.Prelude.{◌≡◌, ◌≤◌, ◌+◌, true, map};
+ghost use Rattle.std.specs.List.{list_all};
+ghost use Rattle.rv32_image.specs.ImageText.{longest_image_text};
+ghost use Rattle.rv32_image.specs.Input.{TakesAtMost};
 ghost use Rattle.rv32_image.specs.Reading.{ForText};
+ghost use Rattle.depends.specs.Answers.{DependsAnswers};
+ghost use Rattle.trace_commands.specs.Stores.{names_store, or_both};
 ghost use Rattle.depends.specs.Work as spec;
 
 use crate::answer::do_depends;
-use crate::words::request_of;
 use std::alloc::Global;
 use std::convert::AsStr;
 use std::io::{Read, Write};
-use trace_commands::Outcome;
+use trace_commands::{Outcome, first_word, stores_asked};
 
-/// The whole program: what the loop can roll back through on up to as many cores as the words ask for, `depends CORES`, 1 to 16, and over
-/// the stores that they name, if any; the first word is the program's name.
+/// The whole program: what the loop can roll back through on up to as many cores as the words ask for, 1 to 16, over each of the stores
+/// that they name, `depends CORES STORE ..`; over caches and the plain store, where they name none. The first word is the program's name.
 ///
 /// Any other words are refused as `usage`, with status 2, and nothing is read or written. The room is 16 to 1,048,576 entries.
 pub fn work<S: AsStr, R: Read, W: Write, E: Write>(
@@ -28,8 +32,41 @@ pub fn work<S: AsStr, R: Read, W: Write, E: Write>(
         (record { old = W.contents writer.old; new = W.contents writer.new })
         (record { old = E.contents errors.old; new = E.contents errors.new }) result) }
 {
-    match request_of(words) {
-        Some(request) => do_depends(alloc, request, room, reader, writer, errors),
+    match stores_asked(words) {
+        Some((cores, stores)) => do_asked(alloc, cores, stores, room, reader, writer, errors),
         None => Outcome::Usage.conclude(errors),
+    }
+}
+
+/// All but the words: the answer over each of these stores, over caches and the plain store where there are none.
+#[tactic(auto, unfolding(trace_commands::specs::Stores::store_named))]
+fn do_asked<S: AsStr, R: Read, W: Write, E: Write>(
+    alloc: Global,
+    cores: u32,
+    stores: &[S],
+    room: u32,
+    reader: &mut R,
+    writer: &mut W,
+    errors: &mut E,
+) -> u8
+    requires cores { 1 ≤ cores }
+    requires least { 16 ≤ room }
+    requires most { room ≤ 1048576 }
+    requires stores { list_all names_store (map S.text stores.now) ≡ true }
+    ensures outcome { ForText (R.remaining reader.old) (λ text. DependsAnswers cores (or_both (map S.text stores.now)) room text
+        (record { old = W.contents writer.old; new = W.contents writer.new }) (record { old = E.contents errors.old; new = E.contents errors.new }) result) }
+    ensures taken { TakesAtMost (R.remaining reader.old) (R.remaining reader.new) (longest_image_text + 1) }
+{
+    match first_word(stores) {
+        None => do_depends(
+            alloc,
+            cores,
+            &["caches", "plain"],
+            room,
+            reader,
+            writer,
+            errors,
+        ),
+        Some(_) => do_depends(alloc, cores, stores, room, reader, writer, errors),
     }
 }

@@ -1,12 +1,10 @@
 -- What a loop gains, and what was written of it.
 -- Source: this project; Oplinger, Heine and Lam, "In Search of Speculative Thread-Level Parallelism", PACT 1999.
-use Rattle.std.specs.Prelude.{◌≡◌, ◌⊎◌, ℕ, ◌<◌, List, [], Option, MatchResult, codes}
+use Rattle.std.specs.Prelude.{◌≡◌, ◌⊎◌, ℕ, List, [], ◌∷◌, Option, Some, None, MatchResult}
 use Rattle.std.specs.Io.KnownBytes.{Appends, Keeps}
 use Rattle.rv32_image.specs.Image.{LoadedImage}
 use Rattle.rv32_image.specs.ImageText.{image_text}
-use Rattle.rv32_image.specs.Version.{limits_of}
 use Rattle.violations.specs.View.{never_waits}
-use Rattle.violations.specs.Rule.{IsCoreCount}
 use Rattle.violations.specs.Plain as plain
 use Rattle.spec_bus.specs.Cached as caches
 use Rattle.spec_bus.specs.Laws as cache
@@ -15,38 +13,75 @@ use Rattle.trace_commands.specs.declared.outcome.Outcome.TheVariants.{Usage, Bad
 use Rattle.trace_commands.specs.declared.outcome.CommandStop.TheVariants.{Write, NoMemory}
 use Rattle.trace_commands.specs.Outcome.{AppendsPrefix, Conclusion, IsRefusal}
 use Rattle.trace_commands.specs.Program.{Stream}
+use Rattle.trace_commands.specs.declared.store.Store.{Store}
+use Rattle.trace_commands.specs.declared.store.Store.TheVariants.{Caches, Plain}
+use Rattle.trace_commands.specs.Stores.{StoresAsked, asked_by, on_machine, store_named}
+use Rattle.all_schedules.specs.Settings.{IsRunnable}
 use Rattle.gain.specs.Lines.{AddLines}
-
--- the lines over caches, and then those over the plain store
-abbrev pub AreGains : LoadedImage → ℕ → ℕ → List ℕ → Type 0
-AreGains image cores room text = (over_caches : List ℕ) × AddLines cache.Starts cache.Makes caches.store_view caches.waits image room (codes "caches") cores [] over_caches
-    × AddLines plain.Starts plain.Makes plain.store_view (λ _. never_waits) image room (codes "plain") cores over_caches text
 
 -- ---- of an image
 
--- they were written
-abbrev pub IsWrittenOf : LoadedImage → ℕ → ℕ → Option (List ℕ) → Option (List ℕ) → Type 0
-IsWrittenOf image cores room old new = IsCoreCount image cores × (text : List ℕ) × AreGains image cores room text × Appends old new text
+-- to a text, the lines of this store
+abbrev pub AddLinesOf : LoadedImage → Store → ℕ → ℕ → List ℕ → List ℕ → List ℕ → Type 0
+AddLinesOf image (Caches asked) cores room word old new = AddLines cache.Starts cache.Makes caches.store_view caches.waits image room word cores old new
+AddLinesOf image Plain cores room word old new = AddLines plain.Starts plain.Makes plain.store_view (λ _. never_waits) image room word cores old new
 
--- they weren't: the version doesn't allow so many cores, memory ran out or a write failed
-abbrev pub IsUnwrittenOf : LoadedImage → ℕ → ℕ → Option (List ℕ) → Option (List ℕ) → Outcome → Type 0
-IsUnwrittenOf image cores room old new Usage = ((limits_of image.version).most_cores < cores) × Keeps old new
-IsUnwrittenOf image cores room old new (Stopped Write) = IsCoreCount image cores × (text : List ℕ) × AreGains image cores room text × AppendsPrefix old new text
-IsUnwrittenOf image cores room old new (Stopped NoMemory) = Keeps old new
-IsUnwrittenOf image cores room old new outcome = ⊥
+-- so on the machine that the store asks for, which can run the image on so many cores
+abbrev pub AddStore : LoadedImage → ℕ → ℕ → List ℕ → Option Store → List ℕ → List ℕ → Type 0
+AddStore image cores room word (Some store) old new =
+    IsRunnable (on_machine (asked_by store) image) cores × AddLinesOf (on_machine (asked_by store) image) store cores room word old new
+AddStore image cores room word None old new = ⊥
+
+-- those of each store, one after another
+abbrev pub AddStores : LoadedImage → ℕ → ℕ → List (List ℕ) → List ℕ → List ℕ → Type 0
+AddStores image cores room [] old new = new ≡ old
+AddStores image cores room (word ∷ words) old new =
+    (mid : List ℕ) × AddStore image cores room word (store_named word) old mid × AddStores image cores room words mid new
+
+-- the store asks for a machine that can't run the image on so many cores
+abbrev pub IsRefused : LoadedImage → ℕ → Option Store → Type 0
+IsRefused image cores (Some store) = IsRunnable (on_machine (asked_by store) image) cores → ⊥
+IsRefused image cores None = ⊥
+
+-- one of the stores does
+abbrev pub HasRefused : LoadedImage → ℕ → List (List ℕ) → Type 0
+HasRefused image cores [] = ⊥
+HasRefused image cores (word ∷ words) = IsRefused image cores (store_named word) ⊎ HasRefused image cores words
+
+-- the lines of a store aren't added: its machine or the number of cores is refused, or memory ran out
+abbrev pub IsStopAt : LoadedImage → ℕ → Option Store → Outcome → Type 0
+IsStopAt image cores store Usage = IsRefused image cores store
+IsStopAt image cores store (Stopped NoMemory) = Unit {0}
+IsStopAt image cores store outcome = ⊥
+
+abbrev pub IsStop : LoadedImage → ℕ → List (List ℕ) → Outcome → Type 0
+IsStop image cores words Usage = HasRefused image cores words
+IsStop image cores words (Stopped NoMemory) = Unit {0}
+IsStop image cores words outcome = ⊥
+
+-- they were written
+abbrev pub IsWrittenOf : LoadedImage → ℕ → List (List ℕ) → ℕ → Option (List ℕ) → Option (List ℕ) → Type 0
+IsWrittenOf image cores stores room old new = (text : List ℕ) × AddStores image cores room stores [] text × Appends old new text
+
+-- they weren't: a machine or the number of cores is refused, memory ran out or a write failed
+abbrev pub IsUnwrittenOf : LoadedImage → ℕ → List (List ℕ) → ℕ → Option (List ℕ) → Option (List ℕ) → Outcome → Type 0
+IsUnwrittenOf image cores stores room old new Usage = HasRefused image cores stores × Keeps old new
+IsUnwrittenOf image cores stores room old new (Stopped Write) = (text : List ℕ) × AddStores image cores room stores [] text × AppendsPrefix old new text
+IsUnwrittenOf image cores stores room old new (Stopped NoMemory) = Keeps old new
+IsUnwrittenOf image cores stores room old new outcome = ⊥
 
 -- ---- of a text
 
-abbrev pub IsWritten : ℕ → ℕ → List ℕ → Option (List ℕ) → Option (List ℕ) → Type 0
-IsWritten cores room text old new = MatchResult (image_text text) (λ image. IsWrittenOf image cores room old new) (λ fault. ⊥)
+abbrev pub IsWritten : StoresAsked → ℕ → List ℕ → Option (List ℕ) → Option (List ℕ) → Type 0
+IsWritten asked room text old new = MatchResult (image_text text) (λ image. IsWrittenOf image asked.cores asked.stores room old new) (λ fault. ⊥)
 
-abbrev pub IsUnwritten : ℕ → ℕ → List ℕ → Option (List ℕ) → Option (List ℕ) → Outcome → Type 0
-IsUnwritten cores room text old new (BadImage fault) = IsRefusal fault.kind fault (image_text text) × Keeps old new
-IsUnwritten cores room text old new (Stopped NoMemory) = Keeps old new
-IsUnwritten cores room text old new outcome = MatchResult (image_text text) (λ image. IsUnwrittenOf image cores room old new outcome) (λ fault. ⊥)
+abbrev pub IsUnwritten : StoresAsked → ℕ → List ℕ → Option (List ℕ) → Option (List ℕ) → Outcome → Type 0
+IsUnwritten asked room text old new (BadImage fault) = IsRefusal fault.kind fault (image_text text) × Keeps old new
+IsUnwritten asked room text old new (Stopped NoMemory) = Keeps old new
+IsUnwritten asked room text old new outcome = MatchResult (image_text text) (λ image. IsUnwrittenOf image asked.cores asked.stores room old new outcome) (λ fault. ⊥)
 
 -- they were written, and the status is 0; or the program concludes with what kept them from being written
-abbrev pub GainAnswers : ℕ → ℕ → List ℕ → Stream → Stream → ℕ → Type 0
-GainAnswers cores room text output errors status =
-    ((status ≡ 0) × IsWritten cores room text output.old output.new × Keeps errors.old errors.new)
-    ⊎ Conclusion (IsUnwritten cores room text output.old output.new) errors.old errors.new status
+abbrev pub GainAnswers : StoresAsked → ℕ → List ℕ → Stream → Stream → ℕ → Type 0
+GainAnswers asked room text output errors status =
+    ((status ≡ 0) × IsWritten asked room text output.old output.new × Keeps errors.old errors.new)
+    ⊎ Conclusion (IsUnwritten asked room text output.old output.new) errors.old errors.new status

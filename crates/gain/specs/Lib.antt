@@ -5,5 +5,4 @@ pub mod Text
 pub mod Lines
 pub mod Gains
 -- What the words of a command line ask for, and what the program answers them.
-pub mod Asked
 pub mod Work

@@ -1,4 +1,4 @@
-//! What a loop gains on more cores: `gain CORES` takes an image on standard input, and prints a line for each store and each number
+//! What a loop gains on more cores: `gain CORES STORE ..` takes an image on standard input, and prints a line for each store and each number
 //! of cores 1, 2, 4, 8 below CORES, and CORES, of the run at even speed.
 #![tactic(auto)]
 
@@ -11,6 +11,7 @@ mod gains;
 mod kinds;
 mod lines;
 mod measure;
+mod stores;
 mod text;
 mod work;
 

@@ -1,16 +1,20 @@
-ghost use Rattle.std.specs.Prelude.{◌≡◌, ◌≤◌, IfSome, map};
+ghost use Rattle.std.specs.Prelude.{◌≡◌, ◌≤◌, ◌+◌, true, map};
+ghost use Rattle.std.specs.List.{list_all};
+ghost use Rattle.rv32_image.specs.Input.{TakesAtMost};
+ghost use Rattle.rv32_image.specs.ImageText.{longest_image_text};
 ghost use Rattle.rv32_image.specs.Reading.{ForText};
-ghost use Rattle.trace_commands.specs.Program.{IsUpTo16};
-ghost use Rattle.gain.specs.Asked.{cores_asked};
+ghost use Rattle.trace_commands.specs.Stores.{names_store, or_both};
+ghost use Rattle.gain.specs.Gains.{GainAnswers};
 ghost use Rattle.gain.specs.Work as spec;
 
 use crate::gains::do_gain;
 use std::alloc::Global;
 use std::convert::AsStr;
 use std::io::{Read, Write};
-use trace_commands::{Outcome, first_word, only_number};
+use trace_commands::{Outcome, first_word, stores_asked};
 
-/// The whole program: what the loop gains on as many cores as the words ask for, `gain CORES`, 1 to 16; the first is the program's name.
+/// The whole program: what the loop gains on as many cores as the words ask for, 1 to 16, over each of the stores that they name,
+/// `gain CORES STORE ..`; over caches and the plain store, where they name none. The first word is the program's name.
 ///
 /// Any other words are refused as `usage`, with status 2, and nothing is read or written. The room is 16 to 1,048,576 entries.
 pub fn work<S: AsStr, R: Read, W: Write, E: Write>(
@@ -28,17 +32,36 @@ pub fn work<S: AsStr, R: Read, W: Write, E: Write>(
         (record { old = W.contents writer.old; new = W.contents writer.new })
         (record { old = E.contents errors.old; new = E.contents errors.new }) result) }
 {
-    match cores_asked(words) {
-        Some(cores) => do_gain(alloc, cores, room, reader, writer, errors),
+    match stores_asked(words) {
+        Some((cores, stores)) => gain_over(alloc, cores, stores, room, reader, writer, errors),
         None => Outcome::Usage.conclude(errors),
     }
 }
 
-/// How many cores these words ask for, 1 to 16. None: other words.
-fn cores_asked<S: AsStr>(words: &[S]) -> Option<u32>
-    ensures asked { result ≡ cores_asked (map S.text words.now) }
-    ensures few { IfSome result IsUpTo16 }
+/// What `do_gain` does over the stores that these words name; over caches and the plain store, where there are none.
+#[tactic(auto, unfolding(trace_commands::specs::Stores::store_named))]
+fn gain_over<S: AsStr, R: Read, W: Write, E: Write>(
+    alloc: Global,
+    cores: u32,
+    stores: &[S],
+    room: u32,
+    reader: &mut R,
+    writer: &mut W,
+    errors: &mut E,
+) -> u8
+    requires cores { 1 ≤ cores }
+    requires least { 16 ≤ room }
+    requires most { room ≤ 1048576 }
+    requires stores { list_all names_store (map S.text stores.now) ≡ true }
+    ensures outcome { ForText (R.remaining reader.old) (λ text. GainAnswers (record { cores = cores; stores = or_both (map S.text stores.now) }) room text
+        (record { old = W.contents writer.old; new = W.contents writer.new }) (record { old = E.contents errors.old; new = E.contents errors.new }) result) }
+    ensures taken { TakesAtMost (R.remaining reader.old) (R.remaining reader.new) (longest_image_text + 1) }
 {
-    let (_program, words) = first_word(words)?;
-    only_number(words)
+    match first_word(stores) {
+        Some(_) => do_gain(alloc, cores, stores, room, reader, writer, errors),
+        None => {
+            let both = ["caches", "plain"];
+            do_gain(alloc, cores, &both, room, reader, writer, errors)
+        }
+    }
 }

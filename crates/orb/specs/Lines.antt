@@ -1,7 +1,7 @@
 -- The ownership required buffer of a core (Steffan, Colohan, Zhai and Mowry, "A Scalable Approach to Thread-Level
 -- Speculation", ISCA 2000): the lines that a publish has to ask for, by their addresses, in the order in which they
 -- entered.
-use Rattle.std.specs.Prelude.{◌≡◌, ℕ, ◌≤◌, ◌==◌, ◌⊎◌, Bool, false, not, List, [], ◌∷◌, filter, length}
+use Rattle.std.specs.Prelude.{◌≡◌, ℕ, ◌≤◌, ◌==◌, Bool, false, not, List, [], ◌∷◌, filter, length}
 use Rattle.std.specs.List.{list_any}
 
 -- how many lines a buffer may have, and the addresses of those that it has
@@ -9,9 +9,14 @@ pub record Buffer : Type 0 where
   pub limit : ℕ
   pub lines : List ℕ
 
--- a buffer has room for 4 or for 8 lines
-abbrev pub IsLimit : ℕ → Type 0
-IsLimit limit = (limit ≡ 4) ⊎ (limit ≡ 8)
+-- the most lines that a buffer has room for
+abbrev pub largest_limit : ℕ
+largest_limit = 64
+
+-- a buffer has room for some lines
+pub record IsLimit (limit : ℕ) : Type 0 where
+  pub some : 1 ≤ limit
+  pub few : limit ≤ largest_limit
 
 -- has the buffer no room for another line?
 abbrev pub is_full : Buffer → Bool
@@ -33,5 +38,5 @@ IsEachOnce (line ∷ lines) = (holds lines line ≡ false) × IsEachOnce lines
 -- what every buffer keeps
 pub record IsBuffer (buffer : Buffer) : Type 0 where
   pub within : length buffer.lines ≤ buffer.limit
-  pub limit_is : buffer.limit ≤ 8
+  pub limit_is : buffer.limit ≤ largest_limit
   pub each_once : IsEachOnce buffer.lines

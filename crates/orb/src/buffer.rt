@@ -6,7 +6,7 @@ use std::marker::Model;
 use thiserror::Error;
 
 /// The most lines that a buffer may be given room for.
-pub const LARGEST_LIMIT: usize = 8;
+pub const LARGEST_LIMIT: usize = 64;
 
 /// The buffer has no room for another line.
 #[derive(Clone, Copy, Debug, PartialEq, Eq, Error)]
@@ -38,7 +38,7 @@ impl Model for Orb {
 }
 
 impl Orb {
-    /// An empty buffer with room for `limit` lines, 4 or 8.
+    /// An empty buffer with room for `limit` lines, 1 to 64.
     pub fn new(limit: usize) -> Orb
         requires { IsLimit limit }
         ensures limit { result.limit ≡ limit }

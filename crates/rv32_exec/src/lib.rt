@@ -15,8 +15,8 @@ mod stop;
 pub use arrived::{Arrived, advance, loaded, stored};
 pub use hart::{Hart, start};
 pub use rv32_image::{
-    Image, ImageFault, ImageFaultKind, InputFault, LONGEST_IMAGE_TEXT, Limits, NoMemory, Version,
-    image_of, read_image, read_input,
+    Image, ImageFault, ImageFaultKind, InputFault, LONGEST_IMAGE_TEXT, Limits, Machine, NoMemory,
+    Version, image_of, read_image, read_input,
 };
 pub use sequential::{End, SeqEnd, run_in_order};
 pub use stop::{

@@ -1,25 +1,95 @@
--- What the limits of each version keep.
-use Rattle.std.proofs.Common.{◌≡◌, ℕ, ◌+◌, ◌*◌, ◌/◌, ◌%◌, ◌<◌, ◌≤◌, arith}
+-- What the limits of each version keep, and what every machine does.
+use Rattle.std.proofs.Common.{◌≡◌, ℕ, zero, suc, ◌+◌, ◌*◌, ◌/◌, ◌%◌, ◌<◌, ◌≤◌, ◌==◌, ◌||◌, Bool, true, ◌⊎◌, inl, inr, refl, sym, subst, arith}
+use Rattle.std.proofs.Math.Nat.{div-mul-le_self}
+use Rattle.std.proofs.lemmas.Bool.Decides.{nat_tests}
+use Rattle.std.proofs.lemmas.Nat.{le-div}
 use Rattle.rv32_image.specs.declared.version.Version.{Version}
 use Rattle.rv32_image.specs.declared.version.Version.TheVariants.{One, Two}
-use Rattle.rv32_image.specs.Version.{limits_of}
+use Rattle.rv32_image.specs.Machine.{is_line_length, IsMachineFor}
+use Rattle.rv32_image.specs.Version.{IsSize, limits_of, machine_of}
 
 pub most_few : (version : Version) → (limits_of version).most_cores ≤ 16
 most_few One = omega arith
 most_few Two = omega arith
 
+-- the machine of a version is one that there is
+pub version_machine : (version : Version) (size : ℕ) → IsSize version size → IsMachineFor size (machine_of version)
+version_machine One size h =
+    record { is = record { line_length = refl; sets = refl; some_way = omega arith; few_ways = omega arith; some_line = omega arith; few_lines = omega arith }; whole_lines = h.lines }
+version_machine Two size h =
+    record { is = record { line_length = refl; sets = refl; some_way = omega arith; few_ways = omega arith; some_line = omega arith; few_lines = omega arith }; whole_lines = h.lines }
+
+-- ---- lines of 16, of 32 or of 64 bytes
+
+pub one_length : (length : ℕ) → is_line_length length ≡ true → (length ≡ 16) ⊎ ((length ≡ 32) ⊎ (length ≡ 64))
+one_length length h = grind (arith, nat_tests)
+
+-- a fact of lines of each length is one of all lines
+pub by_length : (P : ℕ → Type 0) (length : ℕ) → is_line_length length ≡ true → P 16 → P 32 → P 64 → P length
+by_length P length h of_16 of_32 of_64 =
+    elim (one_length length h) [
+      | inl is ↦ subst P (sym is) of_16
+      | inr (inl is) ↦ subst P (sym is) of_32
+      | inr (inr is) ↦ subst P (sym is) of_64
+    ]
+
 -- ---- bytes and the numbers of their lines
 
-pub place_in : (version : Version) (a : ℕ) → a % (limits_of version).line_length < (limits_of version).line_length
-place_in One a = omega arith
-place_in Two a = omega arith
+pub place_in : (n a : ℕ) → is_line_length n ≡ true → a % n < n
+place_in n a h = by_length (λ n. a % n < n) n h (omega arith) (omega arith) (omega arith)
 
-pub number_below : (version : Version) (a size : ℕ) → a < size → size % (limits_of version).line_length ≡ 0
-    → a / (limits_of version).line_length < size / (limits_of version).line_length
-number_below One a size below whole = omega (arith, below, whole)
-number_below Two a size below whole = omega (arith, below, whole)
+pub number_below : (n a size : ℕ) → is_line_length n ≡ true → a < size → size % n ≡ 0 → a / n < size / n
+number_below n a size h =
+    by_length (λ n. a < size → size % n ≡ 0 → a / n < size / n) n h
+    (λ b w. omega (arith, b, w)) (λ b w. omega (arith, b, w)) (λ b w. omega (arith, b, w))
 
-pub byte_within : (version : Version) (size line x : ℕ) → line < size / (limits_of version).line_length → x < (limits_of version).line_length
-    → line * (limits_of version).line_length + x < size
-byte_within One size line x below inside = omega (arith, below, inside)
-byte_within Two size line x below inside = omega (arith, below, inside)
+pub byte_within : (n size line x : ℕ) → is_line_length n ≡ true → line < size / n → x < n → line * n + x < size
+byte_within n size line x h =
+    by_length (λ n. line < size / n → x < n → line * n + x < size) n h
+    (λ b i. omega (arith, b, i)) (λ b i. omega (arith, b, i)) (λ b i. omega (arith, b, i))
+
+-- a line begins at or before its bytes, and has its end not far past memory
+pub line_first : (n a : ℕ) → is_line_length n ≡ true → a / n * n ≤ a
+line_first n a h = by_length (λ n. a / n * n ≤ a) n h (omega arith) (omega arith) (omega arith)
+
+pub line_room : (n a : ℕ) → is_line_length n ≡ true → a < 1048576 → a / n * n + n < 4294967296
+line_room n a h = by_length (λ n. a < 1048576 → a / n * n + n < 4294967296) n h (λ s. omega (arith, s)) (λ s. omega (arith, s)) (λ s. omega (arith, s))
+
+pub number_up : (n a b : ℕ) → a ≤ b → a / n ≤ b / n
+number_up zero a b up = omega arith
+number_up (suc n) a b up = let first = div-mul-le_self a (suc n) in le-div (a / suc n) b (suc n) (omega arith) (omega (arith, first, up))
+
+-- the byte stands at its place in the line of another byte that lies there
+pub byte_in_line : (n a b : ℕ) → is_line_length n ≡ true → b / n ≡ a / n → b / n * n + a % n ≡ a
+byte_in_line n a b h =
+    by_length (λ n. b / n ≡ a / n → b / n * n + a % n ≡ a) n h (λ s. omega (arith, s)) (λ s. omega (arith, s)) (λ s. omega (arith, s))
+
+-- a line by its first byte, and by its number
+pub same_number : (n a b : ℕ) → is_line_length n ≡ true → n * (a / n) ≡ n * (b / n) → a / n ≡ b / n
+same_number n a b h =
+    by_length (λ n. n * (a / n) ≡ n * (b / n) → a / n ≡ b / n) n h (λ s. omega (arith, s)) (λ s. omega (arith, s)) (λ s. omega (arith, s))
+
+pub line_of_place : (n a x : ℕ) → is_line_length n ≡ true → x < n → n * (a / n) ≡ n * ((a / n * n + x) / n)
+line_of_place n a x h =
+    by_length (λ n. x < n → n * (a / n) ≡ n * ((a / n * n + x) / n)) n h (λ b. omega (arith, b)) (λ b. omega (arith, b)) (λ b. omega (arith, b))
+
+-- the byte stands at its place in a line that begins where its own does
+pub own_place : (n a b : ℕ) → is_line_length n ≡ true → n * (a / n) ≡ n * (b / n) → b / n * n + a % n ≡ a
+own_place n a b h =
+    by_length (λ n. n * (a / n) ≡ n * (b / n) → b / n * n + a % n ≡ a) n h (λ s. omega (arith, s)) (λ s. omega (arith, s)) (λ s. omega (arith, s))
+
+-- all bytes of a line lie in memory where one does
+pub line_below : (n a b size : ℕ) → is_line_length n ≡ true → a / n ≡ b / n → a < size → size % n ≡ 0 → b < size
+line_below n a b size h =
+    by_length (λ n. a / n ≡ b / n → a < size → size % n ≡ 0 → b < size) n h
+    (λ s b w. omega (arith, s, b, w)) (λ s b w. omega (arith, s, b, w)) (λ s b w. omega (arith, s, b, w))
+
+pub place_below : (n a x size : ℕ) → is_line_length n ≡ true → x < n → a < size → size % n ≡ 0 → a / n * n + x < size
+place_below n a x size h =
+    by_length (λ n. x < n → a < size → size % n ≡ 0 → a / n * n + x < size) n h
+    (λ b i w. omega (arith, b, i, w)) (λ b i w. omega (arith, b, i, w)) (λ b i w. omega (arith, b, i, w))
+
+-- bytes of one line lie in the same 64 aligned bytes
+pub same_block : (n a b : ℕ) → is_line_length n ≡ true → n * (a / n) ≡ n * (b / n) → a / 64 ≡ b / 64
+same_block n a b h =
+    by_length (λ n. n * (a / n) ≡ n * (b / n) → a / 64 ≡ b / 64) n h (λ s. omega (arith, s)) (λ s. omega (arith, s)) (λ s. omega (arith, s))

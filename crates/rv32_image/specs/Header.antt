@@ -6,6 +6,7 @@ use Rattle.rv32_image.specs.Image.{LoadedImage}
 abbrev pub loaded_image : Header → List ℕ → LoadedImage
 loaded_image header bytes = record {
   version = header.version;
+  machine = header.machine;
   exit = header.exit;
   size = header.size;
   code = header.code;

@@ -1,11 +1,15 @@
 -- The loaded image: what a run of the loop starts from. Its limits are this project's.
 use Rattle.std.specs.Prelude.{◌≡◌, ℕ, ◌%◌, ◌≤◌, Bool, List, length, slice_index}
+use Rattle.rv32_image.specs.declared.machine.Machine.{Machine}
 use Rattle.rv32_image.specs.declared.version.Version.{Version}
+use Rattle.rv32_image.specs.Machine.{IsMachineFor}
 use Rattle.rv32_image.specs.Version.{IsSize}
 
 -- the loop as it was loaded
 pub record LoadedImage : Type 0 where
   pub version : Version
+  -- the machine that runs it: that of the version, or one that was asked for
+  pub machine : Machine
   -- an epoch may exit the loop: one that ends with x10 (a0) other than 0 is the last
   pub exit : Bool
   -- bytes of memory
@@ -24,6 +28,7 @@ pub record LoadedImage : Type 0 where
 -- the image is within the limits
 pub record IsImage (image : LoadedImage) : Type 0 where
   pub size_allowed : IsSize image.version image.size
+  pub machine_allowed : IsMachineFor image.size image.machine
   -- so, in either version
   pub size_least : 16 ≤ image.size
   pub size_most : image.size ≤ 1048576

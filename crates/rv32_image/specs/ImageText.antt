@@ -13,7 +13,7 @@ use Rattle.rv32_image.specs.declared.fault.ImageFaultKind.{ImageFaultKind}
 use Rattle.rv32_image.specs.declared.fault.ImageFaultKind.TheVariants.{Line, MissingOrRepeated, Range, Place, Hex, TooLong}
 use Rattle.rv32_image.specs.declared.version.Version.{Version}
 use Rattle.rv32_image.specs.declared.version.Version.TheVariants.{One, Two}
-use Rattle.rv32_image.specs.Version.{limits_of}
+use Rattle.rv32_image.specs.Version.{limits_of, machine_of}
 use Rattle.rv32_image.specs.Image.{LoadedImage}
 
 -- the bytes that an image text may have
@@ -107,7 +107,7 @@ exit_line draft = do
 -- memory of this version may have so many bytes
 abbrev pub is_size : Version → ℕ → Bool
 is_size version n =
-    nat_le (limits_of version).least_size n && nat_le n (limits_of version).most_size && n % (limits_of version).line_length == 0
+    nat_le (limits_of version).least_size n && nat_le n (limits_of version).most_size && n % (machine_of version).line_length == 0
 
 -- `size N`: bytes of memory, all 0 so far
 unfoldable pub size_line : Draft → List ℕ → Result Draft ImageFaultKind
@@ -234,6 +234,7 @@ abbrev pub image_of_parts : Draft → Option ℕ → Option ℕ → Option ℕ �
 image_of_parts draft (Some size) (Some code) (Some epochs) (Some limit) =
     Ok (record {
       version = version_in draft;
+      machine = machine_of (version_in draft);
       exit = draft.exit;
       size = size;
       code = code;

@@ -1,3 +1,4 @@
+pub mod Machine
 pub mod Version
 pub mod Image
 pub mod Header

@@ -275,8 +275,10 @@ impl Draft {
                 kind: ImageFaultKind::MissingOrRepeated,
             });
         };
+        let version = version.unwrap_or(Version::One);
         let header = Header {
-            version: version.unwrap_or(Version::One),
+            version,
+            machine: version.machine(),
             exit,
             size,
             code,
@@ -315,7 +317,7 @@ fn is_size(version: Version, n: u64) -> bool
     ensures lines { IsTrue result → n % 16 ≡ 0 }
 {
     let limits = version.limits();
-    let line_length = u64::from(limits.line_length);
+    let line_length = u64::from(version.machine().line_length);
     u64::from(limits.least_size) <= n && n <= u64::from(limits.most_size) && n % line_length == 0
 }
 

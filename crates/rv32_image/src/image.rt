@@ -1,10 +1,12 @@
-ghost use Rattle.std.specs.Prelude.{◌≡◌, ◌<◌, ◌≤◌, ◌+◌, ◌%◌, ◌^◌, IfOk, codes, length, slice_index};
+ghost use Rattle.std.specs.Prelude.{◌≡◌, ◌↔◌, ◌<◌, ◌≤◌, ◌+◌, ◌%◌, ◌^◌, IfOk, IfSome, IsSome, codes, length, slice_index};
 ghost use Rattle.rv32_decode.specs.Table.{meaning_of};
 ghost use Rattle.rv32_image.specs.Image.{IsImage};
+ghost use Rattle.rv32_image.specs.Machine.{IsMachineFor};
 ghost use Rattle.rv32_image.specs.Header.{loaded_image};
 ghost use Rattle.rv32_image.specs.Decoded.{IsDecoded, IsPrepared, kept_of};
 ghost use Rattle.memory_bytes.specs.Bytes.{number_at};
 
+use crate::machine::Machine;
 use crate::version::Version;
 use memory_bytes::read_number;
 use rv32_decode::{Instr, Operation, Refused, Register, decode};
@@ -30,6 +32,7 @@ impl NoMemory {
 #[derive(Clone, Copy)]
 pub(crate) struct Header {
     pub version: Version,
+    pub machine: Machine,
     pub exit: bool,
     pub size: u32,
     pub code: u32,
@@ -38,8 +41,8 @@ pub(crate) struct Header {
     pub registers: [u32; 32],
 }
 
-/// A loop as it was loaded: its version, whether an epoch may exit it, its memory, with the code from address 0 on, how
-/// many epochs it has, how many instructions each may execute, and the registers at their start.
+/// A loop as it was loaded: its version, the machine that runs it, whether an epoch may exit it, its memory, with the code
+/// from address 0 on, how many epochs it has, how many instructions each may execute, and the registers at their start.
 ///
 /// Memory has 16 to 65,536 bytes, a multiple of 16, and in version 2 32 to 1,048,576, a multiple of 32; the code 4 bytes
 /// to all of memory, a multiple of 4; there are 0 to 65,535 epochs; the limit is 1 to 1,000,000. Contracts see these values.
@@ -104,6 +107,33 @@ impl Image {
         ensures limits { IsImage self.now }
     {
         self.header.version
+    }
+
+    /// The machine that runs it: that of its version, where no other was asked for.
+    pub fn machine(&self) -> Machine
+        ensures machine { result ≡ self.now.machine }
+        ensures limits { IsImage self.now }
+    {
+        self.header.machine
+    }
+
+    /// The same loop, to be run on this machine.
+    ///
+    /// `None`: there is no such machine, or memory isn't a whole number of its lines.
+    pub fn with_machine(self, machine: Machine) -> Option<Image>
+        ensures same { IfSome result (λ image. image ≡ record self { machine = machine }) }
+        ensures allowed { IsSome result ↔ IsMachineFor self.size machine }
+    {
+        if !machine.fits(self.header.size) {
+            return None;
+        }
+        Some(Image {
+            header: Header {
+                machine,
+                ..self.header
+            },
+            ..self
+        })
     }
 
     /// Whether an epoch may exit the loop: one that ends with x10 other than 0 is then the last.

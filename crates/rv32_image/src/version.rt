@@ -1,7 +1,9 @@
 ghost use Rattle.std.specs.Prelude.{◌≡◌};
-ghost use Rattle.rv32_image.specs.Version.{limits_of};
+ghost use Rattle.rv32_image.specs.Version.{limits_of, machine_of};
 
-/// The version of an image. It fixes the limits of the image and of the machine that runs it.
+use crate::machine::Machine;
+
+/// The version of an image. It fixes the limits of the image, and the machine that runs it where no other is asked for.
 #[derive(Clone, Copy, Debug, PartialEq, Eq)]
 pub enum Version {
     /// Also the version of an image that names none.
@@ -10,17 +12,13 @@ pub enum Version {
     Two,
 }
 
-/// What a version allows, and how large the parts of its machine are. All crates read these numbers here.
+/// What a version allows. All crates read these numbers here.
 #[derive(Clone, Copy, Debug, PartialEq, Eq)]
 pub struct Limits {
     /// The fewest bytes that memory may have.
     pub least_size: u32,
     /// The most bytes that memory may have.
     pub most_size: u32,
-    /// Bytes of a cache line; memory is a whole number of lines.
-    pub line_length: u32,
-    /// Lines of an ownership required buffer.
-    pub buffer_lines: u32,
     /// The most cores.
     pub most_cores: u32,
     /// Entries of the history that a turn has to find free.
@@ -36,18 +34,34 @@ impl Version {
             Version::One => Limits {
                 least_size: 16,
                 most_size: 65_536,
-                line_length: 16,
-                buffer_lines: 4,
                 most_cores: 8,
                 free_entries: 16,
             },
             Version::Two => Limits {
                 least_size: 32,
                 most_size: 1_048_576,
-                line_length: 32,
-                buffer_lines: 8,
                 most_cores: 16,
                 free_entries: 32,
+            },
+        }
+    }
+
+    /// The machine of the version: its caches have 4 sets of 2 ways.
+    pub fn machine(self) -> Machine
+        ensures { result ≡ machine_of self }
+    {
+        match self {
+            Version::One => Machine {
+                line_length: 16,
+                sets: 4,
+                ways: 2,
+                buffer_lines: 4,
+            },
+            Version::Two => Machine {
+                line_length: 32,
+                sets: 4,
+                ways: 2,
+                buffer_lines: 8,
             },
         }
     }

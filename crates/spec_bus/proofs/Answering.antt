@@ -73,7 +73,7 @@ taken_held old new core addr offset width room next line hurt h aligned unowned 
 -- and of one that it does not hold
 pub taken_missed : (old : Parts) (new : Bus) (core addr offset width way : ℕ) (there : Core) (next : Next) (line : ℕ → ℕ) (hurt : ℕ → Bool)
     → slice_get old.cores.items core ≡ Some there → victim_of there.cache addr ≡ Some way
-    → IsCoherent (bus_in old) → addr % old.limits.line_length ≡ 0 → owns (bus_in old) core addr ≡ false → holds_line (bus_in old) core addr ≡ false
+    → IsCoherent (bus_in old) → addr % old.machine.line_length ≡ 0 → owns (bus_in old) core addr ≡ false → holds_line (bus_in old) core addr ≡ false
     → MayTake (bus_in old) core addr offset width next hurt
     → ((x : ℕ) → line x ≡ committed (bus_in old) addr x)
     → new ≡ after_message (bus_in old) (record { notice = Store; sender = core; addr = addr; line = line }) (line_at old.cores.items core addr (Some way)) next
@@ -124,7 +124,7 @@ claimed_length bus core addr offset width room = pick (owns bus core addr)
 pub stored_bytes : (old mid : Parts) (cores : List Core) (core addr offset width value : ℕ) (room : Option Room) (hurt : ℕ → Bool)
     → IsTaken (bus_in old) (bus_in mid) core addr offset width room hurt → length cores ≡ length mid.cores.items
     → ((j : ℕ) → core_at cores j ≡ cond (j == core) (with_copy addr (copy_with_number offset width value ((core_at mid.cores.items core).copy addr)) (core_at mid.cores.items core)) (core_at mid.cores.items j))
-    → IsStored (bus_in old) (bus_of mid.code mid.limits cores mid.memory.items) core addr offset width value room hurt
+    → IsStored (bus_in old) (bus_of mid.code mid.machine cores mid.memory.items) core addr offset width value room hurt
 stored_bytes old mid cores core addr offset width value room hurt taken count is_core =
     record {
       goes_on = taken.goes_on;

@@ -5,18 +5,19 @@ use Rattle.std.proofs.lemmas.Bool.Decides.{nat_tests}
 use Rattle.std.proofs.lemmas.List.{length-set, get_or-replicate, get_or-set_other}
 use Rattle.std.proofs.lemmas.Grind.{get_or-set_at}
 use Rattle.std.proofs.Math.ListN.{get_or-eq_default}
+use Rattle.spec_states.specs.Mask.{longest_line}
 use Rattle.bus_states.specs.Bus.{memory_line}
 
 -- the bytes of a line that a loop makes, and how many there are
 pub record AreBytes (bytes : List ℕ) (byte : ℕ → ℕ) : Type 0 where
   pub each : (x : ℕ) → slice_index bytes x ≡ byte x
-  pub size : length bytes ≡ 32
+  pub size : length bytes ≡ longest_line
 
-pub zeros : (x : ℕ) → slice_index (replicate 32 0) x ≡ 0
+pub zeros : (x : ℕ) → slice_index (replicate longest_line 0) x ≡ 0
 zeros x =
-    elim (cases_lt x 32) [
-      | inl below ↦ get_or-replicate 32 x 0 0 below
-      | inr past ↦ get_or-eq_default (replicate 32 0) 0 past
+    elim (cases_lt x longest_line) [
+      | inl below ↦ get_or-replicate longest_line x 0 0 below
+      | inr past ↦ get_or-eq_default (replicate longest_line 0) 0 past
     ]
 
 line_byte : (memory : ℕ → ℕ) (line : List ℕ) (addr n : ℕ) → n < length line

@@ -10,7 +10,8 @@ use Rattle.spec_states.specs.States.{is_modified}
 use Rattle.spec_states.proofs.RowLaws.{modified-valid}
 use Rattle.cache_lines.specs.declared.line.Line.{Line}
 use Rattle.cache_lines.specs.Cells.{cell_of}
-use Rattle.cache_lines.specs.Lines.{Contents, is_line_length, set_of, place, line_in, is_copy_of}
+use Rattle.cache_lines.specs.Lines.{Contents, set_of, place, line_in, is_copy_of}
+use Rattle.rv32_image.specs.Machine.{is_line_length}
 use Rattle.cache_lines.specs.Placed.{IsPlaced}
 use Rattle.cache_lines.specs.Protocol.{copy_at, copy_or_none}
 use Rattle.cache_lines.proofs.CopyLaws.{copy_at-line}
@@ -18,7 +19,8 @@ use Rattle.cache_lines.proofs.LineLaws.{is_copy_of-true, line_in-same_set, by_wa
 use Rattle.bus_states.specs.Bus.{Bus, CoreState, line_of, offset_of, memory_line, some_core, committed_among}
 use Rattle.bus_states.specs.Coherent.{IsCoherent}
 use Rattle.bus_states.specs.Messages.{with_line}
-use Rattle.bus_states.proofs.Addresses.{by_length, line-and_offset, offset-in_line}
+use Rattle.rv32_image.proofs.Bounds.{by_length}
+use Rattle.bus_states.proofs.Addresses.{line-and_offset, offset-in_line}
 use Rattle.bus_states.proofs.Coherence.{none_below, none_at_all}
 use Rattle.spec_bus.specs.CoreStates.{state_of, line_in_place, is_modified_in, FitsMemory}
 use Rattle.spec_bus.specs.declared.bus_core.Core.{Core}
@@ -26,7 +28,7 @@ use Rattle.spec_bus.specs.declared.bus_core.Core.{Core}
 -- a byte lies in a line just where its own line is that one
 byte_in_line : (length addr p : ℕ) → is_line_length length ≡ true → addr % length ≡ 0 → is_within addr length p ≡ (addr == line_of length p)
 byte_in_line length addr p h =
-    by_length (λ (n : ℕ). addr % n ≡ 0 → is_within addr n p ≡ (addr == line_of n p)) length h (λ a. grind (arith, nat_tests)) (λ a. grind (arith, nat_tests))
+    by_length (λ (n : ℕ). addr % n ≡ 0 → is_within addr n p ≡ (addr == line_of n p)) length h (λ a. grind (arith, nat_tests)) (λ a. grind (arith, nat_tests)) (λ a. grind (arith, nat_tests))
 
 byte_offset : (length addr p : ℕ) → is_line_length length ≡ true → addr ≡ line_of length p → p - addr ≡ offset_of length p
 byte_offset length addr p h e =

@@ -2,12 +2,8 @@
 use Rattle.std.proofs.Common.{◌≡◌, ℕ, zero, suc, ◌<◌, ◌≤◌, nat_lt, ◌++◌, ◌∷◌, [], List, Bool, true, false, cond, length, slice_index, refl, ap, ◌∙◌, arith}
 use Rattle.std.proofs.lemmas.Bool.Decides.{nat_tests}
 use Rattle.std.proofs.lemmas.Option.{slice_get_past}
-use Rattle.rv32_image.specs.declared.version.Limits.{Limits}
-use Rattle.rv32_image.specs.declared.version.Version.{Version}
-use Rattle.rv32_image.specs.declared.version.Version.TheVariants.{One, Two}
+use Rattle.rv32_image.specs.declared.machine.Machine.{Machine}
 use Rattle.rv32_image.specs.Image.{LoadedImage, IsImage}
-use Rattle.rv32_image.specs.Version.{limits_of}
-use Rattle.cache_lines.specs.Lines.{is_line_length}
 use Rattle.orb.specs.Lines.{Buffer}
 use Rattle.bus_states.specs.Bus.{CoreState, no_core}
 use Rattle.bus_states.proofs.AttemptRules.{IsOpened}
@@ -36,20 +32,20 @@ each_more P (x ∷ cores) core h p zero lt = h zero (omega arith)
 each_more P (x ∷ cores) core h p (suc k) lt = each_more P cores core (λ k inside. h (suc k) (omega arith)) p k (omega arith)
 
 -- one more idle core
-pub idle_more : (line_length limit : ℕ) (cores : List Core) (core : Core) → AreIdle line_length limit cores
-    → state_of core ≡ idle_core line_length limit → AreIdle line_length limit (cores ++ core ∷ [])
-idle_more line_length limit cores core h idle =
-    record { each = each_more (λ (core : CoreState). core ≡ idle_core line_length limit) cores core h.each idle }
+pub idle_more : (machine : Machine) (cores : List Core) (core : Core) → AreIdle machine cores
+    → state_of core ≡ idle_core machine → AreIdle machine (cores ++ core ∷ [])
+idle_more machine cores core h idle =
+    record { each = each_more (λ (core : CoreState). core ≡ idle_core machine) cores core h.each idle }
 
-pub idle_none : (line_length limit : ℕ) → AreIdle line_length limit []
-idle_none line_length limit = record { each = λ k lt. absurd (omega arith) }
+pub idle_none : (machine : Machine) → AreIdle machine []
+idle_none machine = record { each = λ k lt. absurd (omega arith) }
 
 -- ---- the bus
 
-core-is : (line_length limit count k : ℕ) (cores : List Core) → length cores ≡ count → AreIdle line_length limit cores
-    → core_at cores k ≡ cond (nat_lt k count) (idle_core line_length limit) no_core
-core-is line_length limit count k cores e idle =
-    elim (nat_lt k count) as (λ b. nat_lt k count ≡ b → core_at cores k ≡ cond b (idle_core line_length limit) no_core) [
+core-is : (machine : Machine) (count k : ℕ) (cores : List Core) → length cores ≡ count → AreIdle machine cores
+    → core_at cores k ≡ cond (nat_lt k count) (idle_core machine) no_core
+core-is machine count k cores e idle =
+    elim (nat_lt k count) as (λ b. nat_lt k count ≡ b → core_at cores k ≡ cond b (idle_core machine) no_core) [
       | true ↦ λ t.
           let lt : k < count = grind (arith, nat_tests) in
           idle.each k (omega arith)
@@ -58,33 +54,26 @@ core-is line_length limit count k cores e idle =
           ap state_or_none (slice_get_past cores k (omega arith))
     ] refl
 
-pub fresh_is : (image : LoadedImage) (count code : ℕ) (limits : Limits) (cores : List Core) (memory : List ℕ)
-    → length cores ≡ count → length memory ≡ image.size → code ≡ image.code → limits ≡ limits_of image.version
-    → memory ≡ image.bytes → AreIdle (limits_of image.version).line_length (limits_of image.version).buffer_lines cores
-    → bus_of code limits cores memory ≡ fresh_bus image count
-fresh_is image count code limits cores memory e f g h i idle =
+pub fresh_is : (image : LoadedImage) (count code : ℕ) (machine : Machine) (cores : List Core) (memory : List ℕ)
+    → length cores ≡ count → length memory ≡ image.size → code ≡ image.code → machine ≡ image.machine
+    → memory ≡ image.bytes → AreIdle image.machine cores
+    → bus_of code machine cores memory ≡ fresh_bus image count
+fresh_is image count code machine cores memory e f g h i idle =
     same_bus _ _ _ _ _ _ _ _ _ _ _ _ e f g h
-    (λ k. core-is (limits_of image.version).line_length (limits_of image.version).buffer_lines count k cores e idle)
+    (λ k. core-is image.machine count k cores e idle)
     (λ p. ap (λ (bytes : List ℕ). slice_index bytes p) i)
 
 -- ---- it is new
-
-pub length-is : (version : Version) → is_line_length (limits_of version).line_length ≡ true
-length-is One = refl
-length-is Two = refl
-
-limit-small : (version : Version) → (limits_of version).buffer_lines ≤ 8
-limit-small One = omega arith
-limit-small Two = omega arith
 
 pub fresh_opened : (image : LoadedImage) (count : ℕ) → IsImage image → IsOpened (fresh_bus image count) image count
 fresh_opened image count h =
     record {
       shape = refl;
       memory = λ a. refl;
-      length_is = length-is image.version;
+      length_is = h.machine_allowed.is.line_length;
       length_of = refl;
-      whole_lines = h.size_allowed.lines;
+      geometry_is = refl;
+      whole_lines = h.machine_allowed.whole_lines;
       lengths = λ k lt. let inside : nat_lt k count ≡ true = grind (arith, nat_tests) in rw inside refl;
       geometries = λ k lt. let inside : nat_lt k count ≡ true = grind (arith, nat_tests) in rw inside refl;
       limits = λ k lt. let inside : nat_lt k count ≡ true = grind (arith, nat_tests) in rw inside refl;
@@ -92,6 +81,6 @@ fresh_opened image count h =
       absent = λ k le. let outside : nat_lt k count ≡ false = grind (arith, nat_tests) in rw outside refl;
     }
   where
-    pick : (b : Bool) → IsIdle (cond b (idle_core (limits_of image.version).line_length (limits_of image.version).buffer_lines) no_core)
-    pick true = record { copy = λ addr. refl; lines = refl; limit = limit-small image.version; attempt = refl }
+    pick : (b : Bool) → IsIdle (cond b (idle_core image.machine) no_core)
+    pick true = record { copy = λ addr. refl; lines = refl; limit = h.machine_allowed.is.few_lines; attempt = refl }
     pick false = record { copy = λ addr. refl; lines = refl; limit = omega arith; attempt = refl }

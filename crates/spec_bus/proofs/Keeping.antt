@@ -104,47 +104,47 @@ pub record Accesses (parts : Parts) (core address width : ℕ) (straight : Bool)
   pub keeps : IsCached (record { parts = parts })
   pub runs : Runs (view_of (bus_in parts)) core straight
   pub access : IsLoad (bus_in parts).shape address width
-  pub line_is : line ≡ line_of parts.limits.line_length address
+  pub line_is : line ≡ line_of parts.machine.line_length address
   pub victim : IsRoom ((bus_in parts).core core) room
 
 pub access_ends : (parts : Parts) (core address width : ℕ) (straight : Bool) (line : ℕ) (room : Option Room)
-    → Accesses parts core address width straight line room → offset_of parts.limits.line_length address + width ≤ parts.limits.line_length
+    → Accesses parts core address width straight line room → offset_of parts.machine.line_length address + width ≤ parts.machine.line_length
 access_ends parts core address width straight line room t =
-    (lies-in_line parts.limits.line_length (bus_in parts).shape address width t.keeps.coherent.length_is t.keeps.coherent.whole_lines t.access).ends
+    (lies-in_line parts.machine.line_length (bus_in parts).shape address width t.keeps.coherent.length_is t.keeps.coherent.whole_lines t.access).ends
 
 -- ---- speculative loads and stores
 
 load-rule : (old : Parts) (core address width line : ℕ) (room : Option Room) (value : ℕ) (hurt : ℕ → Bool) (new : Bus)
     → Accesses old core address width false line room
-    → IsLoaded (bus_in old) new core (line_of old.limits.line_length address) (offset_of old.limits.line_length address) width room value hurt
-    → Loads (view_of (bus_in old)) (view_of (after_load (bus_in old) core (line_of old.limits.line_length address) (offset_of old.limits.line_length address) width room)) core address width value hurt
+    → IsLoaded (bus_in old) new core (line_of old.machine.line_length address) (offset_of old.machine.line_length address) width room value hurt
+    → Loads (view_of (bus_in old)) (view_of (after_load (bus_in old) core (line_of old.machine.line_length address) (offset_of old.machine.line_length address) width room)) core address width value hurt
 load-rule old core address width line room value hurt new t done =
     load-loads (bus_in old) core address width value room hurt t.keeps.coherent t.runs t.access t.victim done.goes_on done.value_is done.small done.violates
 
 pub loads : (step : Step) (old new : Parts) (core address width line : ℕ) (room : Option Room)
     → Accesses old core address width false line room
-    → MatchAnswer step (λ value hurt. IsLoaded (bus_in old) (bus_in new) core line (offset_of old.limits.line_length address) width room value hurt)
+    → MatchAnswer step (λ value hurt. IsLoaded (bus_in old) (bus_in new) core line (offset_of old.machine.line_length address) width room value hurt)
     (λ cause. (load_wait (bus_in old) core line room ≡ Some cause) × (new ≡ old))
     → MatchStep step (λ value hurt. Loads (view_of (bus_in old)) (view_of (bus_in new)) core address width value hurt)
     (CachedInside.view_of (record { parts = new }) ≡ CachedInside.view_of (record { parts = old }))
 loads (Done value hurt) old new core address width line room t done =
-    let at = subst (λ (line : ℕ). IsLoaded (bus_in old) (bus_in new) core line (offset_of old.limits.line_length address) width room value (is_in hurt)) t.line_is done in
+    let at = subst (λ (line : ℕ). IsLoaded (bus_in old) (bus_in new) core line (offset_of old.machine.line_length address) width room value (is_in hurt)) t.line_is done in
     subst (λ (bus : Bus). Loads (view_of (bus_in old)) (view_of bus) core address width value (is_in hurt)) (sym at.bus)
     (load-rule old core address width line room value (is_in hurt) (bus_in new) t at)
 loads (Wait cause) old new core address width line room t waits = ap (λ (parts : Parts). CachedInside.view_of (record { parts = parts })) waits.1
 
 pub loaded : (step : Step) (old new : Parts) (core address width line : ℕ) (room : Option Room)
     → Accesses old core address width false line room
-    → MatchAnswer step (λ value hurt. IsLoaded (bus_in old) (bus_in new) core line (offset_of old.limits.line_length address) width room value hurt)
+    → MatchAnswer step (λ value hurt. IsLoaded (bus_in old) (bus_in new) core line (offset_of old.machine.line_length address) width room value hurt)
     (λ cause. (load_wait (bus_in old) core line room ≡ Some cause) × (new ≡ old))
     → IsCached (record { parts = new })
 loaded (Done value hurt) old new core address width line room t done =
-    let at = subst (λ (line : ℕ). IsLoaded (bus_in old) (bus_in new) core line (offset_of old.limits.line_length address) width room value (is_in hurt)) t.line_is done in
-    let after : Bus = after_load (bus_in old) core (line_of old.limits.line_length address) (offset_of old.limits.line_length address) width room in
+    let at = subst (λ (line : ℕ). IsLoaded (bus_in old) (bus_in new) core line (offset_of old.machine.line_length address) width room value (is_in hurt)) t.line_is done in
+    let after : Bus = after_load (bus_in old) core (line_of old.machine.line_length address) (offset_of old.machine.line_length address) width room in
     let rule = load-rule old core address width line room value (is_in hurt) (bus_in new) t at in
     cached old new after t.keeps at.bus
     (coherent-with after (committed (bus_in old))
-    (load-with (bus_in old) core (line_of old.limits.line_length address) (offset_of old.limits.line_length address) width room t.keeps.coherent
+    (load-with (bus_in old) core (line_of old.machine.line_length address) (offset_of old.machine.line_length address) width room t.keeps.coherent
     (may-access (bus_in old) core address width room t.keeps.coherent t.runs t.access t.victim) t.access.wide at.goes_on))
     (ordered-hurts (bus_in old) after core (is_in hurt) t.keeps.ordered rule.others rule.attempt) rule.shape
 loaded (Wait cause) old new core address width line room t waits =
@@ -160,19 +160,19 @@ load_waits (Wait cause) old new core offset width line room waits = sym waits.0
 
 store-rule : (old : Parts) (core address width value line : ℕ) (room : Option Room) (hurt : ℕ → Bool) (new : Bus)
     → Accesses old core address width false line room
-    → IsStored (bus_in old) new core (line_of old.limits.line_length address) (offset_of old.limits.line_length address) width value room hurt
-    → Stores (view_of (bus_in old)) (view_of (after_store (bus_in old) core (line_of old.limits.line_length address) (offset_of old.limits.line_length address) width value room)) core address width value hurt
+    → IsStored (bus_in old) new core (line_of old.machine.line_length address) (offset_of old.machine.line_length address) width value room hurt
+    → Stores (view_of (bus_in old)) (view_of (after_store (bus_in old) core (line_of old.machine.line_length address) (offset_of old.machine.line_length address) width value room)) core address width value hurt
 store-rule old core address width value line room hurt new t done =
     store-stores (bus_in old) core address width value room hurt t.keeps.coherent t.runs t.access t.victim done.goes_on done.violates
 
 pub stores : (step : Step) (old new : Parts) (core address width value line : ℕ) (room : Option Room)
     → Accesses old core address width false line room
-    → MatchAnswer step (λ answer hurt. (answer ≡ 0) × IsStored (bus_in old) (bus_in new) core line (offset_of old.limits.line_length address) width value room hurt)
-    (λ cause. (store_wait (bus_in old) core line (offset_of old.limits.line_length address) width room ≡ Some cause) × (new ≡ old))
+    → MatchAnswer step (λ answer hurt. (answer ≡ 0) × IsStored (bus_in old) (bus_in new) core line (offset_of old.machine.line_length address) width value room hurt)
+    (λ cause. (store_wait (bus_in old) core line (offset_of old.machine.line_length address) width room ≡ Some cause) × (new ≡ old))
     → MatchStep step (λ answer hurt. (answer ≡ 0) × Stores (view_of (bus_in old)) (view_of (bus_in new)) core address width value hurt)
     (CachedInside.view_of (record { parts = new }) ≡ CachedInside.view_of (record { parts = old }))
 stores (Done answer hurt) old new core address width value line room t done =
-    let at = subst (λ (line : ℕ). IsStored (bus_in old) (bus_in new) core line (offset_of old.limits.line_length address) width value room (is_in hurt)) t.line_is done.1 in (
+    let at = subst (λ (line : ℕ). IsStored (bus_in old) (bus_in new) core line (offset_of old.machine.line_length address) width value room (is_in hurt)) t.line_is done.1 in (
       done.0,
       subst (λ (bus : Bus). Stores (view_of (bus_in old)) (view_of bus) core address width value (is_in hurt)) (sym at.bus)
           (store-rule old core address width value line room (is_in hurt) (bus_in new) t at),
@@ -181,16 +181,16 @@ stores (Wait cause) old new core address width value line room t waits = ap (λ 
 
 pub stored : (step : Step) (old new : Parts) (core address width value line : ℕ) (room : Option Room)
     → Accesses old core address width false line room
-    → MatchAnswer step (λ answer hurt. (answer ≡ 0) × IsStored (bus_in old) (bus_in new) core line (offset_of old.limits.line_length address) width value room hurt)
-    (λ cause. (store_wait (bus_in old) core line (offset_of old.limits.line_length address) width room ≡ Some cause) × (new ≡ old))
+    → MatchAnswer step (λ answer hurt. (answer ≡ 0) × IsStored (bus_in old) (bus_in new) core line (offset_of old.machine.line_length address) width value room hurt)
+    (λ cause. (store_wait (bus_in old) core line (offset_of old.machine.line_length address) width room ≡ Some cause) × (new ≡ old))
     → IsCached (record { parts = new })
 stored (Done answer hurt) old new core address width value line room t done =
-    let at = subst (λ (line : ℕ). IsStored (bus_in old) (bus_in new) core line (offset_of old.limits.line_length address) width value room (is_in hurt)) t.line_is done.1 in
-    let after : Bus = after_store (bus_in old) core (line_of old.limits.line_length address) (offset_of old.limits.line_length address) width value room in
+    let at = subst (λ (line : ℕ). IsStored (bus_in old) (bus_in new) core line (offset_of old.machine.line_length address) width value room (is_in hurt)) t.line_is done.1 in
+    let after : Bus = after_store (bus_in old) core (line_of old.machine.line_length address) (offset_of old.machine.line_length address) width value room in
     let rule = store-rule old core address width value line room (is_in hurt) (bus_in new) t at in
     cached old new after t.keeps at.bus
     (coherent-with after (committed (bus_in old))
-    (store-with (bus_in old) core (line_of old.limits.line_length address) (offset_of old.limits.line_length address) width value room t.keeps.coherent
+    (store-with (bus_in old) core (line_of old.machine.line_length address) (offset_of old.machine.line_length address) width value room t.keeps.coherent
     (may-access (bus_in old) core address width room t.keeps.coherent t.runs t.access t.victim) t.access.wide
     (access_ends old core address width false line room t) at.goes_on))
     (ordered-hurts (bus_in old) after core (is_in hurt) t.keeps.ordered rule.others rule.attempt) rule.shape
@@ -227,25 +227,25 @@ published old new core hurt h may moves are =
 
 -- nobody holds a straight core up
 pub straight_free : (notice : Notice) (parts : Parts) (core line : ℕ) → IsCached (record { parts = parts })
-    → Runs (view_of (bus_in parts)) core true → line % parts.limits.line_length ≡ 0
+    → Runs (view_of (bus_in parts)) core true → line % parts.machine.line_length ≡ 0
     → is_busy (bus_in parts) (message_of (bus_in parts) notice core line) ≡ false
 straight_free notice parts core line h runs aligned =
     first-free (bus_in parts) (message_of (bus_in parts) notice core line) h.coherent aligned (first-straight (bus_in parts) core h.ordered runs)
 
 load_straight-rule : (old : Parts) (core address width line : ℕ) (room : Option Room) (value : ℕ) (hurt : ℕ → Bool)
     → Accesses old core address width true line room
-    → value ≡ number_at (sees (bus_in old) core line) (offset_of old.limits.line_length address) width → value < 256 ^ width
+    → value ≡ number_at (sees (bus_in old) core line) (offset_of old.machine.line_length address) width → value < 256 ^ width
     → ((k : ℕ) → hurt k ≡ straight_load_violates (bus_in old) core line k)
     → LoadsStraight (view_of (bus_in old)) (view_of (after_straight_load (bus_in old) core line room)) core address width value hurt
 load_straight-rule old core address width line room value hurt t is small are =
-    subst (λ (line : ℕ). value ≡ number_at (sees (bus_in old) core line) (offset_of old.limits.line_length address) width
+    subst (λ (line : ℕ). value ≡ number_at (sees (bus_in old) core line) (offset_of old.machine.line_length address) width
     → ((k : ℕ) → hurt k ≡ straight_load_violates (bus_in old) core line k)
     → LoadsStraight (view_of (bus_in old)) (view_of (after_straight_load (bus_in old) core line room)) core address width value hurt) (sym t.line_is)
     (λ is are. straight_load-loads_straight (bus_in old) core address width value room hurt t.keeps.coherent t.keeps.ordered t.runs t.access t.victim is small are) is are
 
 pub loads_straight : (old new : Parts) (core address width line : ℕ) (room : Option Room) (value : ℕ) (hurt : ℕ → Bool)
     → Accesses old core address width true line room → bus_in new ≡ after_straight_load (bus_in old) core line room
-    → value ≡ number_at (sees (bus_in old) core line) (offset_of old.limits.line_length address) width → value < 256 ^ width
+    → value ≡ number_at (sees (bus_in old) core line) (offset_of old.machine.line_length address) width → value < 256 ^ width
     → ((k : ℕ) → hurt k ≡ straight_load_violates (bus_in old) core line k)
     → LoadsStraight (view_of (bus_in old)) (view_of (bus_in new)) core address width value hurt
 loads_straight old new core address width line room value hurt t moves is small are =
@@ -254,7 +254,7 @@ loads_straight old new core address width line room value hurt t moves is small 
 
 pub loaded_straight : (old new : Parts) (core address width line : ℕ) (room : Option Room) (value : ℕ) (hurt : ℕ → Bool)
     → Accesses old core address width true line room → bus_in new ≡ after_straight_load (bus_in old) core line room
-    → value ≡ number_at (sees (bus_in old) core line) (offset_of old.limits.line_length address) width → value < 256 ^ width
+    → value ≡ number_at (sees (bus_in old) core line) (offset_of old.machine.line_length address) width → value < 256 ^ width
     → ((k : ℕ) → hurt k ≡ straight_load_violates (bus_in old) core line k)
     → IsCached (record { parts = new })
 loaded_straight old new core address width line room value hurt t moves is small are =
@@ -263,23 +263,23 @@ loaded_straight old new core address width line room value hurt t moves is small
     let may = may-access_straight (bus_in old) core address width room t.keeps.coherent t.keeps.ordered t.runs t.access t.victim in
     cached old new after t.keeps moves
     (subst (λ (line : ℕ). IsCoherent (after_straight_load (bus_in old) core line room)) (sym t.line_is)
-    (coherent-with _ (committed (bus_in old)) (straight_load-with (bus_in old) core (line_of old.limits.line_length address) room t.keeps.coherent may)))
+    (coherent-with _ (committed (bus_in old)) (straight_load-with (bus_in old) core (line_of old.machine.line_length address) room t.keeps.coherent may)))
     (ordered-hurts (bus_in old) after core hurt t.keeps.ordered rule.others rule.attempt) rule.shape
 
 store_straight-rule : (old : Parts) (core address width value line : ℕ) (room : Option Room) (hurt : ℕ → Bool)
     → Accesses old core address width true line room
-    → ((k : ℕ) → hurt k ≡ straight_store_violates (bus_in old) core line (offset_of old.limits.line_length address) width value k)
-    → StoresStraight (view_of (bus_in old)) (view_of (after_straight_store (bus_in old) core line (offset_of old.limits.line_length address) width value room)) core address width value hurt
+    → ((k : ℕ) → hurt k ≡ straight_store_violates (bus_in old) core line (offset_of old.machine.line_length address) width value k)
+    → StoresStraight (view_of (bus_in old)) (view_of (after_straight_store (bus_in old) core line (offset_of old.machine.line_length address) width value room)) core address width value hurt
 store_straight-rule old core address width value line room hurt t are =
-    subst (λ (line : ℕ). ((k : ℕ) → hurt k ≡ straight_store_violates (bus_in old) core line (offset_of old.limits.line_length address) width value k)
-    → StoresStraight (view_of (bus_in old)) (view_of (after_straight_store (bus_in old) core line (offset_of old.limits.line_length address) width value room)) core address width value hurt)
+    subst (λ (line : ℕ). ((k : ℕ) → hurt k ≡ straight_store_violates (bus_in old) core line (offset_of old.machine.line_length address) width value k)
+    → StoresStraight (view_of (bus_in old)) (view_of (after_straight_store (bus_in old) core line (offset_of old.machine.line_length address) width value room)) core address width value hurt)
     (sym t.line_is)
     (λ are. straight_store-stores_straight (bus_in old) core address width value room hurt t.keeps.coherent t.keeps.ordered t.runs t.access t.victim are) are
 
 pub stores_straight : (old new : Parts) (core address width value line : ℕ) (room : Option Room) (hurt : ℕ → Bool)
     → Accesses old core address width true line room
-    → bus_in new ≡ after_straight_store (bus_in old) core line (offset_of old.limits.line_length address) width value room
-    → ((k : ℕ) → hurt k ≡ straight_store_violates (bus_in old) core line (offset_of old.limits.line_length address) width value k)
+    → bus_in new ≡ after_straight_store (bus_in old) core line (offset_of old.machine.line_length address) width value room
+    → ((k : ℕ) → hurt k ≡ straight_store_violates (bus_in old) core line (offset_of old.machine.line_length address) width value k)
     → StoresStraight (view_of (bus_in old)) (view_of (bus_in new)) core address width value hurt
 stores_straight old new core address width value line room hurt t moves are =
     subst (λ (bus : Bus). StoresStraight (view_of (bus_in old)) (view_of bus) core address width value hurt) (sym moves)
@@ -287,15 +287,15 @@ stores_straight old new core address width value line room hurt t moves are =
 
 pub stored_straight : (old new : Parts) (core address width value line : ℕ) (room : Option Room) (hurt : ℕ → Bool)
     → Accesses old core address width true line room
-    → bus_in new ≡ after_straight_store (bus_in old) core line (offset_of old.limits.line_length address) width value room
-    → ((k : ℕ) → hurt k ≡ straight_store_violates (bus_in old) core line (offset_of old.limits.line_length address) width value k)
+    → bus_in new ≡ after_straight_store (bus_in old) core line (offset_of old.machine.line_length address) width value room
+    → ((k : ℕ) → hurt k ≡ straight_store_violates (bus_in old) core line (offset_of old.machine.line_length address) width value k)
     → IsCached (record { parts = new })
 stored_straight old new core address width value line room hurt t moves are =
-    let after : Bus = after_straight_store (bus_in old) core line (offset_of old.limits.line_length address) width value room in
+    let after : Bus = after_straight_store (bus_in old) core line (offset_of old.machine.line_length address) width value room in
     let rule = store_straight-rule old core address width value line room hurt t are in
     let may = may-access_straight (bus_in old) core address width room t.keeps.coherent t.keeps.ordered t.runs t.access t.victim in
     cached old new after t.keeps moves
-    (subst (λ (line : ℕ). IsCoherent (after_straight_store (bus_in old) core line (offset_of old.limits.line_length address) width value room)) (sym t.line_is)
-    (coherent-with _ _ (straight_store-with (bus_in old) core (line_of old.limits.line_length address) (offset_of old.limits.line_length address) width value room t.keeps.coherent may
+    (subst (λ (line : ℕ). IsCoherent (after_straight_store (bus_in old) core line (offset_of old.machine.line_length address) width value room)) (sym t.line_is)
+    (coherent-with _ _ (straight_store-with (bus_in old) core (line_of old.machine.line_length address) (offset_of old.machine.line_length address) width value room t.keeps.coherent may
     (access_ends old core address width true line room t))))
     (ordered-hurts (bus_in old) after core hurt t.keeps.ordered rule.others rule.attempt) rule.shape

@@ -5,9 +5,9 @@ use Rattle.spec_states.specs.declared.next.Next.{Next}
 use Rattle.spec_states.specs.Copies.{LineCopy}
 use Rattle.spec_states.specs.States.{is_valid, is_modified}
 use Rattle.spec_states.proofs.RowLaws.{modified-valid}
-use Rattle.rv32_image.specs.declared.version.Limits.{Limits}
+use Rattle.rv32_image.specs.declared.machine.Machine.{Machine}
 use Rattle.cache_lines.specs.declared.line.Line.{Line}
-use Rattle.cache_lines.specs.Lines.{default_geometry}
+use Rattle.cache_lines.specs.Lines.{geometry_of}
 use Rattle.cache_lines.specs.Protocol.{copy_at, copy_of_line}
 use Rattle.bus_states.specs.Bus.{CoreState, Bus, sees, committed}
 use Rattle.bus_states.proofs.Coherence.{sees-unmodified}
@@ -20,15 +20,15 @@ use Rattle.spec_bus.specs.declared.parts.Parts.{Parts}
 use Rattle.spec_bus.specs.CoreStates.{state_of}
 use Rattle.spec_bus.specs.Parts.{bus_of, bus_in, core_at, line_at, state_or_none, line_or_none, IsTold}
 
-abbrev pub bus_record : ℕ → ℕ → ℕ → Limits → (ℕ → CoreState) → (ℕ → ℕ) → Bus
-bus_record cores size code limits core memory =
-    record { shape = record { cores = cores; size = size; code = code; limits = limits }; line_length = limits.line_length; geometry = default_geometry; core = core; memory = memory }
+abbrev pub bus_record : ℕ → ℕ → ℕ → Machine → (ℕ → CoreState) → (ℕ → ℕ) → Bus
+bus_record cores size code machine core memory =
+    record { shape = record { cores = cores; size = size; code = code; machine = machine }; line_length = machine.line_length; geometry = geometry_of machine; core = core; memory = memory }
 
 -- two buses that hold the same
-pub same_bus : (cores cores2 size size2 code code2 : ℕ) (limits limits2 : Limits) (core core2 : ℕ → CoreState) (memory memory2 : ℕ → ℕ)
-    → cores ≡ cores2 → size ≡ size2 → code ≡ code2 → limits ≡ limits2 → ((k : ℕ) → core k ≡ core2 k) → ((p : ℕ) → memory p ≡ memory2 p)
-    → bus_record cores size code limits core memory ≡ bus_record cores2 size2 code2 limits2 core2 memory2
-same_bus cores cores2 size size2 code code2 limits limits2 core core2 memory memory2 e f g i h j = rw (e, f, g, i, fun_ext h, fun_ext j) refl
+pub same_bus : (cores cores2 size size2 code code2 : ℕ) (machine machine2 : Machine) (core core2 : ℕ → CoreState) (memory memory2 : ℕ → ℕ)
+    → cores ≡ cores2 → size ≡ size2 → code ≡ code2 → machine ≡ machine2 → ((k : ℕ) → core k ≡ core2 k) → ((p : ℕ) → memory p ≡ memory2 p)
+    → bus_record cores size code machine core memory ≡ bus_record cores2 size2 code2 machine2 core2 memory2
+same_bus cores cores2 size size2 code code2 machine machine2 core core2 memory memory2 e f g i h j = rw (e, f, g, i, fun_ext h, fun_ext j) refl
 
 -- the victim, where it is M, is a line of memory
 pub victim_inside : (bus : Bus) (k : ℕ) (core : Core) (line : Line) → IsCoherent bus → state_of core ≡ bus.core k
@@ -47,15 +47,15 @@ sender_last false new sender mid old other e f = e ∙ f
 
 pub fetched : (old mid : Parts) (cores : List Core) (memory : List ℕ) (message : Message) (way : ℕ) (next : Next) (victim : Room)
     → IsTold (bus_in old) (bus_in mid) message → slice_get mid.cores.items message.sender ≡ slice_get old.cores.items message.sender
-    → mid.memory ≡ old.memory → mid.code ≡ old.code → mid.limits ≡ old.limits
+    → mid.memory ≡ old.memory → mid.code ≡ old.code → mid.machine ≡ old.machine
     → length cores ≡ length mid.cores.items
     → ((j : ℕ) → core_at cores j ≡ cond (j == message.sender)
     (changed_core message.addr next message.line (without_line message.addr (line_at mid.cores.items message.sender message.addr (Some way)) (core_at mid.cores.items message.sender)))
     (core_at mid.cores.items j))
     → length memory ≡ length mid.memory.items
     → line_at old.cores.items message.sender message.addr (Some way) ≡ Some victim
-    → ((p : ℕ) → slice_index memory p ≡ with_line mid.limits.line_length message.addr message.line (with_victim mid.limits.line_length (Some victim) (slice_index mid.memory.items)) p)
-    → bus_of mid.code mid.limits cores memory
+    → ((p : ℕ) → slice_index memory p ≡ with_line mid.machine.line_length message.addr message.line (with_victim mid.machine.line_length (Some victim) (slice_index mid.memory.items)) p)
+    → bus_of mid.code mid.machine cores memory
     ≡ after_message (bus_in old) message (line_at old.cores.items message.sender message.addr (Some way)) next
 fetched old mid cores memory message way next victim told own same_memory same_code same_limits count core size room bytes =
     same_bus _ _ _ _ _ _ _ _ _ _ _ _ (count ∙ told.count) (size ∙ ap (λ m. length m.items) same_memory) same_code same_limits
@@ -74,9 +74,9 @@ pub kept : (old : Parts) (cores : List Core) (memory : List ℕ) (core addr : �
     → length cores ≡ length old.cores.items
     → ((j : ℕ) → core_at cores j ≡ cond (j == core) (changed_core addr next (slice_index cells) (core_at old.cores.items core)) (core_at old.cores.items j))
     → length memory ≡ length old.memory.items
-    → ((p : ℕ) → slice_index memory p ≡ cond next.write_back (with_line old.limits.line_length addr (slice_index cells) (slice_index old.memory.items)) (slice_index old.memory.items) p)
+    → ((p : ℕ) → slice_index memory p ≡ cond next.write_back (with_line old.machine.line_length addr (slice_index cells) (slice_index old.memory.items)) (slice_index old.memory.items) p)
     → next.enters ≡ false → ((x : ℕ) → slice_index cells x ≡ ((core_at old.cores.items core).copy addr).cell x)
-    → bus_of old.code old.limits cores memory ≡ kept_line (bus_in old) core addr next
+    → bus_of old.code old.machine cores memory ≡ kept_line (bus_in old) core addr next
 kept old cores memory core addr next cells count is_core size bytes silent same =
     let cell : slice_index cells ≡ ((core_at old.cores.items core).copy addr).cell = fun_ext same in
     same_bus _ _ _ _ _ _ _ _ _ _ _ _ count size refl refl
@@ -85,12 +85,12 @@ kept old cores memory core addr next cells count is_core size bytes silent same 
 
 pub claimed : (old mid : Parts) (cores : List Core) (memory : List ℕ) (message : Message) (next : Next)
     → IsTold (bus_in old) (bus_in mid) message → slice_get mid.cores.items message.sender ≡ slice_get old.cores.items message.sender
-    → mid.memory ≡ old.memory → mid.code ≡ old.code → mid.limits ≡ old.limits
+    → mid.memory ≡ old.memory → mid.code ≡ old.code → mid.machine ≡ old.machine
     → length cores ≡ length mid.cores.items
     → ((j : ℕ) → core_at cores j ≡ cond (j == message.sender) (changed_core message.addr next message.line (core_at mid.cores.items message.sender)) (core_at mid.cores.items j))
     → length memory ≡ length mid.memory.items
-    → ((p : ℕ) → slice_index memory p ≡ with_line mid.limits.line_length message.addr message.line (slice_index mid.memory.items) p)
-    → bus_of mid.code mid.limits cores memory ≡ after_message (bus_in old) message None next
+    → ((p : ℕ) → slice_index memory p ≡ with_line mid.machine.line_length message.addr message.line (slice_index mid.memory.items) p)
+    → bus_of mid.code mid.machine cores memory ≡ after_message (bus_in old) message None next
 claimed old mid cores memory message next told own same_memory same_code same_limits count core size bytes =
     same_bus _ _ _ _ _ _ _ _ _ _ _ _ (count ∙ told.count) (size ∙ ap (λ m. length m.items) same_memory) same_code same_limits
     (λ k. sender_last (k == message.sender) (core_at cores k) (changed_core message.addr next message.line (core_at old.cores.items message.sender))

@@ -25,7 +25,7 @@ pub line_published : (old mid : Parts) (cores : List Core) (core addr : ℕ) (ne
     → length cores ≡ length mid.cores.items
     → ((j : ℕ) → core_at cores j ≡ cond (j == core) (released_core addr (core_at mid.cores.items core)) (core_at mid.cores.items j))
     → line ≡ sees (bus_in old) core addr → next ≡ publish_next (bus_in old) core addr
-    → bus_of mid.code mid.limits cores mid.memory.items ≡ after_publish_line (bus_in old) core addr
+    → bus_of mid.code mid.machine cores mid.memory.items ≡ after_publish_line (bus_in old) core addr
 line_published old mid cores core addr next line moves count is_core e f =
     same_bus _ _ _ _ _ _ _ _ _ _ _ _ count refl refl refl is_core (λ p. refl)
     ∙ ap (λ (bus : Bus). released bus core addr)

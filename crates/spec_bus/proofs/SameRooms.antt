@@ -11,7 +11,8 @@ use Rattle.spec_states.specs.States.{is_valid, is_modified, is_speculative}
 use Rattle.cache_lines.specs.declared.line.Line.{Line}
 use Rattle.cache_lines.specs.Cells.{cell_of}
 use Rattle.cache_lines.specs.Changes.{victim_of, is_invalid, is_unmarked}
-use Rattle.cache_lines.specs.Lines.{Contents, Geometry, is_line_length, set_of, line_in, is_copy_of, lowest_way, way_at}
+use Rattle.cache_lines.specs.Lines.{Contents, Geometry, set_of, line_in, is_copy_of, lowest_way, way_at}
+use Rattle.rv32_image.specs.Machine.{is_line_length}
 use Rattle.cache_lines.specs.Placed.{IsPlaced}
 use Rattle.cache_lines.specs.Protocol.{copy_at, copy_of_line, changed_copy, copy_with_number}
 use Rattle.cache_lines.proofs.CopyLaws.{copy_at-line, copy_at-own}

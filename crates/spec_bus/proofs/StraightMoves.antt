@@ -94,7 +94,7 @@ pub stored_alone : (old : Parts) (cores : List Core) (core addr offset width val
     → ((j : ℕ) → core_at cores j ≡ cond (j == core) (changed_core addr (unmarked_next M) (slice_index cells) (core_at old.cores.items core)) (core_at old.cores.items j))
     → ((x : ℕ) → slice_index cells x ≡ with_number (own (bus_in old) core addr).cell offset width value x)
     → stores_alone (own (bus_in old) core addr).state ≡ true
-    → bus_of old.code old.limits cores old.memory.items ≡ after_straight_store (bus_in old) core addr offset width value room
+    → bus_of old.code old.machine cores old.memory.items ≡ after_straight_store (bus_in old) core addr offset width value room
 stored_alone old cores core addr offset width value room cells count is_core same alone =
     let cell : slice_index cells ≡ with_number (own (bus_in old) core addr).cell offset width value = fun_ext same in
     same_bus _ _ _ _ _ _ _ _ _ _ _ _ count refl refl refl (λ k. is_core k ∙ rw cell refl) (λ p. refl)

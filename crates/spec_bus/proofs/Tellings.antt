@@ -18,7 +18,7 @@ pub record AreTelling (old new : Parts) (message : Message) (n : ℕ) : Type 0 w
   pub own : slice_get new.cores.items message.sender ≡ slice_get old.cores.items message.sender
   pub memory : new.memory ≡ old.memory
   pub code : new.code ≡ old.code
-  pub limits : new.limits ≡ old.limits
+  pub machine : new.machine ≡ old.machine
   pub core : (k : ℕ) → (bus_in new).core k
       ≡ cond (nat_lt k n && not (k == message.sender)) (heard_core (bus_in old) message k) ((bus_in old).core k)
 
@@ -103,16 +103,16 @@ heard_is bus message k core later violated e f g = rw (e, f, g) refl
 pub heard_more : (n : ℕ) (old mid new : Parts) (message : Message) (core : CoreState) → AreTelling old mid message n → n ≢ message.sender
     → length new.cores.items ≡ length mid.cores.items
     → ((j : ℕ) → j ≢ n → slice_get new.cores.items j ≡ slice_get mid.cores.items j)
-    → new.memory ≡ mid.memory → new.code ≡ mid.code → new.limits ≡ mid.limits
+    → new.memory ≡ mid.memory → new.code ≡ mid.code → new.machine ≡ mid.machine
     → ((j : ℕ) → (bus_in new).core j ≡ cond (j == n) core ((bus_in mid).core j)) → core ≡ heard_core (bus_in old) message n
     → AreTelling old new message (n + 1)
-heard_more n old mid new message core told apart count others memory code limits heard is_core =
+heard_more n old mid new message core told apart count others memory code machine heard is_core =
     record {
       count = count ∙ told.count;
       own = others message.sender (λ e. apart (sym e)) ∙ told.own;
       memory = memory ∙ told.memory;
       code = code ∙ told.code;
-      limits = limits ∙ told.limits;
+      machine = machine ∙ told.machine;
       core =
           λ k. step n k message.sender (heard_core (bus_in old) message k) ((bus_in old).core k) ((bus_in new).core k) apart
           (λ e. rw e (subst (λ (b : Bool). (bus_in new).core n ≡ cond b core ((bus_in mid).core n)) (equal n) (heard n) ∙ is_core))
@@ -131,7 +131,7 @@ heard_skip n old mid message told here =
       own = told.own;
       memory = told.memory;
       code = told.code;
-      limits = told.limits;
+      machine = told.machine;
       core = λ k. skip k (k == message.sender) refl (told.core k);
     }
   where

@@ -1,6 +1,6 @@
 -- What contracts see of the caches on a bus.
 use Rattle.std.specs.Prelude.{ℕ, List, Option, Some, None, slice_get}
-use Rattle.rv32_image.specs.declared.version.Limits.{Limits}
+use Rattle.rv32_image.specs.declared.machine.Machine.{Machine}
 use Rattle.cache_lines.specs.declared.line.Line.{Line}
 use Rattle.cache_lines.specs.Lines.{invalid_line}
 use Rattle.cache_lines.specs.Lines as lines
@@ -13,16 +13,16 @@ use Rattle.bus_states.specs.Views.{view_of}
 use Rattle.spec_bus.specs.declared.bus_core.Core.{Core}
 use Rattle.spec_bus.specs.Parts.{bus_of, room_at}
 
--- the bytes of code, the limits of the image's version, the cores, memory
+-- the bytes of code, the machine of the image's version, the cores, memory
 pub record CachedView : Type 0 where
   pub code : ℕ
-  pub limits : Limits
+  pub machine : Machine
   pub cores : List Core
   pub memory : List ℕ
 
 -- what they are as a bus
 abbrev pub bus : CachedView → Bus
-bus v = bus_of v.code v.limits v.cores v.memory
+bus v = bus_of v.code v.machine v.cores v.memory
 
 -- the line in which this byte lies, and the byte's place there
 abbrev pub line_of : CachedView → ℕ → ℕ

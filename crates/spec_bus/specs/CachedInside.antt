@@ -10,7 +10,7 @@ abbrev pub view_of : Inside → CachedView
 view_of i =
     record {
       code = i.parts.code;
-      limits = i.parts.limits;
+      machine = i.parts.machine;
       cores = i.parts.cores.items;
       memory = i.parts.memory.items;
     }

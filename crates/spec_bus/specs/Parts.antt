@@ -4,9 +4,9 @@ use Rattle.spec_states.specs.declared.line.TheConstants.{LONGEST_LINE}
 use Rattle.bus_states.specs.declared.notice.Notice.{Notice}
 use Rattle.bus_states.specs.Coherent.{IsCoherent}
 use Rattle.std.specs.Prelude.{◌+◌, ◌%◌, ◌<◌, ◌≤◌, ◌≡◌, ◌==◌, if◌then◌else◌, ℕ, Bool, false, List, length, Option, Some, None, option_map, slice_get, slice_index}
-use Rattle.rv32_image.specs.declared.version.Limits.{Limits}
+use Rattle.rv32_image.specs.declared.machine.Machine.{Machine}
 use Rattle.cache_lines.specs.Changes.{victim_of}
-use Rattle.cache_lines.specs.Lines.{Contents, default_geometry, line_in}
+use Rattle.cache_lines.specs.Lines.{Contents, geometry_of, line_in}
 use Rattle.bus_states.specs.Bus.{CoreState, Bus, no_core}
 use Rattle.bus_states.specs.Messages.{Room, Message, heard_core, is_busy, message_of, violates}
 use Rattle.spec_bus.specs.declared.bus_core.Core.{Core}
@@ -20,18 +20,18 @@ state_or_none (Some core) = state_of core
 abbrev pub core_at : List Core → ℕ → CoreState
 core_at cores k = state_or_none (slice_get cores k)
 
-abbrev pub bus_of : ℕ → Limits → List Core → List ℕ → Bus
-bus_of code limits cores memory =
+abbrev pub bus_of : ℕ → Machine → List Core → List ℕ → Bus
+bus_of code machine cores memory =
     record {
-      shape = record { cores = length cores; size = length memory; code = code; limits = limits };
-      line_length = limits.line_length;
-      geometry = default_geometry;
+      shape = record { cores = length cores; size = length memory; code = code; machine = machine };
+      line_length = machine.line_length;
+      geometry = geometry_of machine;
       core = core_at cores;
       memory = slice_index memory;
     }
 
 abbrev pub bus_in : Parts → Bus
-bus_in parts = bus_of parts.code parts.limits parts.cores.items parts.memory.items
+bus_in parts = bus_of parts.code parts.machine parts.cores.items parts.memory.items
 
 -- this way of the set of that address, with its line, in a core's cache
 abbrev pub room_in : Contents → ℕ → ℕ → Room
@@ -62,7 +62,7 @@ pub record IsTold (old new : Bus) (message : Message) : Type 0 where
 pub record IsAtLine (p : Parts) (core addr : ℕ) : Type 0 where
   pub there : core < length p.cores.items
   pub few : length p.cores.items ≤ 16
-  pub line : addr % p.limits.line_length ≡ 0
+  pub line : addr % p.machine.line_length ≡ 0
   pub coherent : IsCoherent (bus_in p)
 
 -- a message of a core about a line violates these, and nobody holds it up
@@ -73,9 +73,9 @@ pub record MaySend (p : Parts) (notice : Notice) (core addr : ℕ) (hurt : ℕ �
 -- an access of a core within the line at this address, on a coherent bus
 pub record IsAccessIn (p : Parts) (core addr offset width : ℕ) : Type 0 where
   pub there : core < length p.cores.items
-  pub short : p.limits.line_length ≤ LONGEST_LINE
-  pub line : addr % p.limits.line_length ≡ 0
+  pub short : p.machine.line_length ≤ LONGEST_LINE
+  pub line : addr % p.machine.line_length ≡ 0
   pub coherent : IsCoherent (bus_in p)
-  pub in_line : offset + width ≤ p.limits.line_length
+  pub in_line : offset + width ≤ p.machine.line_length
   pub wide : IsWidth width
   pub aligned : offset % width ≡ 0

@@ -1,11 +1,11 @@
-ghost use Rattle.std.specs.Prelude.{◌≡◌, ℕ, ◌<◌, ◌≤◌, ◌%◌, ◌&&◌, true, false, Some, slice_index, if◌then◌else◌, IsTrue};
+ghost use Rattle.std.specs.Prelude.{◌≡◌, ℕ, ◌<◌, ◌≤◌, ◌%◌, ◌&&◌, true, false, Some, slice_index, if◌then◌else◌, IfOk};
 ghost use Rattle.memory_bytes.specs.Bytes.{IsWidth};
 ghost use Rattle.spec_states.specs.Copies.{IsMarked, no_copy};
 ghost use Rattle.spec_states.specs.Mask.{IsWithinLine};
 ghost use Rattle.spec_states.specs.States.{is_valid, is_speculative};
-ghost use Rattle.cache_lines.specs.Lines.{is_line_length};
+ghost use Rattle.rv32_image.specs.Machine.{IsMachine};
 ghost use Rattle.cache_lines.specs.Protocol.{IsInPlace, copy_at, copy_with_number};
-ghost use Rattle.orb.specs.Lines.{holds, is_full, without, IsLimit};
+ghost use Rattle.orb.specs.Lines.{holds, is_full, without};
 ghost use Rattle.bus_states.specs.Messages.{with_copy, with_entry, dropped_core, changed_core, without_line, order, reply_to, bytes_after};
 ghost use Rattle.bus_states.specs.Straight.{straight_attempt, settled_core};
 ghost use Rattle.spec_bus.specs.CoreStates.{state_of, MayHear, heard};
@@ -16,7 +16,9 @@ use crate::memory;
 use bus_states::{Notice, answer};
 use cache_lines::{Cache, Line};
 use orb::Orb;
+use rv32_image::Machine;
 use spec_states::{LONGEST_LINE, LineState, Marks, Next};
+use std::alloc::{AllocError, Global};
 use violations::Attempt;
 
 /// A core: its cache, its ownership required buffer, its attempt.
@@ -41,17 +43,24 @@ fn straightened(attempt: Option<Attempt>) -> Option<Attempt>
 }
 
 impl Core {
-    /// A core that holds nothing and runs nothing, with lines of `line_length` bytes and room for `limit` lines in its buffer.
-    pub(crate) fn idle(line_length: usize, limit: usize) -> Core
-        requires length { IsTrue (is_line_length line_length) }
-        requires limit { IsLimit limit }
-        ensures { state_of result ≡ idle_core line_length limit }
+    /// A core of this machine that holds nothing and runs nothing.
+    ///
+    /// `AllocError`: there was no memory for it.
+    pub(crate) fn idle(alloc: Global, machine: Machine) -> Result<Core, AllocError>
+        requires { IsMachine machine }
+        ensures { IfOk result (λ core. state_of core ≡ idle_core machine) }
     {
-        Core {
-            cache: Cache::new(line_length),
-            orb: Orb::new(limit),
+        let cache = Cache::with_geometry(
+            alloc,
+            machine.line_length as usize,
+            machine.sets as usize,
+            machine.ways as usize,
+        )?;
+        Ok(Core {
+            cache,
+            orb: Orb::new(machine.buffer_lines as usize),
             attempt: None,
-        }
+        })
     }
 
     /// The core's copy of the line at `addr`; an invalid line where it has none.

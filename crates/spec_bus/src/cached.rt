@@ -32,7 +32,7 @@ pub struct LineView {
     /// The line was speculatively loaded.
     pub loaded: bool,
     /// The speculatively modified bytes: bit i is the byte at address i of the line.
-    pub bytes: u32,
+    pub bytes: u64,
 }
 
 /// The caches of all cores on one bus, and memory. Only `fresh` takes memory.
@@ -81,7 +81,7 @@ impl CachedBus {
         ensures value { result ≡ spec.line_of self.now addr }
         ensures aligned { result % (spec.bus self.now).line_length ≡ 0 }
     {
-        addr - addr % self.parts.limits.line_length
+        addr - addr % self.parts.machine.line_length
     }
 
     /// The copy that a core has of the line in which this address lies.
@@ -152,20 +152,15 @@ impl EpochStore for CachedBus {
         ensures starts { IfOk result (λ made. laws.Starts image.now cores made) }
         ensures fresh { IfOk result (λ made. rule.IsFresh image.now cores (spec.store_view made)) }
     {
-        let limits = image.version().limits();
+        let machine = image.machine();
         let memory = Vec::from_slice(alloc, image.bytes()).map_err(|_| NoMemory)?;
-        let cores = idle_cores(
-            alloc,
-            cores,
-            limits.line_length as usize,
-            limits.buffer_lines as usize,
-        )?;
+        let cores = idle_cores(alloc, cores, machine)?;
         Ok(CachedBus {
             parts: Parts {
                 cores,
                 memory,
                 code: image.code(),
-                limits,
+                machine,
             },
         })
     }
@@ -216,7 +211,7 @@ impl EpochStore for CachedBus {
     {
         let line = self.line_of(addr);
         self.parts.look_room(core as usize, line);
-        let offset = addr % self.parts.limits.line_length;
+        let offset = addr % self.parts.machine.line_length;
         self.parts.load(core as usize, line, offset, width)
     }
 
@@ -236,7 +231,7 @@ impl EpochStore for CachedBus {
     {
         let line = self.line_of(addr);
         self.parts.look_room(core as usize, line);
-        let offset = addr % self.parts.limits.line_length;
+        let offset = addr % self.parts.machine.line_length;
         self.parts.store(core as usize, line, offset, width, value)
     }
 
@@ -264,7 +259,7 @@ impl EpochStore for CachedBus {
     {
         let line = self.line_of(addr);
         self.parts.look_room(core as usize, line);
-        let offset = addr % self.parts.limits.line_length;
+        let offset = addr % self.parts.machine.line_length;
         self.parts.straight_load(core as usize, line, offset, width)
     }
 
@@ -281,7 +276,7 @@ impl EpochStore for CachedBus {
     {
         let line = self.line_of(addr);
         self.parts.look_room(core as usize, line);
-        let offset = addr % self.parts.limits.line_length;
+        let offset = addr % self.parts.machine.line_length;
         self.parts
             .straight_store(core as usize, line, offset, width, value)
     }
@@ -308,7 +303,7 @@ impl EpochStore for CachedBus {
 
     fn committed_byte(&self, addr: u32) -> u8 {
         let line = self.line_of(addr);
-        let offset = addr % self.parts.limits.line_length;
+        let offset = addr % self.parts.machine.line_length;
         self.parts.committed_line(line)[offset as usize]
     }
 

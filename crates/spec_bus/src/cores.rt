@@ -2,8 +2,8 @@
 ghost use Rattle.std.specs.Prelude.{◌≡◌, ◌≢◌, ℕ, ◌<◌, ◌≤◌, ◌%◌, ◌==◌, ◌&&◌, true, false, length, slice_get, slice_index, Some, None, if◌then◌else◌, IsTrue, IfOk};
 ghost use Rattle.spec_states.specs.declared.line.TheConstants.{LONGEST_LINE};
 ghost use Rattle.spec_states.specs.States.{is_valid};
-ghost use Rattle.cache_lines.specs.Lines.{is_line_length};
-ghost use Rattle.orb.specs.Lines.{is_full, holds, without, IsLimit};
+ghost use Rattle.rv32_image.specs.Machine.{IsMachine};
+ghost use Rattle.orb.specs.Lines.{is_full, holds, without};
 ghost use Rattle.memory_bytes.specs.Bytes.{IsWidth};
 ghost use Rattle.spec_states.specs.Mask.{IsWithinLine};
 ghost use Rattle.cache_lines.specs.Protocol.{copy_with_number};
@@ -16,28 +16,25 @@ ghost use Rattle.spec_bus.specs.Fresh.{AreIdle};
 
 use crate::bus_core::Core;
 use bus_states::Notice;
-use rv32_image::NoMemory;
+use rv32_image::{Machine, NoMemory};
 use spec_states::{LONGEST_LINE, Next};
 use std::alloc::Global;
 use violations::Attempt;
 
-/// So many idle cores, with lines of `line_length` bytes and room for `limit` lines in their buffers.
+/// So many idle cores of this machine.
 ///
 /// `NoMemory`: there was no memory for them.
-pub(crate) fn idle_cores(
-    alloc: Global,
-    count: u32,
-    line_length: usize,
-    limit: usize,
-) -> Result<Vec<Core>, NoMemory>
-    requires length { IsTrue (is_line_length line_length) }
-    requires limit { IsLimit limit }
+pub(crate) fn idle_cores(alloc: Global, count: u32, machine: Machine) -> Result<Vec<Core>, NoMemory>
+    requires { IsMachine machine }
     ensures count { IfOk result (λ cores. length cores.items ≡ count) }
-    ensures idle { IfOk result (λ cores. AreIdle line_length limit cores.items) }
+    ensures idle { IfOk result (λ cores. AreIdle machine cores.items) }
 {
     let mut cores = Vec::new(alloc);
     for _ in 0..count {
-        if cores.push(Core::idle(line_length, limit)).is_err() {
+        let Ok(core) = Core::idle(alloc, machine) else {
+            return Err(NoMemory);
+        };
+        if cores.push(core).is_err() {
             return Err(NoMemory);
         }
     }

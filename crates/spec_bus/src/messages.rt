@@ -48,14 +48,14 @@ impl Parts {
         hurt: CoreSet,
     )
         requires place { IsAtLine self.old core addr }
-        requires past { (x : ℕ) → self.old.limits.line_length ≤ x → slice_index line.now x ≡ 0 }
+        requires past { (x : ℕ) → self.old.machine.line_length ≤ x → slice_index line.now x ≡ 0 }
         requires may { MaySend self.old notice core addr (is_in hurt) }
         ensures own { slice_get self.new.cores.items core ≡ slice_get self.old.cores.items core }
         ensures told { IsTold (bus_in self.old) (bus_in self.new)
             (record { notice = notice; sender = core; addr = addr; line = slice_index line.now }) }
         ensures memory { self.new.memory ≡ self.old.memory }
         ensures code { self.new.code ≡ self.old.code }
-        ensures limits { self.new.limits ≡ self.old.limits }
+        ensures machine { self.new.machine ≡ self.old.machine }
     {
         for k in 0..self.cores.len() {
             if k != core {
@@ -86,14 +86,14 @@ impl Parts {
         next: Next,
     )
         requires place { IsAtLine self.old core addr }
-        requires short { self.old.limits.line_length ≤ LONGEST_LINE }
+        requires short { self.old.machine.line_length ≤ LONGEST_LINE }
         requires way { way < ((bus_in self.old).core core).geometry.ways }
-        requires inside { addr + self.old.limits.line_length ≤ length self.old.memory.items }
-        requires past { (x : ℕ) → self.old.limits.line_length ≤ x → slice_index line.now x ≡ 0 }
+        requires inside { addr + self.old.machine.line_length ≤ length self.old.memory.items }
+        requires past { (x : ℕ) → self.old.machine.line_length ≤ x → slice_index line.now x ≡ 0 }
         requires may { MaySend self.old notice core addr (is_in hurt) }
         requires absent { is_valid (((bus_in self.old).core core).copy addr).state ≡ false }
         requires valid { is_valid next.state ≡ true }
-        requires mask { IsWithinLine self.old.limits.line_length next.marks.bytes }
+        requires mask { IsWithinLine self.old.machine.line_length next.marks.bytes }
         requires room { (next.enters && is_full ((bus_in self.old).core core).buffer) ≡ false }
         ensures { bus_in self.new ≡ message_spec.after_message (bus_in self.old)
             (record { notice = notice; sender = core; addr = addr; line = slice_index line.now }) (line_at self.old.cores.items core addr (Some way)) next }
@@ -101,7 +101,7 @@ impl Parts {
         let victim = *self.core(core).cache.line(addr, way);
         self.tell(notice, core, addr, line, hurt);
         fill(&mut self.cores, core, addr, way, next, *line);
-        let length = self.limits.line_length as usize;
+        let length = self.machine.line_length as usize;
         write_back(&mut self.memory, length, victim);
         write_line(&mut self.memory, addr as usize, length, line);
     }
@@ -109,15 +109,15 @@ impl Parts {
     /// This core's copy of a line that it holds changes so, and nobody is told.
     pub(crate) fn keep(&mut self, core: usize, addr: u32, next: Next)
         requires core { core < length self.old.cores.items }
-        requires short { self.old.limits.line_length ≤ LONGEST_LINE }
+        requires short { self.old.machine.line_length ≤ LONGEST_LINE }
         requires coherent { IsCoherent (bus_in self.old) }
         requires held { is_valid (((bus_in self.old).core core).copy addr).state ≡ true }
-        requires mask { IsWithinLine self.old.limits.line_length next.marks.bytes }
+        requires mask { IsWithinLine self.old.machine.line_length next.marks.bytes }
         requires silent { next.enters ≡ false }
         ensures { bus_in self.new ≡ speculative.kept_line (bus_in self.old) core addr next }
     {
         let copy = self.copy(core, addr);
-        let length = self.limits.line_length as usize;
+        let length = self.machine.line_length as usize;
         write_line_if(
             next.write_back,
             &mut self.memory,
@@ -139,12 +139,12 @@ impl Parts {
         next: Next,
     )
         requires place { IsAtLine self.old core addr }
-        requires short { self.old.limits.line_length ≤ LONGEST_LINE }
-        requires inside { addr + self.old.limits.line_length ≤ length self.old.memory.items }
-        requires past { (x : ℕ) → self.old.limits.line_length ≤ x → slice_index line.now x ≡ 0 }
+        requires short { self.old.machine.line_length ≤ LONGEST_LINE }
+        requires inside { addr + self.old.machine.line_length ≤ length self.old.memory.items }
+        requires past { (x : ℕ) → self.old.machine.line_length ≤ x → slice_index line.now x ≡ 0 }
         requires may { MaySend self.old notice core addr (is_in hurt) }
         requires held { is_valid (((bus_in self.old).core core).copy addr).state ≡ true }
-        requires mask { IsWithinLine self.old.limits.line_length next.marks.bytes }
+        requires mask { IsWithinLine self.old.machine.line_length next.marks.bytes }
         requires entry { next.enters ≡ true → holds ((bus_in self.old).core core).buffer.lines addr ≡ false }
         requires room { (next.enters && is_full ((bus_in self.old).core core).buffer) ≡ false }
         ensures { bus_in self.new ≡ message_spec.after_message (bus_in self.old)
@@ -152,7 +152,7 @@ impl Parts {
     {
         self.tell(notice, core, addr, line, hurt);
         change(&mut self.cores, core, addr, next, *line);
-        let length = self.limits.line_length as usize;
+        let length = self.machine.line_length as usize;
         write_line(&mut self.memory, addr as usize, length, line);
     }
 }

@@ -14,7 +14,7 @@ use crate::bus_core::Core;
 use crate::memory::memory_line;
 use bus_states::{Notice, answer};
 use cache_lines::Line;
-use rv32_image::Limits;
+use rv32_image::Machine;
 use spec_states::{LONGEST_LINE, Next};
 use violations::{Attempt, CoreSet};
 
@@ -24,7 +24,7 @@ pub struct Parts {
     pub cores: Vec<Core>,
     pub memory: Vec<u8>,
     pub code: u32,
-    pub limits: Limits,
+    pub machine: Machine,
 }
 
 /// The epoch of an attempt; 0 where there is none.
@@ -92,7 +92,7 @@ impl Parts {
     fn reply(&self, notice: Notice, core: usize, addr: u32, k: usize) -> Next
         requires core { core < length self.now.cores.items }
         requires k { k < length self.now.cores.items }
-        requires line { addr % self.now.limits.line_length ≡ 0 }
+        requires line { addr % self.now.machine.line_length ≡ 0 }
         requires coherent { IsCoherent (bus_in self.now) }
         ensures { result ≡ message_spec.reply (bus_in self.now) (message_spec.message_of (bus_in self.now) notice core addr) k }
     {
@@ -104,7 +104,7 @@ impl Parts {
     fn effect(&self, notice: Notice, core: usize, addr: u32, k: usize) -> Effect
         requires core { core < length self.now.cores.items }
         requires k { k < length self.now.cores.items }
-        requires line { addr % self.now.limits.line_length ≡ 0 }
+        requires line { addr % self.now.machine.line_length ≡ 0 }
         requires coherent { IsCoherent (bus_in self.now) }
         ensures violated { result.violated ≡ message_spec.violates (bus_in self.now)
             (message_spec.message_of (bus_in self.now) notice core addr) k }
@@ -129,7 +129,7 @@ impl Parts {
     pub(crate) fn survey(&self, notice: Notice, core: usize, addr: u32) -> Survey
         requires core { core < length self.now.cores.items }
         requires few { length self.now.cores.items ≤ 16 }
-        requires line { addr % self.now.limits.line_length ≡ 0 }
+        requires line { addr % self.now.machine.line_length ≡ 0 }
         requires coherent { IsCoherent (bus_in self.now) }
         ensures hurt { (k : ℕ) → is_in result.hurt k ≡ message_spec.violates (bus_in self.now)
             (message_spec.message_of (bus_in self.now) notice core addr) k }
@@ -158,14 +158,14 @@ impl Parts {
 
     /// The committed line at `addr`.
     pub(crate) fn committed_line(&self, addr: u32) -> [u8; LONGEST_LINE]
-        requires inside { addr + self.now.limits.line_length ≤ length self.now.memory.items }
-        requires short { self.now.limits.line_length ≤ LONGEST_LINE }
+        requires inside { addr + self.now.machine.line_length ≤ length self.now.memory.items }
+        requires short { self.now.machine.line_length ≤ LONGEST_LINE }
         ensures { (x : ℕ) → slice_index result x ≡ committed (bus_in self.now) addr x }
     {
         let mut line = memory_line(
             &self.memory,
             addr as usize,
-            self.limits.line_length as usize,
+            self.machine.line_length as usize,
         );
         for k in 0..self.cores.len() {
             let copy = self.copy(k, addr);

@@ -35,7 +35,7 @@ impl Parts {
     fn publish_line(&mut self, core: usize, addr: u32) -> CoreSet
         requires core { core < length self.old.cores.items }
         requires few { length self.old.cores.items ≤ 16 }
-        requires short { self.old.limits.line_length ≤ LONGEST_LINE }
+        requires short { self.old.machine.line_length ≤ LONGEST_LINE }
         requires coherent { IsCoherent (bus_in self.old) }
         requires listed { holds ((bus_in self.old).core core).buffer.lines addr ≡ true }
         ensures bus { bus_in self.new ≡ after_publish_line (bus_in self.old) core addr }
@@ -54,7 +54,7 @@ impl Parts {
     fn publish_lines(&mut self, core: usize) -> CoreSet
         requires core { core < length self.old.cores.items }
         requires few { length self.old.cores.items ≤ 16 }
-        requires short { self.old.limits.line_length ≤ LONGEST_LINE }
+        requires short { self.old.machine.line_length ≤ LONGEST_LINE }
         requires coherent { IsCoherent (bus_in self.old) }
         ensures count { length self.new.cores.items ≡ length self.old.cores.items }
         ensures bus { bus_in self.new ≡ after_publish_lines (bus_in self.old) core ((bus_in self.old).core core).buffer.lines }
@@ -71,7 +71,7 @@ impl Parts {
     pub(crate) fn publish(&mut self, core: usize) -> CoreSet
         requires core { core < length self.old.cores.items }
         requires few { length self.old.cores.items ≤ 16 }
-        requires short { self.old.limits.line_length ≤ LONGEST_LINE }
+        requires short { self.old.machine.line_length ≤ LONGEST_LINE }
         requires coherent { IsCoherent (bus_in self.old) }
         ensures bus { bus_in self.new ≡ after_publish (bus_in self.old) core }
         ensures hurt { (k : ℕ) → is_in result k ≡ publish_violates (bus_in self.old) core k }

@@ -58,7 +58,7 @@ impl Parts {
         requires access { IsAccessIn self.old core addr offset width }
         requires few { length self.old.cores.items ≤ 16 }
         requires way { way < ((bus_in self.old).core core).geometry.ways }
-        requires inside { addr + self.old.limits.line_length ≤ length self.old.memory.items }
+        requires inside { addr + self.old.machine.line_length ≤ length self.old.memory.items }
         requires absent { is_valid (((bus_in self.old).core core).copy addr).state ≡ false }
         requires may { MaySend self.old Load core addr (is_in survey.hurt) }
         requires alone { survey.alone ≡ message_spec.is_alone (bus_in self.old) (message_spec.message_of (bus_in self.old) Load core addr) }
@@ -85,7 +85,7 @@ impl Parts {
     pub(crate) fn load(&mut self, core: usize, addr: u32, offset: u32, width: u32) -> Step
         requires access { IsAccessIn self.old core addr offset width }
         requires few { length self.old.cores.items ≤ 16 }
-        requires inside { addr + self.old.limits.line_length ≤ length self.old.memory.items }
+        requires inside { addr + self.old.machine.line_length ≤ length self.old.memory.items }
         ensures { MatchAnswer result
             (λ value hurt. IsLoaded (bus_in self.old) (bus_in self.new) core addr offset width
             (room_at self.old.cores.items core addr) value hurt)
@@ -147,7 +147,7 @@ impl Parts {
     ) -> Result<CoreSet, WaitCause>
         requires access { IsAccessIn self.old core addr offset width }
         requires few { length self.old.cores.items ≤ 16 }
-        requires inside { addr + self.old.limits.line_length ≤ length self.old.memory.items }
+        requires inside { addr + self.old.machine.line_length ≤ length self.old.memory.items }
         ensures taken { IfOk result (λ hurt. IsTaken (bus_in self.old) (bus_in self.new) core addr offset width
             (room_at self.old.cores.items core addr) (is_in hurt)) }
         ensures waits { IfErr result (λ cause. (speculative.store_wait (bus_in self.old) core addr offset width
@@ -185,7 +185,7 @@ impl Parts {
     ) -> Step
         requires access { IsAccessIn self.old core addr offset width }
         requires few { length self.old.cores.items ≤ 16 }
-        requires inside { addr + self.old.limits.line_length ≤ length self.old.memory.items }
+        requires inside { addr + self.old.machine.line_length ≤ length self.old.memory.items }
         ensures { MatchAnswer result
             (λ answer hurt. (answer ≡ 0) × IsStored (bus_in self.old) (bus_in self.new) core addr offset width value
             (room_at self.old.cores.items core addr) hurt)

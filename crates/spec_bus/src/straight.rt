@@ -55,6 +55,7 @@ impl Parts {
         ensures room { room_at self.now.cores.items core addr ≡ line_at self.now.cores.items core addr (Some result) }
     {
         let cache = &self.core(core).cache;
+        let _ways = cache.ways();
         match cache.victim(addr) {
             Some(way) => way,
             None => {
@@ -73,9 +74,9 @@ impl Parts {
         width: u32,
     ) -> (u32, CoreSet)
         requires place { IsAtLine self.old core addr }
-        requires short { self.old.limits.line_length ≤ LONGEST_LINE }
-        requires inside { addr + self.old.limits.line_length ≤ length self.old.memory.items }
-        requires in_line { offset + width ≤ self.old.limits.line_length }
+        requires short { self.old.machine.line_length ≤ LONGEST_LINE }
+        requires inside { addr + self.old.machine.line_length ≤ length self.old.memory.items }
+        requires in_line { offset + width ≤ self.old.machine.line_length }
         requires width { IsWidth width }
         requires straight { speculates ((bus_in self.old).core core).attempt ≡ false }
         requires free { message_spec.is_busy (bus_in self.old) (message_spec.message_of (bus_in self.old) Load core addr) ≡ false }
@@ -108,9 +109,9 @@ impl Parts {
         value: u32,
     ) -> CoreSet
         requires place { IsAtLine self.old core addr }
-        requires short { self.old.limits.line_length ≤ LONGEST_LINE }
-        requires inside { addr + self.old.limits.line_length ≤ length self.old.memory.items }
-        requires in_line { offset + width ≤ self.old.limits.line_length }
+        requires short { self.old.machine.line_length ≤ LONGEST_LINE }
+        requires inside { addr + self.old.machine.line_length ≤ length self.old.memory.items }
+        requires in_line { offset + width ≤ self.old.machine.line_length }
         requires width { IsWidth width }
         requires straight { speculates ((bus_in self.old).core core).attempt ≡ false }
         requires free { message_spec.is_busy (bus_in self.old) (message_spec.message_of (bus_in self.old) Publish core addr) ≡ false }

@@ -6,7 +6,6 @@
 use Rattle.std.specs.Prelude.{◌≡◌, ◌≢◌, ℕ, ◌+◌, ◌*◌, ◌/◌, ◌==◌, ◌&&◌, not, Bool, true, false, List, length, take, Option, Some, None, is_some, nat_le, nat_lt, option_and_then, option_map, slice_get, if◌then◌else◌}
 use Rattle.memory_bytes.specs.Maps.{nothing, over, stored}
 use Rattle.rv32_image.specs.Image.{LoadedImage}
-use Rattle.rv32_image.specs.Version.{limits_of}
 use Rattle.spec_history.specs.declared.entry.Entry.{Entry}
 use Rattle.spec_history.specs.declared.entry.What.{What}
 use Rattle.spec_history.specs.declared.entry.What.TheVariants.{Load, Store, Hurt, Cancel, Publish, Commit, Fault}
@@ -98,12 +97,12 @@ is_changed m a = not (over m.writes m.committed a == m.committed a) && is_some (
 
 -- the number of the line of the caches in which a byte lies
 abbrev pub line_number : LoadedImage → ℕ → ℕ
-line_number image a = a / (limits_of image.version).line_length
+line_number image a = a / image.machine.line_length
 
 -- some byte of the line passes the test
 abbrev pub line_has : LoadedImage → ℕ → (ℕ → Bool) → Bool
 line_has image line test =
-    let long = (limits_of image.version).line_length in
+    let long = image.machine.line_length in
     any_below long (λ x. test (line * long + x))
 
 -- a byte that the victim has read, in a line that the cause writes
@@ -117,9 +116,9 @@ holds_line image m line = line_has image line (λ a. is_some (m.stores a))
 -- the victim has stored in the line, and in as many other lines as its buffer takes
 abbrev pub is_full_at : LoadedImage → Meeting → ℕ → Bool
 is_full_at image m line =
-    let limits = limits_of image.version in
+    let machine = image.machine in
     holds_line image m line
-    && nat_le limits.buffer_lines (count_below (image.size / limits.line_length) (λ other. not (other == line) && holds_line image m other))
+    && nat_le machine.buffer_lines (count_below (image.size / machine.line_length) (λ other. not (other == line) && holds_line image m other))
 
 -- the cause is an access, in memory as all that are legal, to a line for which the victim's full buffer has no place
 abbrev pub is_crowded : LoadedImage → Meeting → What → Bool

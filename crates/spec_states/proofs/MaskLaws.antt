@@ -172,13 +172,13 @@ span_is offset width = rw pow-add (shifted (2 ^ width) (2 ^ offset))
     shifted : (a b : ℕ) → (a - 1) * b ≡ b * a - b
     shifted a b = mul_comm (a - 1) b ∙ (mul-sub b a 1 ∙ ap (λ n. b * a - n) (mul-one b))
 
--- the same in a word of 32 bits
-pub span-in_word : (offset width : ℕ) → width ≤ 4 → offset + width ≤ 32
-    → (1 * 2 ^ width % 2 ^ 32 - 1) * 2 ^ offset % 2 ^ 32 ≡ 2 ^ (offset + width) - 2 ^ offset
+-- the same in a word of 64 bits
+pub span-in_word : (offset width : ℕ) → width ≤ 4 → offset + width ≤ 64
+    → (1 * 2 ^ width % 2 ^ 64 - 1) * 2 ^ offset % 2 ^ 64 ≡ 2 ^ (offset + width) - 2 ^ offset
 span-in_word offset width few inside =
-    let one : 1 * 2 ^ width % 2 ^ 32 ≡ 2 ^ width = shl_exact 1 width 32 (omega arith) (omega arith) ∙ one-mul (2 ^ width) in
+    let one : 1 * 2 ^ width % 2 ^ 64 ≡ 2 ^ width = shl_exact 1 width 64 (omega arith) (omega arith) ∙ one-mul (2 ^ width) in
     let some : 0 < 2 ^ width = pow_pos width in
-    rw one (shl_exact width offset 32 (omega arith) (omega arith) ∙ span_is offset width)
+    rw one (shl_exact width offset 64 (omega arith) (omega arith) ∙ span_is offset width)
 
 -- the bytes that a mask has of those of an access, and of the others
 and_inside : (a m s : ℕ) → m ≡ min a s → s ≡ 1 → (a == 1) ≡ true → m ≡ s

@@ -5,7 +5,7 @@ use Rattle.std.specs.List.{list_all, range_with_len}
 
 -- the bytes of the longest line, and so the bits of a mask
 abbrev pub longest_line : ℕ
-longest_line = 32
+longest_line = 64
 
 -- is the byte at this offset of the line in the mask?
 unfoldable pub has : ℕ → ℕ → Bool

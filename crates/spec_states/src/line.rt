@@ -5,7 +5,7 @@ ghost use Rattle.spec_states.specs.declared.line.TheConstants.{LONGEST_LINE};
 ghost use Rattle.spec_states.specs.States.{is_valid, is_exclusive, is_speculative, is_modified};
 
 /// The bytes of the longest line, and so the bits of a mask.
-pub const LONGEST_LINE: usize = 32;
+pub const LONGEST_LINE: usize = 64;
 
 /// The state of a copy of a line: the four of the MESI protocol, and two of copies that carry marks.
 #[derive(Clone, Copy, Debug, PartialEq, Eq)]
@@ -60,7 +60,7 @@ pub struct Marks {
     /// Speculatively loaded: the epoch read a byte of the line that it had not stored itself.
     pub loaded: bool,
     /// Speculatively modified: bit i is the byte at address i of the line.
-    pub bytes: u32,
+    pub bytes: u64,
 }
 
 impl Marks {
@@ -89,7 +89,7 @@ impl Marks {
     }
 
     /// The mask, and the `width` bytes from `offset` on with it.
-    pub(crate) fn with_bytes(self, offset: u32, width: u32) -> u32
+    pub(crate) fn with_bytes(self, offset: u32, width: u32) -> u64
         requires in_line { offset + width ≤ LONGEST_LINE }
         requires width { IsWidth width }
         ensures { result ≡ with_bytes self.bytes offset width }
@@ -99,7 +99,7 @@ impl Marks {
 }
 
 /// The mask of the `width` bytes from `offset` on.
-fn span(offset: u32, width: u32) -> u32
+fn span(offset: u32, width: u32) -> u64
     requires in_line { offset + width ≤ LONGEST_LINE }
     requires width { IsWidth width }
     ensures { result ≡ 2 ^ (offset + width) - 2 ^ offset }

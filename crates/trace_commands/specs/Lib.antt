@@ -4,5 +4,6 @@ pub mod Report
 pub mod Outcome
 pub mod Audit
 pub mod Program
+pub mod Stores
 -- What the law says.
 pub mod Laws

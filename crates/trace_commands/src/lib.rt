@@ -7,6 +7,8 @@ mod outcome;
 mod program;
 mod report;
 mod seq;
+mod store;
+mod stores;
 mod traced;
 mod write;
 
@@ -15,5 +17,7 @@ pub use outcome::{CommandStop, Outcome, Verdict};
 pub use program::{ROOM, first_word, number_up_to_16, only_number, words_given};
 pub use report::{print_open_report, print_report};
 pub use seq::do_seq;
+pub use store::{MachineAsked, Store, store_named};
+pub use stores::stores_asked;
 pub use traced::{Traced, read_traced, traced_in};
 pub use write::{write_bytes, write_whole};

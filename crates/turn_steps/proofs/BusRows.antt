@@ -1,24 +1,31 @@
 -- The rows in which a core on the bus has stored bytes.
-use Rattle.std.proofs.Common.{◌≡◌, ◌⊎◌, ℕ, ◌+◌, ◌*◌, ◌/◌, ◌%◌, ◌<◌, zero, suc, true, false, List, [], ◌∷◌, option_map, length, slice_get, IsTrue, Option, Some, None, inl, inr, refl, sym, ap, subst, ◌∙◌, arith, true≢false}
+use Rattle.std.proofs.Common.{◌≡◌, ◌⊎◌, ℕ, ◌+◌, ◌*◌, ◌/◌, ◌%◌, ◌<◌, zero, suc, true, false, List, [], ◌∷◌, option_map, length, slice_get, IsTrue, Option, Some, None, inl, inr, refl, sym, ap, subst, ◌∙◌, ◌++◌, add-one, arith, true≢false}
 use Rattle.std.specs.BTreeSet.{BTreeSet, contains}
 use Rattle.std.specs.List.{slice_index_or}
 use Rattle.std.specs.Ordering.{nat_cmp}
+use Rattle.std.proofs.Math.Nat.{mod-lt, mod-eq_of_lt, mul-div_cancel}
+use Rattle.std.proofs.lemmas.Nat.{div-mul-add, mod-mul-add}
 use Rattle.std.proofs.lemmas.Bool.{cases_eq}
+use Rattle.std.proofs.lemmas.Bool.Decides.{nat_tests}
+use Rattle.std.proofs.lemmas.List.{get_or_append_left, get_or_push, length_push}
 use Rattle.std.proofs.lemmas.Option.{slice_get_within}
 use Rattle.rv32_image.proofs.SmallFacts.{one_value}
 use Rattle.spec_states.specs.Mask.{has}
 use Rattle.spec_states.proofs.MaskLaws.{has-zero}
 use Rattle.cache_lines.specs.declared.line.Line.{Line}
-use Rattle.cache_lines.specs.Lines.{Contents, Geometry, default_geometry, invalid_line, is_line_length}
+use Rattle.cache_lines.specs.Lines.{Contents, Geometry, geometry_of, invalid_line}
+use Rattle.rv32_image.specs.declared.machine.Machine.{Machine}
+use Rattle.rv32_image.specs.Machine.{is_line_length, IsMachine}
+use Rattle.rv32_image.proofs.Bounds.{place_in}
 use Rattle.cache_lines.specs.Lines as lines
 use Rattle.cache_lines.specs.Protocol.{copy_or_none, copy_at}
-use Rattle.cache_lines.proofs.LineLaws.{is_copy_of-true, by_way}
+use Rattle.cache_lines.proofs.LineLaws.{is_copy_of-true, by_way, row-lt, sets-within}
 use Rattle.bus_states.specs.Coherent.{IsCoherent}
-use Rattle.bus_states.proofs.Addresses.{either_length}
+use Rattle.bus_states.proofs.Addresses.{line-aligned, line-and_offset}
 use Rattle.spec_bus.specs.declared.bus_core.Core.{Core}
 use Rattle.spec_bus.specs.Cached.{CachedView, bus, line_in, line_of_core, store_view}
 use Rattle.spec_bus.specs.Parts.{state_or_none}
-use Rattle.turn_steps.specs.Caches.{AreShown, HasOwnRows, HasRowsOf, Held, held, ways_of}
+use Rattle.turn_steps.specs.Caches.{AreHeld, AreShown, AreWhole, HasOwnRows, HasRowsOf, Held, held, line_at, lines_below, place_count}
 use Rattle.turn_steps.specs.Places.{no_line}
 
 -- one way more
@@ -32,10 +39,9 @@ own_more size ways i old new kept own one place below = elim (cases_eq place i) 
 
 -- ---- a stored byte of a core on the bus lies in one of its ways
 
--- the set of a line, four sets on from each fourth
-set_at : (size set : ℕ) → (size ≡ 16) ⊎ (size ≡ 32) → set < 4 → set * size / size % 4 ≡ set
-set_at size set (inl is) below = rw is (omega (arith, below))
-set_at size set (inr is) below = rw is (omega (arith, below))
+-- the line in this way of the set of that address, in a cache of such lines, sets and ways
+abbrev standing : Contents → ℕ → Geometry → ℕ → ℕ → Line
+standing cache size geometry addr way = slice_index_or cache.lines (addr / size % geometry.sets * geometry.ways + way) invalid_line
 
 -- a stored byte of the copy of a line is one of a way of the line's set
 in_a_way : (cache : Contents) (addr x : ℕ) → has (copy_at cache addr).marks.bytes x ≡ true
@@ -46,70 +52,98 @@ in_a_way cache addr x stored =
     (λ way below copy s. (way, below, (is_copy_of-true (lines.line_in cache addr way) addr copy).1, s))
     (λ _ s. absurd (true≢false (sym s ∙ has-zero x))) stored
 
--- where that way stands among all of the cache
-at_place : (size : ℕ) (v : CachedView) (core set way : ℕ) → set < 4 → way < 2 → slice_index_or (ways_of size v core) (2 * set + way) no_line ≡ line_in v core (set * size) way
-at_place size v core zero zero _ _ = let e : 0 ≡ 0 * size = omega arith in ap (λ a. line_in v core a 0) e
-at_place size v core zero (suc zero) _ _ = let e : 0 ≡ 0 * size = omega arith in ap (λ a. line_in v core a 1) e
-at_place size v core (suc zero) zero _ _ = let e : size ≡ 1 * size = omega arith in ap (λ a. line_in v core a 0) e
-at_place size v core (suc zero) (suc zero) _ _ = let e : size ≡ 1 * size = omega arith in ap (λ a. line_in v core a 1) e
-at_place size v core (suc (suc zero)) zero _ _ = refl
-at_place size v core (suc (suc zero)) (suc zero) _ _ = refl
-at_place size v core (suc (suc (suc zero))) zero _ _ = refl
-at_place size v core (suc (suc (suc zero))) (suc zero) _ _ = refl
-at_place size v core (suc (suc (suc (suc set)))) way below _ = absurd (omega (arith, below))
-at_place size v core set (suc (suc way)) _ below = absurd (omega (arith, below))
+-- the lines in the first places
+pub lines_none : (machine : Machine) (v : CachedView) (core : ℕ) → lines_below machine v core 0 ≡ []
+unfolding lines_below
+lines_none machine v core = refl
 
--- the line in this way of the set of that address, in a cache of such lines, sets and ways
-abbrev in_place : Contents → ℕ → Geometry → ℕ → ℕ → Line
-in_place cache size geometry addr way = slice_index_or cache.lines (addr / size % geometry.sets * geometry.ways + way) invalid_line
+one_more : (machine : Machine) (v : CachedView) (core place : ℕ) → lines_below machine v core (suc place) ≡ lines_below machine v core place ++ line_at machine v core place ∷ []
+unfolding lines_below
+one_more machine v core place = refl
 
-module _ (v : CachedView) (size core a : ℕ) (rows : BTreeSet ℕ) (size_is : size ≡ (bus v).line_length) (coherent : IsCoherent (bus v))
-    (own : (place : ℕ) → place < 8 → HasOwnRows size (slice_index_or (ways_of size v core) place no_line) rows) where
-  allowed : (size ≡ 16) ⊎ (size ≡ 32)
-  allowed = either_length size (ap is_line_length size_is ∙ coherent.length_is)
+pub lines_more : (machine : Machine) (v : CachedView) (core place : ℕ) (lines new : List Line) (line : Line) → lines ≡ lines_below machine v core place → line ≡ line_at machine v core place
+    → new ≡ lines ++ line ∷ [] → new ≡ lines_below machine v core (place + 1)
+lines_more machine v core place lines new line before is pushed =
+    pushed ∙ (ap (λ ls. ls ++ line ∷ []) before ∙ (ap (λ l. lines_below machine v core place ++ l ∷ []) is
+    ∙ (sym (one_more machine v core place) ∙ sym (ap (lines_below machine v core) (add-one place)))))
 
-  positive : 0 < size
-  positive = elim allowed [ inl is ↦ omega (arith, is) | inr is ↦ omega (arith, is) ]
+-- and by their places
+below_last : (machine : Machine) (v : CachedView) (core count : ℕ) → length (lines_below machine v core count) ≡ count
+unfolding lines_below
+below_last machine v core zero = refl
+below_last machine v core (suc count) =
+    length_push (lines_below machine v core count) (line_at machine v core count) ∙ (ap (λ n. n + 1) (below_last machine v core count) ∙ add-one count)
 
-  -- the byte's place in its line
+pub at_place : (machine : Machine) (v : CachedView) (core count place : ℕ) → place < count
+    → slice_index_or (lines_below machine v core count) place no_line ≡ line_at machine v core place
+unfolding lines_below
+at_place machine v core zero place below = absurd (omega (arith, below))
+at_place machine v core (suc count) place below =
+    let lines = lines_below machine v core count in
+    let long = below_last machine v core count in
+    elim (cases_eq place count) [
+      | inl here ↦
+          get_or_push lines (line_at machine v core count) no_line place (long ∙ sym here) ∙ ap (line_at machine v core) (sym here)
+      | inr other ↦
+          get_or_append_left lines (line_at machine v core count ∷ []) no_line place (omega (arith, below, other, long))
+          ∙ at_place machine v core count place (omega (arith, below, other))
+    ]
+
+module _ (machine : Machine) (v : CachedView) (core a : ℕ) (rows : BTreeSet ℕ) (allowed : IsMachine machine) (machine_is : machine ≡ (bus v).shape.machine)
+    (coherent : IsCoherent (bus v))
+    (own : (place : ℕ) → place < place_count machine → HasOwnRows machine.line_length (slice_index_or (held machine v core).ways place no_line) rows) where
+  abbrev size : ℕ
+  size = machine.line_length
+
   inside : a % size < size
-  inside = let p = positive in omega (arith, p)
+  inside = place_in size a allowed.line_length
 
   whole : size * (a / size) + a % size ≡ a
-  whole = let p = positive in omega (arith, p)
+  whole = line-and_offset size a allowed.line_length
 
   aligned : size * (a / size) % size ≡ 0
-  aligned = elim allowed [ inl is ↦ rw is (omega arith) | inr is ↦ rw is (omega arith) ]
+  aligned = line-aligned size a allowed.line_length
 
-  in_way : (set way : ℕ) → set < 4 → way < 2 → (line_in v core (set * size) way).addr ≡ size * (a / size)
-      → has (line_in v core (set * size) way).marks.bytes (a % size) ≡ true → contains nat_cmp rows (a / 16) ≡ true
-  in_way set way set_below way_below at stored =
-      let here = at_place size v core set way set_below way_below in
-      let line = slice_index_or (ways_of size v core) (2 * set + way) no_line in
+  in_place : (place : ℕ) → place < place_count machine → (line_at machine v core place).addr ≡ size * (a / size)
+      → has (line_at machine v core place).marks.bytes (a % size) ≡ true → contains nat_cmp rows (a / 16) ≡ true
+  in_place place below at stored =
+      let here = at_place machine v core (place_count machine) place below in
+      let line = slice_index_or (held machine v core).ways place no_line in
       let addr_is : line.addr ≡ size * (a / size) = ap (λ (l : Line). l.addr) here ∙ at in
       let row_is : (line.addr + a % size) / 16 ≡ a / 16 = ap (λ n. (n + a % size) / 16) addr_is ∙ ap (λ n. n / 16) whole in
-      let length_is : IsTrue (is_line_length size) = ap is_line_length size_is ∙ coherent.length_is in
       ap (contains nat_cmp rows) (sym row_is)
-      ∙ own (2 * set + way) (omega (arith, set_below, way_below)) length_is (ap (λ n. n % size) addr_is ∙ aligned) (a % size) inside (ap (λ (l : Line). has l.marks.bytes (a % size)) here ∙ stored)
+      ∙ own place below allowed.line_length (ap (λ n. n % size) addr_is ∙ aligned) (a % size) inside (ap (λ (l : Line). has l.marks.bytes (a % size)) here ∙ stored)
 
   of_core : (o : Option Core) → slice_get v.cores core ≡ o → has ((state_or_none o).copy (size * (a / size))).marks.bytes (a % size) ≡ true → contains nat_cmp rows (a / 16) ≡ true
   of_core None is stored = absurd (true≢false (sym stored ∙ has-zero (a % size)))
   of_core (Some c) is stored =
-      let found = in_a_way c.cache (size * (a / size)) (a % size) stored in
+      let addr = size * (a / size) in
+      let found = in_a_way c.cache addr (a % size) stored in
       let below : core < length v.cores = slice_get_within v.cores core c is in
-      let length_is : c.cache.line_length ≡ size = ap (λ (o : Option Core). (state_or_none o).line_length) (sym is) ∙ (coherent.lengths core below ∙ sym size_is) in
-      let geometry_is : c.cache.geometry ≡ default_geometry = ap (λ (o : Option Core). (state_or_none o).geometry) (sym is) ∙ coherent.geometries core below in
-      let set = size * (a / size) / size % 4 in
-      let set_below : set < 4 = omega arith in
-      let way_below : found.0 < 2 = subst (λ (g : Geometry). found.0 < g.ways) geometry_is found.1 in
-      let same : lines.line_in c.cache (size * (a / size)) found.0 ≡ line_in v core (set * size) found.0 =
-      ap (λ n. in_place c.cache n c.cache.geometry (size * (a / size)) found.0) length_is
-      ∙ (ap (λ g. in_place c.cache size g (size * (a / size)) found.0) geometry_is
-      ∙ (ap (λ n. slice_index_or c.cache.lines (n * 2 + found.0) invalid_line) (sym (set_at size set allowed set_below))
-      ∙ (ap (λ g. in_place c.cache size g (set * size) found.0) (sym geometry_is)
-      ∙ (ap (λ n. in_place c.cache n c.cache.geometry (set * size) found.0) (sym length_is)
-      ∙ ap (λ (o : Option Core). line_of_core o (set * size) found.0) (sym is))))) in
-      in_way set found.0 set_below way_below (ap (λ (l : Line). l.addr) (sym same) ∙ found.2) (ap (λ (l : Line). has l.marks.bytes (a % size)) (sym same) ∙ found.3)
+      let length_is : c.cache.line_length ≡ size =
+      ap (λ (o : Option Core). (state_or_none o).line_length) (sym is) ∙ (coherent.lengths core below ∙ (coherent.length_of ∙ ap (λ (m : Machine). m.line_length) (sym machine_is))) in
+      let geometry_is : c.cache.geometry ≡ geometry_of machine =
+      ap (λ (o : Option Core). (state_or_none o).geometry) (sym is) ∙ (coherent.geometries core below ∙ (coherent.geometry_is ∙ ap geometry_of (sym machine_is))) in
+      let way : found.0 < machine.ways = subst (λ (g : Geometry). found.0 < g.ways) geometry_is found.1 in
+      let sets = sets-within machine.sets allowed.sets in
+      let place = addr / size % machine.sets * machine.ways + found.0 in
+      let within : place < place_count machine = row-lt machine.sets machine.ways (addr / size % machine.sets) found.0 (mod-lt (addr / size) sets.0) way in
+      let set_is : place / machine.ways * size / size % machine.sets ≡ addr / size % machine.sets =
+      ap (λ n. n * size / size % machine.sets) (div-mul-add (addr / size % machine.sets) machine.ways found.0 way)
+      ∙ (ap (λ n. n % machine.sets) (mul-div_cancel (addr / size % machine.sets) (positive size allowed.line_length)) ∙ mod-eq_of_lt (mod-lt (addr / size) sets.0)) in
+      let way_is : place % machine.ways ≡ found.0 = mod-mul-add (addr / size % machine.sets) machine.ways found.0 way in
+      let same : lines.line_in c.cache addr found.0 ≡ line_at machine v core place =
+      ap (λ n. standing c.cache n c.cache.geometry addr found.0) length_is
+      ∙ (ap (λ g. standing c.cache size g addr found.0) geometry_is
+      ∙ (ap (λ n. slice_index_or c.cache.lines (n * machine.ways + found.0) invalid_line) (sym set_is)
+      ∙ (ap (standing c.cache size (geometry_of machine) (place / machine.ways * size)) (sym way_is)
+      ∙ (ap (λ g. standing c.cache size g (place / machine.ways * size) (place % machine.ways)) (sym geometry_is)
+      ∙ (ap (λ n. standing c.cache n c.cache.geometry (place / machine.ways * size) (place % machine.ways)) (sym length_is)
+      ∙ ap (λ (o : Option Core). line_of_core o (place / machine.ways * size) (place % machine.ways)) (sym is)))))) in
+      in_place place within (ap (λ (l : Line). l.addr) (sym same) ∙ found.2) (ap (λ (l : Line). has l.marks.bytes (a % size)) (sym same) ∙ found.3)
+    where
+      positive : (n : ℕ) → is_line_length n ≡ true → 0 < n
+      positive n is = grind (arith, nat_tests)
 
   -- the set has the row of a byte that the core has stored
   pub has_own_row : has ((state_or_none (slice_get v.cores core)).copy (size * (a / size))).marks.bytes (a % size) ≡ true → contains nat_cmp rows (a / 16) ≡ true
@@ -117,15 +151,27 @@ module _ (v : CachedView) (size core a : ℕ) (rows : BTreeSet ℕ) (size_is : s
 
 -- ---- what was shown of a core
 
-module _ (v : CachedView) (size core : ℕ) (shown : List Held) (rows : BTreeSet ℕ) (are : AreShown size shown v) where
+pub held_whole : (machine : Machine) (v : CachedView) (core : ℕ) (h : Held) → h ≡ held machine v core → length h.ways ≡ place_count machine
+held_whole machine v core h is = ap (λ (x : Held). length x.ways) is ∙ below_last machine v core (place_count machine)
+
+pub are_whole : (machine : Machine) (v : CachedView) (count : ℕ) (shown : List Held) → AreHeld machine v count shown → AreWhole machine shown
+are_whole machine v count shown are k h there =
+    let below : k < count = subst (λ n. k < n) are.count_is (slice_get_within shown k h there) in
+    held_whole machine v k h (one_value (slice_get shown k) h (held machine v k) there (are.each k below))
+
+module _ (machine : Machine) (v : CachedView) (core : ℕ) (shown : List Held) (rows : BTreeSet ℕ) (are : AreShown machine shown v) where
   -- this was shown of the core
-  pub has_row : (was : Held) → slice_get shown core ≡ Some was → ((place : ℕ) → place < 8 → HasOwnRows size (slice_index_or was.ways place no_line) rows)
+  pub has_row : (was : Held) → slice_get shown core ≡ Some was → ((place : ℕ) → place < length was.ways → HasOwnRows machine.line_length (slice_index_or was.ways place no_line) rows)
       → (a : ℕ) → (store_view v).own core a ≡ true → contains nat_cmp rows (a / 16) ≡ true
   has_row was there own a stored =
       let below : core < (bus v).shape.cores = subst (λ n. core < n) are.cores_are.count_is (slice_get_within shown core was there) in
-      let is : was ≡ held size v core = one_value (slice_get shown core) was (held size v core) there (are.cores_are.each core below) in
-      has_own_row v size core a rows are.size_is are.coherent (subst (λ (h : Held). (place : ℕ) → place < 8 → HasOwnRows size (slice_index_or h.ways place no_line) rows) is own)
-      (subst (λ n. has ((state_or_none (slice_get v.cores core)).copy (n * (a / n))).marks.bytes (a % n) ≡ true) (sym are.size_is) stored)
+      let is : was ≡ held machine v core = one_value (slice_get shown core) was (held machine v core) there (are.cores_are.each core below) in
+      let long : length was.ways ≡ place_count machine = held_whole machine v core was is in
+      has_own_row machine v core a rows are.allowed are.machine_is are.coherent
+      (subst (λ (h : Held). (place : ℕ) → place < place_count machine → HasOwnRows machine.line_length (slice_index_or h.ways place no_line) rows) is
+      (λ place within. own place (omega (arith, within, long))))
+      (subst (λ n. has ((state_or_none (slice_get v.cores core)).copy (n * (a / n))).marks.bytes (a % n) ≡ true)
+      (are.coherent.length_of ∙ ap (λ (m : Machine). m.line_length) (sym are.machine_is)) stored)
 
   same_none : (xs : List Held) (ys : List Core) (k : ℕ) → length xs ≡ length ys → slice_get xs k ≡ None → slice_get ys k ≡ None
   same_none [] [] k same none = refl

@@ -4,6 +4,7 @@ use Rattle.std.specs.List.{list_any}
 use Rattle.std.proofs.lemmas.Bool.{cases_eq, eqb-false, or_parts, or_right, or_left}
 use Rattle.std.proofs.lemmas.List.{append_cancel_left}
 use Rattle.std.proofs.lemmas.List.Folds.{list_any-append}
+use Rattle.rv32_image.specs.Machine.{IsMachineFor}
 use Rattle.rv32_exec.specs.declared.stop.Stop.{Stop}
 use Rattle.rv32_exec.specs.Arrival.{Arrival}
 use Rattle.run_ledger.specs.declared.counts.Counts.{Counts}
@@ -104,7 +105,7 @@ begins_leaves v w core epoch entries begins = record {
 
 -- ---- the arms of a turn
 
-module _ (t : Turn) (v w : StoreView) (out : Outcome) (going : t.state.end ≡ None) (agrees : Agrees t.state v) (shape : v.shape ≡ shape_of t.image t.cores) where
+module _ (t : Turn) (v w : StoreView) (out : Outcome) (going : t.state.end ≡ None) (agrees : Agrees t.state v) (fits : IsMachineFor t.image.size t.image.machine) (shape : v.shape ≡ shape_of t.image t.cores) where
   by_entries : (entries : List Entry) (answer : Answer) → out ≡ does entries answer → Leaves v w t.core entries → Leaves v w t.core out.entries
   by_entries entries answer is l = subst (λ (o : Outcome). Leaves v w t.core o.entries) (sym is) l
 
@@ -114,7 +115,7 @@ module _ (t : Turn) (v w : StoreView) (out : Outcome) (going : t.state.end ≡ N
   loads_leave : turn.IsLoad t v w out → Leaves v w t.core out.entries
   loads_leave l = by_entries _ _ l.out_is (record {
     others = λ k other runs. spares v w t.core k l.hurt l.store.others other runs;
-    own = λ runs row isnt. load_row t.image t.cores v w t.core l.address l.width l.value l.hurt shape
+    own = λ runs row isnt. load_row t.image t.cores v w t.core l.address l.width l.value l.hurt fits shape
         (load_aligned t.image l.core.hart l.address l.width l.rd l.signed l.comes.is_at.event) l.store row
         (none_last (touches row) (hurts t.cores t.state t.core l.hurt) (record { by = t.core; what = Load l.address l.width l.value }) isnt);
     memory = λ a isnt unless. l.store.committed a;
@@ -123,7 +124,7 @@ module _ (t : Turn) (v w : StoreView) (out : Outcome) (going : t.state.end ≡ N
   stores_leave : turn.IsStore t v w out → Leaves v w t.core out.entries
   stores_leave l = by_entries _ _ l.out_is (record {
     others = λ k other runs. spares v w t.core k l.hurt l.store.others other runs;
-    own = λ runs row isnt. store_row t.image t.cores v w t.core l.address l.width l.value l.hurt shape
+    own = λ runs row isnt. store_row t.image t.cores v w t.core l.address l.width l.value l.hurt fits shape
         (store_aligned t.image l.core.hart l.address l.width l.value l.comes.is_at.event) l.store row
         (none_last (touches row) (hurts t.cores t.state t.core l.hurt) (record { by = t.core; what = Store l.address l.width l.value }) isnt);
     memory = λ a isnt unless. l.store.committed a;
@@ -232,7 +233,7 @@ module _ {S : Type 0} (view : S → StoreView) (waits : S → Waits) (old new : 
   book_leaves (turn.acts a) = same_leaves (view old.store) a.reserved (view new.store) core added a.same
       (subst (λ es. Leaves a.reserved (view new.store) core es) (append_cancel_left old.history a.out.entries added (sym a.grows.history ∙ goes))
       (acts_leave (turn.turn_at waits old step.state core next) a.reserved (view new.store) a.out a.may.going
-      (agrees_same step.state (view old.store) a.reserved step.agrees a.same) (a.same.shape ∙ step.shape) a.acts))
+      (agrees_same step.state (view old.store) a.reserved step.agrees a.same) step.is_image.machine_allowed (a.same.shape ∙ step.shape) a.acts))
 
   keeps_rows : Leaves (view old.store) (view new.store) core added → KeepsRows (view old.store) (view new.store) core added
   keeps_rows l = record {

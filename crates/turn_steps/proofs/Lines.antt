@@ -1,10 +1,9 @@
--- Where an access lies: in one row, and with its line in 32 aligned bytes.
+-- Where an access lies: in one row, and with its line in 64 aligned bytes.
 use Rattle.std.proofs.Common.{◌≡◌, ◌≢◌, ℕ, ◌+◌, ◌*◌, ◌/◌, ◌%◌, ◌<◌, ◌≤◌, ◌==◌, Bool, true, false, nat_le, nat_lt, inl, inr, refl, sym, ap, subst, ◌∙◌, arith}
 use Rattle.std.proofs.lemmas.Bool.{cases_Bool, and_parts, ltb-true, leb-true, eqb-false}
 use Rattle.rv32_image.specs.Image.{LoadedImage}
-use Rattle.rv32_image.specs.Version.{limits_of}
-use Rattle.rv32_image.specs.declared.version.Version.{Version}
-use Rattle.rv32_image.specs.declared.version.Version.TheVariants.{One, Two}
+use Rattle.rv32_image.specs.Machine.{IsMachineFor}
+use Rattle.rv32_image.proofs.Bounds.{same_block}
 use Rattle.memory_bytes.specs.Bytes.{IsWidth}
 use Rattle.memory_bytes.specs.Maps.{over, stored}
 use Rattle.rv32_exec.specs.declared.stop.Stop.TheVariants as stop
@@ -67,30 +66,26 @@ pub unstored : (address width value : ℕ) (memory : ℕ → ℕ) (a : ℕ) → 
 unfolding stored
 unstored address width value memory a isnt = rw isnt refl
 
--- ---- pairs of rows
+-- ---- blocks of four rows
 
-pub pair_of_row : (row i : ℕ) → i < 16 → (16 * row + i) / 32 ≡ row / 2
-pair_of_row row i below = omega arith
+pub block_of_row : (row i : ℕ) → i < 16 → (16 * row + i) / 64 ≡ row / 4
+block_of_row row i below = omega arith
 
 pub row_of_byte : (row i : ℕ) → i < 16 → (16 * row + i) / 16 ≡ row
 row_of_byte row i below = omega arith
 
-pub pair_by_row : (a b : ℕ) → a / 16 ≡ b / 16 → a / 32 ≡ b / 32
-pair_by_row a b same = omega arith
+pub block_by_row : (a b : ℕ) → a / 16 ≡ b / 16 → a / 64 ≡ b / 64
+block_by_row a b same = omega arith
 
-pair_by_line : (version : Version) (a b : ℕ) → (limits_of version).line_length * (a / (limits_of version).line_length) ≡ (limits_of version).line_length * (b / (limits_of version).line_length)
-    → a / 32 ≡ b / 32
-pair_by_line One a b same = omega (arith, same)
-pair_by_line Two a b same = omega (arith, same)
-
--- bytes of one line lie in the same 32 aligned bytes
-pub pair_of_line : (image : LoadedImage) (count : ℕ) (shape : Shape) (a b : ℕ) → shape ≡ shape_of image count → line_of shape a ≡ line_of shape b → a / 32 ≡ b / 32
-pair_of_line image count shape a b is same =
-    pair_by_line image.version a b (ap (λ (s : Shape). line_of s a) (sym is) ∙ (same ∙ ap (λ (s : Shape). line_of s b) is))
+-- bytes of one line lie in the same 64 aligned bytes
+pub block_of_line : (image : LoadedImage) (count : ℕ) (shape : Shape) (a b : ℕ) → IsMachineFor image.size image.machine → shape ≡ shape_of image count
+    → line_of shape a ≡ line_of shape b → a / 64 ≡ b / 64
+block_of_line image count shape a b fits is same =
+    same_block image.machine.line_length a b fits.is.line_length (ap (λ (s : Shape). line_of s a) (sym is) ∙ (same ∙ ap (λ (s : Shape). line_of s b) is))
 
 -- the row is of other bytes than the access
-pub pair_apart : (address row i : ℕ) → i < 16 → (address / 32 == row / 2) ≡ false → address / 32 ≢ (16 * row + i) / 32
-pair_apart address row i below isnt same = eqb-false (address / 32) (row / 2) isnt (same ∙ pair_of_row row i below)
+pub block_apart : (address row i : ℕ) → i < 16 → (address / 64 == row / 4) ≡ false → address / 64 ≢ (16 * row + i) / 64
+block_apart address row i below isnt same = eqb-false (address / 64) (row / 4) isnt (same ∙ block_of_row row i below)
 
-pub row_apart : (address row i : ℕ) → i < 16 → (address / 32 == row / 2) ≡ false → address / 16 ≢ (16 * row + i) / 16
-row_apart address row i below isnt same = pair_apart address row i below isnt (pair_by_row address (16 * row + i) same)
+pub row_apart : (address row i : ℕ) → i < 16 → (address / 64 == row / 4) ≡ false → address / 16 ≢ (16 * row + i) / 16
+row_apart address row i below isnt same = block_apart address row i below isnt (block_by_row address (16 * row + i) same)

@@ -4,7 +4,8 @@ use Rattle.std.specs.Prelude.{◌≡◌, ℕ, zero, suc, ◌+◌, ◌*◌, ◌/�
 use Rattle.std.specs.BTreeSet.{BTreeSet, contains}
 use Rattle.std.specs.Ordering.{nat_cmp}
 use Rattle.cache_lines.specs.declared.line.Line.{Line}
-use Rattle.cache_lines.specs.Lines.{is_line_length}
+use Rattle.rv32_image.specs.declared.machine.Machine.{Machine}
+use Rattle.rv32_image.specs.Machine.{is_line_length, IsMachine}
 use Rattle.spec_states.specs.Mask.{has}
 use Rattle.violations.specs.View.{Shape}
 use Rattle.bus_states.specs.Coherent.{IsCoherent}
@@ -16,47 +17,60 @@ pub record Held : Type 0 where
   pub ways : List Line
   pub orb : List ℕ
 
--- the ways of the sets of these lines, which have so many bytes
-abbrev pub ways_of : ℕ → CachedView → ℕ → List Line
-ways_of size v core =
-    line_in v core 0 0 ∷ line_in v core 0 1 ∷ line_in v core size 0 ∷ line_in v core size 1
-    ∷ line_in v core (2 * size) 0 ∷ line_in v core (2 * size) 1 ∷ line_in v core (3 * size) 0 ∷ line_in v core (3 * size) 1 ∷ []
+-- how many lines a cache of this machine has
+abbrev pub place_count : Machine → ℕ
+place_count machine = machine.sets * machine.ways
+
+-- the line that stands in a place of a core's cache
+abbrev pub line_at : Machine → CachedView → ℕ → ℕ → Line
+line_at machine v core place = line_in v core (place / machine.ways * machine.line_length) (place % machine.ways)
+
+-- those in the first places
+unfoldable pub lines_below : Machine → CachedView → ℕ → ℕ → List Line
+lines_below machine v core zero = []
+lines_below machine v core (suc place) = lines_below machine v core place ++ line_at machine v core place ∷ []
 
 -- what a core holds
-abbrev pub held : ℕ → CachedView → ℕ → Held
-held size v core = record { ways = ways_of size v core; orb = ((bus v).core core).buffer.lines }
+abbrev pub held : Machine → CachedView → ℕ → Held
+held machine v core = record { ways = lines_below machine v core (place_count machine); orb = ((bus v).core core).buffer.lines }
 
 -- the text of what isn't as it was: the ways, and then the buffer
-abbrev pub changes : ℕ → ℕ → Held → Held → List ℕ
-changes size core old now = way_changes size core old.ways now.ways 8 ++ changed (orb_line core old.orb) (orb_line core now.orb)
+abbrev pub changes : Machine → ℕ → Held → Held → List ℕ
+changes machine core old now = way_changes machine core old.ways now.ways (place_count machine) ++ changed (orb_line core old.orb) (orb_line core now.orb)
 
 -- ---- the cores of a bus
 
 -- the text of what each of so many cores holds otherwise
-unfoldable pub bus_changes : ℕ → CachedView → CachedView → ℕ → List ℕ
-bus_changes size old now zero = []
-bus_changes size old now (suc core) = bus_changes size old now core ++ changes size core (held size old core) (held size now core)
+unfoldable pub bus_changes : Machine → CachedView → CachedView → ℕ → List ℕ
+bus_changes machine old now zero = []
+bus_changes machine old now (suc core) = bus_changes machine old now core ++ changes machine core (held machine old core) (held machine now core)
 
 -- they are what so many cores hold, core by core
-pub record AreHeld (size : ℕ) (v : CachedView) (count : ℕ) (shown : List Held) : Type 0 where
+pub record AreHeld (machine : Machine) (v : CachedView) (count : ℕ) (shown : List Held) : Type 0 where
   pub count_is : length shown ≡ count
-  pub each : (k : ℕ) → k < count → slice_get shown k ≡ Some (held size v k)
+  pub each : (k : ℕ) → k < count → slice_get shown k ≡ Some (held machine v k)
 
--- this was shown of its cores; a line has so many bytes
-pub record AreShown (size : ℕ) (shown : List Held) (v : CachedView) : Type 0 where
+-- of each core there are all lines of a cache of this machine
+abbrev pub AreWhole : Machine → List Held → Type 0
+AreWhole machine shown = (k : ℕ) (h : Held) → slice_get shown k ≡ Some h → length h.ways ≡ place_count machine
+
+-- this was shown of its cores, which are those of this machine
+pub record AreShown (machine : Machine) (shown : List Held) (v : CachedView) : Type 0 where
   pub coherent : IsCoherent (bus v)
-  pub size_is : size ≡ (bus v).line_length
-  pub cores_are : AreHeld size v (bus v).shape.cores shown
+  pub allowed : IsMachine machine
+  pub machine_is : machine ≡ (bus v).shape.machine
+  pub cores_are : AreHeld machine v (bus v).shape.cores shown
 
 -- of each core of a store of this shape
-pub record IsOfShape (size : ℕ) (shown : List Held) (shape : Shape) : Type 0 where
-  pub size_is : size ≡ shape.limits.line_length
-  pub allowed : IsTrue (is_line_length size)
+pub record IsOfShape (machine : Machine) (shown : List Held) (shape : Shape) : Type 0 where
+  pub machine_is : machine ≡ shape.machine
+  pub allowed : IsMachine machine
+  pub whole : AreWhole machine shown
   pub count : length shown ≡ shape.cores
 
 -- the text of what so many cores hold otherwise in the second of two stores than in the first
 abbrev pub cached_changes : ℕ → CachedView → CachedView → List ℕ
-cached_changes cores old now = bus_changes (bus now).line_length old now cores
+cached_changes cores old now = bus_changes (bus now).shape.machine old now cores
 
 -- ---- the rows of stored bytes
 

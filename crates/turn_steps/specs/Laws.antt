@@ -11,10 +11,10 @@ use Rattle.violations.specs.declared.attempt.Attempt.{Attempt}
 use Rattle.violations.specs.View.{StoreView}
 use Rattle.turn_steps.specs.Rows.{IsSameRow}
 
--- it loads or stores in the 32 aligned bytes of the row; the line of the access lies in them
+-- it loads or stores in the 64 aligned bytes of the row; the line of the access lies in them
 abbrev pub touches_in : ℕ → What → Bool
-touches_in row (Load address width value) = address / 32 == row / 2
-touches_in row (Store address width value) = address / 32 == row / 2
+touches_in row (Load address width value) = address / 64 == row / 4
+touches_in row (Store address width value) = address / 64 == row / 4
 touches_in row what = false
 
 abbrev pub touches : ℕ → Entry → Bool

@@ -1,12 +1,12 @@
 //! The caches and the buffers of all cores on the bus.
-ghost use Rattle.std.specs.Prelude.{◌≡◌, ◌<◌, ◌≤◌, ◌++◌, ℕ, IfOk, OnOk, IsTrue, length};
-ghost use Rattle.cache_lines.specs.Lines.{is_line_length};
+ghost use Rattle.std.specs.Prelude.{◌≡◌, ◌<◌, ◌≤◌, ◌++◌, ℕ, IfOk, OnOk, length};
+ghost use Rattle.rv32_image.specs.Machine.{IsMachine};
 ghost use Rattle.spec_bus.specs.Cached.{CachedView, bus};
 ghost use Rattle.turn_steps.specs.Caches as spec;
 
 use crate::caches::ShownCore;
 use crate::store::ShownStore;
-use rv32_exec::Image;
+use rv32_exec::{Image, Machine};
 use spec_bus::CachedBus;
 use spec_history::Entry;
 use std::alloc::{AllocError, Global};
@@ -16,8 +16,8 @@ use violations::{Attempt, EpochStore};
 /// What the caches and the buffers on a bus were shown to hold.
 #[derive(Drop)]
 pub struct ShownBus {
-    /// The bytes of a line.
-    size: u32,
+    /// The machine of which they are.
+    machine: Machine,
     /// Core by core.
     cores: Vec<ShownCore>,
 }
@@ -27,9 +27,9 @@ impl ShownStore for CachedBus {
 
     type Shown = ShownBus;
 
-    ghost fits = { λ shown shape. IsOfShape shown.size shown.cores.items shape };
+    ghost fits = { λ shown shape. IsOfShape shown.machine shown.cores.items shape };
 
-    ghost shows = { λ shown v. AreShown shown.size shown.cores.items v };
+    ghost shows = { λ shown v. AreShown shown.machine shown.cores.items v };
 
     ghost changes = { cached_changes };
 
@@ -44,9 +44,9 @@ impl ShownStore for CachedBus {
         cores: u32,
     ) -> Result<ShownBus, AllocError> {
         self.look();
-        let size = image.version().limits().line_length;
-        let cores = shown_cores(alloc, self, size, cores)?;
-        Ok(ShownBus { size, cores })
+        let machine = image.machine();
+        let cores = shown_cores(alloc, self, machine, cores)?;
+        Ok(ShownBus { machine, cores })
     }
 
     fn push_changes(
@@ -62,7 +62,7 @@ impl ShownStore for CachedBus {
             alloc,
             text,
             self,
-            shown.size,
+            shown.machine,
             self.cores(),
             shown.cores.as_slice(),
         )?;
@@ -76,7 +76,7 @@ impl ShownStore for CachedBus {
         rows: &mut BTreeSet<u32>,
     ) -> Result<(), AllocError> {
         match shown.cores.get(core as usize) {
-            Some(held) => held.push_own_rows(shown.size, rows),
+            Some(held) => held.push_own_rows(shown.machine.line_length, rows),
             None => Ok(()),
         }
     }
@@ -86,16 +86,17 @@ impl ShownStore for CachedBus {
 fn shown_cores(
     alloc: Global,
     caches: &CachedBus,
-    size: u32,
+    machine: Machine,
     cores: u32,
 ) -> Result<Vec<ShownCore>, AllocError>
     requires cores { cores ≤ (bus caches.now).shape.cores }
-    requires length { IsTrue (is_line_length size) }
-    ensures { IfOk result (λ shown. spec.AreHeld size caches.now cores shown.items) }
+    requires machine { IsMachine machine }
+    requires ways { machine.ways ≤ (bus caches.now).geometry.ways }
+    ensures { IfOk result (λ shown. spec.AreHeld machine caches.now cores shown.items) }
 {
     let mut shown = Vec::new(alloc);
     for core in 0..cores {
-        shown.push(ShownCore::of(alloc, caches, size, core)?)?;
+        shown.push(ShownCore::of(alloc, caches, machine, core)?)?;
     }
     Ok(shown)
 }
@@ -105,20 +106,22 @@ fn push_bus_changes(
     alloc: Global,
     text: &mut Vec<u8>,
     caches: &CachedBus,
-    size: u32,
+    machine: Machine,
     cores: u32,
     shown: &[ShownCore],
 ) -> Result<Vec<ShownCore>, AllocError>
     requires cores { cores ≤ (bus caches.now).shape.cores }
     requires shown { length shown.now ≡ cores }
-    requires length { IsTrue (is_line_length size) }
-    ensures held { IfOk result (λ now. spec.AreHeld size caches.now cores now.items) }
-    ensures text { (old : CachedView) → spec.AreHeld size old cores shown.now → OnOk result (text.new.items ≡ text.old.items ++ spec.bus_changes size old caches.now cores) }
+    requires whole { spec.AreWhole machine shown.now }
+    requires machine { IsMachine machine }
+    requires ways { machine.ways ≤ (bus caches.now).geometry.ways }
+    ensures held { IfOk result (λ now. spec.AreHeld machine caches.now cores now.items) }
+    ensures text { (old : CachedView) → spec.AreHeld machine old cores shown.now → OnOk result (text.new.items ≡ text.old.items ++ spec.bus_changes machine old caches.now cores) }
 {
     let mut now = Vec::new(alloc);
     for core in 0..cores {
-        let held = ShownCore::of(alloc, caches, size, core)?;
-        shown[core as usize].push_changes(alloc, text, size, core, &held)?;
+        let held = ShownCore::of(alloc, caches, machine, core)?;
+        shown[core as usize].push_changes(alloc, text, machine, core, &held)?;
         now.push(held)?;
     }
     Ok(now)

@@ -1,15 +1,16 @@
 //! The cache and the buffer of a core on the bus.
-ghost use Rattle.std.specs.Prelude.{◌≡◌, ◌++◌, ◌<◌, ℕ, IfOk, IsTrue, OnOk};
+ghost use Rattle.std.specs.Prelude.{◌≡◌, ◌++◌, ◌<◌, ◌≤◌, ℕ, length, IfOk, IsTrue, OnOk};
 ghost use Rattle.std.specs.List.{slice_index_or};
-ghost use Rattle.cache_lines.specs.Lines.{is_line_length};
+ghost use Rattle.rv32_image.specs.Machine.{IsMachine};
 ghost use Rattle.spec_bus.specs.Cached.{bus};
 ghost use Rattle.turn_steps.specs.Caches as spec;
 ghost use Rattle.turn_steps.specs.Places.{no_line};
 
 use crate::orbs::push_orb_change;
-use crate::ways::{PLACES, push_way_changes};
+use crate::ways::{place_count, push_way_changes};
 use cache_lines::Line;
 use orb::Orb;
+use rv32_exec::Machine;
 use spec_bus::CachedBus;
 use std::alloc::{AllocError, Global};
 use std::collections::BTreeSet;
@@ -18,7 +19,7 @@ use std::marker::Model;
 /// What a core's cache and its buffer were shown to hold.
 #[derive(Drop)]
 pub struct ShownCore {
-    ways: [Line; PLACES],
+    ways: Vec<Line>,
     orb: Vec<u32>,
 }
 
@@ -27,45 +28,54 @@ impl Model for ShownCore {
 
     ghost Value = { Held };
 
-    ghost view = { λ shown. record { ways = shown.ways; orb = shown.orb.items } };
+    ghost view = { λ shown. record { ways = shown.ways.items; orb = shown.orb.items } };
 }
 
 impl ShownCore {
-    /// What a core's cache and its buffer hold: that counts as shown. Lines have this size.
+    /// What a core's cache, one of this machine, and its buffer hold: that counts as shown.
     ///
     /// `AllocError`: memory ran out.
     pub fn of(
         alloc: Global,
         caches: &CachedBus,
-        size: u32,
+        machine: Machine,
         core: u32,
     ) -> Result<ShownCore, AllocError>
         requires core { core < (bus caches.now).shape.cores }
-        requires length { IsTrue (is_line_length size) }
-        ensures { IfOk result (λ shown. shown ≡ spec.held size caches.now core) }
+        requires machine { IsMachine machine }
+        requires ways { machine.ways ≤ (bus caches.now).geometry.ways }
+        ensures { IfOk result (λ shown. shown ≡ spec.held machine caches.now core) }
     {
         let orb = lines_of(alloc, caches.orb_at(core))?;
-        Ok(ShownCore {
-            ways: ways_of(caches, size, core),
-            orb,
-        })
+        let ways = ways_of(alloc, caches, machine, core)?;
+        Ok(ShownCore { ways, orb })
     }
 
-    /// Adds the text of each way of a core's cache and of its buffer that isn't as it was shown: now they hold this. Lines have this size.
+    /// Adds the text of each way of a core's cache and of its buffer that isn't as it was shown: now they hold this. The cache is one of
+    /// this machine.
     ///
     /// `AllocError`: memory ran out. Some of the text may be there.
     pub fn push_changes(
         &self,
         alloc: Global,
         text: &mut Vec<u8>,
-        size: u32,
+        machine: Machine,
         core: u32,
         now: &ShownCore,
     ) -> Result<(), AllocError>
-        requires { IsTrue (is_line_length size) }
-        ensures { OnOk result (text.new.items ≡ text.old.items ++ spec.changes size core self.now now.now) }
+        requires machine { IsMachine machine }
+        requires old { spec.place_count machine ≤ length self.now.ways }
+        requires now { spec.place_count machine ≤ length now.now.ways }
+        ensures { OnOk result (text.new.items ≡ text.old.items ++ spec.changes machine core self.now now.now) }
     {
-        push_way_changes(alloc, text, size, core, &self.ways, &now.ways)?;
+        push_way_changes(
+            alloc,
+            text,
+            machine,
+            core,
+            self.ways.as_slice(),
+            now.ways.as_slice(),
+        )?;
         push_orb_change(alloc, text, core, self.orb.as_slice(), now.orb.as_slice())
     }
 
@@ -75,9 +85,9 @@ impl ShownCore {
     /// `AllocError`: memory ran out. Some of the rows may be there.
     pub fn push_own_rows(&self, size: u32, rows: &mut BTreeSet<u32>) -> Result<(), AllocError>
         ensures kept { OnOk result (spec.HasRowsOf rows.old rows.new) }
-        ensures own { OnOk result ((place : ℕ) → place < 8 → spec.HasOwnRows size (slice_index_or self.now.ways place no_line) rows.new) }
+        ensures own { OnOk result ((place : ℕ) → place < length self.now.ways → spec.HasOwnRows size (slice_index_or self.now.ways place no_line) rows.new) }
     {
-        for line in &self.ways {
+        for line in self.ways.as_slice() {
             push_own_rows_of(size, line, rows)?;
         }
         Ok(())
@@ -94,28 +104,37 @@ fn push_own_rows_of(size: u32, line: &Line, rows: &mut BTreeSet<u32>) -> Result<
     }
     let row = line.addr / 16;
     rows.insert(row)?;
-    if size == 32 {
+    if size >= 32 {
         rows.insert(row + 1)?;
+    }
+    if size == 64 {
+        rows.insert(row + 2)?;
+        rows.insert(row + 3)?;
     }
     Ok(())
 }
 
-/// The lines in the ways of a core's cache.
-fn ways_of(caches: &CachedBus, size: u32, core: u32) -> [Line; PLACES]
+/// The lines in the ways of a core's cache, one of this machine.
+///
+/// `AllocError`: memory ran out.
+fn ways_of(
+    alloc: Global,
+    caches: &CachedBus,
+    machine: Machine,
+    core: u32,
+) -> Result<Vec<Line>, AllocError>
     requires core { core < (bus caches.now).shape.cores }
-    requires length { IsTrue (is_line_length size) }
-    ensures { result ≡ spec.ways_of size caches.now core }
+    requires machine { IsMachine machine }
+    requires ways { machine.ways ≤ (bus caches.now).geometry.ways }
+    ensures { IfOk result (λ lines. lines.items ≡ spec.lines_below machine caches.now core (spec.place_count machine)) }
 {
-    [
-        *caches.line_in(core, 0, 0),
-        *caches.line_in(core, 0, 1),
-        *caches.line_in(core, size, 0),
-        *caches.line_in(core, size, 1),
-        *caches.line_in(core, 2 * size, 0),
-        *caches.line_in(core, 2 * size, 1),
-        *caches.line_in(core, 3 * size, 0),
-        *caches.line_in(core, 3 * size, 1),
-    ]
+    let mut lines = Vec::new(alloc);
+    for place in 0..place_count(machine) {
+        let set = place as u32 / machine.ways;
+        let way = place % machine.ways as usize;
+        lines.push(*caches.line_in(core, set * machine.line_length, way))?;
+    }
+    Ok(lines)
 }
 
 /// The lines of a buffer, in its order.

@@ -41,18 +41,20 @@ fn add_touched(what: What, rows: &mut BTreeSet<u32>) -> Result<(), AllocError>
     ensures { OnOk result (spec.Adds rows.old rows.new (λ row. spec.touches_in row what)) }
 {
     match what {
-        What::Load { addr, .. } | What::Store { addr, .. } => add_pair(addr / 32, rows),
+        What::Load { addr, .. } | What::Store { addr, .. } => add_block(addr / 64, rows),
         _ => Ok(()),
     }
 }
 
-/// Adds both rows of 32 aligned bytes, which are counted from 0.
-fn add_pair(pair: u32, rows: &mut BTreeSet<u32>) -> Result<(), AllocError>
-    requires { pair < 2 ^ 27 }
-    ensures { OnOk result (spec.Adds rows.old rows.new (λ row. pair == row / 2)) }
+/// Adds the four rows of 64 aligned bytes, which are counted from 0.
+fn add_block(block: u32, rows: &mut BTreeSet<u32>) -> Result<(), AllocError>
+    requires { block < 2 ^ 26 }
+    ensures { OnOk result (spec.Adds rows.old rows.new (λ row. block == row / 4)) }
 {
-    add_row(2 * pair, rows)?;
-    add_row(2 * pair + 1, rows)
+    add_row(4 * block, rows)?;
+    add_row(4 * block + 1, rows)?;
+    add_row(4 * block + 2, rows)?;
+    add_row(4 * block + 3, rows)
 }
 
 /// Adds the rows in which the entries store.

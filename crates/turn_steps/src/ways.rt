@@ -1,37 +1,47 @@
 //! The ways of a cache.
-ghost use Rattle.std.specs.Prelude.{◌≡◌, ◌++◌, true, IfOk, OnOk, IsTrue};
-ghost use Rattle.cache_lines.specs.Lines.{is_line_length};
+ghost use Rattle.std.specs.Prelude.{◌≡◌, ◌*◌, ◌++◌, ◌≤◌, true, length, IfOk, OnOk, IsTrue};
+ghost use Rattle.rv32_image.specs.Machine.{IsMachine, is_line_length};
+ghost use Rattle.turn_steps.specs.Caches.{place_count};
 ghost use Rattle.turn_steps.specs.Places as spec;
 
 use crate::changed::push_changed;
 use crate::names::{loaded_word, state_name};
-use cache_lines::{Line, SETS, WAYS};
+use cache_lines::Line;
+use rv32_exec::Machine;
+use spec_states::LONGEST_LINE;
 use std::alloc::{AllocError, Global};
 use trace_text::{push_hex, push_number};
 
-/// How many lines a cache has.
-pub(crate) const PLACES: usize = SETS * WAYS;
+/// How many lines a cache of this machine has.
+pub(crate) fn place_count(machine: Machine) -> usize
+    requires { IsMachine machine }
+    ensures { result ≡ place_count machine }
+{
+    machine.sets as usize * machine.ways as usize
+}
 
 /// Adds a line of text for each way of a core's cache whose text isn't as it was, set by set, and in a set way by way. Before there
-/// were the old lines, of 16 or 32 bytes; now there are the new ones.
+/// were the old lines, of a machine; now there are the new ones.
 ///
 /// `AllocError`: memory ran out. Some of the text may be there.
 pub fn push_way_changes(
     alloc: Global,
     text: &mut Vec<u8>,
-    size: u32,
+    machine: Machine,
     core: u32,
-    old: &[Line; PLACES],
-    now: &[Line; PLACES],
+    old: &[Line],
+    now: &[Line],
 ) -> Result<(), AllocError>
-    requires size { IsTrue (is_line_length size) }
-    ensures { OnOk result (text.new.items ≡ text.old.items ++ spec.way_changes size core old.now now.now 8) }
+    requires machine { IsMachine machine }
+    requires old { place_count machine ≤ length old.now }
+    requires now { place_count machine ≤ length now.now }
+    ensures { OnOk result (text.new.items ≡ text.old.items ++ spec.way_changes machine core old.now now.now (place_count machine)) }
 {
-    for place in 0..PLACES {
+    for place in 0..place_count(machine) {
         push_way_change(
             alloc,
             text,
-            size,
+            machine,
             core,
             place as u32,
             &old[place],
@@ -45,20 +55,21 @@ pub fn push_way_changes(
 fn push_way_change(
     alloc: Global,
     text: &mut Vec<u8>,
-    size: u32,
+    machine: Machine,
     core: u32,
     place: u32,
     old: &Line,
     now: &Line,
 ) -> Result<(), AllocError>
-    requires size { IsTrue (is_line_length size) }
-    ensures { OnOk result (text.new.items ≡ text.old.items ++ spec.changed (spec.way_line size core place old.now) (spec.way_line size core place now.now)) }
+    requires { IsMachine machine }
+    ensures { OnOk result (text.new.items
+        ≡ text.old.items ++ spec.changed (spec.way_line machine core place old.now) (spec.way_line machine core place now.now)) }
 {
     if is_same(old, now) {
         return Ok(());
     }
-    let before = way_line(alloc, size, core, place, old)?;
-    let after = way_line(alloc, size, core, place, now)?;
+    let before = way_line(alloc, machine, core, place, old)?;
+    let after = way_line(alloc, machine, core, place, now)?;
     push_changed(text, before.as_slice(), after.as_slice())
 }
 
@@ -72,18 +83,18 @@ fn is_same(old: &Line, now: &Line) -> bool
 #[tactic(auto, unfolding(crate::specs::Places::way_line))]
 fn way_line(
     alloc: Global,
-    size: u32,
+    machine: Machine,
     core: u32,
     place: u32,
     line: &Line,
 ) -> Result<Vec<u8>, AllocError>
-    requires size { IsTrue (is_line_length size) }
-    ensures { IfOk result (λ text. text.items ≡ spec.way_line size core place line.now) }
+    requires { IsMachine machine }
+    ensures { IfOk result (λ text. text.items ≡ spec.way_line machine core place line.now) }
 {
     let mut text = Vec::from_slice(alloc, b"line ")?;
-    push_place(&mut text, core, place)?;
+    push_place(&mut text, machine.ways, core, place)?;
     if line.state.is_valid() {
-        push_copy(&mut text, size, line)?;
+        push_copy(&mut text, machine.line_length, line)?;
     } else {
         text.extend_from_slice(b"-")?;
     }
@@ -91,15 +102,16 @@ fn way_line(
     Ok(text)
 }
 
-/// Adds the core, the set and the way of a place.
-fn push_place(text: &mut Vec<u8>, core: u32, place: u32) -> Result<(), AllocError>
-    ensures { OnOk result (text.new.items ≡ text.old.items ++ spec.place_text core place) }
+/// Adds the core, the set and the way of a place, in a cache of sets of so many ways.
+fn push_place(text: &mut Vec<u8>, ways: u32, core: u32, place: u32) -> Result<(), AllocError>
+    requires { 1 ≤ ways }
+    ensures { OnOk result (text.new.items ≡ text.old.items ++ spec.place_text ways core place) }
 {
     push_number(text, core)?;
     text.extend_from_slice(b" ")?;
-    push_number(text, place / 2)?;
+    push_number(text, place / ways)?;
     text.extend_from_slice(b" ")?;
-    push_number(text, place % 2)?;
+    push_number(text, place % ways)?;
     text.extend_from_slice(b" ")
 }
 
@@ -114,9 +126,20 @@ fn push_copy(text: &mut Vec<u8>, size: u32, line: &Line) -> Result<(), AllocErro
     text.extend_from_slice(b" ")?;
     text.extend_from_slice(loaded_word(line.marks.loaded).as_bytes())?;
     text.extend_from_slice(b" ")?;
-    push_hex(text, &line.marks.bytes.to_be_bytes())?;
+    push_mask(text, size, line.marks.bytes)?;
     text.extend_from_slice(b" ")?;
     push_bytes(text, size, line)
+}
+
+/// Adds the mask of a line of so many bytes.
+fn push_mask(text: &mut Vec<u8>, size: u32, mask: u64) -> Result<(), AllocError>
+    ensures { OnOk result (text.new.items ≡ text.old.items ++ spec.mask_text size mask) }
+{
+    if size <= 32 {
+        push_hex(text, &((mask % 0x1_0000_0000) as u32).to_be_bytes())
+    } else {
+        push_hex(text, &mask.to_be_bytes())
+    }
 }
 
 /// Adds the bytes of a line.
@@ -124,6 +147,8 @@ fn push_bytes(text: &mut Vec<u8>, size: u32, line: &Line) -> Result<(), AllocErr
     requires size { IsTrue (is_line_length size) }
     ensures { OnOk result (text.new.items ≡ text.old.items ++ spec.bytes_text size line.now.cells) }
 {
-    push_hex(text, &line.cells[..16])?;
-    push_hex(text, &line.cells[16..size as usize])
+    let mut digits = [0; 2 * LONGEST_LINE];
+    let digits = &mut digits[..2 * size as usize];
+    hex::encode_to_slice(&line.cells[..size as usize], digits).unwrap();
+    text.extend_from_slice(digits)
 }

@@ -48,12 +48,12 @@ looks_alike old new same k = elim (cases_lt k (length old)) [
 ]
 
 abbrev pub with_states : PlainView → List CoreState → ℕ → PlainView
-with_states p states budget = record { code = p.code; limits = p.limits; committed = p.committed; states = states; budget = budget }
+with_states p states budget = record { code = p.code; machine = p.machine; committed = p.committed; states = states; budget = budget }
 
 pub same_view : (p : PlainView) (states : List CoreState) (budget : ℕ) → AreSame p.states states → IsSameView (store_view p) (store_view (with_states p states budget))
 same_view p states budget same =
     let alike = looks_alike p.states states same in record {
-      shape = shape_same p (with_states p states budget) (record { code = refl; limits = refl; committed = refl; states = same.long });
+      shape = shape_same p (with_states p states budget) (record { code = refl; machine = refl; committed = refl; states = same.long });
       cached = refl;
       committed = λ a. refl;
       cores = λ k. record {

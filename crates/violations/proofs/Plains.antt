@@ -78,15 +78,15 @@ none_hurt p q by hurt none same committed = record {
 -- it is made for the same
 pub record IsAlike (p q : PlainView) : Type 0 where
   pub code : q.code ≡ p.code
-  pub limits : q.limits ≡ p.limits
+  pub machine : q.machine ≡ p.machine
   pub committed : length q.committed ≡ length p.committed
   pub states : length q.states ≡ length p.states
 
 abbrev shape_in : PlainView → Shape
-shape_in p = record { cores = length p.states; size = length p.committed; code = p.code; limits = p.limits }
+shape_in p = record { cores = length p.states; size = length p.committed; code = p.code; machine = p.machine }
 
 pub shape_same : (p q : PlainView) → IsAlike p q → shape_in q ≡ shape_in p
-shape_same p q alike = let code = alike.code in let limits = alike.limits in let committed = alike.committed in let states = alike.states in cc
+shape_same p q alike = let code = alike.code in let machine = alike.machine in let committed = alike.committed in let states = alike.states in cc
 
 -- ---- what every store keeps
 
@@ -124,10 +124,10 @@ came_same p k x now same at = record { was = now; is = sym (ap attempt_in same) 
 -- ---- one state changes
 
 abbrev pub with_state : PlainView → List ℕ → ℕ → CoreState → ℕ → PlainView
-with_state p committed by state budget = record { code = p.code; limits = p.limits; committed = committed; states = set p.states by state; budget = budget }
+with_state p committed by state budget = record { code = p.code; machine = p.machine; committed = committed; states = set p.states by state; budget = budget }
 
 pub alike_state : (p : PlainView) (committed : List ℕ) (by : ℕ) (state : CoreState) (budget : ℕ) → length committed ≡ length p.committed → IsAlike p (with_state p committed by state budget)
-alike_state p committed by state budget same = record { code = refl; limits = refl; committed = same; states = length-set p.states by state }
+alike_state p committed by state budget same = record { code = refl; machine = refl; committed = same; states = length-set p.states by state }
 
 pub fit_state : (p : PlainView) (by : ℕ) (state : CoreState) (budget : ℕ) → by < length p.states → budget ≤ p.budget → IsWithin (length p.committed) state
     → (1 ≤ budget → HasRoom (length p.committed) budget state) → IsFit p → IsFit (with_state p p.committed by state budget)

@@ -146,7 +146,7 @@ published_quiet p by hurt states state' settled dropped below keeps k = elim (ca
 ]
 
 abbrev pub published_view : PlainView → List ℕ → List CoreState → ℕ → CoreState → PlainView
-published_view p committed states by state' = record { code = p.code; limits = p.limits; committed = committed; states = set states by state'; budget = p.budget }
+published_view p committed states by state' = record { code = p.code; machine = p.machine; committed = committed; states = set states by state'; budget = p.budget }
 
 pub published_settled : (p : PlainView) (by : ℕ) (hurt : ℕ → Bool) (committed : List ℕ) (states : List CoreState) (state state' : CoreState) → IsSettled (store_view p) → (may : MayPublish (store_view p) by)
     → AreDropped hurt p.states states → slice_get p.states by ≡ Some state → state'.attempt ≡ option_map straightened state.attempt → KeepsNothing state'
@@ -160,7 +160,7 @@ published_settled p by hurt committed states state state' settled may dropped th
 -- cores that were within memory and had room, and are within it and have room still
 changed_fit : (p : PlainView) (committed : List ℕ) (states : List CoreState) → IsFit p → length committed ≡ length p.committed → length states ≡ length p.states
     → AreWithin (length p.committed) states → (1 ≤ p.budget → HaveRoom (length p.committed) p.budget states)
-    → IsFit (record { code = p.code; limits = p.limits; committed = committed; states = states; budget = p.budget })
+    → IsFit (record { code = p.code; machine = p.machine; committed = committed; states = states; budget = p.budget })
 changed_fit p committed states fit long count within room = record {
   least = omega (arith, fit.least, long);
   small = omega (arith, fit.small, long);
@@ -189,7 +189,7 @@ publishes p by hurt committed states state state' settled may readers dropped th
     let violates = owned_readers p by hurt state settled readers there in
     let gone : (k : ℕ) → hurt k ≡ true → attempt_in (slice_get q.states k) ≡ None = λ k hurt_k.
     ap attempt_in (get_set_other states by k state' (apart_from hurt by k readers.others hurt_k)) ∙ (out_at hurt p.states states dropped k hurt_k).attempt in record {
-      shape = shape_same p q (record { code = refl; limits = refl; committed = long; states = length-set states by state' ∙ dropped.long });
+      shape = shape_same p q (record { code = refl; machine = refl; committed = long; states = length-set states by state' ∙ dropped.long });
       cached = refl;
       others = hurts_of p q by may.epoch false (bytes_in state.own.cells) hurt settled readers may.is (first_after p by settled may) gone
           (λ k other unhurt. get_set_other states by k state' other ∙ dropped.kept k unhurt)
@@ -203,7 +203,7 @@ publishes p by hurt committed states state state' settled may readers dropped th
 -- ---- a straight store
 
 abbrev pub stored_view : PlainView → List ℕ → List CoreState → PlainView
-stored_view p committed states = record { code = p.code; limits = p.limits; committed = committed; states = states; budget = p.budget }
+stored_view p committed states = record { code = p.code; machine = p.machine; committed = committed; states = states; budget = p.budget }
 
 pub stored_settled : (p : PlainView) (hurt : ℕ → Bool) (committed : List ℕ) (states : List CoreState) → IsSettled (store_view p) → AreDropped hurt p.states states
     → IsSettled (store_view (stored_view p committed states))
@@ -227,7 +227,7 @@ pub stores_straight : (p : PlainView) (by address width value : ℕ) (hurt : ℕ
 stores_straight p by address width value hurt committed states settled runs readers dropped long writes =
     let q = stored_view p committed states in
     let violates = violates_readers p by (is_accessed address width) hurt settled readers in record {
-      shape = shape_same p q (record { code = refl; limits = refl; committed = long; states = dropped.long });
+      shape = shape_same p q (record { code = refl; machine = refl; committed = long; states = dropped.long });
       cached = refl;
       others = hurts_of p q by runs.epoch true (is_accessed address width) hurt settled readers runs.is (λ k x other at. settled.straight_first by k (attempt_of runs.epoch true) x runs.is refl at other)
           (λ k hurt_k. (out_at hurt p.states states dropped k hurt_k).attempt)

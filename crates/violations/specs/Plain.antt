@@ -2,7 +2,7 @@
 use Rattle.std.specs.Prelude.{◌≡◌, ◌≢◌, ℕ, true, false, ◌≤◌, ◌&&◌, ◌||◌, not, Bool, List, length, Option, Some, None, is_some, slice_get, slice_index}
 use Rattle.memory_bytes.specs.Maps.{over}
 use Rattle.memory_bytes.specs.Shadow.{byte_in}
-use Rattle.rv32_image.specs.declared.version.Limits.{Limits}
+use Rattle.rv32_image.specs.declared.machine.Machine.{Machine}
 use Rattle.violations.specs.declared.attempt.Attempt.{Attempt}
 use Rattle.violations.specs.declared.core_state.CoreState.{CoreState}
 use Rattle.violations.specs.View.{StoreView, Runs, IsSettled, is_accessed}
@@ -14,7 +14,7 @@ use Rattle.violations.specs.CoreState.{AreWithin, HaveRoom}
 -- what contracts see of it
 pub record PlainView : Type 0 where
   pub code : ℕ
-  pub limits : Limits
+  pub machine : Machine
   pub committed : List ℕ
   pub states : List CoreState
   pub budget : ℕ
@@ -33,7 +33,7 @@ guarded_in (Some state) a = byte_in state.guarded.cells a
 
 abbrev pub store_view : PlainView → StoreView
 store_view p = record {
-  shape = record { cores = length p.states; size = length p.committed; code = p.code; limits = p.limits };
+  shape = record { cores = length p.states; size = length p.committed; code = p.code; machine = p.machine };
   cached = false;
   committed = λ a. slice_index p.committed a;
   attempt = λ k. attempt_in (slice_get p.states k);

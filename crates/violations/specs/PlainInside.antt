@@ -5,7 +5,7 @@ use Rattle.violations.specs.Plain.{PlainView, IsFit, store_view}
 use Rattle.violations.specs.View.{IsSettled}
 
 abbrev pub view_of : Inside → PlainView
-view_of i = record { code = i.code; limits = i.limits; committed = i.committed.items; states = i.states.items; budget = i.budget }
+view_of i = record { code = i.code; machine = i.machine; committed = i.committed.items; states = i.states.items; budget = i.budget }
 
 pub record IsPlain (i : Inside) : Type 0 where
   pub size : i.size ≡ length i.committed.items

@@ -19,7 +19,7 @@ pub record IsCoreCount (image : LoadedImage) (cores : ℕ) : Type 0 where
   pub most : cores ≤ (limits_of image.version).most_cores
 
 abbrev pub shape_of : LoadedImage → ℕ → Shape
-shape_of image cores = record { cores = cores; size = image.size; code = image.code; limits = limits_of image.version }
+shape_of image cores = record { cores = cores; size = image.size; code = image.code; machine = image.machine }
 
 -- the image's memory, and no attempts
 pub record IsFresh (image : LoadedImage) (cores : ℕ) (v : StoreView) : Type 0 where
@@ -85,7 +85,7 @@ pub record IsCrowded (v : StoreView) (core address : ℕ) : Type 0 where
   pub cached : v.cached ≡ true
   pub here : OwnsIn v core (line_of v.shape address)
   pub others : List ℕ
-  pub full : v.shape.limits.buffer_lines ≤ length others
+  pub full : v.shape.machine.buffer_lines ≤ length others
   pub apart : AreApart others
   pub each : All (λ line. (line ≢ line_of v.shape address) × OwnsIn v core line) others
 

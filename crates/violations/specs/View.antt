@@ -4,21 +4,21 @@
 -- Thread-Level Speculation", ISCA 2000; what a core sees, owns and guards is this project's.
 use Rattle.std.specs.Prelude.{◌≡◌, ◌≢◌, ℕ, ◌+◌, ◌*◌, ◌/◌, ◌%◌, ◌^◌, ◌<◌, ◌≤◌, ◌&&◌, Bool, true, false, List, length, slice_index, Option, Some, None, nat_le, nat_lt}
 use Rattle.memory_bytes.specs.Bytes.{IsWidth}
-use Rattle.rv32_image.specs.declared.version.Limits.{Limits}
+use Rattle.rv32_image.specs.declared.machine.Machine.{Machine}
 use Rattle.violations.specs.declared.attempt.Attempt.{Attempt}
 use Rattle.violations.specs.declared.step.WaitCause.{WaitCause}
 
 -- what a store is made for, and never changes: so many cores, bytes of memory, bytes of code, which lies from address 0 on, and
--- the limits of the image's version
+-- the machine that runs the image
 pub record Shape : Type 0 where
   pub cores : ℕ
   pub size : ℕ
   pub code : ℕ
-  pub limits : Limits
+  pub machine : Machine
 
 -- the line of memory in which a byte lies, by the address of its first byte
 abbrev pub line_of : Shape → ℕ → ℕ
-line_of shape a = shape.limits.line_length * (a / shape.limits.line_length)
+line_of shape a = shape.machine.line_length * (a / shape.machine.line_length)
 
 pub record StoreView : Type 0 where
   pub shape : Shape

@@ -15,7 +15,7 @@ use crate::core_states::{
 };
 use crate::step::Step;
 use crate::store::EpochStore;
-use rv32_image::{Image, Limits, NoMemory};
+use rv32_image::{Image, Machine, NoMemory};
 use std::alloc::{AllocError, Global};
 use std::marker::Model;
 
@@ -34,7 +34,7 @@ const MOST_ACCESSES: u32 = 64;
 pub struct PlainStore {
     size: u32,
     code: u32,
-    limits: Limits,
+    machine: Machine,
     committed: Vec<u8>,
     states: Vec<CoreState>,
     budget: u32,
@@ -121,7 +121,7 @@ impl EpochStore for PlainStore {
         Ok(PlainStore {
             size: image.size(),
             code: image.code(),
-            limits: image.version().limits(),
+            machine: image.machine(),
             committed,
             states,
             budget: 0,

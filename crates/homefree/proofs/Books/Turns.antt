@@ -321,7 +321,7 @@ book_acts {S} {waits} view r q new store reserved after room core cause shares s
     let meets : (view reserved).cached ≡ false → MeetInBytes q.image (length q.running.items) q.history.items =
     λ alone. rw (same.image, same.running, same.history) (b.meets (sym seen.cached ∙ alone)) in
     let kind = acts_kind here (view reserved) (view after) (does a.entries answer) acted in
-    let known = acts_known (IsOfCaches view) (turn_of q waits f.state core next) (view reserved) (view after) (does a.entries answer) still kept f.agrees f.is_image.size_allowed.lines f.shape settled (λ caches. caches reserved) acted in
+    let known = acts_known (IsOfCaches view) (turn_of q waits f.state core next) (view reserved) (view after) (does a.entries answer) still kept f.agrees f.is_image.machine_allowed f.shape settled (λ caches. caches reserved) acted in
     let all = grown_explained ((view reserved).cached ≡ false) (IsOfCaches view) q.image count q.history.items a.entries f.state a.fits.state
     (explained ((view reserved).cached ≡ false) q.image count q.history.items kinds meets) f.replays goes known in record {
       fits = a.fits;

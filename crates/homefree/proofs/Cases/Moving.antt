@@ -1,12 +1,19 @@
 -- The calls of the store that a turn makes.
 use Rattle.std.proofs.Common.{◌≡◌, ◌≢◌, ℕ, suc, ◌+◌, ◌==◌, ◌&&◌, not, Bool, true, false, List, [], ◌∷◌, ◌++◌, length, Option, Some, Result, Ok, is_some, if◌then◌else◌, refl, sym, ap, subst, ◌∙◌, arith, ne_eqb, eq-eqb, true≢false}
 use Rattle.rv32_image.proofs.SmallFacts.{one_value}
+use Rattle.rv32_image.specs.Image.{LoadedImage}
+use Rattle.rv32_exec.specs.declared.stop.Stop.{Stop}
+use Rattle.rv32_exec.specs.declared.stop.Stop.TheVariants as stop
 use Rattle.rv32_exec.specs.Arrival.{Arrival}
+use Rattle.rv32_exec.specs.Hart.{HartState}
+use Rattle.rv32_exec.specs.NextEvent.{next_event}
 use Rattle.run_ledger.specs.declared.counts.Counts.{Counts}
 use Rattle.spec_history.specs.FlatState.{FlatState}
 use Rattle.spec_history.specs.Replay.{replay}
 use Rattle.violations.specs.View.{StoreView, Waits}
-use Rattle.violations.specs.Calls.{Call, Reserve, Cancel, Leads}
+use Rattle.violations.specs.declared.attempt.Attempt.{Attempt}
+use Rattle.violations.specs.Calls.{Call, Reserve, Load, Store, StraightLoad, StraightStore, Cancel, Leads}
+use Rattle.homefree.specs.Arms.{running_by}
 use Rattle.homefree.specs.declared.answer.Answer.{Answer}
 use Rattle.homefree.specs.declared.answer.StopCause.{StopCause}
 use Rattle.homefree.specs.declared.fault.TurnFault.{TurnFault}
@@ -16,7 +23,7 @@ use Rattle.homefree.specs.BookInside.{IsAsBefore, book_of}
 use Rattle.homefree.specs.BookView.{BookView, ReplaysTo}
 use Rattle.homefree.specs.Fixed.{TurnsStore}
 use Rattle.homefree.specs.Kept.{Fits, Shows, running_at}
-use Rattle.homefree.specs.Moves.{Moves, TurnMoves, StoreMoves, Standing, standing_of, IsHanded, cancel_calls}
+use Rattle.homefree.specs.Moves.{Moves, TurnMoves, StoreMoves, Standing, standing_of, IsHanded, access_calls, calls_of, cancel_calls, exits_of, is_exit, stop_calls}
 use Rattle.homefree.specs.Standing.{standing}
 use Rattle.homefree.specs.Turned.{IsStale, MayAct, Turned, turn_at}
 
@@ -49,6 +56,40 @@ moves_told {S} makes view t s r runs unhurt stale = record {
     rest = rw (runs, unhurt) refl;
   };
 }
+
+-- ---- a core that hands in its next event
+
+-- a speculative load
+pub moves_load : {S : Type 0} (makes : S → Call → S → Type 0) (view : S → StoreView) (image : LoadedImage) (waits : Waits) (homefree count core : ℕ) (r : Running) (now : HartState) (at : Stop)
+    (address width : ℕ) (signed : Bool) (rd : ℕ) (s u : S) → at ≡ stop.Load address width signed rd → r.straight ≡ false
+    → Leads makes (access_calls false (is_some (waits.load core address width) && (r.epoch == homefree)) core (Load core address width) (StraightLoad core address width)) s u
+    → Moves makes view (stop_calls image waits homefree core r now at) (is_exit image homefree r now at) count core s u
+moves_load makes view image waits homefree count core r now at address width signed rd s u is speculates leads =
+    subst (λ a. Moves makes view (stop_calls image waits homefree core r now a) (is_exit image homefree r now a) count core s u) (sym is)
+    (record { mid = u; leads = rw speculates leads; rest = refl })
+
+-- a speculative store
+pub moves_store : {S : Type 0} (makes : S → Call → S → Type 0) (view : S → StoreView) (image : LoadedImage) (waits : Waits) (homefree count core : ℕ) (r : Running) (now : HartState) (at : Stop)
+    (address width value : ℕ) (s u : S) → at ≡ stop.Store address width value → r.straight ≡ false
+    → Leads makes (access_calls false (is_some (waits.store core address width) && (r.epoch == homefree)) core (Store core address width value) (StraightStore core address width value)) s u
+    → Moves makes view (stop_calls image waits homefree core r now at) (is_exit image homefree r now at) count core s u
+moves_store makes view image waits homefree count core r now at address width value s u is speculates leads =
+    subst (λ a. Moves makes view (stop_calls image waits homefree core r now a) (is_exit image homefree r now a) count core s u) (sym is)
+    (record { mid = u; leads = rw speculates leads; rest = refl })
+
+-- the turn of such a core
+pub moves_run : {S : Type 0} (makes : S → Call → S → Type 0) (view : S → StoreView) (t : Standing) (attempt : Attempt) (a : Arrival) (s u : S) → t.running ≡ Some (running_by attempt a.base)
+    → t.next ≡ Some a → a.now ≡ (next_event t.image a.base).now → a.at ≡ (next_event t.image a.base).at
+    → Moves makes view (stop_calls t.image t.waits t.homefree t.core (running_by attempt a.base) a.now a.at) (is_exit t.image t.homefree (running_by attempt a.base) a.now a.at) t.count t.core s u
+    → TurnMoves makes view t s u
+moves_run makes view t attempt a s u runs handed hart event moves =
+    let r = running_by attempt a.base in record {
+      handed = true;
+      is_handed = rw (runs, handed) refl;
+      moves = subst (λ o. Moves makes view (calls_of t o true) (exits_of t o true) t.count t.core s u) (sym runs)
+          (subst (λ h. Moves makes view (stop_calls t.image t.waits t.homefree t.core r h (next_event t.image a.base).at) (is_exit t.image t.homefree r h (next_event t.image a.base).at) t.count t.core s u) hart
+          (subst (λ e. Moves makes view (stop_calls t.image t.waits t.homefree t.core r a.now e) (is_exit t.image t.homefree r a.now e) t.count t.core s u) event moves));
+    }
 
 -- ---- the attempts that an exit cancels
 

@@ -4,6 +4,7 @@ use Rattle.std.proofs.lemmas.Bool.{eq-eqb}
 use Rattle.std.proofs.lemmas.List.{append_assoc}
 use Rattle.memory_bytes.specs.Bytes.{IsWidth}
 use Rattle.rv32_image.specs.Image.{LoadedImage}
+use Rattle.rv32_image.specs.Machine.{IsMachineFor}
 use Rattle.rv32_exec.specs.declared.stop.Stop.TheVariants as stop
 use Rattle.rv32_exec.specs.Execute.{IsStopOf}
 use Rattle.rv32_exec.specs.NextEvent.{next_event}
@@ -109,7 +110,7 @@ commit_within C image t u by within passes holds k missed =
 -- ---- the turns
 
 module _ (C : Type 0) (t : Turn) (v w : StoreView) (out : Outcome) (going : t.state.end ≡ None) (kept : IsKept t.image t.cores t.state) (agrees : Agrees t.state v)
-    (whole : t.image.size % line_length t.image ≡ 0) (shape : v.shape ≡ shape_of t.image t.cores) (settled : IsSettled v) (cached : C → v.cached ≡ true) where
+    (fits : IsMachineFor t.image.size t.image.machine) (shape : v.shape ≡ shape_of t.image t.cores) (settled : IsSettled v) (cached : C → v.cached ≡ true) where
   abbrev Known : List Entry → Type 0
   Known entries = AllKnown (v.cached ≡ false) C t.image t.state entries
 
@@ -128,9 +129,9 @@ module _ (C : Type 0) (t : Turn) (v w : StoreView) (out : Outcome) (going : t.st
       let is = x.comes.is_at in
       let act : What = Load x.address x.width x.value in
       outcome (v.cached ≡ false) C t.image t.state out _ _ x.out_is
-      (first_batch C t.image t.cores t.state v t.core x.core going kept agrees is.runs is.unhurt whole shape settled cached w x.hurt act (entry_of t act) x.store.others
+      (first_batch C t.image t.cores t.state v t.core x.core going kept agrees is.runs is.unhurt fits shape settled cached w x.hurt act (entry_of t act) x.store.others
       (rw (eq-eqb t.core t.core refl) refl)
-      (λ u j k q hurts first f. loads_known C t.image t.cores t.state v t.core x.core going kept agrees is.runs is.unhurt whole shape settled cached v u j k x.address x.width x.value q f (x.store.crowded j hurts))
+      (λ u j k q hurts first f. loads_known C t.image t.cores t.state v t.core x.core going kept agrees is.runs is.unhurt fits shape settled cached v u j k x.address x.width x.value q f (x.store.crowded j hurts))
       (λ u first. writing_none (v.cached ≡ false) C t.image t.core act u (λ epoch same. cc) (λ core a. refl)))
 
   stores_known_here : (x : turn.IsStore t v w out) → Known out.entries
@@ -139,67 +140,67 @@ module _ (C : Type 0) (t : Turn) (v w : StoreView) (out : Outcome) (going : t.st
       let act : What = Store x.address x.width x.value in
       let inside = store_inside x.core x.address x.width x.value is.event in
       outcome (v.cached ≡ false) C t.image t.state out _ _ x.out_is
-      (first_batch C t.image t.cores t.state v t.core x.core going kept agrees is.runs is.unhurt whole shape settled cached w x.hurt act (entry_of t act) x.store.others
+      (first_batch C t.image t.cores t.state v t.core x.core going kept agrees is.runs is.unhurt fits shape settled cached w x.hurt act (entry_of t act) x.store.others
       (rw (eq-eqb t.core t.core refl) refl)
-      (λ u j k q hurts first f. stores_known C t.image t.cores t.state v t.core x.core going kept agrees is.runs is.unhurt whole shape settled cached w x.hurt u j j k x.address x.width x.value q inside x.store hurts first f)
+      (λ u j k q hurts first f. stores_known C t.image t.cores t.state v t.core x.core going kept agrees is.runs is.unhurt fits shape settled cached w x.hurt u j j k x.address x.width x.value q inside x.store hurts first f)
       (λ u first. alone (v.cached ≡ false) C t.image t.core act u (λ epoch same. cc)
-      (store_passes C t.image t.cores t.state v t.core x.core going kept agrees is.runs is.unhurt whole shape settled cached w x.hurt u x.address x.width x.value x.comes.speculates x.store first)))
+      (store_passes C t.image t.cores t.state v t.core x.core going kept agrees is.runs is.unhurt fits shape settled cached w x.hurt u x.address x.width x.value x.comes.speculates x.store first)))
 
   straight_loads_known : (x : turn.IsStraightLoad t v w out) → Known out.entries
   straight_loads_known x =
       let is = x.comes.is_at in
       let act : What = Load x.address x.width x.value in
-      let victims = publishing C t.image t.cores t.state v t.core x.core going kept agrees is.runs is.unhurt whole shape settled cached x.between w x.first x.hurt x.core.straight x.comes.publishes x.store.others in
+      let victims = publishing C t.image t.cores t.state v t.core x.core going kept agrees is.runs is.unhurt fits shape settled cached x.between w x.first x.hurt x.core.straight x.comes.publishes x.store.others in
       outcome (v.cached ≡ false) C t.image t.state out _ _ x.out_is
-      (then_access C t.image t.cores t.state v t.core x.core going kept agrees is.runs is.unhurt whole shape settled cached x.between x.first x.hurt (hurts_of t x.hurt ++ entry_of t act) x.core.straight refl x.comes.publishes
-      (second_batch C t.image t.cores t.state v t.core x.core going kept agrees is.runs is.unhurt whole shape settled cached x.between w x.first x.hurt act (entry_of t act) victims x.store.others.not_itself
+      (then_access C t.image t.cores t.state v t.core x.core going kept agrees is.runs is.unhurt fits shape settled cached x.between x.first x.hurt (hurts_of t x.hurt ++ entry_of t act) x.core.straight refl x.comes.publishes
+      (second_batch C t.image t.cores t.state v t.core x.core going kept agrees is.runs is.unhurt fits shape settled cached x.between w x.first x.hurt act (entry_of t act) victims x.store.others.not_itself
       (rw (eq-eqb t.core t.core refl) refl)
-      (λ u j k q hurts second f. loads_known C t.image t.cores t.state v t.core x.core going kept agrees is.runs is.unhurt whole shape settled cached x.between u j k x.address x.width x.value q f (x.store.crowded j hurts))
+      (λ u j k q hurts second f. loads_known C t.image t.cores t.state v t.core x.core going kept agrees is.runs is.unhurt fits shape settled cached x.between u j k x.address x.width x.value q f (x.store.crowded j hurts))
       (λ u second. writing_none (v.cached ≡ false) C t.image t.core act u (λ epoch same. cc) (λ core a. refl))))
 
   straight_stores_known : (x : turn.IsStraightStore t v w out) → Known out.entries
   straight_stores_known x =
       let is = x.comes.is_at in
       let act : What = Store x.address x.width x.value in
-      let victims = publishing C t.image t.cores t.state v t.core x.core going kept agrees is.runs is.unhurt whole shape settled cached x.between w x.first x.hurt x.core.straight x.comes.publishes x.store.others in
+      let victims = publishing C t.image t.cores t.state v t.core x.core going kept agrees is.runs is.unhurt fits shape settled cached x.between w x.first x.hurt x.core.straight x.comes.publishes x.store.others in
       outcome (v.cached ≡ false) C t.image t.state out _ _ x.out_is
-      (then_access C t.image t.cores t.state v t.core x.core going kept agrees is.runs is.unhurt whole shape settled cached x.between x.first x.hurt (hurts_of t x.hurt ++ entry_of t act) x.core.straight refl x.comes.publishes
-      (second_batch C t.image t.cores t.state v t.core x.core going kept agrees is.runs is.unhurt whole shape settled cached x.between w x.first x.hurt act (entry_of t act) victims x.store.others.not_itself
+      (then_access C t.image t.cores t.state v t.core x.core going kept agrees is.runs is.unhurt fits shape settled cached x.between x.first x.hurt (hurts_of t x.hurt ++ entry_of t act) x.core.straight refl x.comes.publishes
+      (second_batch C t.image t.cores t.state v t.core x.core going kept agrees is.runs is.unhurt fits shape settled cached x.between w x.first x.hurt act (entry_of t act) victims x.store.others.not_itself
       (rw (eq-eqb t.core t.core refl) refl)
-      (λ u j k q hurts second f. straight_known C t.image t.cores t.state v t.core x.core going kept agrees is.runs is.unhurt whole shape settled cached x.first x.hurt x.between u j j k x.address x.width x.value q second f (x.store.meets j hurts))
+      (λ u j k q hurts second f. straight_known C t.image t.cores t.state v t.core x.core going kept agrees is.runs is.unhurt fits shape settled cached x.first x.hurt x.between u j j k x.address x.width x.value q second f (x.store.meets j hurts))
       (λ u second. alone (v.cached ≡ false) C t.image t.core act u (λ epoch same. cc)
-      (straight_passes C t.image t.cores t.state v t.core x.core going kept agrees is.runs is.unhurt whole shape settled cached x.between w x.first x.hurt u x.address x.width x.value x.core.straight x.comes.publishes x.store second))))
+      (straight_passes C t.image t.cores t.state v t.core x.core going kept agrees is.runs is.unhurt fits shape settled cached x.between w x.first x.hurt u x.address x.width x.value x.core.straight x.comes.publishes x.store second))))
 
   commits_known_here : (x : turn.IsCommit t v w out) → Known out.entries
   commits_known_here x =
       let is = x.comes.is_at in
       outcome (v.cached ≡ false) C t.image t.state out _ _ x.out_is
-      (commit_batch C t.image t.cores t.state v t.core x.core going kept agrees is.runs is.unhurt whole shape settled cached x.between x.hurt Commit (entry_of t Commit) x.core.straight x.comes.publishes
+      (commit_batch C t.image t.cores t.state v t.core x.core going kept agrees is.runs is.unhurt fits shape settled cached x.between x.hurt Commit (entry_of t Commit) x.core.straight x.comes.publishes
       (λ core a. refl) (λ core. refl) (λ a w n same. cc) (rw (eq-eqb t.core t.core refl) refl)
       (λ u first. alone (v.cached ≡ false) C t.image t.core Commit u (λ epoch same. cc)
-      (commit_passes C t.image t.cores t.state v t.core x.core going kept agrees is.runs is.unhurt whole shape settled cached x.between x.hurt u Commit x.core.straight refl x.comes.publishes (λ core a. refl) first)))
+      (commit_passes C t.image t.cores t.state v t.core x.core going kept agrees is.runs is.unhurt fits shape settled cached x.between x.hurt u Commit x.core.straight refl x.comes.publishes (λ core a. refl) first)))
 
   exits_known : (x : turn.IsExit t v w out) → Known out.entries
   exits_known x =
       let is = x.comes.is_at in
       let next_is : next_what t.core (entry_of t Commit) ≡ Some Commit = rw (eq-eqb t.core t.core refl) refl in
       outcome (v.cached ≡ false) C t.image t.state out _ _ x.out_is
-      (commit_batch C t.image t.cores t.state v t.core x.core going kept agrees is.runs is.unhurt whole shape settled cached x.between x.hurt Commit (cancels t.cores t.state t.core ++ entry_of t Commit) x.core.straight x.comes.publishes
+      (commit_batch C t.image t.cores t.state v t.core x.core going kept agrees is.runs is.unhurt fits shape settled cached x.between x.hurt Commit (cancels t.cores t.state t.core ++ entry_of t Commit) x.core.straight x.comes.publishes
       (λ core a. refl) (λ core. refl) (λ a w n same. cc) (cancelled_next t.core (is_other t.state.cores t.core) (epoch_on t.state.cores) t.cores (entry_of t Commit) Commit next_is)
       (λ u first. cancelled (v.cached ≡ false) C t.image u t.core (is_other t.state.cores t.core) (epoch_on t.state.cores) t.cores (entry_of t Commit) Commit next_is
       (λ y within. alone (v.cached ≡ false) C t.image t.core Commit y (λ epoch same. cc)
       (commit_within C t.image u y t.core within
-      (commit_passes C t.image t.cores t.state v t.core x.core going kept agrees is.runs is.unhurt whole shape settled cached x.between x.hurt u Commit x.core.straight refl x.comes.publishes (λ core a. refl) first)))))
+      (commit_passes C t.image t.cores t.state v t.core x.core going kept agrees is.runs is.unhurt fits shape settled cached x.between x.hurt u Commit x.core.straight refl x.comes.publishes (λ core a. refl) first)))))
 
   faults_known : (x : turn.IsFault t v w out) → Known out.entries
   faults_known x =
       let is = x.comes.is_at in
       let act : What = Fault x.cause x.pc in
       outcome (v.cached ≡ false) C t.image t.state out _ _ x.out_is
-      (commit_batch C t.image t.cores t.state v t.core x.core going kept agrees is.runs is.unhurt whole shape settled cached w x.hurt act (entry_of t act) x.core.straight x.comes.publishes
+      (commit_batch C t.image t.cores t.state v t.core x.core going kept agrees is.runs is.unhurt fits shape settled cached w x.hurt act (entry_of t act) x.core.straight x.comes.publishes
       (λ core a. refl) (λ core. refl) (λ a w n same. cc) (rw (eq-eqb t.core t.core refl) refl)
       (λ u first. alone (v.cached ≡ false) C t.image t.core act u (λ epoch same. cc)
-      (commit_passes C t.image t.cores t.state v t.core x.core going kept agrees is.runs is.unhurt whole shape settled cached w x.hurt u act x.core.straight refl x.comes.publishes (λ core a. refl) first)))
+      (commit_passes C t.image t.cores t.state v t.core x.core going kept agrees is.runs is.unhurt fits shape settled cached w x.hurt u act x.core.straight refl x.comes.publishes (λ core a. refl) first)))
 
   follows_known : Follows t v w out → Known out.entries
   follows_known (turn.loads x) = loads_known_here x

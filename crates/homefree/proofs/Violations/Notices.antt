@@ -5,7 +5,6 @@ use Rattle.std.proofs.lemmas.List.{append_assoc}
 use Rattle.std.proofs.lemmas.Option.{same_Some}
 use Rattle.memory_bytes.specs.Maps.{nothing}
 use Rattle.rv32_image.specs.Image.{LoadedImage}
-use Rattle.rv32_image.specs.Version.{limits_of}
 use Rattle.rv32_image.proofs.SmallFacts.{one_value}
 use Rattle.spec_history.specs.declared.entry.Entry.{Entry}
 use Rattle.spec_history.specs.declared.entry.What.{What}
@@ -31,8 +30,8 @@ no_line n test none = all_fail n test (λ k below. none k)
 pub writes_none : (C : Type 0) (image : LoadedImage) (s : FlatState) (e : Entry) → ((a : ℕ) → written (s.cores e.by) e.what a ≡ None) → PassedHere C image s e
 writes_none C image s e none holds k missed =
     absurd (true≢false (sym missed.reads ∙ and_right (is_some (read_bytes (s.cores k) missed.at)) _
-    (no_line (limits_of image.version).line_length (λ x. is_some (written (s.cores e.by) e.what (line_number image missed.at * (limits_of image.version).line_length + x)))
-    (λ x. ap (λ o. is_some o) (none (line_number image missed.at * (limits_of image.version).line_length + x))))))
+    (no_line image.machine.line_length (λ x. is_some (written (s.cores e.by) e.what (line_number image missed.at * image.machine.line_length + x)))
+    (λ x. ap (λ o. is_some o) (none (line_number image missed.at * image.machine.line_length + x))))))
 
 notice_writes : (core : Option CoreState) (what : What) (a : ℕ) → is_notice what ≡ true → written core what a ≡ None
 notice_writes core (Hurt epoch) a is = refl

@@ -4,10 +4,8 @@ use Rattle.std.specs.List.{list_any}
 use Rattle.std.proofs.lemmas.Bool.{cases_eq, and_from, or_left, or_right}
 use Rattle.std.proofs.lemmas.List.Elements.{All-nil, All-cons, All-head, All-tail, All-weaker}
 use Rattle.rv32_image.specs.Image.{LoadedImage}
-use Rattle.rv32_image.specs.Version.{limits_of}
-use Rattle.rv32_image.specs.declared.version.Version.{Version}
-use Rattle.rv32_image.specs.declared.version.Version.TheVariants.{One, Two}
-use Rattle.rv32_image.proofs.Bounds.{place_in, number_below}
+use Rattle.rv32_image.specs.Machine.{IsMachineFor}
+use Rattle.rv32_image.proofs.Bounds.{place_in, number_below, byte_in_line, same_number, line_below}
 use Rattle.spec_history.specs.declared.entry.What.{What}
 use Rattle.spec_history.specs.declared.entry.What.TheVariants.{Load, Store}
 use Rattle.spec_history.specs.FlatState.{CoreState}
@@ -24,7 +22,7 @@ use Rattle.violations.specs.Rule.{OwnsIn, AreApart, IsCrowded, shape_of}
 use Rattle.homefree.specs.Agrees.{HasReadIn}
 
 abbrev pub line_length : LoadedImage → ℕ
-line_length image = (limits_of image.version).line_length
+line_length image = image.machine.line_length
 
 -- ---- a kind
 
@@ -41,43 +39,27 @@ kind_is image m cause is =
 
 -- ---- lines
 
--- the byte stands at its place in the line of another byte that lies there
-in_line : (v : Version) (a b : ℕ) → b / (limits_of v).line_length ≡ a / (limits_of v).line_length
-    → b / (limits_of v).line_length * (limits_of v).line_length + a % (limits_of v).line_length ≡ a
-in_line One a b same = omega (arith, same)
-in_line Two a b same = omega (arith, same)
-
--- lines by their first bytes, and by their numbers
-same_number : (v : Version) (a b : ℕ) → (limits_of v).line_length * (a / (limits_of v).line_length) ≡ (limits_of v).line_length * (b / (limits_of v).line_length)
-    → a / (limits_of v).line_length ≡ b / (limits_of v).line_length
-same_number One a b same = omega (arith, same)
-same_number Two a b same = omega (arith, same)
-
-line_below : (v : Version) (a b size : ℕ) → a / (limits_of v).line_length ≡ b / (limits_of v).line_length → a < size → size % (limits_of v).line_length ≡ 0 → b < size
-line_below One a b size same below whole = omega (arith, same, below, whole)
-line_below Two a b size same below whole = omega (arith, same, below, whole)
-
 -- a line of which a byte passes
-has_byte : (image : LoadedImage) (line a : ℕ) (test : ℕ → Bool) → line ≡ a / line_length image → test a ≡ true → line_has image line test ≡ true
-has_byte image line a test at passes =
-    one_passes (line_length image) (λ x. test (line * line_length image + x)) (a % line_length image) (place_in image.version a)
-    (ap test (ap (λ n. n * line_length image + a % line_length image) at ∙ in_line image.version a a refl) ∙ passes)
+has_byte : (image : LoadedImage) (line a : ℕ) (test : ℕ → Bool) → IsMachineFor image.size image.machine → line ≡ a / line_length image → test a ≡ true → line_has image line test ≡ true
+has_byte image line a test fits at passes =
+    one_passes (line_length image) (λ x. test (line * line_length image + x)) (a % line_length image) (place_in (line_length image) a fits.is.line_length)
+    (ap test (ap (λ n. n * line_length image + a % line_length image) at ∙ byte_in_line (line_length image) a a fits.is.line_length refl) ∙ passes)
 
-line_in : (image : LoadedImage) (count : ℕ) (shape : Shape) (a b : ℕ) → shape ≡ shape_of image count → view.line_of shape a ≡ view.line_of shape b
+line_in : (image : LoadedImage) (count : ℕ) (shape : Shape) (a b : ℕ) → IsMachineFor image.size image.machine → shape ≡ shape_of image count → view.line_of shape a ≡ view.line_of shape b
     → a / line_length image ≡ b / line_length image
-line_in image count shape a b is same =
-    same_number image.version a b (ap (λ (s : Shape). view.line_of s a) (sym is) ∙ (same ∙ ap (λ (s : Shape). view.line_of s b) is))
+line_in image count shape a b fits is same =
+    same_number (line_length image) a b fits.is.line_length (ap (λ (s : Shape). view.line_of s a) (sym is) ∙ (same ∙ ap (λ (s : Shape). view.line_of s b) is))
 
 -- ---- bytes that meet in a line
 
-pub is_met : (image : LoadedImage) (count : ℕ) (v : StoreView) (m : Meeting) (cause : What) (c : CoreState) (a : ℕ) → v.shape ≡ shape_of image count
+pub is_met : (image : LoadedImage) (count : ℕ) (v : StoreView) (m : Meeting) (cause : What) (c : CoreState) (a : ℕ) → IsMachineFor image.size image.machine → v.shape ≡ shape_of image count
     → ((x : ℕ) → m.reads x ≡ c.outside x) → ((x : ℕ) → is_some (c.outside x) ≡ true → x < image.size) → is_some (m.writes a) ≡ true → HasReadIn v c a
     → kind_with image m cause ≢ Unexplained
-is_met image count v m cause c a is reads within written read =
+is_met image count v m cause c a fits is reads within written read =
     kind_is image m cause (or_left _ (is_crowded image m cause)
     (one_passes image.size (is_beside image m) read.at (within read.at read.read)
     (and_from (is_some (m.reads read.at)) _ (ap (λ o. is_some o) (reads read.at) ∙ read.read)
-    (has_byte image (conflict.line_number image read.at) a (λ b. is_some (m.writes b)) (line_in image count v.shape read.at a is read.in_line) written))))
+    (has_byte image (conflict.line_number image read.at) a (λ b. is_some (m.writes b)) fits (line_in image count v.shape read.at a fits is read.in_line) written))))
 
 shared_kind : (a b : Bool) (rest : Kind) → b ≡ true
     → ((if a then TrueSharing else if b then SilentStore else rest) ≡ TrueSharing) ⊎ ((if a then TrueSharing else if b then SilentStore else rest) ≡ SilentStore)
@@ -174,9 +156,9 @@ at_most long n (line ∷ lines) test apart all =
 -- ---- a full buffer
 
 module _ (image : LoadedImage) (count : ℕ) (v : StoreView) (m : Meeting) (c : CoreState) (k address : ℕ) (shape : v.shape ≡ shape_of image count)
-    (whole : image.size % line_length image ≡ 0) (stores : (x : ℕ) → m.stores x ≡ c.own x) (own : (x : ℕ) → v.own k x ≡ is_some (c.own x)) where
+    (fits : IsMachineFor image.size image.machine) (stores : (x : ℕ) → m.stores x ≡ c.own x) (own : (x : ℕ) → v.own k x ≡ is_some (c.own x)) where
   holds_at : (a : ℕ) → v.own k a ≡ true → holds_line image m (a / line_length image) ≡ true
-  holds_at a owned = has_byte image (a / line_length image) a (λ b. is_some (m.stores b)) refl (ap (λ o. is_some o) (stores a) ∙ (sym (own a) ∙ owned))
+  holds_at a owned = has_byte image (a / line_length image) a (λ b. is_some (m.stores b)) fits refl (ap (λ o. is_some o) (stores a) ∙ (sym (own a) ∙ owned))
 
   first_byte : (line a : ℕ) → view.line_of v.shape a ≡ line → line ≡ line_length image * (a / line_length image)
   first_byte line a is = sym is ∙ ap (λ (s : Shape). view.line_of s a) shape
@@ -192,7 +174,7 @@ module _ (image : LoadedImage) (count : ℕ) (v : StoreView) (m : Meeting) (c : 
       let o = two.1 in record {
         number = o.at / line_length image;
         is = first_byte line o.at o.in_line;
-        below = number_below image.version o.at image.size (below_size o.at o.within) whole;
+        below = number_below (line_length image) o.at image.size fits.is.line_length (below_size o.at o.within) fits.whole_lines;
         passes = and_from (not (o.at / line_length image == conflict.line_number image address)) _
             (ap not (ne_eqb (o.at / line_length image) (conflict.line_number image address) (λ same. two.0
             (first_byte line o.at o.in_line ∙ (ap (λ n. line_length image * n) same ∙ sym (ap (λ (s : Shape). view.line_of s address) shape))))))
@@ -202,19 +184,19 @@ module _ (image : LoadedImage) (count : ℕ) (v : StoreView) (m : Meeting) (c : 
   is_full : IsCrowded v k address → is_full_at image m (conflict.line_number image address) ≡ true
   is_full crowded =
       let here = crowded.here in
-      let same = line_in image count v.shape here.at address shape here.in_line in
+      let same = line_in image count v.shape here.at address fits shape here.in_line in
       let all = All-weaker (λ line. (line ≢ view.line_of v.shape address) × OwnsIn v k line) (IsOf (line_length image) (image.size / line_length image) holds_other) is_other crowded.others crowded.each in
       let many = at_most (line_length image) (image.size / line_length image) crowded.others holds_other crowded.apart all in
       let full = crowded.full in
-      let limit : v.shape.limits.buffer_lines ≡ (limits_of image.version).buffer_lines = ap (λ (s : Shape). s.limits.buffer_lines) shape in
+      let limit : v.shape.machine.buffer_lines ≡ image.machine.buffer_lines = ap (λ (s : Shape). s.machine.buffer_lines) shape in
       and_from (holds_line image m (conflict.line_number image address)) _ (ap (holds_line image m) (sym same) ∙ holds_at here.at here.owned)
-      (le-leb (limits_of image.version).buffer_lines (count_below (image.size / line_length image) holds_other) (omega (arith, many, full, limit)))
+      (le-leb image.machine.buffer_lines (count_below (image.size / line_length image) holds_other) (omega (arith, many, full, limit)))
 
   -- it lies in memory, as the byte that is owned there
   below_it : IsCrowded v k address → nat_lt address image.size ≡ true
   below_it crowded =
       let here = crowded.here in
-      lt-ltb address image.size (line_below image.version here.at address image.size (line_in image count v.shape here.at address shape here.in_line) (below_size here.at here.within) whole)
+      lt-ltb address image.size (line_below (line_length image) here.at address image.size fits.is.line_length (line_in image count v.shape here.at address fits shape here.in_line) (below_size here.at here.within) fits.whole_lines)
 
   pub load_crowded : (width value : ℕ) → IsCrowded v k address → kind_with image m (Load address width value) ≢ Unexplained
   load_crowded width value crowded =

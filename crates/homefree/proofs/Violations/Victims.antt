@@ -4,10 +4,8 @@ use Rattle.std.proofs.lemmas.Bool.{cases_eq, cases_Bool, eq-eqb, and_parts}
 use Rattle.std.proofs.lemmas.List.{append_assoc}
 use Rattle.std.proofs.lemmas.Option.{same_Some}
 use Rattle.rv32_image.specs.Image.{LoadedImage}
-use Rattle.rv32_image.specs.Version.{limits_of}
-use Rattle.rv32_image.specs.declared.version.Version.{Version}
-use Rattle.rv32_image.specs.declared.version.Version.TheVariants.{One, Two}
-use Rattle.rv32_image.proofs.Bounds.{place_in}
+use Rattle.rv32_image.specs.Machine.{IsMachineFor}
+use Rattle.rv32_image.proofs.Bounds.{place_in, line_of_place, own_place, place_below}
 use Rattle.rv32_image.proofs.SmallFacts.{one_value, none_and_some, value_of}
 use Rattle.spec_history.specs.declared.entry.Entry.{Entry}
 use Rattle.spec_history.specs.declared.entry.What.{What}
@@ -58,29 +56,11 @@ still_there : (now was : Option CoreState) (c : CoreState) → option_map bytes_
 still_there None was c same is = let none : None ≡ Some (bytes_of c) = same ∙ ap (option_map bytes_of) is in absurd cc
 still_there (Some d) was c same is = record { core = d; at = refl; bytes = same_Some (bytes_of d) (bytes_of c) (same ∙ ap (option_map bytes_of) is) }
 
--- ---- lines
-
-view_line : (v : Version) (a x : ℕ) → x < (limits_of v).line_length
-    → (limits_of v).line_length * (a / (limits_of v).line_length)
-    ≡ (limits_of v).line_length * ((a / (limits_of v).line_length * (limits_of v).line_length + x) / (limits_of v).line_length)
-view_line One a x below = omega (arith, below)
-view_line Two a x below = omega (arith, below)
-
-own_place : (v : Version) (a b : ℕ) → (limits_of v).line_length * (a / (limits_of v).line_length) ≡ (limits_of v).line_length * (b / (limits_of v).line_length)
-    → b / (limits_of v).line_length * (limits_of v).line_length + a % (limits_of v).line_length ≡ a
-own_place One a b same = omega (arith, same)
-own_place Two a b same = omega (arith, same)
-
-line_inside : (v : Version) (a x size : ℕ) → x < (limits_of v).line_length → a < size → size % (limits_of v).line_length ≡ 0
-    → a / (limits_of v).line_length * (limits_of v).line_length + x < size
-line_inside One a x size below within whole = omega (arith, below, within, whole)
-line_inside Two a x size below within whole = omega (arith, below, within, whole)
-
 module _ (C : Type 0) (image : LoadedImage) (count : ℕ) (s : FlatState) (v : StoreView) (by : ℕ) (c : CoreState) (going : s.end ≡ None) (kept : IsKept image count s)
-    (agrees : Agrees s v) (at : s.cores by ≡ Some c) (unhurt : c.hurt ≡ false) (whole : image.size % line_length image ≡ 0) (shape : v.shape ≡ shape_of image count)
+    (agrees : Agrees s v) (at : s.cores by ≡ Some c) (unhurt : c.hurt ≡ false) (fits : IsMachineFor image.size image.machine) (shape : v.shape ≡ shape_of image count)
     (settled : IsSettled v) (cached : C → v.cached ≡ true) where
   abbrev long : ℕ
-  long = (limits_of image.version).line_length
+  long = image.machine.line_length
 
   mine : AgreesCore s.committed v by c
   mine = (agrees.core going by).runs c at unhurt
@@ -273,7 +253,7 @@ module _ (C : Type 0) (image : LoadedImage) (count : ℕ) (s : FlatState) (v : S
   guards_known : (x : StoreView) (t : FlatState) (j k : ℕ) (what : What) (bytes : ℕ → Bool) (q : Victim x j) → Found t j k q.core → Guards x j bytes
       → ((a : ℕ) → bytes a ≡ true → is_some (written (t.cores by) what a) ≡ true) → kind_of image t by k (Some what) ≢ Unexplained
   guards_known x t j k what bytes q f g writes =
-      is_met image count x (meeting t by what k) what q.core g.at q.same_shape f.reads (read_within j q.core q.runs) (writes g.at g.is_one) (q.keeps.guards_only g.at g.guarded)
+      is_met image count x (meeting t by what k) what q.core g.at fits q.same_shape f.reads (read_within j q.core q.runs) (writes g.at g.is_one) (q.keeps.guards_only g.at g.guarded)
 
   -- without caches in a byte that is committed
   guards_meet : (x : StoreView) (t : FlatState) (j k : ℕ) (what : What) (bytes : ℕ → Bool) (q : Victim x j) → Found t j k q.core → Guards x j bytes
@@ -296,7 +276,7 @@ module _ (C : Type 0) (image : LoadedImage) (count : ℕ) (s : FlatState) (v : S
   pub loads_known : (x : StoreView) (t : FlatState) (j k address width value : ℕ) (q : Victim x j) → Found t j k q.core → IsCrowded x j address → Explained t k (Load address width value)
   loads_known x t j k address width value q f crowded = record {
     known = record {
-      kind = load_crowded image count x (meeting t by (Load address width value) k) q.core j address q.same_shape whole f.stores q.keeps.own width value crowded;
+      kind = load_crowded image count x (meeting t by (Load address width value) k) q.core j address q.same_shape fits f.stores q.keeps.own width value crowded;
       first = no_store (Load address width value) (λ a w n same. cc) t;
     };
     meets = λ alone. absurd (never_crowded x j address q crowded alone);
@@ -307,7 +287,7 @@ module _ (C : Type 0) (image : LoadedImage) (count : ℕ) (s : FlatState) (v : S
   store_kind x t j k address width value q f (inl g) =
       guards_known x t j k (Store address width value) (is_accessed address width) q f g (λ a accessed. stored_there address width value a ∙ accessed)
   store_kind x t j k address width value q f (inr crowded) =
-      store_crowded image count x (meeting t by (Store address width value) k) q.core j address q.same_shape whole f.stores q.keeps.own width value crowded
+      store_crowded image count x (meeting t by (Store address width value) k) q.core j address q.same_shape fits f.stores q.keeps.own width value crowded
 
   store_address : (address width value a w n : ℕ) → Store address width value ≡ Store a w n → address ≡ a
   store_address address width value a w n is = cc
@@ -320,8 +300,8 @@ module _ (C : Type 0) (image : LoadedImage) (count : ℕ) (s : FlatState) (v : S
       let place : ℕ = line_number image address * long + found.0 in
       record {
         at = place;
-        within = subst (λ n. place < n) (sym (ap (λ (y : Shape). y.size) shape)) (line_inside image.version address found.0 image.size found.1 within whole);
-        in_line = ap (λ (y : Shape). view.line_of y place) shape ∙ (sym (view_line image.version address found.0 found.1) ∙ sym (ap (λ (y : Shape). view.line_of y address) shape));
+        within = subst (λ n. place < n) (sym (ap (λ (y : Shape). y.size) shape)) (place_below long address found.0 image.size fits.is.line_length found.1 within fits.whole_lines);
+        in_line = ap (λ (y : Shape). view.line_of y place) shape ∙ (sym (line_of_place long address found.0 fits.is.line_length found.1) ∙ sym (ap (λ (y : Shape). view.line_of y address) shape));
         owned = mine.own place ∙ (ap (λ (b : Bytes). is_some (b.own place)) (sym bytes) ∙ found.2);
       }
 
@@ -411,7 +391,7 @@ module _ (C : Type 0) (image : LoadedImage) (count : ℕ) (s : FlatState) (v : S
         byte = place;
         writes = found.2;
         guarded = λ holds. settled.whole_lines (cached holds) k missed.at place
-            (ap (λ (y : Shape). view.line_of y missed.at) shape ∙ (view_line image.version missed.at found.0 found.1 ∙ sym (ap (λ (y : Shape). view.line_of y place) shape)))
+            (ap (λ (y : Shape). view.line_of y missed.at) shape ∙ (line_of_place long missed.at found.0 fits.is.line_length found.1 ∙ sym (ap (λ (y : Shape). view.line_of y place) shape)))
             (g.guards_read missed.at some.0 some.1);
       }
     where
@@ -453,8 +433,8 @@ module _ (C : Type 0) (image : LoadedImage) (count : ℕ) (s : FlatState) (v : S
         | inr none ↦ absurd (not_told hurt t (Store address width value) k p.told missed r.core r.runs
             (l.tells (cached holds)
             (λ a same. mine.own a ∙ (ap (λ (b : Bytes). is_some (b.own a)) (sym me.bytes)
-            ∙ (ap (λ n. is_some (me.core.own n)) (sym (own_place image.version a address (sym (ap (λ (y : Shape). view.line_of y a) shape) ∙ (same ∙ ap (λ (y : Shape). view.line_of y address) shape))))
-            ∙ none_below long (λ x. is_some (me.core.own (line_number image address * long + x))) none (a % long) (place_in image.version a))))
+            ∙ (ap (λ n. is_some (me.core.own n)) (sym (own_place long a address fits.is.line_length (sym (ap (λ (y : Shape). view.line_of y a) shape) ∙ (same ∙ ap (λ (y : Shape). view.line_of y address) shape))))
+            ∙ none_below long (λ x. is_some (me.core.own (line_number image address * long + x))) none (a % long) (place_in long a fits.is.line_length))))
             k r.away
             (subst (λ n. n < epoch_of (v.attempt k)) (sym (epoch_seen by c at unhurt)) (subst (λ n. c.epoch < n) (sym (epoch_seen k r.core r.runs r.unharmed)) r.later)) g))
       ]

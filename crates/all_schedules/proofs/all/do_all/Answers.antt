@@ -13,7 +13,7 @@ returns-in-Err-clause-outcome g c =
     let output : Stream = record { old = g.W.Write.contents c.args.writer.now; new = g.W.Write.contents c.all_of_input.new.writer } in
     let errors : Stream = record { old = g.E.Write.contents c.args.errors.now; new = g.E.Write.contents c.conclude.new.errors } in
     for_text (g.R.Read.remaining c.args.reader.now)
-    (λ text. IsUnwritten starts makes view waits c.args.cores c.args.room c.args.turns text output.old output.new c.in-Err.outcome)
-    (λ text. AllAnswers starts makes view waits c.args.cores c.args.room c.args.turns text output errors c.conclude.result)
-    (λ text so. unwritten_answers starts makes view waits c.args.cores c.args.room c.args.turns output errors text c.in-Err.outcome c.conclude.result c.conclude.ensures.status
+    (λ text. IsUnwritten starts makes view waits c.args.cores c.args.settings c.args.turns text output.old output.new c.in-Err.outcome)
+    (λ text. AllAnswers starts makes view waits c.args.cores c.args.settings c.args.turns text output errors c.conclude.result)
+    (λ text so. unwritten_answers starts makes view waits c.args.cores c.args.settings c.args.turns output errors text c.in-Err.outcome c.conclude.result c.conclude.ensures.status
     c.conclude.ensures.line so) c.in-Err.ensures.outcome

@@ -6,9 +6,10 @@ use Rattle.spec_bus.specs.Laws as cache
 use Rattle.turn_steps.specs.Caches.{cached_changes}
 use Rattle.turn_steps.specs.KeptCores.{plain_changes}
 use Rattle.run_command.proofs.Outcomes.{for_text}
-use Rattle.all_schedules.specs.declared.words.Store.{Store}
+use Rattle.trace_commands.specs.declared.store.Store.{Store}
+use Rattle.trace_commands.specs.declared.store.Store.TheVariants.{Caches, Plain}
 use Rattle.trace_commands.specs.Program.{Stream}
-use Rattle.all_schedules.specs.Work.{StoreAnswers, TurnsAnswer, WorkAnswers}
+use Rattle.all_schedules.specs.Work.{StoreAnswers, TurnsAnswer, WorkAnswers, settings_of}
 use Rattle.all_schedules.proofs.Works.{refused_answers, request_answers}
 use Rattle.all_schedules.proofs.commands.work.Goals as goal
 
@@ -20,7 +21,7 @@ returns-in-Caches g c =
     let output : Stream = record { old = g.W.Write.contents c.args.writer.now; new = g.W.Write.contents c.answer.new.writer } in
     let errors : Stream = record { old = g.E.Write.contents c.args.errors.now; new = g.E.Write.contents c.answer.new.errors } in
     for_text (g.R.Read.remaining c.args.reader.now)
-    (λ text. TurnsAnswer cache.Starts cache.Makes caches.store_view caches.waits cached_changes c.args.room request.turns text input output errors c.answer.result)
+    (λ text. TurnsAnswer cache.Starts cache.Makes caches.store_view caches.waits cached_changes (settings_of (Caches c.in-Caches.asked) c.args.room) request.turns text input output errors c.answer.result)
     (λ text. WorkAnswers words c.args.room text input output errors c.answer.result)
     (λ text so. request_answers words request c.args.room text input output errors c.answer.result c.in-Some.ensures.asked
     (subst (λ (s : Store). StoreAnswers s c.args.room request.turns text input output errors c.answer.result) (sym c.in-Caches.is) so)) c.answer.ensures
@@ -33,7 +34,7 @@ returns-in-Plain g c =
     let output : Stream = record { old = g.W.Write.contents c.args.writer.now; new = g.W.Write.contents c.answer-in-Plain.new.writer } in
     let errors : Stream = record { old = g.E.Write.contents c.args.errors.now; new = g.E.Write.contents c.answer-in-Plain.new.errors } in
     for_text (g.R.Read.remaining c.args.reader.now)
-    (λ text. TurnsAnswer plain.Starts plain.Makes plain.store_view (λ _. never_waits) plain_changes c.args.room request.turns text input output errors c.answer-in-Plain.result)
+    (λ text. TurnsAnswer plain.Starts plain.Makes plain.store_view (λ _. never_waits) plain_changes (settings_of Plain c.args.room) request.turns text input output errors c.answer-in-Plain.result)
     (λ text. WorkAnswers words c.args.room text input output errors c.answer-in-Plain.result)
     (λ text so. request_answers words request c.args.room text input output errors c.answer-in-Plain.result c.in-Some.ensures.asked
     (subst (λ (s : Store). StoreAnswers s c.args.room request.turns text input output errors c.answer-in-Plain.result) (sym c.in-Plain.is) so)) c.answer-in-Plain.ensures

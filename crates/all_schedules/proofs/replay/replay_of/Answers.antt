@@ -1,14 +1,20 @@
-use Rattle.std.proofs.Common.{◌<◌, All, ap, sym, subst, ◌∙◌, rules}
+use Rattle.std.proofs.Common.{◌<◌, All, ap, sym, subst, ◌∙◌}
 use Rattle.rv32_image.specs.ImageText.{image_text}
-use Rattle.violations.specs.Rule.{IsCoreCount}
 use Rattle.trace_text.specs.Reading.{IsFaultOf}
 use Rattle.all_schedules.specs.Made.{loop_on}
+use Rattle.all_schedules.specs.Settings.{IsRunnable, RunsWith, loop_with}
 use Rattle.all_schedules.specs.Replay.{IsTurnsOutcome}
 use Rattle.all_schedules.specs.Told.{IsHead}
 use Rattle.all_schedules.proofs.Cores.{are_cores}
 use Rattle.all_schedules.proofs.Lines.{schedule_text-is}
-use Rattle.all_schedules.proofs.Replays.{lines_come, turns_refused}
+use Rattle.all_schedules.proofs.Replays.{lines_come, lines_cannot, turns_refused}
 use Rattle.all_schedules.proofs.replay.replay_of.Goals as goal
+
+pub returns-in-None : goal.returns-in-None
+returns-in-None g c =
+    let image_is = ap image_text (sym c.parts_of-parts.ensures.image) ∙ c.in-Ok.ensures in
+    lines_cannot g.S.EpochStore.starts g.S.EpochStore.makes g.S.EpochStore.view g.S.EpochStore.waits (IsHead g.S.EpochStore.starts g.S.EpochStore.makes g.S.EpochStore.view g.S.EpochStore.waits g.S.ShownStore.changes c.args.detail) c.args.cores c.args.settings c.args.text.now (g.W.Write.contents c.args.writer.now)
+    c.in-Ok.image image_is c.in-None.ensures.cannot
 
 pub returns-in-Err-read_turns : goal.returns-in-Err-read_turns
 returns-in-Err-read_turns g c =
@@ -16,9 +22,9 @@ returns-in-Err-read_turns g c =
     let cores = c.args.cores in
     let image = c.in-Ok.image in
     let image_is = ap image_text (sym c.parts_of-parts.ensures.image) ∙ c.in-Ok.ensures in
-    let allowed : IsCoreCount image cores = record { least = c.requires.cores; most = search rules } in
+    let runs : RunsWith image cores c.args.settings = subst (λ i. IsRunnable i cores) c.in-Some.ensures.is c.in-Some.ensures.can in
     let said = subst (λ r. IsFaultOf fault.kind fault r) (sym (schedule_text-is cores c.args.text.now _ _ c.parts_of-parts.ensures.number c.parts_of-parts.ensures.below)) c.in-Err-read_turns.ensures in
-    rw c.of_turns_fault.ensures (turns_refused g.S.EpochStore.starts g.S.EpochStore.makes g.S.EpochStore.view g.S.EpochStore.waits (IsHead g.S.EpochStore.starts g.S.EpochStore.makes g.S.EpochStore.view g.S.EpochStore.waits g.S.ShownStore.changes c.args.detail) cores c.args.room c.args.text.now (g.W.Write.contents c.args.writer.now) fault.line fault.kind image image_is allowed said)
+    rw c.of_turns_fault.ensures (turns_refused g.S.EpochStore.starts g.S.EpochStore.makes g.S.EpochStore.view g.S.EpochStore.waits (IsHead g.S.EpochStore.starts g.S.EpochStore.makes g.S.EpochStore.view g.S.EpochStore.waits g.S.ShownStore.changes c.args.detail) cores c.args.settings c.args.text.now (g.W.Write.contents c.args.writer.now) fault.line fault.kind image image_is runs said)
 
 pub replay_turns-requires-clause-schedule : goal.replay_turns-requires-clause-schedule
 replay_turns-requires-clause-schedule g c κs within =
@@ -33,7 +39,8 @@ returns g c =
     let schedule = c.in-Ok-read_turns.schedule.items in
     let new = g.W.Write.contents c.replay_turns.new.writer in
     let image_is = ap image_text (sym c.parts_of-parts.ensures.image) ∙ c.in-Ok.ensures in
-    let allowed : IsCoreCount image cores = record { least = c.requires.cores; most = search rules } in
+    let runs : RunsWith image cores c.args.settings = subst (λ i. IsRunnable i cores) c.in-Some.ensures.is c.in-Some.ensures.can in
     let turns = schedule_text-is cores c.args.text.now _ _ c.parts_of-parts.ensures.number c.parts_of-parts.ensures.below ∙ c.in-Ok-read_turns.ensures in
-    lines_come g.S.EpochStore.starts g.S.EpochStore.makes g.S.EpochStore.view g.S.EpochStore.waits (IsHead g.S.EpochStore.starts g.S.EpochStore.makes g.S.EpochStore.view g.S.EpochStore.waits g.S.ShownStore.changes c.args.detail) cores c.args.room c.args.text.now image schedule (g.W.Write.contents c.args.writer.now) new c.replay_turns.result image_is allowed turns
-    (subst (λ s. IsTurnsOutcome g.S.EpochStore.starts g.S.EpochStore.makes g.S.EpochStore.view g.S.EpochStore.waits (IsHead g.S.EpochStore.starts g.S.EpochStore.makes g.S.EpochStore.view g.S.EpochStore.waits g.S.ShownStore.changes c.args.detail) (loop_on image cores c.args.room) s (g.W.Write.contents c.args.writer.now) new c.replay_turns.result) c.as_slice.ensures.value c.replay_turns.ensures)
+    lines_come g.S.EpochStore.starts g.S.EpochStore.makes g.S.EpochStore.view g.S.EpochStore.waits (IsHead g.S.EpochStore.starts g.S.EpochStore.makes g.S.EpochStore.view g.S.EpochStore.waits g.S.ShownStore.changes c.args.detail) cores c.args.settings c.args.text.now image schedule (g.W.Write.contents c.args.writer.now) new c.replay_turns.result image_is runs turns
+    (subst (λ s. IsTurnsOutcome g.S.EpochStore.starts g.S.EpochStore.makes g.S.EpochStore.view g.S.EpochStore.waits (IsHead g.S.EpochStore.starts g.S.EpochStore.makes g.S.EpochStore.view g.S.EpochStore.waits g.S.ShownStore.changes c.args.detail) (loop_with image cores c.args.settings) s (g.W.Write.contents c.args.writer.now) new c.replay_turns.result) c.as_slice.ensures.value
+    (subst (λ i. IsTurnsOutcome g.S.EpochStore.starts g.S.EpochStore.makes g.S.EpochStore.view g.S.EpochStore.waits (IsHead g.S.EpochStore.starts g.S.EpochStore.makes g.S.EpochStore.view g.S.EpochStore.waits g.S.ShownStore.changes c.args.detail) (loop_on i cores c.args.settings.room) c.as_slice.result.now (g.W.Write.contents c.args.writer.now) new c.replay_turns.result) c.in-Some.ensures.is c.replay_turns.ensures))

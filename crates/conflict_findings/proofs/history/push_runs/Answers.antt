@@ -1,6 +1,5 @@
 use Rattle.std.proofs.Common.{◌/◌, List, sym, ap}
 use Rattle.std.proofs.lemmas.Result.{on_ok_weaker}
-use Rattle.rv32_image.specs.Version.{limits_of}
 use Rattle.spec_history.specs.View.{state_in}
 use Rattle.spec_history.specs.declared.kind.Kind.TheVariants.{SilentStore, FalseSharing}
 use Rattle.spec_history.specs.Conflict.{what_at}
@@ -25,9 +24,9 @@ returns c =
     let s = state_in c.args.flat.now in
     let cause = c.in-Some.cause in
     let what = c.in-Some-what_at.what in
-    let lines : Told → List Run = λ t. runs_below (image.size / (limits_of image.version).line_length) (line_run image entries t.blame (violation_in c.args.flat.now t.violated)) in
+    let lines : Told → List Run = λ t. runs_below (image.size / image.machine.line_length) (line_run image entries t.blame (violation_in c.args.flat.now t.violated)) in
     let first = runs_below image.size (shared_run image entries e.blame (violation_of s e cause what SilentStore)) in
-    let second = runs_below (image.size / (limits_of image.version).line_length) (line_run image entries e.blame (violation_of s e cause what FalseSharing)) in
+    let second = runs_below (image.size / image.machine.line_length) (line_run image entries e.blame (violation_of s e cause what FalseSharing)) in
     on_ok_weaker c.push_lines.result
     (λ grown. joined c.args.runs.now.items c.push_shared.new.runs.items c.push_lines.new.runs.items first (lines c.beside-lines.result) second
     (runs_by image s entries e e.cause (what_at entries e.cause))

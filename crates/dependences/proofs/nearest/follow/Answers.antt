@@ -8,7 +8,7 @@ use Rattle.rv32_exec.specs.Arrival.{after_number}
 use Rattle.rv32_exec.specs.Sequential.{exits}
 use Rattle.rv32_exec.proofs.Accesses.{stop_of_event}
 use Rattle.spec_history.proofs.OneEntry.Accesses.{load_counts}
-use Rattle.dependences.proofs.Following.{ended_exits, ended_goes_on, faulted, following_load, following_start, following_store, kept_after, runs_in_order}
+use Rattle.dependences.proofs.Following.{ended_exits, ended_goes_on, faulted, following_load, following_start, following_store, kept_after, runs_in_order, writers_below}
 use Rattle.dependences.proofs.nearest.follow.Goals as goal
 
 pub accesses-init : goal.accesses-init
@@ -17,6 +17,10 @@ accesses-init c = record {
       (following_start c.args.image.now c.args.epoch c.args.memory.now c.args.writers.now c.args.nearest c.requires.size c.requires.before c.requires.kept);
   within = rw c.start-hart.ensures (omega arith);
 }
+
+pub nearer_of-nearest-requires-clause-earlier : goal.nearer_of-nearest-requires-clause-earlier
+nearer_of-nearest-requires-clause-earlier c =
+    writers_below c.args.image.now c.args.epoch c.accesses.memory c.accesses.writers c.accesses.hart c.accesses.nearest c.accesses.invariant.following
 
 pub accesses-preserved-in-Load : goal.accesses-preserved-in-Load
 accesses-preserved-in-Load c =

@@ -7,8 +7,8 @@ abbrev pub invariant-halves : goal.invariant-halves
 invariant-halves l = record {
   few : l.least.cores ≤ l.cores;
   low : l.low ≤ l.least.cores;
-  conflicts : Conflicts l.image l.store l.least.cores;
-  below : (cores : ℕ) → cores < l.low → NeverOn l.image l.store cores;
+  conflicts : Conflicts l.image l.grain l.least.cores;
+  below : (cores : ℕ) → cores < l.low → NeverOn l.image l.grain cores;
 }
 
 abbrev pub decreases-halves : goal.decreases-halves

@@ -8,8 +8,8 @@ least_conflict-requires g c = let most = c.requires.cores.most in let few = most
 
 pub line_from-requires-clause-cores : goal.line_from-requires-clause-cores
 line_from-requires-clause-cores g c κs within =
-    let is : IsLeast c.args.image.now c.args.store c.args.cores (Some c.in-Some.least) =
-    subst (IsLeast c.args.image.now c.args.store c.args.cores) c.in-Some.is c.in_ok-least.ensures in
+    let is : IsLeast c.args.image.now c.args.grain c.args.cores (Some c.in-Some.least) =
+    subst (IsLeast c.args.image.now c.args.grain c.args.cores) c.in-Some.is c.in_ok-least.ensures in
     let two = is.0 in
     let low = is.1 in
     let most = c.requires.cores.most in

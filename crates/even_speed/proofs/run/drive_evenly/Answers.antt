@@ -24,7 +24,7 @@ use Rattle.even_speed.specs.Kept.{AreSound, IsAloneClock, IsSound, NeverWaits}
 use Rattle.even_speed.proofs.Alone.{no_restarts_in, the_first}
 use Rattle.even_speed.proofs.Lasting.{first_lasts, halted, lasts_on, never_spent, never_undue}
 use Rattle.even_speed.proofs.OneCore.{first_alone, over_none, turn_alone}
-use Rattle.even_speed.proofs.Sounding.{all_first, turned_all, turned_end, turned_sound, woken_all}
+use Rattle.even_speed.proofs.Sounding.{all_first, by_bound, turned_all, turned_end, turned_sound, woken_all}
 use Rattle.even_speed.proofs.OnTime.{busy_on, first_busy, over_steps, over_timed, start_on_time, timed_on}
 use Rattle.even_speed.proofs.Evening.{at_start, ends_fault, ends_over, ends_stopped, goes_on, is_at_first, is_driven, last_are, no_more, turned_are, unless_driven, waits_are, woken_are}
 use Rattle.even_speed.proofs.run.drive_evenly.Goals.{in-Again, in_default-answer}
@@ -149,6 +149,12 @@ returns-in-Over-clause-driven g c =
     (c.answered-clock.ensures ∙ ap (answered c.in-Some.turn.at (not (c.totals.result.restarts == c.totals-restarts.result.restarts)) c.executed_by-executed.result c.in_ok-answer.answer) c.clock_of-clock.ensures)) c.in-Over.end c.in-Over.is)
     (c.account_of-account.ensures.is ∙ ap (account_of (c.in-Some.turn.at + 1) (clock_at c.set_clock.new.clocks.items)) (c.set_clock.ensures.len ∙ c.loop-taken.invariant.sound.count))
     c.in_ok-answer.ensures.turned)
+
+pub returns-in-Over-clause-short : goal.returns-in-Over-clause-short
+returns-in-Over-clause-short g c =
+    let due = by_bound c.loop-taken._taken c.loop-taken.book.cores c.loop-taken.clocks.items c.loop-taken.invariant.sound c.in-Some.turn
+    (first_of c.loop-taken.clocks.items c.loop-taken.book.cores c.in-Some.turn c.loop-taken.invariant.sound.count c.in-Some.ensures) in
+    (omega arith, omega (arith, due, c.loop-taken-test.true))
 
 pub returns-in-Over-clause-end : goal.returns-in-Over-clause-end
 returns-in-Over-clause-end g c = in_order g.S.EpochStore.view c.step.new.book c.in-Over.end c.look-in-Over.ensures

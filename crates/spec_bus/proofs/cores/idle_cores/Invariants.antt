@@ -5,5 +5,5 @@ use Rattle.spec_bus.proofs.cores.idle_cores.Given as goal
 abbrev pub invariant-loop : goal.invariant-loop
 invariant-loop l = record {
   count : length l.cores.items ≡ l.counter;
-  idle : AreIdle l.line_length l.limit l.cores.items;
+  idle : AreIdle l.machine l.cores.items;
 }

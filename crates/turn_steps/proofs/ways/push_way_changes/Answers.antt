@@ -3,10 +3,10 @@ use Rattle.turn_steps.proofs.Places.{change_at, way_changes-none, way_changes-mo
 use Rattle.turn_steps.proofs.ways.push_way_changes.Goals as goal
 
 pub loop-place-init : goal.loop-place-init
-loop-place-init c = way_changes-none c.args.text.now.items c.args.size c.args.core c.args.old.now c.args.now.now
+loop-place-init c = way_changes-none c.args.text.now.items c.args.machine c.args.core c.args.old.now c.args.now.now
 
 pub loop-place-preserved : goal.loop-place-preserved
 loop-place-preserved c =
     c.in_ok-push_way_change.ensures
-    ∙ (ap (λ t. t ++ change_at c.args.size c.args.core c.args.old.now c.args.now.now c.loop-place.place) c.loop-place.invariant
-    ∙ way_changes-more c.args.text.now.items c.args.size c.args.core c.args.old.now c.args.now.now c.loop-place.place)
+    ∙ (ap (λ t. t ++ change_at c.args.machine c.args.core c.args.old.now c.args.now.now c.loop-place.place) c.loop-place.invariant
+    ∙ way_changes-more c.args.text.now.items c.args.machine c.args.core c.args.old.now c.args.now.now c.loop-place.place)

@@ -4,4 +4,4 @@ use Rattle.turn_steps.proofs.ways.push_way_changes.Given as goal
 
 -- the places so far are written
 abbrev pub invariant-loop-place : goal.invariant-loop-place
-invariant-loop-place l = l.text.items ≡ l.initial.text.items ++ way_changes l.size l.core l.old l.now l.place
+invariant-loop-place l = l.text.items ≡ l.initial.text.items ++ way_changes l.machine l.core l.old l.now l.place

@@ -5,7 +5,14 @@ use Rattle.cache_lines.specs.Lines.{line_in, is_copy_of}
 use Rattle.cache_lines.proofs.LineLaws.{line_in-own}
 use Rattle.cache_lines.proofs.CopyLaws.{copies-written}
 use Rattle.cache_lines.proofs.Ways.{stand-changed}
+use Rattle.cache_lines.proofs.Written.{written_stands}
 use Rattle.cache_lines.proofs.cache.Cache.write_bytes.Goals as goal
+
+pub put-requires-clause-may_stand : goal.put-requires-clause-may_stand
+put-requires-clause-may_stand c =
+    written_stands c.args.self.now c.args.addr c.args.way c.args.offset c.args.width c.args.value c.with_number-line.result
+    c.line.ensures.placed c.requires.in_ways c.requires.in_line c.requires.width c.requires.aligned
+    (rw (← c.line.ensures.value) c.with_number-line.ensures.line) (rw (← c.line.ensures.value) c.with_number-line.ensures.bytes)
 
 pub returns-clause-copies : goal.returns-clause-copies
 returns-clause-copies c =

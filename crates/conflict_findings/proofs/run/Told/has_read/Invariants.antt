@@ -1,5 +1,4 @@
 use Rattle.std.proofs.Common.{◌≡◌, ◌<◌, ◌+◌, ◌*◌, ℕ, Bool, false, is_some}
-use Rattle.rv32_image.specs.Version.{limits_of}
 use Rattle.conflicts.specs.Parties.{meeting_in}
 use Rattle.conflict_findings.proofs.run.Told.has_read.Given as goal
 
@@ -7,4 +6,4 @@ use Rattle.conflict_findings.proofs.run.Told.has_read.Given as goal
 abbrev pub invariant-loop-x : goal.invariant-loop-x
 invariant-loop-x l =
     let test : ℕ → Bool = λ (a : ℕ). is_some ((meeting_in l.flat l.self.violated.parties).reads a) in
-    (y : ℕ) → y < l.x → test (l.line * (limits_of l.image.version).line_length + y) ≡ false
+    (y : ℕ) → y < l.x → test (l.line * l.image.machine.line_length + y) ≡ false

@@ -1,5 +1,4 @@
 use Rattle.std.proofs.Common.{◌≡◌, ◌<◌, ◌+◌, ◌*◌, ℕ, Bool, false}
-use Rattle.rv32_image.specs.Version.{limits_of}
 use Rattle.spec_history.specs.Conflict.{is_shared}
 use Rattle.conflicts.specs.Parties.{meeting_in}
 use Rattle.conflict_findings.proofs.run.Told.has_shared.Given as goal
@@ -8,4 +7,4 @@ use Rattle.conflict_findings.proofs.run.Told.has_shared.Given as goal
 abbrev pub invariant-loop-x : goal.invariant-loop-x
 invariant-loop-x l =
     let test : ℕ → Bool = is_shared (meeting_in l.flat l.self.violated.parties) in
-    (y : ℕ) → y < l.x → test (l.line * (limits_of l.image.version).line_length + y) ≡ false
+    (y : ℕ) → y < l.x → test (l.line * l.image.machine.line_length + y) ≡ false

@@ -1,7 +1,6 @@
 use Rattle.std.proofs.Common.{◌≡◌, ◌<◌, ◌≤◌, ◌/◌, ◌++◌, ℕ, List, None, Option, length, option_to_list, slice_index, sym, ap, ◌∙◌, inl, inr, arith}
 use Rattle.std.proofs.lemmas.Bool.{cases_eq}
 use Rattle.std.proofs.lemmas.List.{append-nil}
-use Rattle.rv32_image.specs.Version.{limits_of}
 use Rattle.spec_history.specs.Conflict.{line_number}
 use Rattle.conflicts.specs.Parties.{meeting_in}
 use Rattle.conflicts.specs.Violated.{violation_in}
@@ -69,7 +68,7 @@ returns c =
     let m = meeting_in c.args.flat.now c.args.self.now.violated.parties in
     let runs : ℕ → Option Run = line_run image c.args.entries.now c.args.self.now.blame v in
     let was = c.loop-addr.invariant in
-    told_all c.loop-addr.from (image.size / (limits_of image.version).line_length) runs c.args.runs.now.items c.loop-addr.runs.items was.within
+    told_all c.loop-addr.from (image.size / image.machine.line_length) runs c.args.runs.now.items c.loop-addr.runs.items was.within
     (λ j after below. either_way (is_falsely_shared image m j) (runs j ≡ None)
     (λ shared.
     let at = line_listed image m c.args.read.now j c.requires.read.each shared in

@@ -1,5 +1,4 @@
 use Rattle.std.proofs.Common.{◌≡◌, ◌<◌, ◌≤◌, ◌/◌, ◌++◌, ℕ, slice_index}
-use Rattle.rv32_image.specs.Version.{limits_of}
 use Rattle.spec_history.specs.Conflict.{line_number}
 use Rattle.conflicts.specs.Violated.{violation_in}
 use Rattle.conflict_findings.specs.Runs.{line_run, runs_below}
@@ -8,7 +7,7 @@ use Rattle.conflict_findings.proofs.run.Told.push_lines.Given as goal
 -- those below are told
 abbrev pub invariant-loop-addr : goal.invariant-loop-addr
 invariant-loop-addr l = record {
-  within : l.from ≤ l.image.size / (limits_of l.image.version).line_length;
+  within : l.from ≤ l.image.size / l.image.machine.line_length;
   told : l.runs.items ≡ l.initial.runs.items ++ runs_below l.from (line_run l.image l.entries l.self.blame (violation_in l.flat l.self.violated));
   passed : (k : ℕ) → k < l.addr-index → line_number l.image (slice_index l.read k) < l.from;
 }

@@ -1,4 +1,6 @@
+use Rattle.std.proofs.Common.{length, sym, ◌∙◌}
 use Rattle.homefree.specs.Arms.{running_by}
+use Rattle.homefree.proofs.Cases.Moving.{moves_load, moves_store}
 use Rattle.homefree.proofs.Cases.Standing.{straight_homefree}
 use Rattle.homefree.proofs.parts.Parts.run.Goals as goal
 
@@ -11,3 +13,17 @@ pub straight_store-requires-clause-homefree : goal.straight_store-requires-claus
 straight_store-requires-clause-homefree g c κs within =
     let old = c.args.self.now in
     straight_homefree old.register (g.S.EpochStore.view old.store) c.args.core (running_by c.args.now c.args.arrived.now.base) c.requires.arrives.running c.if-now-2.true
+
+pub returns-else-now-clause-moves : goal.returns-else-now-clause-moves
+returns-else-now-clause-moves g c =
+    let old = c.args.self.now in
+    let r = running_by c.args.now c.args.arrived.now.base in
+    moves_load g.S.EpochStore.makes g.S.EpochStore.view old.register.image (g.S.EpochStore.waits old.store) old.register.homefree (length old.register.running.items) c.args.core r c.args.arrived.now.now
+    c.args.arrived.now.at c.in-Load.addr c.in-Load.width c.in-Load.signed c.in-Load.rd old.store c.load.new.self.store (sym c.at-at.ensures.at ∙ c.in-Load.is) c.if-now.false c.load.ensures.moves
+
+pub returns-else-now-2-clause-moves : goal.returns-else-now-2-clause-moves
+returns-else-now-2-clause-moves g c =
+    let old = c.args.self.now in
+    let r = running_by c.args.now c.args.arrived.now.base in
+    moves_store g.S.EpochStore.makes g.S.EpochStore.view old.register.image (g.S.EpochStore.waits old.store) old.register.homefree (length old.register.running.items) c.args.core r c.args.arrived.now.now
+    c.args.arrived.now.at c.in-Store.addr c.in-Store.width c.in-Store.value old.store c.store.new.self.store (sym c.at-at.ensures.at ∙ c.in-Store.is) c.if-now-2.false c.store.ensures.moves

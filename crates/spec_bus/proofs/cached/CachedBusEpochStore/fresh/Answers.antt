@@ -1,6 +1,5 @@
 use Rattle.std.proofs.Common.{◌≡◌, length, sym, ap, subst, ◌∙◌, rules, arith}
-use Rattle.rv32_image.specs.declared.version.Limits.{Limits}
-use Rattle.rv32_image.specs.Version.{limits_of}
+use Rattle.rv32_image.specs.declared.machine.Machine.{Machine}
 use Rattle.rv32_image.proofs.Bounds.{most_few}
 use Rattle.bus_states.specs.Bus.{Bus}
 use Rattle.bus_states.specs.Coherent.{IsCoherent}
@@ -12,14 +11,14 @@ use Rattle.spec_bus.specs.Parts.{bus_of}
 use Rattle.spec_bus.proofs.Idle.{fresh_is, fresh_opened}
 use Rattle.spec_bus.proofs.cached.CachedBusEpochStore.fresh.Goals as goal
 
-bus-is : (c : goal.After-code) → bus_of c.code.result c.limits-limits.result c.in_ok-cores.cores.items c.in_ok-memory.memory.items ≡ fresh_bus c.args.image.now c.args.cores
+bus-is : (c : goal.After-code) → bus_of c.code.result c.machine-machine.result c.in_ok-cores.cores.items c.in_ok-memory.memory.items ≡ fresh_bus c.args.image.now c.args.cores
 bus-is c =
     let image = c.args.image.now in
     let items : c.in_ok-memory.memory.items ≡ image.bytes = search rules in
-    let limits : c.limits-limits.result ≡ limits_of image.version = c.limits-limits.ensures ∙ ap limits_of c.version.ensures.version in
-    fresh_is image c.args.cores c.code.result c.limits-limits.result c.in_ok-cores.cores.items c.in_ok-memory.memory.items
-    c.in_ok-cores.ensures.count (ap length items ∙ c.code.ensures.limits.byte_count) c.code.ensures.code limits items
-    (subst (λ (l : Limits). AreIdle l.line_length l.buffer_lines c.in_ok-cores.cores.items) limits c.in_ok-cores.ensures.idle)
+    let machine : c.machine-machine.result ≡ image.machine = c.machine-machine.ensures.machine in
+    fresh_is image c.args.cores c.code.result c.machine-machine.result c.in_ok-cores.cores.items c.in_ok-memory.memory.items
+    c.in_ok-cores.ensures.count (ap length items ∙ c.code.ensures.limits.byte_count) c.code.ensures.code machine items
+    (subst (λ (l : Machine). AreIdle l c.in_ok-cores.cores.items) machine c.in_ok-cores.ensures.idle)
 
 pub invariant_of-result : goal.invariant_of-result
 invariant_of-result c =

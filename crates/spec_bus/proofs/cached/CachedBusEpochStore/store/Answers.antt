@@ -31,7 +31,7 @@ returns-clause-waits c =
     let parts = c.self.inside.parts in
     rw (← c.self.view_is)
     (store_waits c.store.result parts c.store.new.self c.args.core _ c.args.width c.args.value c.line_of-line.result _ c.store.ensures
-    ∙ ap (λ (line : ℕ). store_wait (bus_in parts) c.args.core line (offset_of parts.limits.line_length c.args.addr) c.args.width
+    ∙ ap (λ (line : ℕ). store_wait (bus_in parts) c.args.core line (offset_of parts.machine.line_length c.args.addr) c.args.width
     (room_at parts.cores.items c.args.core line)) (accesses c).line_is)
 
 pub returns-clause-makes : goal.returns-clause-makes

@@ -40,7 +40,7 @@ returns-clause-bus c =
     let parts = c.self.inside.parts in
     rw (← c.self.view_is)
     (c.straight_store.ensures.bus
-    ∙ ap (λ (line : ℕ). after_straight_store (bus_in parts) c.args.core line (offset_of parts.limits.line_length c.args.addr) c.args.width c.args.value
+    ∙ ap (λ (line : ℕ). after_straight_store (bus_in parts) c.args.core line (offset_of parts.machine.line_length c.args.addr) c.args.width c.args.value
     (room_at parts.cores.items c.args.core line)) (accesses c).line_is)
 
 pub returns-clause-makes : goal.returns-clause-makes

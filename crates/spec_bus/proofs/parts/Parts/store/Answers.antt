@@ -14,7 +14,7 @@ write-requires-clause-held c =
 
 pub write-requires-clause-in_line : goal.write-requires-clause-in_line
 write-requires-clause-in_line c =
-    let length : (core_at c.take_hold.new.self.cores.items c.args.core).line_length ≡ c.args.self.now.limits.line_length =
+    let length : (core_at c.take_hold.new.self.cores.items c.args.core).line_length ≡ c.args.self.now.machine.line_length =
     ap (λ (bus : Bus). (bus.core c.args.core).line_length) c.in-Ok.ensures.taken.bus
     ∙ claimed_length (bus_in c.args.self.now) c.args.core c.args.addr c.args.offset c.args.width _
     ∙ c.requires.access.coherent.lengths c.args.core c.requires.access.there in

@@ -4,7 +4,7 @@ use Rattle.std.proofs.Math.Path.{fun_ext}
 use Rattle.spec_states.specs.States.{is_valid}
 use Rattle.cache_lines.specs.Cells.{with_number}
 use Rattle.bus_states.proofs.Coherence.{sees-held, committed-past}
-use Rattle.bus_states.proofs.QuietCalls.{number-past}
+use Rattle.cache_lines.proofs.Written.{number-past}
 use Rattle.bus_states.specs.Messages.{changed_core}
 use Rattle.bus_states.specs.Speculative.{own}
 use Rattle.bus_states.specs.Straight.{stores_alone}
@@ -27,7 +27,7 @@ returns-then-stores_alone-clause-bus c =
 pub fetch-requires-clause-past : goal.fetch-requires-clause-past
 fetch-requires-clause-past c x le =
     c.with_number-stored-2.ensures.bytes x
-    ∙ number-past (slice_index c.committed_line-cells.result) c.args.self.now.limits.line_length c.args.offset c.args.width c.args.value x c.requires.in_line le
+    ∙ number-past (slice_index c.committed_line-cells.result) c.args.self.now.machine.line_length c.args.offset c.args.width c.args.value x c.requires.in_line le
     (c.committed_line-cells.ensures x ∙ committed-past (bus_in c.args.self.now) c.args.addr x c.requires.place.coherent le)
 
 pub returns-then-is_valid-clause-bus : goal.returns-then-is_valid-clause-bus

@@ -1,5 +1,4 @@
 use Rattle.std.proofs.Common.{◌≡◌, length, slice_index, refl, sym, ap, ◌∙◌, arith, rules}
-use Rattle.rv32_image.specs.Version.{limits_of}
 use Rattle.rv32_image.proofs.Bounds.{most_few}
 use Rattle.violations.specs.Plain.{PlainView}
 use Rattle.violations.proofs.Opening.{fresh_settled, fresh_fit, idle_out}
@@ -9,7 +8,7 @@ pub invariant_of-result : goal.invariant_of-result
 invariant_of-result c =
     let image = c.args.image.now in
     let items : c.in_ok-committed.committed.items ≡ image.bytes = search rules in
-    let p : PlainView = record { code = c.code.result; limits = c.limits.result; committed = c.in_ok-committed.committed.items; states = c.in_ok-states.states.items; budget = 0 } in
+    let p : PlainView = record { code = c.code.result; machine = c.machine.result; committed = c.in_ok-committed.committed.items; states = c.in_ok-states.states.items; budget = 0 } in
     let long : length p.committed ≡ c.size.result = ap length items ∙ (c.size.ensures.limits.byte_count ∙ sym c.size.ensures.size) in
     let few = most_few image.version in record {
       size = sym long;
@@ -25,8 +24,8 @@ returns-clause-fresh c =
     let size = ap length items ∙ c.size.ensures.limits.byte_count in
     let count = c.in_ok-states.ensures.count in
     let code = c.code.ensures.code in
-    let limits = c.limits.ensures ∙ ap limits_of c.version.ensures.version in record {
-      shape = cc (size, count, code, limits);
+    let machine = c.machine.ensures.machine in record {
+      shape = cc (size, count, code, machine);
       committed = λ a. ap (λ xs. slice_index xs a) items;
       idle = λ k. (idle_out c.size.result c.in_ok-states.states.items (c.in_ok-states.ensures.idle c.size.result) k).attempt;
     }
