@@ -4,8 +4,10 @@ ghost use Rattle.violations.specs.View as view_spec;
 ghost use Rattle.spec_bus.specs.Cached as spec;
 
 use crate::plain_bus::{Access, CORES, PlainBus, PlainStep};
+use crate::plain_core::{LINE, PLACES};
 use crate::random::Random;
-use rv32_image::{Image, image_of};
+use crate::words::{cell, is_row, number};
+use rv32_image::{Image, Machine, image_of};
 use spec_bus::CachedBus;
 use std::alloc::{AllocError, Global};
 use std::process::Abort;
@@ -13,7 +15,7 @@ use std::test::Fail;
 use violations::{Attempt, CoreSet, EpochStore, Step, WaitCause};
 
 /// Some core is violated.
-fn is_any(hurt: &[bool; CORES]) -> bool {
+pub fn is_any(hurt: &[bool; CORES]) -> bool {
     *hurt != [false; CORES]
 }
 
@@ -58,6 +60,26 @@ impl Tally {
             PlainStep::Wait(WaitCause::OrbBusy) => &mut self.orb_busy,
         };
         *count = count.wrapping_add(1);
+    }
+
+    /// Whether everything has happened at least as often as these words say, in the order above.
+    fn is_at_least(&self, words: &str) -> bool {
+        let counts = [
+            self.done,
+            self.no_way,
+            self.orb_full,
+            self.orb_busy,
+            self.hurt,
+            self.publishes,
+            self.hurting_publishes,
+            self.straight,
+        ];
+        for place in 0..8 {
+            if counts[place] < number(words, place) {
+                return false;
+            }
+        }
+        true
     }
 }
 
@@ -169,7 +191,7 @@ fn has_same_lines(bus: &CachedBus, plain: &PlainBus, core: u32) -> bool {
         return false;
     }
     for number in 0..12 {
-        let addr = number * (plain.length % 33);
+        let addr = number * (plain.length() % 65);
         if addr < bus.size() {
             let copy = bus.line_at(core, addr);
             let want = plain.copy(core as usize, addr);
@@ -186,7 +208,7 @@ fn has_same_buffer(bus: &CachedBus, plain: &PlainBus, core: u32) -> bool {
     if core >= bus.cores() {
         return false;
     }
-    for place in 0..10 {
+    for place in 0..PLACES + 1 {
         if bus.orb_at(core).at(place) != plain.entry(core as usize, place) {
             return false;
         }
@@ -200,9 +222,9 @@ fn has_same_bytes(bus: &CachedBus, committed: &[u8], plain: &PlainBus, addr: u32
     if addr < bus.size() && bus.committed_byte(addr) != line[0] {
         return false;
     }
-    for place in 0..32 {
+    for place in 0..LINE {
         let byte = committed.get((addr as usize).wrapping_add(place));
-        if (place as u32) < plain.length && byte.is_some_and(|byte| *byte != line[place]) {
+        if (place as u32) < plain.length() && byte.is_some_and(|byte| *byte != line[place]) {
             return false;
         }
     }
@@ -211,14 +233,14 @@ fn has_same_bytes(bus: &CachedBus, committed: &[u8], plain: &PlainBus, addr: u32
 
 fn has_same_memory(bus: &CachedBus, committed: &[u8], plain: &PlainBus) -> bool {
     for number in 0..12 {
-        if !has_same_bytes(bus, committed, plain, number * (plain.length % 33)) {
+        if !has_same_bytes(bus, committed, plain, number * (plain.length() % 65)) {
             return false;
         }
     }
     true
 }
 
-fn is_same(alloc: Global, bus: &CachedBus, plain: &PlainBus) -> Result<bool, AllocError> {
+pub fn is_same(alloc: Global, bus: &CachedBus, plain: &PlainBus) -> Result<bool, AllocError> {
     for core in 0..bus.cores() {
         if !has_same_lines(bus, plain, core) || !has_same_buffer(bus, plain, core) {
             return Ok(false);
@@ -230,7 +252,13 @@ fn is_same(alloc: Global, bus: &CachedBus, plain: &PlainBus) -> Result<bool, All
 
 // ---- calls
 
-fn try_begin(rt: &impl Abort, bus: &mut CachedBus, plain: &mut PlainBus, core: u32, epoch: u32) {
+pub fn try_begin(
+    rt: &impl Abort,
+    bus: &mut CachedBus,
+    plain: &mut PlainBus,
+    core: u32,
+    epoch: u32,
+) {
     if plain.may_begin(epoch) {
         check_begin(rt, bus, core, epoch);
         bus.begin(core, epoch);
@@ -238,7 +266,7 @@ fn try_begin(rt: &impl Abort, bus: &mut CachedBus, plain: &mut PlainBus, core: u
     }
 }
 
-fn try_load(
+pub fn try_load(
     rt: &impl Abort,
     bus: &mut CachedBus,
     plain: &mut PlainBus,
@@ -252,7 +280,7 @@ fn try_load(
     want
 }
 
-fn try_store(
+pub fn try_store(
     rt: &impl Abort,
     bus: &mut CachedBus,
     plain: &mut PlainBus,
@@ -267,7 +295,7 @@ fn try_store(
     want
 }
 
-fn try_publish(
+pub fn try_publish(
     rt: &impl Abort,
     bus: &mut CachedBus,
     plain: &mut PlainBus,
@@ -284,7 +312,12 @@ fn try_publish(
     want
 }
 
-fn try_straight_load(rt: &impl Abort, bus: &mut CachedBus, plain: &mut PlainBus, access: &Access) {
+pub fn try_straight_load(
+    rt: &impl Abort,
+    bus: &mut CachedBus,
+    plain: &mut PlainBus,
+    access: &Access,
+) {
     check_access(rt, bus, access);
     check_runs(rt, bus, access.core, true);
     let step = bus.straight_load(access.core, access.addr, access.width);
@@ -292,7 +325,7 @@ fn try_straight_load(rt: &impl Abort, bus: &mut CachedBus, plain: &mut PlainBus,
     assert!(rt; step.0 == want.0 && is_same_set(&step.1, &want.1));
 }
 
-fn try_straight_store(
+pub fn try_straight_store(
     rt: &impl Abort,
     bus: &mut CachedBus,
     plain: &mut PlainBus,
@@ -306,13 +339,13 @@ fn try_straight_store(
     assert!(rt; is_same_set(&hurt, &want));
 }
 
-fn try_leave(rt: &impl Abort, bus: &mut CachedBus, plain: &mut PlainBus, core: u32) {
+pub fn try_leave(rt: &impl Abort, bus: &mut CachedBus, plain: &mut PlainBus, core: u32) {
     check_runs(rt, bus, core, true);
     bus.leave(core);
     plain.leave(core as usize);
 }
 
-fn try_cancel(rt: &impl Abort, bus: &mut CachedBus, plain: &mut PlainBus, core: u32) {
+pub fn try_cancel(rt: &impl Abort, bus: &mut CachedBus, plain: &mut PlainBus, core: u32) {
     check_runs(rt, bus, core, false);
     bus.cancel(core);
     plain.cancel(core as usize);
@@ -394,14 +427,20 @@ fn call(
     }
 }
 
-/// An image of so many lines, with some bytes.
-fn image(alloc: Global, second: bool, lines: u32) -> Result<Image, Fail> {
-    let size = if second {
-        32 * (lines % 13)
-    } else {
-        16 * (lines % 13)
-    };
-    let version = if second { 2 } else { 1 };
+/// The machine of version 1 or 2.
+fn machine_of(second: bool) -> Machine {
+    Machine {
+        line_length: if second { 32 } else { 16 },
+        sets: 4,
+        ways: 2,
+        buffer_lines: if second { 8 } else { 4 },
+    }
+}
+
+/// An image of so many lines of a machine, with some bytes: of version 1 where they have 16 bytes.
+pub fn image(alloc: Global, machine: Machine, lines: u32) -> Result<Image, Fail> {
+    let size = machine.line_length.wrapping_mul(lines % 13);
+    let version = if machine.line_length == 16 { 1 } else { 2 };
     let bytes = "0123456789abcdeffedcba9876543210ffeeddccbbaa99887766554433221100";
     let text = format!(in alloc;
         "version {version}\nsize {size}\nepochs 1\nlimit 1\ncode 67800000\nat 00000008 {bytes}\n"
@@ -414,14 +453,14 @@ fn call_often(
     rt: &impl Abort,
     alloc: Global,
     image: &Image,
-    second: bool,
+    machine: Machine,
     cores: u32,
     random: &mut Random,
     tally: &mut Tally,
 ) -> Result<(), Fail> {
     assert!(rt; 1 <= cores && cores <= image.version().limits().most_cores);
     let mut bus = CachedBus::fresh(alloc, image, cores)?;
-    let mut plain = PlainBus::new(second);
+    let mut plain = PlainBus::new(machine);
     plain.fill(image.bytes());
     for _ in 0..10 + random.below(60) {
         call(rt, &mut bus, &mut plain, random, tally);
@@ -440,8 +479,9 @@ fn walk(
     let second = random.below(2) == 1;
     let most = random.below(if second { 15 } else { 7 });
     let cores = 2 + random.below(most + 1);
-    let image = image(alloc, second, 3 + random.below(10))?;
-    call_often(rt, alloc, &image, second, cores, random, tally)
+    let machine = machine_of(second);
+    let image = image(alloc, machine, 3 + random.below(10))?;
+    call_often(rt, alloc, &image, machine, cores, random, tally)
 }
 
 /// So many random sequences, in which everything that can happen does.
@@ -483,13 +523,67 @@ fn random_calls_of_one_core_do_what_a_plain_bus_does(rt: HostRuntime) -> Result<
     let mut random = Random::new(5);
     let mut tally = Tally::new();
     for turn in 0..200 {
-        let second = turn % 2 == 1;
-        let image = image(rt.alloc(), second, 3 + random.below(10))?;
-        call_often(&rt, rt.alloc(), &image, second, 1, &mut random, &mut tally)?;
+        let machine = machine_of(turn % 2 == 1);
+        let image = image(rt.alloc(), machine, 3 + random.below(10))?;
+        call_often(&rt, rt.alloc(), &image, machine, 1, &mut random, &mut tally)?;
     }
     assert!(rt; tally.hurt == 0 && tally.hurting_publishes == 0);
     assert!(rt; tally.orb_full == 0 && tally.orb_busy == 0);
     assert!(rt; tally.done > 3_000 && tally.no_way > 50);
     assert!(rt; tally.publishes > 50 && tally.straight > 500);
+    Ok(())
+}
+
+/// A random sequence of calls on the caches of another machine than that of the version.
+fn walk_on(
+    rt: &impl Abort,
+    alloc: Global,
+    machine: Machine,
+    random: &mut Random,
+    tally: &mut Tally,
+) -> Result<(), Fail> {
+    let cores = 2 + random.below(4);
+    let image = image(alloc, machine, 3 + random.below(10))?;
+    let image = image.with_machine(machine).ok_or("no machine")?;
+    call_often(rt, alloc, &image, machine, cores, random, tally)
+}
+
+/// Bytes of a line, sets, ways and lines of a buffer, and the least numbers of what a `Tally` counts, in its order. A buffer that has as
+/// much room as the cache is never full.
+const MACHINES: &str = "
+16 1 1 1  | 800 3000 0 0 15 40 0 200
+32 2 3 2  | 3000 200 100 100 200 40 20 150
+64 8 1 16 | 3000 150 0 0 100 50 15 150
+";
+
+/// The machine of four numbers.
+pub fn machine_in(words: &str) -> Machine {
+    Machine {
+        line_length: number(words, 0),
+        sets: number(words, 1),
+        ways: number(words, 2),
+        buffer_lines: number(words, 3),
+    }
+}
+
+/// Random sequences on the machine of a row, in which everything happens that can on that machine.
+fn walk_row(rt: &impl Abort, alloc: Global, row: &str) -> Result<(), Fail> {
+    let machine = machine_in(row);
+    let mut random = Random::new(6);
+    let mut tally = Tally::new();
+    for _ in 0..300 {
+        walk_on(rt, alloc, machine, &mut random, &mut tally)?;
+    }
+    assert!(rt; tally.is_at_least(cell(row, 1)), "{row}");
+    Ok(())
+}
+
+#[test]
+fn random_calls_do_what_a_plain_bus_does_on_other_machines(rt: HostRuntime) -> Result<(), Fail> {
+    for row in MACHINES.split('\n') {
+        if is_row(row) {
+            walk_row(&rt, rt.alloc(), row)?;
+        }
+    }
     Ok(())
 }

@@ -10,6 +10,8 @@ mod history;
 #[cfg(test)]
 mod images;
 #[cfg(test)]
+mod machines;
+#[cfg(test)]
 mod plain_bus;
 #[cfg(test)]
 mod plain_core;

@@ -1,6 +1,7 @@
 //! A plain slow bus, written from the tables of the protocol alone. It shares nothing with the bus that it is compared with.
 
-use crate::plain_core::{LINE, PlainCore, PlainLine, mask_of};
+use crate::plain_core::{LINE, PLACES, PlainCore, PlainLine, mask_of};
+use rv32_image::Machine;
 use spec_states::LineState;
 use violations::{Attempt, WaitCause};
 
@@ -8,7 +9,7 @@ use violations::{Attempt, WaitCause};
 pub const CORES: usize = 16;
 
 /// The most bytes of memory.
-pub const MEMORY: usize = 384;
+pub const MEMORY: usize = 768;
 
 /// What a core tells the others of a line.
 #[derive(Clone, Copy, PartialEq, Eq)]
@@ -126,21 +127,28 @@ fn add_hurt(hurt: &mut [bool; CORES], more: &[bool; CORES]) {
 pub struct PlainBus {
     pub cores: [PlainCore; CORES],
     pub memory: [u8; MEMORY],
-    /// The bytes of a line.
-    pub length: u32,
-    /// The most lines of a buffer.
-    pub limit: usize,
+    /// How large the caches are: at most 64 lines.
+    pub machine: Machine,
 }
 
 impl PlainBus {
     /// A bus of idle cores.
-    pub fn new(second: bool) -> PlainBus {
+    pub fn new(machine: Machine) -> PlainBus {
         PlainBus {
             cores: [PlainCore::idle(); CORES],
             memory: [0; MEMORY],
-            length: if second { 32 } else { 16 },
-            limit: if second { 8 } else { 4 },
+            machine,
         }
+    }
+
+    /// The bytes of a line.
+    pub fn length(&self) -> u32 {
+        self.machine.line_length
+    }
+
+    /// The most lines of a buffer.
+    fn limit(&self) -> usize {
+        self.machine.buffer_lines as usize
     }
 
     fn core(&self, core: usize) -> &PlainCore {
@@ -153,11 +161,7 @@ impl PlainBus {
 
     /// The place of a byte in its line.
     fn offset_of(&self, addr: u32) -> u32 {
-        if self.length == 32 {
-            addr % 32
-        } else {
-            addr % 16
-        }
+        addr % self.length().max(1)
     }
 
     /// The line of a byte.
@@ -166,18 +170,14 @@ impl PlainBus {
     }
 
     fn set_of(&self, addr: u32) -> usize {
-        let number = if self.length == 32 {
-            addr / 32
-        } else {
-            addr / 16
-        };
-        number as usize % 4
+        let number = addr / self.length().max(1);
+        (number % self.machine.sets.max(1)) as usize
     }
 
     fn memory_line(&self, addr: u32) -> [u8; LINE] {
         let mut line = [0; LINE];
         for place in 0..LINE {
-            if (place as u32) < self.length {
+            if (place as u32) < self.length() {
                 line[place] = self.memory[(addr as usize).wrapping_add(place) % MEMORY];
             }
         }
@@ -186,7 +186,7 @@ impl PlainBus {
 
     fn write_memory(&mut self, addr: u32, line: &[u8; LINE]) {
         for place in 0..LINE {
-            if (place as u32) < self.length {
+            if (place as u32) < self.length() {
                 self.memory[(addr as usize).wrapping_add(place) % MEMORY] = line[place];
             }
         }
@@ -224,7 +224,7 @@ impl PlainBus {
             None => false,
         };
         let mut effect = table(&owner.line(addr), told, later);
-        if effect.enters && owner.is_full(self.limit) {
+        if effect.enters && owner.is_full(self.limit()) {
             if later {
                 effect = Effect::none();
                 effect.hurt = true;
@@ -267,7 +267,7 @@ impl PlainBus {
         if effects.enter[at] && !effects.hurt[at] {
             owner.enter(addr);
         }
-        let copy = &mut owner.lines[place % 8];
+        let copy = &mut owner.lines[place % PLACES];
         if effects.states[at] == LineState::I {
             copy.invalidate();
         } else {
@@ -287,25 +287,29 @@ impl PlainBus {
         }
     }
 
+    /// The place that a new line of this set takes.
+    fn victim(&self, core: usize, set: usize) -> Option<usize> {
+        self.core(core).victim(set, self.machine.ways as usize)
+    }
+
     /// The core holds the line so, in the place of another where it is new.
     fn put(&mut self, core: usize, line: &PlainLine) {
         let held = self.core(core).place_of(line.addr);
         let set = self.set_of(line.addr);
-        let Some(place) = held.or(self.core(core).victim(set)) else {
+        let Some(place) = held.or(self.victim(core, set)) else {
             return;
         };
-        let old = self.core(core).lines[place % 8];
+        let old = self.core(core).lines[place % PLACES];
         if old.state == LineState::M && old.addr != line.addr {
             self.write_memory(old.addr, &old.cells);
         }
-        self.core_mut(core).lines[place % 8] = *line;
+        self.core_mut(core).lines[place % PLACES] = *line;
     }
 
     /// The core has no place for this line.
     fn has_no_way(&self, core: usize, addr: u32) -> bool {
         let set = self.set_of(addr);
-        let owner = self.core(core);
-        owner.place_of(addr).is_none() && owner.victim(set).is_none()
+        self.core(core).place_of(addr).is_none() && self.victim(core, set).is_none()
     }
 
     /// The number that a core sees.
@@ -440,7 +444,7 @@ impl PlainBus {
     ) -> Option<WaitCause> {
         if self.has_no_way(core, addr) {
             Some(WaitCause::NoWay)
-        } else if enters && self.core(core).is_full(self.limit) {
+        } else if enters && self.core(core).is_full(self.limit()) {
             Some(WaitCause::OrbFull)
         } else if effects.is_busy() {
             Some(WaitCause::OrbBusy)
@@ -455,7 +459,7 @@ impl PlainBus {
     pub fn publish(&mut self, core: usize) -> [bool; CORES] {
         let mut hurt = [false; CORES];
         let lines = self.core(core).buffer;
-        for place in 0..8 {
+        for place in 0..PLACES {
             if let Some(addr) = lines[place] {
                 let one = self.publish_line(core, addr);
                 add_hurt(&mut hurt, &one);

@@ -4,10 +4,10 @@ use spec_states::LineState;
 use violations::Attempt;
 
 /// The bytes of the longest line.
-pub const LINE: usize = 32;
+pub const LINE: usize = 64;
 
-/// The lines of a core, two for each of four sets: those of set s are at the places 2 s and 2 s + 1.
-pub const PLACES: usize = 8;
+/// The most lines of a core, and of its buffer. Where a set has w ways, those of set s are at the places w s to w s + w - 1.
+pub const PLACES: usize = 64;
 
 /// A line of a core.
 #[derive(Clone, Copy)]
@@ -16,7 +16,7 @@ pub struct PlainLine {
     pub state: LineState,
     pub loaded: bool,
     /// The bytes that the core's epoch has stored, a bit for each.
-    pub bytes: u32,
+    pub bytes: u64,
     pub cells: [u8; LINE],
 }
 
@@ -91,13 +91,13 @@ impl PlainLine {
 }
 
 /// The mask of an access at this place of a line.
-pub fn mask_of(offset: u32, width: u32) -> u32 {
-    let ones: u32 = match width {
+pub fn mask_of(offset: u32, width: u32) -> u64 {
+    let ones: u64 = match width {
         1 => 1,
         2 => 3,
         _ => 15,
     };
-    ones << (offset % 32)
+    ones << (offset % 64)
 }
 
 /// A core.
@@ -137,21 +137,21 @@ impl PlainCore {
         }
     }
 
-    /// The place that a new line of this set takes.
-    pub fn victim(&self, set: usize) -> Option<usize> {
-        let low = 2 * (set % 4);
-        let states = (&self.lines[low], &self.lines[low + 1]);
-        if states.0.state == LineState::I {
-            Some(low)
-        } else if states.1.state == LineState::I {
-            Some(low + 1)
-        } else if !states.0.is_marked() {
-            Some(low)
-        } else if !states.1.is_marked() {
-            Some(low + 1)
-        } else {
-            None
+    /// The place that a new line of this set, of so many ways, takes: the first without a line, else the first without marks.
+    pub fn victim(&self, set: usize, ways: usize) -> Option<usize> {
+        let mut unmarked = None;
+        for place in 0..PLACES {
+            if place / ways.max(1) == set {
+                let line = &self.lines[place];
+                if line.state == LineState::I {
+                    return Some(place);
+                }
+                if unmarked.is_none() && !line.is_marked() {
+                    unmarked = Some(place);
+                }
+            }
         }
+        unmarked
     }
 
     /// The buffer has as many lines as it may have.

@@ -51,7 +51,7 @@ fn is_line(bus: &CachedBus, words: &str) -> bool {
     let line = bus.line_at(core, number(words, 2));
     Some(line.state) == state_named(word(words, 3))
         && line.loaded == (word(words, 4) == "loaded")
-        && line.bytes == number(words, 5)
+        && line.bytes == u64::from(number(words, 5))
 }
 
 /// A core's buffer has just these lines, in this order.

@@ -3,14 +3,14 @@
 ghost use Rattle.std.specs.Prelude.{◌≡◌, true};
 ghost use Rattle.orb.specs.Lines.{IsLimit};
 
-use orb::{Orb, OrbFull};
+use orb::{LARGEST_LIMIT, Orb, OrbFull};
 use std::test::Fail;
 
-/// A limit of version 1 and of version 2 of the images.
+/// Whether there are buffers of so many lines.
 fn is_limit(limit: usize) -> bool
     ensures { result ≡ true → IsLimit limit }
 {
-    limit == 4 || limit == 8
+    1 <= limit && limit <= LARGEST_LIMIT
 }
 
 /// Enters a line, where it is not there and there is room.
@@ -32,44 +32,55 @@ fn lines(orb: &Orb) -> [u32; 9] {
     lines
 }
 
-const ADDRS: [u32; 8] = [0x40, 0x50, 0x60, 0x70, 0x80, 0x90, 0xa0, 0xb0];
+/// The line that enters as number `i`: 0x40, 0x50, 0x60 and so on.
+fn line(i: usize) -> u32 {
+    0x40 + 16 * (i % LARGEST_LIMIT) as u32
+}
 
 /// Enters so many lines, before each of which the buffer is not full.
 fn are_entered(orb: &mut Orb, count: usize) -> bool {
-    for addr in ADDRS.iter().take(count) {
-        if orb.is_full() || !is_entered(orb, *addr) {
+    for i in 0..count {
+        if orb.is_full() || !is_entered(orb, line(i)) {
             return false;
         }
     }
     true
 }
 
-/// Whether a buffer is full, and has these lines.
-fn is_full_of(orb: &Orb, limit: usize, want: [u32; 9]) -> bool {
-    orb.is_full()
-        && !orb.is_empty()
-        && orb.len() == limit
-        && lines(orb) == want
-        && orb.at(limit).is_none()
+/// Whether a buffer has just so many lines, in the order in which they entered.
+fn has_in_order(orb: &Orb, count: usize) -> bool {
+    for i in 0..count {
+        if orb.at(i) != Some(line(i)) {
+            return false;
+        }
+    }
+    orb.at(count).is_none()
 }
 
-/// Whether these are all lines that fit.
-fn fit(limit: usize, want: [u32; 9]) -> bool {
+/// Whether a buffer is full, and has so many lines.
+fn is_full_of(orb: &Orb, limit: usize) -> bool {
+    orb.is_full() && !orb.is_empty() && orb.len() == limit && has_in_order(orb, limit)
+}
+
+/// Whether so many lines fit, and no more.
+fn fit(limit: usize) -> bool {
     if !is_limit(limit) {
         return false;
     }
     let mut orb = Orb::new(limit);
     orb.is_empty()
         && are_entered(&mut orb, limit)
-        && is_full_of(&orb, limit, want)
-        && is_refused(&mut orb, 0x100)
-        && is_full_of(&orb, limit, want)
+        && is_full_of(&orb, limit)
+        && is_refused(&mut orb, 0x1000)
+        && is_full_of(&orb, limit)
 }
 
 #[test]
 fn as_many_lines_fit_as_the_limit_says(rt: HostRuntime) {
-    assert!(rt; fit(4, [0x40, 0x50, 0x60, 0x70, 0, 0, 0, 0, 0]));
-    assert!(rt; fit(8, [0x40, 0x50, 0x60, 0x70, 0x80, 0x90, 0xa0, 0xb0, 0]));
+    for limit in [1, 4, 8, 64] {
+        assert!(rt; fit(limit), "{limit}");
+    }
+    assert!(rt; !is_limit(0) && !is_limit(65));
 }
 
 /// Whether the second of three lines leaves, and enters last.
@@ -99,8 +110,9 @@ fn leave(limit: usize) -> bool {
 
 #[test]
 fn lines_leave_in_any_order(rt: HostRuntime) {
-    assert!(rt; leave(4));
-    assert!(rt; leave(8));
+    for limit in [4, 8, 64] {
+        assert!(rt; leave(limit), "{limit}");
+    }
 }
 
 #[test]

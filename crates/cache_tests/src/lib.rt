@@ -10,6 +10,8 @@ mod geometries;
 #[cfg(test)]
 mod lines;
 #[cfg(test)]
+mod machines;
+#[cfg(test)]
 mod play;
 #[cfg(test)]
 mod rows;

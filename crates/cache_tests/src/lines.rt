@@ -1,21 +1,21 @@
-//! The calls of the cache of one core by hand, for lines of 16 and of 32 bytes.
+//! The calls of the cache of one core by hand, for lines of 16, 32 and 64 bytes.
 
 ghost use Rattle.std.specs.Prelude.{◌≡◌, ◌≤◌, ℕ, true, IsTrue, slice_index};
 ghost use Rattle.memory_bytes.specs.Bytes.{IsWidth};
-ghost use Rattle.cache_lines.specs.Lines.{is_line_length};
+ghost use Rattle.rv32_image.specs.Machine.{is_line_length};
 ghost use Rattle.cache_lines.specs.Placed.{FitsLength};
 
-use crate::words::{cell, hex, index, is_row, marks, number, state, word};
+use crate::words::{cell, hex, index, is_row, marks, mask_at, number, state, word};
 use cache_lines::{Cache, Line, WAYS};
 use spec_states::LineState::{E, I, M, S, SpE, SpS};
-use spec_states::{LineState, Marks};
+use spec_states::{LONGEST_LINE, LineState, Marks};
 use std::process::Abort;
 use std::test::Fail;
 
 const NONE: Marks = Marks::NONE;
 
 /// Marks of a line that was not loaded, with these bytes modified.
-const fn stored(bytes: u32) -> Marks {
+const fn stored(bytes: u64) -> Marks {
     Marks {
         loaded: false,
         bytes,
@@ -23,7 +23,7 @@ const fn stored(bytes: u32) -> Marks {
 }
 
 /// Marks of a line that was loaded, with these bytes modified.
-const fn loaded(bytes: u32) -> Marks {
+const fn loaded(bytes: u64) -> Marks {
     Marks {
         loaded: true,
         bytes,
@@ -36,11 +36,11 @@ const LOADED: Marks = Marks {
 };
 
 /// Cells that count up from `from` to the line length, with 0 past it.
-fn counted(from: u8, length: usize) -> [u8; 32]
+fn counted(from: u8, length: usize) -> [u8; LONGEST_LINE]
     requires { IsTrue (is_line_length length) }
     ensures { (x : ℕ) → length ≤ x → slice_index result x ≡ 0 }
 {
-    let mut cells = [0; 32];
+    let mut cells = [0; LONGEST_LINE];
     for x in 0..length {
         cells[x] = from.wrapping_add(x as u8);
     }
@@ -53,7 +53,11 @@ fn counting_line(rt: &impl Abort, length: usize, addr: u32, state: LineState, ma
     ensures addr { result.addr ≡ addr }
     ensures fits { FitsLength length result }
 {
-    assert!(rt; length == 32 || marks.bytes < 0x1_0000);
+    assert!(rt;
+        length == 64
+            || length == 32 && marks.bytes < 0x1_0000_0000
+            || length == 16 && marks.bytes < 0x1_0000
+    );
     Line {
         addr,
         state,
@@ -84,7 +88,7 @@ fn pair(
     first: (LineState, Marks),
     second: (LineState, Marks),
 ) -> Cache {
-    assert!(rt; length == 16 || length == 32);
+    assert!(rt; length == 16 || length == 32 || length == 64);
     let mut cache = Cache::new(length);
     put(rt, &mut cache, 0, (4 * length as u32, first.0, first.1));
     put(rt, &mut cache, 1, (8 * length as u32, second.0, second.1));
@@ -98,7 +102,7 @@ fn is_line(
     way: usize,
     state: LineState,
     marks: Marks,
-    cells: [u8; 32],
+    cells: [u8; LONGEST_LINE],
 ) -> bool {
     way < cache.ways()
         && *cache.line(addr, way)
@@ -143,10 +147,10 @@ impl Rows {
     }
 }
 
-/// Each row of a table holds, of lines of either length.
+/// Each row of a table holds, of lines of each length.
 fn are_rows(rt: &impl Abort, rows: Rows) {
     for row in rows.text().split('\n') {
-        for length in [16, 32] {
+        for length in [16, 32, 64] {
             assert!(rt;
                 !is_row(row) || rows.hold(rt, row, length) == Some(true),
                 "{row}"
@@ -175,7 +179,7 @@ pub fn way(word: &str) -> Option<usize> {
 /// Whether a row of `VICTIMS` holds.
 fn is_victim(rt: &impl Abort, row: &str, length: usize) -> Option<bool> {
     let (first, second) = (state(word(row, 0))?, state(word(row, 1))?);
-    assert!(rt; length == 16 || length == 32);
+    assert!(rt; length == 16 || length == 32 || length == 64);
     let unit = length as u32;
     let cache = pair(rt, length, (first, LOADED), (second, LOADED));
     let want = way(word(row, 2));
@@ -203,11 +207,11 @@ fn is_empty_at(cache: &Cache, addr: u32) -> bool {
 
 /// Whether a new cache has lines of this length, and none.
 fn is_new(length: usize) -> bool {
-    if length != 16 && length != 32 {
+    if length != 16 && length != 32 && length != 64 {
         return false;
     }
     let cache = Cache::new(length);
-    for addr in [0, 16, 32, 48, 64, 96] {
+    for addr in [0, 16, 32, 48, 64, 96, 128, 192] {
         if !is_empty_at(&cache, addr) {
             return false;
         }
@@ -219,6 +223,7 @@ fn is_new(length: usize) -> bool {
 fn a_new_cache_is_empty(rt: HostRuntime) {
     assert!(rt; is_new(16));
     assert!(rt; is_new(32));
+    assert!(rt; is_new(64));
 }
 
 /// Whether lines are found at these two addresses, in this way or in none.
@@ -228,7 +233,7 @@ fn are_found(cache: &Cache, first: (u32, Option<usize>), second: (u32, Option<us
 
 /// Whether lines are found at 4, 8 and 5 times the unit, and at no other address.
 fn are_three_found(cache: &Cache, unit: u32) -> bool {
-    if unit > 32 {
+    if unit > 64 {
         return false;
     }
     are_found(cache, (4 * unit, Some(0)), (8 * unit, Some(1)))
@@ -238,7 +243,7 @@ fn are_three_found(cache: &Cache, unit: u32) -> bool {
 
 /// Lines of this length, which is the unit, are found by their addresses.
 fn find_lines(rt: &impl Abort, length: usize, unit: u32) {
-    assert!(rt; unit == 16 || unit == 32);
+    assert!(rt; unit == 16 || unit == 32 || unit == 64);
     let mut cache = pair(rt, length, (S, NONE), (M, NONE));
     put(rt, &mut cache, 1, (5 * unit, E, NONE));
     assert!(rt; are_three_found(&cache, unit));
@@ -254,23 +259,26 @@ fn find_lines(rt: &impl Abort, length: usize, unit: u32) {
 fn lines_are_found_by_their_addresses(rt: HostRuntime) {
     find_lines(&rt, 16, 16);
     find_lines(&rt, 32, 32);
+    find_lines(&rt, 64, 64);
 }
 
-/// Whether the lines at 64 and 128, put into way 0 one after the other, are of one set: only the second is there then.
-fn share_a_set(rt: &impl Abort, length: usize) -> bool {
-    assert!(rt; length == 16 || length == 32);
+/// Whether the lines at two addresses, put into way 0 one after the other, are of one set: only the second is there then.
+fn share_a_set(rt: &impl Abort, length: usize, first: u32, second: u32) -> bool {
+    assert!(rt; length == 16 || length == 32 || length == 64);
     let mut cache = Cache::new(length);
-    put(rt, &mut cache, 0, (64, S, NONE));
-    put(rt, &mut cache, 0, (128, S, NONE));
-    assert!(rt; cache.find(128) == Some(0));
-    cache.find(64).is_none()
+    put(rt, &mut cache, 0, (first, S, NONE));
+    put(rt, &mut cache, 0, (second, S, NONE));
+    assert!(rt; cache.find(second) == Some(0));
+    cache.find(first).is_none()
 }
 
 #[test]
 fn sets_go_by_the_line_length(rt: HostRuntime) {
-    // Lines of 32 bytes at 64 and 128 stand in sets 2 and 0, lines of 16 bytes both in set 0.
-    assert!(rt; share_a_set(&rt, 16));
-    assert!(rt; !share_a_set(&rt, 32));
+    // Lines of 32 bytes at 64 and 128 stand in sets 2 and 0, lines of 64 bytes in sets 1 and 2, and lines of 16 bytes both in set 0.
+    assert!(rt; share_a_set(&rt, 16, 64, 128));
+    assert!(rt; !share_a_set(&rt, 32, 64, 128));
+    assert!(rt; !share_a_set(&rt, 64, 64, 128));
+    assert!(rt; share_a_set(&rt, 64, 64, 320));
 }
 
 const NUMBERS: &str = "
@@ -281,15 +289,19 @@ const NUMBERS: &str = "
 30 2 1f1e
 12 4 0f0e0d0c
 28 4 1f1e1d1c
+32 1 20
+62 2 3f3e
+63 1 3f
+60 4 3f3e3d3c
 ";
 
-/// Whether a row of `NUMBERS` holds, of a line of 32 bytes that counts its cells.
+/// Whether a row of `NUMBERS` holds, of a line of 64 bytes that counts its cells.
 fn is_number(rt: &impl Abort, row: &str) -> Option<bool> {
     let (offset, width, want) = (number(row, 0), number(row, 1), hex(row, 2)?);
     assert!(rt;
-        offset < 29 && width == 4 || offset < 31 && width == 2 || offset < 32 && width == 1
+        offset < 61 && width == 4 || offset < 63 && width == 2 || offset < 64 && width == 1
     );
-    let line = counting_line(rt, 32, 64, S, NONE);
+    let line = counting_line(rt, 64, 64, S, NONE);
     Some(line.number_at(offset, width) == want)
 }
 
@@ -297,7 +309,7 @@ fn is_number(rt: &impl Abort, row: &str) -> Option<bool> {
 fn numbers_are_read_with_the_low_byte_first(rt: HostRuntime) -> Result<(), Fail> {
     are_rows(&rt, Rows::Numbers);
     let stored = Line {
-        cells: with_bytes([0; 32], 0, "ff").ok_or("a byte")?,
+        cells: with_bytes([0; LONGEST_LINE], 0, "ff").ok_or("a byte")?,
         ..Line::INVALID
     };
     assert!(rt; stored.number_at(0, 4) == 255);
@@ -305,7 +317,7 @@ fn numbers_are_read_with_the_low_byte_first(rt: HostRuntime) -> Result<(), Fail>
 }
 
 /// The cells, with these bytes from `offset` on.
-fn with_bytes(cells: [u8; 32], offset: usize, bytes: &str) -> Option<[u8; 32]> {
+fn with_bytes(cells: [u8; LONGEST_LINE], offset: usize, bytes: &str) -> Option<[u8; LONGEST_LINE]> {
     let mut with = cells;
     let mut x = offset;
     for byte in bytes.split_whitespace() {
@@ -326,13 +338,17 @@ const STORES: &str = "
 32 30 2 1234abcd | cd ab
 32 12 4 12345678 | 78 56 34 12
 32 28 4 12345678 | 78 56 34 12
+64 32 1 123456ff | ff
+64 62 2 1234abcd | cd ab
+64 28 4 12345678 | 78 56 34 12
+64 60 4 12345678 | 78 56 34 12
 ";
 
 /// Whether a row of `STORES` holds.
 fn is_store(rt: &impl Abort, row: &str) -> Option<bool> {
     let (length, offset) = (index(row, 0), number(row, 1));
     let (width, value) = (number(row, 2), hex(row, 3)?);
-    assert!(rt; length == 16 || length == 32);
+    assert!(rt; length == 16 || length == 32 || length == 64);
     let addr = 4 * length as u32;
     let mut cache = pair(rt, length, (SpE, stored(0xf0)), (S, NONE));
     assert!(rt; offset < cache.line_length() as u32 && (width == 1 || width == 2 || width == 4));
@@ -361,14 +377,18 @@ const REFRESHES: &str = "
 32 10000 16 1
 32 c0000000 30 2
 32 ffffffff 0 32
+64 80000000 31 1
+64 100000000 32 1
+64 c000000000000000 62 2
+64 ffffffffffffffff 0 64
 ";
 
 /// Cells that count up from 100, but for so many from `first` on, which count up from `first`.
-fn counted_but_for(length: usize, first: usize, count: usize) -> [u8; 32]
+fn counted_but_for(length: usize, first: usize, count: usize) -> [u8; LONGEST_LINE]
     requires { IsTrue (is_line_length length) }
 {
     let mut cells = counted(100, length);
-    for x in 0..32 {
+    for x in 0..LONGEST_LINE {
         if first <= x && x - first < count {
             cells[x] = x as u8;
         }
@@ -378,9 +398,9 @@ fn counted_but_for(length: usize, first: usize, count: usize) -> [u8; 32]
 
 /// Whether a row of `REFRESHES` holds: the bytes of the mask stay, among those that are given from 100 on.
 fn is_refresh(rt: &impl Abort, row: &str) -> Option<bool> {
-    let (length, mask) = (index(row, 0), hex(row, 1)?);
+    let (length, mask) = (index(row, 0), mask_at(row, 1)?);
     let (first, count) = (index(row, 2), index(row, 3));
-    assert!(rt; length == 16 || length == 32);
+    assert!(rt; length == 16 || length == 32 || length == 64);
     let addr = 8 * length as u32;
     let cache = pair(rt, length, (S, NONE), (SpS, stored(mask)));
     let length = cache.line_length();
@@ -426,7 +446,7 @@ SpE r 1 | I | M
 
 /// A cache with lines of this state and these marks: one beside a line that was loaded, and one alone in its set.
 fn twice(rt: &impl Abort, length: usize, state: LineState, marks: Marks) -> Cache {
-    assert!(rt; length == 16 || length == 32);
+    assert!(rt; length == 16 || length == 32 || length == 64);
     let mut cache = pair(rt, length, (state, marks), (SpE, LOADED));
     put(rt, &mut cache, 1, (7 * length as u32, state, marks));
     cache
@@ -445,7 +465,7 @@ fn are_all(rt: &impl Abort, cache: &Cache, length: usize, state: LineState) -> b
 fn is_roll_back(rt: &impl Abort, row: &str, length: usize) -> Option<bool> {
     let (before, marks) = (state(word(row, 0))?, marks(row, 1, 0)?);
     let (back, published) = (state(cell(row, 1))?, state(cell(row, 2))?);
-    assert!(rt; length == 16 || length == 32);
+    assert!(rt; length == 16 || length == 32 || length == 64);
     let mut rolled_back = twice(rt, length, before, marks);
     rolled_back.roll_back_all();
     let mut settled = twice(rt, length, before, marks);

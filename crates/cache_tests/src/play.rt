@@ -14,7 +14,7 @@
 //! | `byte 64 7` | the committed byte at 64 is 7 |
 
 use crate::checks::{is_listed, lies, may_begin, may_publish, runs};
-use crate::words::{hex, number, state, word};
+use crate::words::{mask_at, number, state, word};
 use spec_bus::CachedBus;
 use std::process::Abort;
 use violations::WaitCause::{NoWay, OrbBusy, OrbFull};
@@ -112,7 +112,7 @@ fn is_line(bus: &CachedBus, call: &str) -> bool {
     let line = bus.line_at(core, number(call, 2));
     Some(line.state) == state(word(call, 3))
         && line.loaded == (word(call, 4) == "r")
-        && Some(line.bytes) == hex(call, 5)
+        && Some(line.bytes) == mask_at(call, 5)
 }
 
 /// Whether a buffer has these lines.

@@ -1,5 +1,6 @@
 //! Worked rows of calls, and what comes of them.
 
+use crate::machines::machine_of;
 use crate::play::play;
 use crate::words::is_row;
 use rv32_image::{Image, NoMemory, image_of};
@@ -19,6 +20,10 @@ const TWO: &str =
 /// Version 2 with 512 bytes of memory.
 const TWO_OF_512: &str =
     "version 2\nsize 512\nepochs 4\nlimit 100\ncode 83220004b382a2002320500467800000\n";
+
+/// Version 2 with 1,024 bytes of memory.
+const TWO_OF_1024: &str =
+    "version 2\nsize 1024\nepochs 4\nlimit 100\ncode 83220004b382a2002320500467800000\n";
 
 /// Cores 0 and 1 begin epochs 0 and 1.
 const BEGUN: &str = "begin 0 0 | begin 1 1";
@@ -46,6 +51,15 @@ fn run(rt: &impl Abort, alloc: Global, image: &str, first: &str, rows: &str) -> 
             run_row(rt, alloc, &image, first, row)?;
         }
     }
+    Ok(())
+}
+
+/// A row of which the words before the colon are a machine, on which its calls come.
+fn run_on_machine(rt: &impl Abort, alloc: Global, image: &str, row: &str) -> Result<(), Fail> {
+    let (words, calls) = row.split_once(':').ok_or("no colon")?;
+    let image = image_of(alloc, image.as_bytes())?;
+    let other = image.with_machine(machine_of(words)).ok_or("no machine")?;
+    run_row(rt, alloc, &other, BEGUN, calls)?;
     Ok(())
 }
 
@@ -141,6 +155,41 @@ store 1 128 4 9 | load 0 128 4 0 1 | line 0 128 SpE r 0 | line 1 64 I . 0
 #[test]
 fn full_buffers(rt: HostRuntime) -> Result<(), Fail> {
     run(&rt, rt.alloc(), ONE, FULL, FULL_BUFFERS)
+}
+
+/// Bytes of a line, sets, ways and lines of a buffer before the calls: victims, full sets, full buffers and a publish of each machine.
+const OTHER_MACHINES: &str = "
+# One line: each line takes the place of the other, but for a marked one.
+16 1 1 1: load 0 64 4 0 | load_waits 0 80 4 NoWay | store_waits 0 80 4 7 NoWay | line 0 64 SpE r 0 | store 0 64 4 7 | line 0 64 SpE r f
+16 1 1 1: store 0 64 4 7 | publish 0 | line 0 64 M . 0 | straight_load 0 80 4 0 | line 0 64 I . 0 | line 0 80 E . 0 | byte 64 7
+16 1 1 1: load 1 64 4 0 | store 0 64 4 7 1 | line 1 64 I . 0 | orb 0
+16 1 1 1: store 0 64 4 7 | store 1 68 4 9 | orb 0 64 | orb 1 64 | line 0 64 SpS . f | line 1 64 SpS . f0 | publish 0 | \
+    line 0 64 S . 0 | line 1 64 SpS . f0 | leave 0 | publish 1 | byte 64 7 | byte 68 9 | line 0 64 I . 0 | line 1 64 M . 0
+# Lines of 32 bytes: 64, 128, 192 and 256 are of set 0, 96 and 160 of set 1. A third line of a set comes beside two others.
+32 2 3 2: load 0 64 4 0 | load 0 128 4 0 | load 0 192 4 0 | load_waits 0 256 4 NoWay | load 0 96 4 0 | load 0 80 4 0
+32 2 3 2: store 0 64 4 7 | publish 0 | straight_load 0 128 4 0 | straight_load 0 192 4 0 | line 0 64 M . 0 | \
+    straight_load 0 256 4 0 | line 0 64 I . 0 | byte 64 7 | line 0 128 E . 0 | straight_load 0 0 1 131 | line 0 256 I . 0
+# The buffer has room for two.
+32 2 3 2: store 1 64 4 9 | store 1 96 4 9 | store 1 128 4 9 | store 0 64 4 7 | store 0 96 4 7 | orb 0 64 96 | orb 1 64 96 | \
+    store 0 128 4 7 1 | line 0 128 SpE . f | orb 0 64 96 | orb 1
+32 2 3 2: store 0 64 4 7 | store 0 96 4 7 | store 0 128 4 7 | store 1 64 4 9 | store 1 96 4 9 | store_waits 1 128 4 9 OrbFull | \
+    load_waits 1 128 4 OrbBusy | load 1 160 4 0 | publish 0 | line 0 64 S . 0 | line 0 128 M . 0 | byte 128 7
+# Lines of 64 bytes: 0 and 512 are of set 0, 448 and 960 of set 7.
+64 8 1 16: store 0 508 4 7 | line 0 448 SpE . f000000000000000 | load_waits 0 960 4 NoWay | load 0 512 4 0 | load 0 900 4 0
+64 8 1 16: store 0 480 4 7 | publish 0 | line 0 448 M . 0 | straight_load 0 960 4 0 | line 0 448 I . 0 | line 0 960 E . 0 | byte 480 7
+64 8 1 16: load 1 80 4 0 | store 0 124 4 7 1 | line 1 64 I . 0 | line 0 64 SpE . f000000000000000
+64 8 1 16: store 1 96 4 9 | store 1 188 4 9 | store 0 64 4 7 | store 0 128 4 7 | orb 1 64 128 | line 1 64 SpS . f00000000 | publish 0 | \
+    line 0 64 S . 0 | line 1 64 SpS . f00000000 | leave 0 | publish 1 | byte 64 7 | byte 96 9 | byte 188 9 | orb 1
+";
+
+#[test]
+fn other_machines(rt: HostRuntime) -> Result<(), Fail> {
+    for row in OTHER_MACHINES.split('\n') {
+        if is_row(row) {
+            run_on_machine(&rt, rt.alloc(), TWO_OF_1024, row)?;
+        }
+    }
+    Ok(())
 }
 
 const ORDER_OF_ENTRY: &str = "

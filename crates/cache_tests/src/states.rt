@@ -1,5 +1,5 @@
 //! What events make of copies of lines: each cell of the tables, with answers that were worked out by hand from the protocol, for
-//! lines of 16 and of 32 bytes.
+//! lines of 16, 32 and 64 bytes.
 //!
 //! A copy in a row: its state, `r` where the line was loaded, and which of its bytes are modified; `*` are those of a mask. What an event
 //! makes of it: the copy, and `back` where the line is written to memory, `enters` where it enters its owner's buffer, `hurt` where
@@ -8,7 +8,7 @@
 ghost use Rattle.std.specs.Prelude.{◌≡◌, ◌<◌, ◌%◌, true};
 ghost use Rattle.memory_bytes.specs.Bytes.{IsWidth};
 
-use crate::words::{cell, has_word, hex, is_row, marks, number, state, word};
+use crate::words::{cell, has_word, is_row, marks, mask_at, number, state, word};
 use spec_states::LineState::I;
 use spec_states::{
     LineState, Marks, Next, Order, after_other_load, after_other_store, after_own_load,
@@ -16,8 +16,15 @@ use spec_states::{
 };
 use std::process::Abort;
 
-/// A mask of some bytes of a line of 16 bytes, and one of bytes of the upper half of a line of 32.
-const MASKS: [u32; 4] = [0x0000_0001, 0x0000_8ff0, 0x0001_0000, 0x8000_0000];
+/// Masks of some bytes of a line of 16 bytes, of the upper half of a line of 32, and of the upper half of a line of 64.
+const MASKS: [u64; 6] = [
+    0x0000_0001,
+    0x0000_8ff0,
+    0x0001_0000,
+    0x8000_0000,
+    0x0000_0001_0000_0000,
+    0x8000_0000_0000_0000,
+];
 
 /// The tables below.
 #[derive(Clone, Copy)]
@@ -45,7 +52,7 @@ impl Rows {
     }
 
     /// Whether a row holds with this mask.
-    fn hold(self, rt: &impl Abort, line: &str, mask: u32) -> Option<bool> {
+    fn hold(self, rt: &impl Abort, line: &str, mask: u64) -> Option<bool> {
         match self {
             Rows::Messages => is_by_messages(rt, line, mask),
             Rows::OwnLoads => is_own_load(rt, line),
@@ -71,12 +78,12 @@ fn are_rows(rt: &impl Abort, rows: Rows) {
 }
 
 /// The state and the marks of a copy.
-fn copy(cell: &str, mask: u32) -> Option<(LineState, Marks)> {
+fn copy(cell: &str, mask: u64) -> Option<(LineState, Marks)> {
     Some((state(word(cell, 0))?, marks(cell, 1, mask)?))
 }
 
 /// Whether an event has made this of a copy.
-fn is(next: Next, cell: &str, mask: u32) -> bool {
+fn is(next: Next, cell: &str, mask: u64) -> bool {
     copy(cell, mask) == Some((next.state, next.marks))
         && next.write_back == has_word(cell, "back")
         && next.enters == has_word(cell, "enters")
@@ -101,7 +108,7 @@ M . *   | S . 0 back     | I . 0 back     | I . 0 back     | I . 0 back
 ";
 
 /// Whether a row of `MESSAGES` holds with this mask.
-fn is_by_messages(rt: &impl Abort, line: &str, mask: u32) -> Option<bool> {
+fn is_by_messages(rt: &impl Abort, line: &str, mask: u64) -> Option<bool> {
     let (state, marks) = copy(cell(line, 0), mask)?;
     assert!(rt; !state.is_speculative() || marks.loaded || marks.bytes != 0);
     Some(
@@ -126,12 +133,12 @@ fn messages_of_other_cores(rt: HostRuntime) {
 }
 
 fn is_access(offset: u32, width: u32) -> bool
-    ensures { result ≡ true → (offset < 32) × IsWidth width × (offset % width ≡ 0) }
+    ensures { result ≡ true → (offset < 64) × IsWidth width × (offset % width ≡ 0) }
 {
     match width {
-        1 => offset < 32,
-        2 => offset < 32 && offset % 2 == 0,
-        4 => offset < 32 && offset % 4 == 0,
+        1 => offset < 64,
+        2 => offset < 64 && offset % 2 == 0,
+        4 => offset < 64 && offset % 4 == 0,
         _ => false,
     }
 }
@@ -178,6 +185,8 @@ SpS . c000     | 14 2 | with  | SpS . c000
 SpS . 80000000 | 31 1 | with  | SpS . 80000000
 SpE . f0000000 | 28 4 | alone | SpE . f0000000
 SpE . f0000    | 18 2 | with  | SpE . f0000
+SpS . 100000000        | 32 1 | with  | SpS . 100000000
+SpE . f000000000000000 | 60 4 | alone | SpE . f000000000000000
 # one byte outside it
 SpS . 70       | 4 4  | with  | SpS r 70
 SpS . e0       | 4 4  | with  | SpS r e0
@@ -185,7 +194,10 @@ SpS . 1        | 0 2  | with  | SpS r 1
 SpE . 2        | 0 2  | alone | SpE r 2
 SpE . 1        | 0 4  | alone | SpE r 1
 SpE . b0000000 | 28 4 | alone | SpE r b0000000
+SpS . 7000000000000000 | 60 4 | with  | SpS r 7000000000000000
 # the same offset in the other half of the line
+SpE . 1                | 32 1 | alone | SpE r 1
+SpS . 100000000        | 0 1  | with  | SpS r 100000000
 SpE . 1        | 16 1 | alone | SpE r 1
 SpE . 10000    | 0 1  | alone | SpE r 10000
 SpS r f0       | 4 4  | with  | SpS r f0
@@ -231,6 +243,10 @@ SpE . 1     | 1 1  | with  | SpE . 3
 SpE . 1     | 16 1 | alone | SpE . 10001
 SpE . 10000 | 0 2  | alone | SpE . 10003
 SpE r f0    | 7 1  | alone | SpE r f0
+I . 0       | 32 1 | with  | SpS . 100000000 enters
+E . 0       | 60 4 | alone | SpE . f000000000000000
+SpS . f0    | 63 1 | with  | SpS . 80000000000000f0
+SpE . 1     | 32 1 | alone | SpE . 100000001
 ";
 
 /// Whether a row of `OWN_STORES` holds.
@@ -262,7 +278,7 @@ SpE r * | I . 0
 ";
 
 /// Whether a row of `VIOLATIONS` holds with this mask.
-fn is_violation(line: &str, mask: u32) -> Option<bool> {
+fn is_violation(line: &str, mask: u64) -> Option<bool> {
     let (state, marks) = copy(cell(line, 0), mask)?;
     Some(is(after_violation(state, marks), cell(line, 1), mask))
 }
@@ -288,7 +304,7 @@ SpE r * | M . 0 | M . 0
 ";
 
 /// Whether a row of `OWN_PUBLISHES` holds with this mask.
-fn is_publish(line: &str, mask: u32) -> Option<bool> {
+fn is_publish(line: &str, mask: u64) -> Option<bool> {
     let (state, marks) = copy(cell(line, 0), mask)?;
     Some(
         is(settled(state, marks, true), cell(line, 1), mask)
@@ -334,12 +350,17 @@ const BYTES: &str = "
 00010000 16 own
 80000000 31 own
 80000000 15
+80000000 63
+100000000 32 own
+100000000 0
+8000000000000000 63 own
+8000000000000000 31
 ";
 
 /// Whether a row of `BYTES` holds.
 fn is_byte(rt: &impl Abort, line: &str) -> Option<bool> {
-    let (bytes, offset) = (hex(line, 0)?, number(line, 1));
-    assert!(rt; offset < 32);
+    let (bytes, offset) = (mask_at(line, 0)?, number(line, 1));
+    assert!(rt; offset < 64);
     let marks = Marks {
         loaded: true,
         bytes,

@@ -43,6 +43,11 @@ pub fn hex(text: &str, place: usize) -> Option<u32> {
     u32::from_str_radix(word(text, place), 16).ok()
 }
 
+/// The mask of bytes at a place of a text, in hexadecimal. None: there is none.
+pub fn mask_at(text: &str, place: usize) -> Option<u64> {
+    u64::from_str_radix(word(text, place), 16).ok()
+}
+
 /// The state of this name.
 pub fn state(word: &str) -> Option<LineState> {
     match word {
@@ -57,7 +62,7 @@ pub fn state(word: &str) -> Option<LineState> {
 }
 
 /// The marks at a place of a text: `r` where the line was loaded, and which of its bytes are modified. `*` is `mask`.
-pub fn marks(text: &str, place: usize, mask: u32) -> Option<Marks> {
+pub fn marks(text: &str, place: usize, mask: u64) -> Option<Marks> {
     Some(Marks {
         loaded: word(text, place) == "r",
         bytes: bytes_of(word(text, place.wrapping_add(1)), mask)?,
@@ -65,10 +70,10 @@ pub fn marks(text: &str, place: usize, mask: u32) -> Option<Marks> {
 }
 
 /// Which bytes a word names.
-fn bytes_of(word: &str, mask: u32) -> Option<u32> {
+fn bytes_of(word: &str, mask: u64) -> Option<u64> {
     if word == "*" {
         Some(mask)
     } else {
-        hex(word, 0)
+        mask_at(word, 0)
     }
 }

@@ -447,6 +447,94 @@ fn takes_no_words(rt: HostRuntime) {
     }
 }
 
+/// What is printed of the fifth line, where lines have 32 bytes: the five are in three of those.
+const FULL_BY_32_TOLD: &str =
+    "hurt 11 buffer epoch 1 try 1 core 1 lost 7 entered 6 since - by 0 core 0 cause 12 load held 6 00000014 asked 12 0000002c at 00000080 32
+open epoch 0 try 1 core 0 done 7
+epoch 1 rollbacks 1 lost 7
+pair asked 0000002c held 00000014 rollbacks 1 lost 7 true 0 silent 0 false 0 buffer 1 stale 0 vain 0 later 0 distance 1 1 at 00000080 32
+line 00000080 rollbacks 1 lost 7 true 0 silent 0 false 0 buffer 1
+pc 00000014 victim 1 7 causer 0 0
+pc 0000002c victim 0 0 causer 1 7
+kind buffer rollbacks 1 lost 7
+total epochs 6 committed 0 useful 0 rollbacks 1 lost 7 cancelled 0 dropped 0 open 1 unsettled 7
+";
+
+/// Whether the program prints this of an input, on the machine of a word.
+fn is_told_on(alloc: Global, store: &str, input: &str, told: &str) -> bool {
+    run_on(alloc, &["why", store], input).is(0, told.as_bytes(), "")
+}
+
+#[test]
+fn explains_on_the_machine_of_its_word(rt: HostRuntime) {
+    let alloc = rt.alloc();
+    for store in [
+        "plain",
+        "caches",
+        "caches:line=16,sets=4,ways=2,buffer=4",
+        "caches:ways=1",
+    ] {
+        assert!(rt; is_told_on(alloc, store, FULL, FULL_TOLD), "{store}");
+        assert!(rt; is_told_on(alloc, store, WAITS, WAITS_TOLD), "{store}");
+    }
+    for store in ["caches:line=32,buffer=2", "caches:buffer=2,sets=8,line=32"] {
+        assert!(rt; is_told_on(alloc, store, FULL, FULL_BY_32_TOLD), "{store}");
+        assert!(rt; is_told_on(alloc, store, WAITS, WAITS_TOLD), "{store}");
+    }
+}
+
+/// A buffer that has room for the four other lines isn't full.
+#[test]
+fn a_larger_buffer_is_not_full(rt: HostRuntime) {
+    for store in [
+        "caches:buffer=5",
+        "caches:buffer=64",
+        "caches:line=32",
+        "caches:line=32,buffer=3",
+    ] {
+        let ran = run_on(rt.alloc(), &["why", store], FULL);
+        assert!(rt;
+            ran.status == 0
+                && ran
+                    .output
+                    .as_slice()
+                    .starts_with(b"hurt 11 other epoch 1 try 1 core 1 lost 7 "),
+            "{store}"
+        );
+    }
+}
+
+/// A machine is refused once the input is read, and other words before.
+#[test]
+fn refuses_words_and_machines(rt: HostRuntime) {
+    for store in [
+        "caches:line=24",
+        "caches:line=128",
+        "caches:ways=17",
+        "caches:buffer=0",
+    ] {
+        assert!(rt;
+            run_on(rt.alloc(), &["why", store], "").is(2, b"", "image 0 MissingOrRepeated\n")
+        );
+        assert!(rt;
+            run_on(rt.alloc(), &["why", store], WAITS).is(2, b"", "usage\n"),
+            "{store}"
+        );
+    }
+    for store in [
+        "caches:",
+        "caches:line",
+        "caches:line=32,line=32",
+        "plain:line=32",
+    ] {
+        assert!(rt;
+            run_on(rt.alloc(), &["why", store], "").is(2, b"", "usage\n"),
+            "{store}"
+        );
+    }
+    assert!(rt; run_on(rt.alloc(), &["why", "caches", "caches"], "").is(2, b"", "usage\n"));
+}
+
 /// It answers as with ample memory, or tells want of memory.
 #[test]
 fn tells_want_of_memory(rt: HostRuntime) {
