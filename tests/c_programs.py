@@ -29,7 +29,7 @@ from common import ROOT, Check, Script, called, called_bytes, called_well, left_
 Results = Iterator[Check]
 TOOL = ROOT / "tools" / "image-of"
 PROGRAMS = ROOT / "tests" / "c"
-ARITHMETIC = ROOT / "tools" / "arithmetic.c"
+ARITHMETIC = ROOT / "tools" / "loops" / "image_of" / "sources" / "arithmetic.c"
 # Programs of tests/c and their further sources.
 SOURCES: dict[str, list[Path]] = {
     "arrays": [], "counter": [], "crc": [], "divisors": [PROGRAMS / "divisors.remainder.c"], "far_apart": [],

@@ -180,7 +180,7 @@ def check_rows(programs: Programs) -> Iterator[Row]:
 
 @comparing
 def check_words(depends: list[str]) -> Iterator[Row]:
-    for words in (["0"], ["17"], ["x"], ["2", "other"], ["-1"], ["2", "caches", "2"], ["2", "plain", "caches", "plain"],
+    for words in (["0"], ["17"], ["x"], ["2", "other"], ["-1"], ["2", "caches", "2"], ["2", "plain", "caches:sets"],
                   ["caches"]):
         yield (f"words {words}", run(depends, words, COUNTER), ("", "usage\n", 2))
     yield ("more cores than version 1 allows", run(depends, ["9"], COUNTER), ("", "usage\n", 2))

@@ -97,6 +97,11 @@ TEXTS = [
                   "00000004 victim 1 3 causer 0 0\n"
                   "kind buffer rollbacks 1 lost 3\n" + TOTAL),
     ("gains", GAIN + "store caches cores 1 full\n" + GAIN.replace("gain 4.00", "gain -")),
+    ("gains", "".join(GAIN.replace("plain", word)
+                      for word in ("caches:sets=64,ways=4,buffer=16", "caches:line=64", "caches"))),
+    ("dependences", DEPENDS.replace("caches", "caches:line=64,buffer=1").replace("never plain", "never caches:sets=1")),
+    ("dependences", "open caches:sets=8 2\n"),
+    ("steps", STEPS.replace("00000000 01000000\n", "80000000f0000000 " + "01" * 64 + "\n")),
     ("output", "turns 0 1 0\nend done 1\ncounts 0 0 0 1\ntrace 2\n0 start 0\n0 commit\n"),
     ("steps", STEPS),
     ("steps", "end\nopen 0\ncounts 0 0 0 0\ntrace 1\n"),
@@ -112,6 +117,10 @@ REFUSED = [
     ("traced", "size 64\ntrace 2\n0 begin 0\n"), ("output", "end soon 3\n"),
     ("conflicts", "hurt 4 true epoch 1\n"), ("conflicts", "vain 4 hurt\n"),
     ("conflicts", HURT.replace("vain 4", "vain 5")), ("gains", "store caches cores 2 fast\n"),
+    *(("gains", GAIN.replace("plain", word))
+      for word in ("plane", "caches:", "caches:sets=3", "caches:sets=4,sets=4", "plain:ways=2")),
+    ("dependences", "never caches:ways=17 4\n"),
+    ("steps", STEPS.replace("- 00000000 01000000", "- 000000000000 01000000")),
     ("steps", STEPS.partition("end\n")[0]), ("steps", STEPS.replace("hart 0 -", "heart 0 -")),
     *(("steps", STEPS.replace(right, wrong)) for right, wrong in (
         ("hart 0 00000000 0", "hart 0 0 0"), ("attempt 0 0 homefree", "attempt 0 0"), ("orb 0\n", "orb 0 40\n"),

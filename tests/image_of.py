@@ -27,6 +27,7 @@ from common import ROOT, Check, Script, beside, called, called_bytes, differs, l
 Results = Iterator[Check]
 Row = tuple[list[str | Path], str, dict[str, bytes]]
 TOOLS = ROOT / "tools"
+C_SOURCES = TOOLS / "loops" / "image_of" / "sources"
 GCC = ["riscv64-unknown-elf-gcc", "-march=rv32i", "-mabi=ilp32", "-O2", "-ffreestanding", "-msmall-data-limit=0"]
 # What each compiler needs.
 NEEDED = {"gcc": [GCC[0]], "clang": ["clang", "ld.lld", "llvm-ar", "llvm-as"]}
@@ -197,8 +198,8 @@ def programs(compiler: str) -> Iterator[Row]:
     yield ([*by, *some, "--reg", "2=0x8000", "--size", "65536", f"library-{compiler}.o", f"add-{compiler}.o"],
            "end done 4", lib)
     yield [*by, "--epochs", "8", "--exit", "--data", "keys=keys.bin", "search.c"], "end exit 5", {"wanted": words(6)}
-    yield ([*by, "--epochs", "2", "--stack", "128", "-DARENA=64", "-DARENAS=2", "blocks.c", TOOLS / "memory.c",
-            TOOLS / "allocator.c"], "end done 2",
+    yield ([*by, "--epochs", "2", "--stack", "128", "-DARENA=64", "-DARENAS=2", "blocks.c", C_SOURCES / "memory.c",
+            C_SOURCES / "allocator.c"], "end done 2",
            {"moved": b"aabcdexxx" + bytes(7) + b"bcdeffxxx" + bytes(7), "told": words(8, 8, -1, 1),
             "null": words(0, 0)})
     yield from further_programs(compiler, by, some)
@@ -281,7 +282,7 @@ def same_code(folder: Path, given: list[str | Path], image: str) -> str | None:
                                                                   if line[0] != "#"]:
         return "-g changes the image"
     told = re.findall(r"(?m)^# code ([0-9a-f]{8}) (\S+):(\d+)$", text)
-    lengths = {name: len((folder / name if (folder / name).is_file() else TOOLS / name).read_text().splitlines())
+    lengths = {name: len((folder / name if (folder / name).is_file() else C_SOURCES / name).read_text().splitlines())
                for name in {name for _, name, _ in told}}
     if not told or any(not 1 <= int(line) <= lengths[name] for _, name, line in told):
         return f"-g names lines that aren't there: {told}"
@@ -469,7 +470,7 @@ def bad_inputs(folder: Path) -> Iterator[tuple[list[str], str]]:
     yield ["twin.o", "good.o"], r"multiple definition of `?body"
     object_of("copies", "void *memcpy(void *, const void *, unsigned long);\nchar a[4][64];\n"
                         "void body(unsigned e) { memcpy(a[e], a[0], e); }\n", *rv32)
-    yield ["--stack", "64", "copies.o"], r"undefined: memcpy: .*tools/memory\.c"
+    yield ["--stack", "64", "copies.o"], r"undefined: memcpy: .*sources/memory\.c"
     text("throws.cpp", "unsigned a[4];\nextern \"C\" void body(unsigned e) { if (e > 9) throw e; a[e] = e; }\n")
     yield (["--stack", "64", "--cflags=-fexceptions", "throws.cpp"],
            r"undefined: .*__cxa_throw.*: there is no C\+\+ library; do without exceptions")

@@ -50,7 +50,7 @@ IMAGE = "[loops]\na = 'counter.image'\n"
 REFUSED = [
     ("cores = [1]\n", "loops is missing"), ("[loops]\n", "loops: {} is refused; wanted is a table of loops"),
     ("speed = 3\n" + IMAGE, '"speed": no field'),
-    ("stores = ['disk']\n" + IMAGE, 'stores[0]: "disk" is refused; wanted is "caches" or "plain"'),
+    ("stores = ['disk']\n" + IMAGE, 'stores[0]: \'disk\' names no store; one is plain, caches or caches:KEY=N'),
     ("[loops]\na = 'none.image'\n", "isn't there"),
     ("[loops]\n'a b' = 'counter.image'\n", "a loop's name"), ("[loops]\n\"a\\n\" = 'counter.image'\n", "a loop's name"),
     ("[loops]\na = 'plan.toml'\n", "begins no line of an image"),

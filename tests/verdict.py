@@ -38,9 +38,12 @@ ONE = ("store {} cores 1 steps 12 gain 1.00 useful 12 lost 0 dropped 0 waiting 0
 TWO = ("store {} cores 2 steps 10 gain 1.20 useful 12 lost 4 dropped 0 waiting 0 idle 4 restarts 1 true 1 silent 0 "
        "false 0 buffer 0 nothomefree 0 noway 0 orbfull 0 "
        "orbbusy 0\n")
-GAIN = "".join(line.format(store) for store in ("caches", "plain") for line in (ONE, TWO))
+LARGE = "caches:line=16,sets=64,ways=4,buffer=16"
+GAIN = "".join(line.format(store) for store in ("caches", LARGE, "plain") for line in (ONE, TWO))
+CACHES = "The caches have 4 sets of 2 ways with lines of 16 bytes, and buffers of 4 lines."
+LARGER = " With 64 sets of 4 ways with lines of 16 bytes, and buffers of 16 lines, it gains {}"
 SAID = ("waits gains 1.20 on 2 cores at even speed: 10 steps in place of 12. Over a plain store of bytes it gains "
-        "1.20. Of all steps 60 % are useful, 20 % are lost and "
+        f"1.20. {CACHES} Of all steps 60 % are useful, 20 % are lost and "
         "20 % are idle. What holds it back over a plain store already: 1 rollback by true sharing lost 3 instructions. "
         "3 instructions where the store at waits.c:4 hits the "
         "load at waits.c:7 at flag: it usually helps to wait for flag, or let each epoch keep its own and put them "
@@ -201,6 +204,59 @@ def by_hand(folder: Path | str) -> Results:
     yield "no image", None if got[0] == "" and got[1].startswith("verdict: ") and got[2] == 2 else f"got {got}"
 
 
+# Of a machine by its sets what the loop gains, where it gains 4.00 over a plain store and 1.10 over the version's
+# caches; and what is told of it.
+BY_SETS = [
+    ({64: 4.00, 4: 1.10, 8: 1.20, 16: 3.90, 32: 4.00},
+     LARGER.format("4.00") + ". Of caches of 4 ways, the first that gain as much as the plain store, within 5 %, have "
+     "16 sets, 64 lines. Of all steps"),
+    ({64: 4.00, 4: 1.10, 8: 1.20, 16: 1.30, 32: 3.79}, " within 5 %, have 64 sets, 256 lines. Of all"),
+    ({64: 2.00, 1024: 4.00, 128: 2.00, 256: 3.81},
+     LARGER.format("2.00") + ". Of caches of 4 ways, the first that gain as much as the plain store, within 5 %, have "
+     "256 sets, 1,024 lines."),
+    ({64: 2.00, 1024: 4.00, 128: 2.00, 256: 3.00, 512: 3.50}, " have 1,024 sets, 4,096 lines."),
+    ({64: 1.12, 1024: 1.12},
+     f"{CACHES} No caches of 4 ways up to 1,024 sets gain as much as the plain store: what they cost isn't for want of "
+     "room. Of all"),
+    ({64: 1.02, 1024: 1.02}, LARGER.format("1.02") + ": it hangs on the size of the caches. No caches"),
+]
+
+
+def gain_by_sets(folder: Path | str, gains: dict[int, float]) -> None:
+    """A `gain` that is asked of machines by their sets; of others it knows nothing."""
+    lines = {f"sets={sets},": TWO.format("$word").replace("gain 1.20", f"gain {gain:.2f}")
+             for sets, gain in gains.items()}
+    lines |= {"caches": TWO.format("caches").replace("gain 1.20", "gain 1.10"),
+              "plain": TWO.format("plain").replace("gain 1.20", "gain 4.00")}
+    cases = "".join(f"{'*' * (key[-1] == ',')}{key}{'*' * (key[-1] == ',')}) "
+                    f"echo \"{ONE.format('$word')}{line.rstrip()}\" ;;\n" for key, line in lines.items())
+    path = Path(folder, "gain")
+    path.write_text(f"#!/bin/sh\ncat >/dev/null\nshift\nfor word; do\ncase $word in\n{cases}*) exit 9 ;;\nesac\ndone\n")
+    path.chmod(0o755)
+
+
+def sizes(folder: Path | str) -> Results:
+    """Whether it hangs on the size of the caches, and which ones gain as much as the plain store: no other size is
+    tried than is told here."""
+    image = Path(folder, "waits.image")
+    image.write_text(IMAGE)
+    for name, output in (("replay", RUN), ("why", WHY)):
+        stub(folder, name, output)
+    for gains, said in BY_SETS:
+        gain_by_sets(folder, gains)
+        got = verdict(folder, image, "--cores", "2")
+        yield f"by the sets: {gains}", None if said in got[0] and got[1:] == ("", 0) else f"got {got}"
+    gain_by_sets(folder, {64: 1.15, 1024: 4.00, 128: 3.90, 256: 1.00})
+    got = verdict(folder, image, "--cores", "2", "--store", "caches:sets=256,buffer=5")
+    said = ("The caches have 256 sets of 2 ways with lines of 16 bytes, and buffers of 5 lines, as "
+            "caches:sets=256,buffer=5 asks. Of all")
+    yield "as many lines as large caches", None if said in got[0] and got[1:] == ("", 0) else f"got {got}"
+    for word, wrong in (("plain", "it gains over the plain store"), ("caches:sets=3", "names no store")):
+        got = verdict(folder, image, "--store", word)
+        yield (f"refused: {word}",
+               None if got[0] == "" and wrong in " ".join(got[1].split()) and got[2] == 2 else f"got {got}")
+
+
 def flows(folder: Path | str) -> Results:
     """What `depends` adds, where it is there: whether anything can roll back, and what an epoch needs earliest of
     another."""
@@ -352,7 +408,8 @@ def examples(folder: Path | str, command: list[str]) -> Results:
 def main() -> int:
     script = Script()
     with tempfile.TemporaryDirectory() as folder:
-        script.run(partial(by_hand, folder), partial(flows, folder), partial(examples, folder, script.command()))
+        script.run(partial(by_hand, folder), partial(sizes, folder), partial(flows, folder),
+                   partial(examples, folder, script.command()))
     return script.ended()
 
 

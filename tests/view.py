@@ -253,15 +253,22 @@ def framed(place: str, old: str, new: str) -> int:
     return sum(1 << at for at in range(len(now)) if before[at] != now[at])
 
 
+def is_left_out(kind: str, text: str) -> bool:
+    """Whether a place may not be shown that hasn't changed: nothing is kept of a row, or in a large cache a copy isn't
+    marked."""
+    if kind == "kept":
+        return int("".join(text.split(" ")[:2]), 16) == 0
+    return kind == "line" and (text == "-" or not text.split(" ")[1].startswith("Sp") and text.split(" ")[2] == "-"
+                               and int(text.split(" ")[3], 16) == 0)
+
+
 def differences(shown: dict[str, Any], state: dict[str, str], step: Any, before: dict[str, str]) -> Iterator[str]:
     """Where the page shows something else than the state after a turn, or doesn't say what changed from the state
     before."""
     places, waits = shown["places"], step.answer.split(" ")[1] if step.answer.startswith("again ") else ""
     for place, text in state.items():
         kind, got = place.split(" ")[0], places.get(place)
-        is_changed, is_gone = (place in {it.place
-                                        for it in step.changes},
-                               kind == "kept" and int("".join(text.split(" ")[:2]), 16) == 0)
+        is_changed, is_gone = place in {it.place for it in step.changes}, is_left_out(kind, text)
         if got is None and is_gone and not is_changed:
             continue
         if got is None or not OF_PLACE[kind](text, got):
@@ -558,6 +565,8 @@ def runs(views: Views) -> Iterator[Result]:
     inputs = [("a histogram's trace", traced, "caches", None, True),
               ("wide lines", views.evenly(example("wide_lines"), "caches", 3), "caches", 3, False),
               ("a histogram over the plain store", views.evenly(example("histogram"), "plain", 2), "plain", 2, False)]
+    inputs += [(f"a histogram over {word}", views.evenly(example("histogram"), word, 3), word, 3, False)
+               for word in ("caches:line=64,sets=1,ways=3,buffer=1", "caches:sets=64,ways=4,buffer=16")]
     for name, text, store, cores, is_moved in inputs:
         steps = views.programs.steps(text, store, cores)
         page, out = views.page(text, "--store", store, *([] if cores is None else ["--cores", str(cores)]))
@@ -566,6 +575,13 @@ def runs(views: Views) -> Iterator[Result]:
         for shows, wrong in [*whole_run(page, steps), *(moves(page, steps) if is_moved else ())]:
             yield f"{name}: {shows}", wrong
         yield f"{name}: no errors in the browser", page.errors() or None
+        lines = len(page.browser.find_elements(page.by.CSS_SELECTOR, "#core-0 .cache td"))
+        yield (f"{name}: all lines of small caches",
+               None if lines == {"caches": 8, "plain": 0}.get(store, 3) or "sets=64" in store and lines < 20
+               else f"{lines}")
+        yield (f"{name}: its store",
+               None if store in page.text("of") or store == "plain" and "the plain store" in page.text("of")
+               else page.text("of"))
 
 
 def first_turn(steps: Any, holds: Callable[[Any], bool]) -> int | None:
@@ -574,7 +590,7 @@ def first_turn(steps: Any, holds: Callable[[Any], bool]) -> int | None:
 
 def found(views: Views) -> Iterator[Result]:
     """What a person looks for, found by keys; `replay steps` says where it is."""
-    inputs = [("a full set", views.evenly(example("queens"), "caches", 2), 2, "w", "both ways of the set hold lines",
+    inputs = [("a full set", views.evenly(example("queens"), "caches", 2), 2, "w", "all ways of the set hold lines",
                lambda step: step.answer == "again NoWay"),
               ("a full buffer", image(LOADS_FIRST) + f"turns {FIVE_LINES}\n", 2, "w", "its buffer, which is full",
                lambda step: step.answer == "again OrbFull"),

@@ -1,4 +1,4 @@
-// Products, quotients and 64-bit shifts by tools/arithmetic.c: each of the functions there, with numbers of either sign.
+// Products, quotients and 64-bit shifts by arithmetic.c: each of the functions there, with numbers of either sign.
 //> end done 6
 //> products 00000 bc02000000000000f2ffffffffffffff
 //> products 00010 0a000000fbffffff00000080feffffff

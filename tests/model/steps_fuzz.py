@@ -5,14 +5,14 @@ machine of flat_audit.py.
 Usage: tests/model/steps_fuzz.py [--seed S] [--count N] [--jobs J] [--keep DIR] [COMMAND ..]
 
 COMMAND is a command of `trace_cli` that ends with the word `seq`; `replay` is the program that was built beside it.
-Without it ./replay of this repository is tested. Schedule number I of seed S is always the same, over caches and over
-the plain store in turn. After each turn the flat machine has its entries done. Then each core has to run what the
-machine's does, with the hart that it was given, and committed memory has to be the machine's. A core of the plain store
-has to keep just the bytes that were stored and those that were read from outside; one with a cache marks just their
-lines, each of its other bytes is the committed one, and its buffer has just the shared lines to which it has stored. A
-place is told where it isn't as it was, and nowhere else, in the order of the places. Below the line `end` there has to
-be what `replay` prints without `steps`. The first schedule that differs is written to DIR, and ends the test with
-status 1. 2,000 take some minutes.
+Without it ./replay of this repository is tested. Schedule number I of seed S is always the same, over the version's
+caches, over the plain store and over caches of another size in turn. After each turn the flat machine has its entries
+done. Then each core has to run what the machine's does, with the hart that it was given, and committed memory has to be
+the machine's. A core of the plain store has to keep just the bytes that were stored and those that were read from
+outside; one with a cache marks just their lines, each of its other bytes is the committed one, and its buffer has just
+the shared lines to which it has stored. A place is told where it isn't as it was, and nowhere else, in the order of the
+places. Below the line `end` there has to be what `replay` prints without `steps`. The first schedule that differs is
+written to DIR, and ends the test with status 1. 2,000 take some minutes.
 """
 
 import argparse
@@ -26,6 +26,7 @@ ROOT = Path(__file__).resolve().parent.parent.parent
 sys.path[:0] = [str(ROOT / "tests"), str(ROOT / "tests" / "model")]
 
 import flat_audit  # noqa: E402
+import machines  # noqa: E402
 import rv32_seq  # noqa: E402
 import stress  # noqa: E402
 from common import left_out  # noqa: E402
@@ -106,16 +107,18 @@ def check_plain(told, k, core):
     expect(f"core {k} keeps", {place: now for place, now in told.of("kept", k).items() if now != NOTHING}, rows)
 
 
-def check_cache(told, k, core, committed, size):
-    """A core with a cache of lines of this size."""
+def check_cache(told, k, core, committed, machine):
+    """A core with a cache of this machine."""
+    size, sets, ways, buffer = machine
     own, outside = kept_by(core)
     stored, loaded, shared = {}, set(), []
     for (cache_set, way), now in told.of("line", k).items():
         if now == ["-"]:
             continue
         address, mask, cells = int(now[0], 16), int(now[3], 16), bytes.fromhex(now[4])
-        expect(f"core {k}, the set of {now[0]}", (int(cache_set), way in "01", len(cells)),
-               (address // size % 4, True, size))
+        expect(f"core {k}, the mask of {now[0]}", len(now[3]), 16 if size == 64 else 8)
+        expect(f"core {k}, the set of {now[0]}", (int(cache_set), int(way) < ways, len(cells)),
+               (address // size % sets, True, size))
         stored |= {address + i: cells[i] for i in range(size) if mask >> i & 1}
         loaded |= {address} if now[2] == "loaded" else set()
         shared += [now[0]] if now[1] == "SpS" and mask else []
@@ -124,7 +127,16 @@ def check_cache(told, k, core, committed, size):
                [committed[address + i] for i in rest])
     expect(f"core {k} has stored", stored, own)
     expect(f"core {k} has loaded in", loaded, {a // size * size for a in outside})
+    expect(f"the buffer of core {k} has room", len(shared) <= buffer, True)
     expect(f"the buffer of core {k}", sorted(told.of("orb", k).get((), [])), sorted(shared))
+
+
+def machine_of(store, version):
+    """Of the caches of a word the bytes of a line, the sets, the ways of each, and the lines of a buffer."""
+    chosen = ({"line": 32, "sets": 4, "ways": 2, "buffer": 8} if version == 2
+              else {"line": 16, "sets": 4, "ways": 2, "buffer": 4})
+    asked = [pair.split("=") for pair in store.partition(":")[2].split(",") if pair]
+    return list({**chosen, **{key: int(number) for key, number in asked}}.values())
 
 
 def attempt_of(core):
@@ -144,7 +156,7 @@ def check_turn(told, flat, store, by, answer):
         if store == "plain":
             check_plain(told, k, core)
         else:
-            check_cache(told, k, core, flat.committed, 32 if flat.image.version == 2 else 16)
+            check_cache(told, k, core, flat.committed, machine_of(store, flat.image.version))
     expect("committed memory", told.memory(), flat.committed)
 
 
@@ -173,8 +185,9 @@ def case(seed, index):
     rng = random.Random(f"steps/{seed}/{index}")
     text, cores = stress.loop_of(rng)
     chosen = [rng.random() ** 2 + 0.05 for _ in range(cores)]
-    return (text, cores, ("caches", "plain")[index % 2],
-            rng.choices(range(cores), chosen, k=rng.choice([5, 40, 150, 400])))
+    store = ("caches", "plain", machines.machine(random.Random(f"machine/{seed}/{index}"),
+                                                 machines.size_of(text.decode("latin-1")), 4))[index % 3]
+    return text, cores, store, rng.choices(range(cores), chosen, k=rng.choice([5, 40, 150, 400]))
 
 
 def wrong_of(program, seed, index):

@@ -61,6 +61,11 @@ class Copy:
     stored: int                             # a mask: the bytes that its epoch has stored
     data: bytes
 
+    @property
+    def mask(self) -> str:
+        """The mask in hexadecimal digits, as it is printed: 8, and of a line of 64 bytes 16."""
+        return f"{self.stored:0{max(8, len(self.data) // 4)}x}"
+
 
 @dataclass(frozen=True, slots=True)
 class OfWay:
@@ -77,8 +82,8 @@ class OfWay:
     @property
     def said(self) -> str:
         copy = self.now
-        return (f"{copy.address:08x} {copy.state} {'loaded' if copy.loaded else '-'} {copy.stored:08x} "
-                f"{copy.data.hex()}" if copy else "-")
+        return (f"{copy.address:08x} {copy.state} {'loaded' if copy.loaded else '-'} {copy.mask} {copy.data.hex()}"
+                if copy else "-")
 
 
 @dataclass(frozen=True, slots=True)
@@ -135,6 +140,8 @@ Change = OfAttempt | OfHart | OfWay | OfBuffer | OfKept | OfMemory
 # --- Reading -----------------------------------------------------------------
 
 NUMBER, ADDRESS, BYTES = r"(\d+)", "([0-9a-f]{8})", "((?:[0-9a-f]{2})+)"
+# Of a line of 64 bytes, or of a shorter one
+MASK = "([0-9a-f]{16}|[0-9a-f]{8})"
 
 
 def attempt_of(core: str, epoch: str | None, mode: str | None) -> Change:
@@ -169,8 +176,7 @@ def memory_of(address: str, data: str) -> Change:
 FORMS: dict[str, tuple[re.Pattern[str], Callable[..., Change]]] = {
     "attempt": (re.compile(rf"attempt {NUMBER} (?:-|{NUMBER} (\S.*))"), attempt_of),
     "hart": (re.compile(rf"hart {NUMBER} (?:-|{ADDRESS} {NUMBER})"), hart_of),
-    "line": (re.compile(rf"line {NUMBER} {NUMBER} {NUMBER} (?:-|{ADDRESS} (\w+) (loaded|-) {ADDRESS} {BYTES})"),
-             way_of),
+    "line": (re.compile(rf"line {NUMBER} {NUMBER} {NUMBER} (?:-|{ADDRESS} (\w+) (loaded|-) {MASK} {BYTES})"), way_of),
     "orb": (re.compile(rf"orb {NUMBER}((?: [0-9a-f]{{8}})*)"), buffer_of),
     "kept": (re.compile(rf"kept {NUMBER} {ADDRESS} ([0-9a-f]{{4}}) ([0-9a-f]{{4}}) {BYTES}"), kept_of),
     "at": (re.compile(rf"at {ADDRESS} {BYTES}"), memory_of),

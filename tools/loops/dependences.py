@@ -7,6 +7,7 @@ from dataclasses import dataclass, field
 
 from .conflicts import Place
 from .images import Unreadable
+from .stores import is_store
 
 
 @dataclass
@@ -50,7 +51,7 @@ class OverStore:
     """Whether anything can roll back over a store: `never` on so many cores; `from` so many, by a schedule that shows
     it; or `open`, where epochs conflict on so many, and the schedule that was tried doesn't show it."""
     verdict: str
-    store: str                          # caches or plain
+    store: str                          # the word as it was given: caches, plain, caches:sets=64 ..
     cores: int
     epoch: int | None = None            # of `from`: the epoch that is violated
     load: int | None = None             # the address of its load; none where its buffer is full
@@ -84,9 +85,9 @@ NUMBER, PC = r"(\d+)", r"([0-9a-f]{8})"
 PAIR = re.compile(rf"dep store {PC} load {PC} times {NUMBER} distance {NUMBER} {NUMBER} at {PC} {NUMBER} first "
                   rf"{NUMBER} {NUMBER} stored {NUMBER} of {NUMBER} "
                   rf"loaded {NUMBER} of {NUMBER}")
-BARE = re.compile(rf"(never|open) (\w+) {NUMBER}")
-MEETS = re.compile(rf"from (\w+) {NUMBER} epoch {NUMBER} load {PC} by epoch {NUMBER} store {PC}")
-FULL = re.compile(rf"from (\w+) {NUMBER} epoch {NUMBER} buffer by epoch {NUMBER}")
+BARE = re.compile(rf"(never|open) (\S+) {NUMBER}")
+MEETS = re.compile(rf"from (\S+) {NUMBER} epoch {NUMBER} load {PC} by epoch {NUMBER} store {PC}")
+FULL = re.compile(rf"from (\S+) {NUMBER} epoch {NUMBER} buffer by epoch {NUMBER}")
 
 
 def pair_of(line: str) -> Joined | None:
@@ -127,7 +128,7 @@ def read_dependences(text: str) -> Dependences:
         pair, store = pair_of(line), store_of(line)
         if pair is not None and not told.stores:
             told.pairs.append(pair)
-        elif store is not None:
+        elif store is not None and is_store(store.store):
             told.stores.append(take_store(store, rest))
         else:
             raise Unreadable(f"{line!r} is no line of depends")

@@ -20,6 +20,7 @@ from .images import Image, Unreadable, read_image
 from .pieces import Items
 from .runs import Entry, Output, Survey, Traced, Verdict, read_output, read_survey, read_traced, read_verdict
 from .steps import Step, Steps, read_steps
+from .stores import is_store
 
 VERSION = 1
 SCHEMA = Path(__file__).with_name("schema.json")
@@ -49,7 +50,7 @@ def form_of_lines(lines: Iterable[str]) -> str:
     first = next((line for line in rest if line and not line.startswith("#")), "").split(" ")
     if first[:2] == ["open", "epoch"]:
         return "conflicts"
-    if first[0] == "open" and first[1:2] in (["caches"], ["plain"]):
+    if first[0] == "open" and is_store(" ".join(first[1:2])):
         return "dependences"
     if first == ["end"]:
         return "steps"

@@ -4,12 +4,13 @@ import re
 from dataclasses import dataclass, field, fields
 
 from .images import Unreadable, there
+from .stores import is_store
 
 
 @dataclass
 class Gain:
     """One run: how long it took, how much faster than on one core, and where the steps of its cores went."""
-    store: str                          # caches or plain
+    store: str                          # the word as it was given: caches, plain, caches:sets=64 ..
     cores: int
     full: bool = False                  # the history was full before the loop was over: there is nothing else
     steps: int | None = None
@@ -53,12 +54,16 @@ class Gains:
     """All runs, in the order in which they are printed."""
     runs: list[Gain] = field(default_factory=list)
 
+    def of(self, store: str, cores: int) -> Gain | None:
+        """The run over a store on so many cores, where there is one."""
+        return next((run for run in self.runs if (run.store, run.cores) == (store, cores)), None)
+
     def text(self) -> str:
         return "".join(run.text() for run in self.runs)
 
 
 NUMBER, HUNDREDTHS = r"(\d+)", r"(\d+\.\d\d|-)"
-FORM = re.compile(r"store (\w+) cores (\d+) (?:full|"
+FORM = re.compile(r"store (\S+) cores (\d+) (?:full|"
                   + " ".join(f"{name} {HUNDREDTHS if name == 'gain' else NUMBER}" for name in NAMES) + ")")
 
 
@@ -67,7 +72,7 @@ def read_gains(text: str) -> Gains:
     gains = Gains()
     for line in text.splitlines():
         match = FORM.fullmatch(line)
-        if match is None:
+        if match is None or not is_store(match[1]):
             raise Unreadable(f"{line!r} is no line of gain")
         run = Gain(match[1], int(match[2]), match[3] is None)
         for name, word in zip(NAMES, match.groups()[2:]):

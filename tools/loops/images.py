@@ -9,8 +9,7 @@ from .instructions import access_spelled
 from .names import word
 from .texts import shown
 
-# By versions of images: the bytes of a line of the caches, and the most cores
-LINE_LENGTH = {1: 16, 2: 32}
+# By versions of images: the most cores
 MOST_CORES = {1: 8, 2: 16}
 VARIABLE = re.compile(r" (\S+) ([0-9a-fA-F]{8}) (\d+)")
 SOURCE = re.compile(r" code ([0-9a-fA-F]{8}) (\S+:\d+)")
@@ -108,11 +107,6 @@ class Image:
     def spelled(self, pc: int) -> str:
         """An instruction's address, and its line in the source where the remarks tell it."""
         return f"{pc:08x}" + (f" at {self.sources[pc]}" if pc in self.sources else "")
-
-    @property
-    def line_length(self) -> int:
-        """The bytes of a line of the caches."""
-        return LINE_LENGTH.get(self.version, 16)
 
     @property
     def most_cores(self) -> int:

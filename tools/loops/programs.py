@@ -15,6 +15,7 @@ from .gains import Gains, read_gains
 from .images import Image
 from .runs import Output, Survey, Trace, Traced, Verdict, read_output, read_survey, read_verdict
 from .steps import Steps, read_steps
+from .stores import USUAL
 from .texts import text_in, text_out
 
 # Statuses with which a program has printed its answer: the loop is done or exited, or an epoch faulted.
@@ -121,7 +122,8 @@ def iter_call(program: str | Path, words: list[str], source: Path, right: tuple[
 
 @dataclass
 class Programs:
-    """The programs of a folder. An input is an image or its text, as it stands in a file."""
+    """The programs of a folder. An input is an image or its text, as it stands in a file; a store is its word, as
+    `caches:sets=64,ways=4`."""
     folder: Path = field(default_factory=folder)
     why_command: str | Path | None = None           # in the place of the folder's `why`
 
@@ -137,16 +139,17 @@ class Programs:
         """Whether a trace is legal."""
         return read_verdict(call(self.folder / "trace_cli", ["audit"], text_of(traced), (0, ILLEGAL)))
 
-    def why(self, traced: Traced | str) -> Conflicts:
-        """Which conflicts rolled back."""
-        return read_conflicts(self.why_text(text_of(traced)))
+    def why(self, traced: Traced | str, store: str | None = None) -> Conflicts:
+        """Which conflicts rolled back. The store is that of the run: without it the caches are those of the image's
+        version."""
+        return read_conflicts(self.why_text(text_of(traced), store))
 
-    def why_text(self, text: str) -> str:
+    def why_text(self, text: str, store: str | None = None) -> str:
         """The same as it is printed."""
-        return call(self.why_command or self.folder / "why", [], text, (0,))
+        return call(self.why_command or self.folder / "why", why_words(store), text, (0,))
 
     def replay(self, image: Image | str, store: str, cores: int, turns: list[int]) -> Output:
-        """The loop by a schedule, the cores whose turns are taken one after another; store is caches or plain."""
+        """The loop by a schedule, the cores whose turns are taken one after another."""
         text = ended(text_of(image)) + " ".join(["turns", *map(str, turns)]) + "\n"
         return read_output(call(self.folder / "replay", [store, str(cores)], text))
 
@@ -175,13 +178,13 @@ class Programs:
         """The lines of the same, of an input that stands in a file; `iter_steps` reads the turns from them."""
         return iter_call(self.folder / "replay", steps_words(store, cores), source)
 
-    def iter_why(self, source: Path) -> Iterator[Part]:
+    def iter_why(self, source: Path, store: str | None = None) -> Iterator[Part]:
         """What `why` says of a trace that stands in a file, line by line."""
-        return iter_conflicts(iter_call(self.why_command or self.folder / "why", [], source, (0,)))
+        return iter_conflicts(iter_call(self.why_command or self.folder / "why", why_words(store), source, (0,)))
 
-    def gain(self, image: Image | str, cores: int) -> Gains:
-        """What the loop gains on up to so many cores."""
-        return read_gains(call(self.folder / "gain", [str(cores)], text_of(image)))
+    def gain(self, image: Image | str, cores: int, *stores: str) -> Gains:
+        """What the loop gains on up to so many cores over these stores; without any over `caches` and `plain`."""
+        return read_gains(call(self.folder / "gain", [str(cores), *stores], text_of(image)))
 
     def has_depends(self) -> bool:
         """Whether `depends` can be called."""
@@ -194,6 +197,11 @@ class Programs:
     def replay_all(self, image: Image | str, store: str, cores: int, turns: int) -> Survey:
         """Every schedule of so many turns."""
         return read_survey(call(self.folder / "replay", ["all", store, str(cores), str(turns)], text_of(image), (0,)))
+
+
+def why_words(store: str | None) -> list[str]:
+    """The words of `why`: where a store's word has no keys, it explains as without."""
+    return [] if store is None or store in USUAL else [store]
 
 
 def steps_words(store: str, cores: int | None) -> list[str]:

@@ -1,19 +1,21 @@
 """The report of which conflicts rolled back, or what epochs need of one another, with the names of variables, source
 lines and instructions.
 
-Usage: tools/named [--say] [--why COMMAND] < IMAGE_AND_TRACE
-       tools/named --depends [--cores N] < IMAGE
+Usage: tools/named [--say] [--store STORE] [--why COMMAND] < IMAGE_AND_TRACE
+       tools/named --depends [--cores N] [--store STORE] < IMAGE
 
 Standard input is what `./why` reads: an image, and below it a trace (tools/trace makes it of a run). The report is that
 of `./why`, or COMMAND. Its `hurt` and `also` lines end with the name of their first byte, as `bins+4`, `pair` lines
 with the variables, and `pc` lines with FILE:LINE and the instruction; `-` stands where the image's remarks
 (tools/image-of writes them) name none. Below the lines of the caches stands `name NAME rollbacks N lost N true N silent
 N false N buffer N` of each variable, heaviest first. With --say a remark below each violation says it in English.
+--store says over what the run was, as `caches:sets=64,ways=4`, and stands above the report.
 
 With --depends the input is an image, and the lines are those that `./depends` prints of it on up to N cores, as many as
-its version allows without that. `dep` lines end with the variables from the lowest byte to the highest, and FILE:LINE
-of the store and of the load; `from` and `open` lines with FILE:LINE of the load and of the store. Where a program
-refuses the input, its line comes on standard error, and its status is that of this program.
+its version allows without that, over --store alone where it is said. `dep` lines end with the variables from the lowest
+byte to the highest, and FILE:LINE of the store and of the load; `from` and `open` lines with FILE:LINE of the load and
+of the store. Where a program refuses the input, its line comes on standard error, and its status is that of this
+program.
 """
 
 import argparse
@@ -25,6 +27,7 @@ from loops import Conflicts, Dependences, Image, Programs, Stopped, Unreadable, 
 from loops.conflicts import KINDS, OfPair, Part, Place
 from loops.images import there
 from loops.programs import add_build
+from loops.stores import add_store, store_of
 from loops.texts import read_input
 from loops.pictures.attempts import Run
 from loops.pictures.words import sentence
@@ -117,10 +120,14 @@ def lines_of(text: str, given: argparse.Namespace) -> Iterator[str]:
     """All lines of the output."""
     if given.depends:
         image = read_image(text)
-        yield from dependence_lines(image, Programs().depends(text, given.cores or image.most_cores))
+        yield from dependence_lines(image, Programs().depends(text, given.cores or image.most_cores,
+                                                              *([given.store] if given.store else [])))
         return
-    report = Programs(why_command=given.why).why(text)
-    yield from named(Run(read_traced(text), report.violations), report, given.say)
+    report = Programs(why_command=given.why).why(text, given.store)
+    traced = read_traced(text)
+    if given.store:
+        yield f"# store {given.store}"
+    yield from named(Run(traced, report.violations, store_of(given.store, traced.image.version)), report, given.say)
 
 
 @tool
@@ -128,6 +135,7 @@ def main() -> int:
     parser = argparse.ArgumentParser(description="The report of which conflicts rolled back, or what epochs need of "
                                                  "one another, with names.")
     parser.add_argument("--say", action="store_true", help="each violation in English too")
+    add_store(parser, "what the run was over")
     parser.add_argument("--why", metavar="COMMAND", help="the program that writes the report (./why)")
     parser.add_argument("--depends", action="store_true",
                         help="the input is an image, and what ./depends prints of it has names")

@@ -1,12 +1,13 @@
 """Plots what loops gain and where the steps of their cores went, from what `./gain CORES` printed; or what their epochs
 need of one another, from what `./depends CORES` printed. The plot is SVG on standard output.
 
-Usage: tools/plot [--csv] [--images FOLDER] [NAME=FILE ..] > GAINS.svg
+Usage: tools/plot [--csv] [--sizes] [--images FOLDER] [NAME=FILE ..] > GAINS.svg
 
 Each FILE has the lines of one loop, called NAME, or without `NAME=` after the file; without a FILE standard input is
-read. --csv writes a row for each line in the place of the plot, of `depends` for each line `dep`. Where FOLDER has
-NAME.image, its remarks name variables and lines of dependences. The same lines give the same bytes. The plot needs
-Debian's python3-matplotlib. What is no line of either program is refused with a line on standard error and status 2.
+read. --csv writes a row for each line in the place of the plot, of `depends` for each line `dep`. --sizes draws what
+loops gain by the size of the caches, of lines over several stores. Where FOLDER has NAME.image, its remarks name
+variables and lines of dependences. The same lines give the same bytes. The plot needs Debian's python3-matplotlib. What
+is no line of either program is refused with a line on standard error and status 2.
 """
 
 import argparse
@@ -59,7 +60,7 @@ def plot_flows(flows: list[tuple[str, Dependences]], folder: Path | None, as_tab
     return drawn([Flow(name, found, image_of(folder, name)) for name, found in flows])
 
 
-def plot_gains(loops: list[tuple[str, Gains]], as_table: bool) -> str:
+def plot_gains(loops: list[tuple[str, Gains]], as_table: bool, by_size: bool) -> str:
     """What loops gain."""
     if not all(gains.runs for _, gains in loops):
         raise Unreadable("there is no line of gain")
@@ -67,13 +68,15 @@ def plot_gains(loops: list[tuple[str, Gains]], as_table: bool) -> str:
         from loops.plots.table import table
         return table(loops)
     from loops.plots.bars import Loop, drawn
+    if by_size:
+        from loops.plots.sizes import drawn
     return drawn([Loop(*one) for one in loops])
 
 
-def plotted(printed: Printed, folder: Path | None, as_table: bool) -> str:
+def plotted(printed: Printed, given: argparse.Namespace) -> str:
     if is_of_depends(printed):
-        return plot_flows([(name, read_dependences(text)) for name, text in printed], folder, as_table)
-    return plot_gains([(name, read_gains(text)) for name, text in printed], as_table)
+        return plot_flows([(name, read_dependences(text)) for name, text in printed], given.images, given.csv)
+    return plot_gains([(name, read_gains(text)) for name, text in printed], given.csv, given.sizes)
 
 
 @tool
@@ -82,6 +85,7 @@ def main() -> int:
                                                  "what their epochs need of one another, as SVG on "
                                                  "standard output.")
     parser.add_argument("--csv", action="store_true", help="a row for each line, in the place of the plot")
+    parser.add_argument("--sizes", action="store_true", help="what loops gain by the size of the caches")
     parser.add_argument("--images", type=Path, metavar="FOLDER",
                         help="has NAME.image, whose remarks name variables and lines of dependences")
     parser.add_argument("files", nargs="*", metavar="NAME=FILE",
@@ -90,8 +94,7 @@ def main() -> int:
     if not given.csv:
         find_matplotlib()
     try:
-        sys.stdout.write(plotted([named(word) for word in given.files] or [("loop", sys.stdin.read())], given.images,
-                                 given.csv))
+        sys.stdout.write(plotted([named(word) for word in given.files] or [("loop", sys.stdin.read())], given))
     except BrokenPipeError:
         raise
     except (Unreadable, UnicodeError, OSError) as wrong:

@@ -7,7 +7,7 @@ FILE.toml has, for example:
 
     cores = [1, 2, 4]
     versions = [1, 2]
-    stores = ["caches", "plain"]
+    stores = ["caches", "caches:sets=64,ways=4,buffer=16", "plain"]
     schedules = ["even", "seeded"]      # and "threads", whose figures differ from run to run
     seeds = [1, 2, 3]
     gain = 8                            # plots of what each loop gains on up to 8 cores
@@ -92,9 +92,10 @@ def plot(study: Study, folder: Path) -> str:
     """The plot of what loops gain, which is kept as gains.svg too."""
     (folder / "gains").mkdir(exist_ok=True)
     words = []
-    for place, (loop, work) in enumerate(study.plotted().items()):
-        if study.rows[work].get("gain"):
-            (folder / "gains" / f"{place}.txt").write_text(study.rows[work]["gain"], encoding="ascii")
+    for place, (loop, works) in enumerate(study.plotted().items()):
+        lines = study.plotted_lines(works)
+        if lines:
+            (folder / "gains" / f"{place}.txt").write_text(lines, encoding="ascii")
             words.append(f"{loop}=gains/{place}.txt")
     if not words:
         return ""

@@ -1,13 +1,13 @@
 """A page that steps through a run turn by turn, with the caches at each turn, on standard output. It stands alone and
 asks nothing of the network.
 
-Usage: tools/view [--store caches|plain] [--cores N] [--from TURN] [--to TURN] [--why COMMAND] < INPUT > RUN.html
+Usage: tools/view [--store STORE] [--cores N] [--from TURN] [--to TURN] [--why COMMAND] < INPUT > RUN.html
 
 Standard input is what `./replay steps` takes: an image, and below it the trace of a run, or lines of turns, which need
---cores. A page has at most 10,000 turns: of a longer run --from and --to say which, and the page says what it leaves
-out. What `./why`, or COMMAND, says of a rollback stands beside its turn. Remarks of the image, as tools/image-of writes
-them, name variables and source lines. Where a program refuses the input, its line comes on standard error, and its
-status is that of this program.
+--cores. STORE is `plain`, `caches`, or caches of another size, as `caches:sets=64,ways=4`. A page has at most 10,000
+turns: of a longer run --from and --to say which, and the page says what it leaves out. What `./why`, or COMMAND, says
+of a rollback stands beside its turn. Remarks of the image, as tools/image-of writes them, name variables and source
+lines. Where a program refuses the input, its line comes on standard error, and its status is that of this program.
 """
 
 import argparse
@@ -21,6 +21,7 @@ from loops.endings import tool
 from loops import Entry, Programs, Stopped, Violation, iter_steps, read_image
 from loops.programs import add_build, ended
 from loops.runs import cores_of, entry_of
+from loops.stores import Store, add_store
 from loops.texts import iter_lines, keep_input, text_out
 from loops.views import page
 from loops.views.data import Told, Turns, page_data
@@ -61,18 +62,18 @@ def shown(programs: Programs, given: argparse.Namespace, room: Path) -> str:
     turns.end()
     cores = keep_trace(traced, image, lines)
     hurts = {entry.place for one in turns.shown for entry in one.step.entries if entry.what == "hurt"}
-    violations = {one.place: one for one in programs.iter_why(traced) if isinstance(one, Violation)
-                  and one.place in hurts}
-    run = Told(read_image(image), named_entries(traced, violations.values()))
-    return page(page_data(run, turns, cores, violations, given.store))
+    violations = {one.place: one for one in programs.iter_why(traced, given.store)
+                  if isinstance(one, Violation) and one.place in hurts}
+    told = read_image(image)
+    run = Told(told, Store.of_word(given.store, told.version), named_entries(traced, violations.values()))
+    return page(page_data(run, turns, cores, violations))
 
 
 @tool
 def main() -> int:
     parser = argparse.ArgumentParser(description="A page that steps through a run turn by turn, with the caches at "
                                                  "each turn.")
-    parser.add_argument("--store", choices=("caches", "plain"), default="caches",
-                        help="the store that the run is over (caches)")
+    add_store(parser, "the store that the run is over, caches without it", "caches")
     parser.add_argument("--cores", type=int, metavar="N",
                         help="how many cores the lines of turns are for; a trace says it itself")
     parser.add_argument("--from", type=int, default=0, metavar="TURN", dest="first",

@@ -6,7 +6,7 @@ from pathlib import Path
 from loops.programs import IN_TREE
 
 # Where the sources are that take the place of a library, as they are told
-SOURCES = "tools" if IN_TREE else str(Path(__file__).resolve().with_name("sources"))
+SOURCES = "tools/loops/image_of/sources" if IN_TREE else str(Path(__file__).resolve().with_name("sources"))
 
 
 class Refused(Exception):

@@ -5,6 +5,7 @@ from typing import NamedTuple
 
 from loops import Entry, Traced, Violation
 from loops.images import there
+from loops.stores import Machine, Store
 
 
 @dataclass(slots=True)
@@ -48,8 +49,9 @@ class Run:
     """The attempts of a trace. A turn is what one core did while it had the lock: violations and cancellations first,
     then its act."""
 
-    def __init__(self, traced: Traced, violations: list[Violation]):
+    def __init__(self, traced: Traced, violations: list[Violation], store: Store | None = None):
         self.image, self.cores, self.entries = traced.image, traced.trace.cores, traced.trace.entries
+        self.store = store                                              # where it was said what the run is over
         self.violations = violations
         self.attempts: list[Attempt] = []
         self.turns = 0
@@ -130,6 +132,11 @@ class Run:
                 if part > 0:
                     found.setdefault((attempt.core, column), [0.0, 0.0, 0.0])[kind] += part
         return found
+
+    @property
+    def machine(self) -> Machine:
+        """That of the store, or of the image's version."""
+        return self.store.machine if self.store else Machine.of_word("caches", self.image.version)
 
     @property
     def committed(self) -> int:

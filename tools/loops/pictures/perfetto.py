@@ -96,7 +96,8 @@ def within(events: Iterable[Event], turns: tuple[int, int]) -> list[Event]:
 
 
 def draw(run: Run, turns: tuple[int, int] | None = None) -> str:
-    names = [event("M", 0, 0, "process_name", args={"name": "speculative run"})]
+    names = [event("M", 0, 0, "process_name",
+                   args={"name": "speculative run" + (f" over {run.store.word}" if run.store else "")})]
     for core in range(run.cores):
         names += [event("M", core, 0, "thread_name", args={"name": f"core {core}"}),
                   event("M", core, 0, "thread_sort_index", args={"sort_index": core})]

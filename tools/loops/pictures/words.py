@@ -4,6 +4,7 @@ from typing import Protocol
 
 from loops import Entry, Image, Violation
 from loops.images import there
+from loops.stores import Machine
 
 from .attempts import Run
 from .page import COLOURS
@@ -23,6 +24,9 @@ class Lost(Protocol):
     def image(self) -> Image: ...
 
     @property
+    def machine(self) -> Machine: ...
+
+    @property
     def entries(self) -> Entries: ...
 
 
@@ -32,7 +36,8 @@ def plural(count: int, word: str) -> str:
 
 def heading(run: Run) -> tuple[str, str]:
     """Two lines for the top of a picture."""
-    one = (f"{plural(run.image.epochs, 'epoch')} on {plural(run.cores, 'core')}: "
+    over = f" over {run.store.word}" if run.store else ""
+    one = (f"{plural(run.image.epochs, 'epoch')} on {plural(run.cores, 'core')}{over}: "
            f"{plural(len(run.violations), 'rollback')}, {run.committed:,} committed")
     attempts = plural(len(run.attempts), "attempt")
     return one, f"{attempts}; {plural(run.lost, 'instruction')} lost to rollbacks"
@@ -92,13 +97,13 @@ def advice(run: Lost, violations: list[Violation]) -> str:
     found = {run.image.variable_of(first) for first in {there(violation.first) for violation in of_kind}}
     variables = sorted(one.name for one in found if one is not None)
     names = listed(variables) if len(variables) > MOST_NAMES else " and ".join(variables) or "these bytes"
-    length = run.image.line_length
+    machine = run.machine
     beside = sorted({place for violation in of_kind if kind == "false"
                      for place in (violation.first, stored_at(run, violation)) if place is not None})
     return {
         "true": f"wait for {names}, or let each epoch keep its own and put them together at the end",
         "silent": f"store to {names} only where the value differs",
-        "false": f"give {listed(named_apart(run.image, beside))} lines of {length} bytes of their own",
-        "buffer": f"store to fewer lines in one epoch: its buffer holds {4 if length == 16 else 8}",
+        "false": f"give {listed(named_apart(run.image, beside))} lines of {machine.line} bytes of their own",
+        "buffer": f"store to fewer lines in one epoch: its buffer holds {machine.buffer}",
         "other": "nothing is known",
     }[kind]

@@ -1,5 +1,5 @@
-"""A panel for each loop, and in it for each number of cores two bars, over caches and over the plain store; as SVG that
-is the same from the same lines."""
+"""A panel for each loop, and in it for each number of cores a bar for each store, as caches and the plain store; as SVG
+that is the same from the same lines."""
 
 import io
 import logging
@@ -12,17 +12,18 @@ import matplotlib  # noqa: E402
 from matplotlib.patches import Patch  # noqa: E402
 
 from loops.gains import Gain, Gains  # noqa: E402
+from loops.stores import USUAL  # noqa: E402
 
 from .parts import PARTS, shares  # noqa: E402
 
 Axes = Any              # matplotlib's, which has no types
-STORES = ("caches", "plain")
 MOST_COLUMNS, PANEL_WIDTH, PANEL_HEIGHT = 3, 3.1, 1.8
-WIDTH, INK, PALE = 0.42, "#1d2733", "#6b7785"
+# So wide are the bars of a number of cores together, and so far are they apart.
+WIDTH, GAP, INK, PALE = 0.88, 0.04, "#1d2733", "#6b7785"
 NOTE = ("Each bar is all steps of all cores of a run at even speed, one instruction a step and no latency; above it "
         "stands the gain over one core.\n"
-        "c: over caches, p: over a plain store of bytes, below them the cores. Lost steps are shared out over the "
-        "kinds by their violations.")
+        "{}, below them the cores. Lost steps are shared out over the kinds by their violations.")
+SIGNS = {"caches": "c: over caches", "plain": "p: over a plain store of bytes"}
 STYLE = {"svg.fonttype": "none", "text.parse_math": False, "svg.hashsalt": "gain", "font.size": 7.0,
          "hatch.linewidth": 0.5, "hatch.color": PALE, "text.color": INK,
          "axes.edgecolor": PALE, "xtick.color": INK, "ytick.color": PALE, "font.family": "sans-serif",
@@ -36,24 +37,44 @@ class Loop:
     gains: Gains
 
 
-def bar(axes: Axes, loop: Loop, run: Gain, x: float) -> None:
+class Stores:
+    """The stores of all loops, in the order in which they come: where their bars stand, and the sign below each."""
+
+    def __init__(self, loops: list[Loop]) -> None:
+        words = list(dict.fromkeys(run.store for loop in loops for run in loop.gains.runs))
+        numbered = [word for word in words if word not in SIGNS]
+        self.words = [*USUAL] if set(words) <= set(USUAL) else words
+        self.wide = WIDTH / len(self.words) - GAP / 2
+        self.says = {word: SIGNS.get(word) or f"{numbered.index(word) + 1}: over {word}" for word in self.words}
+
+    def place(self, store: str) -> float:
+        """How far right of the middle its bar is."""
+        return (self.words.index(store) - (len(self.words) - 1) / 2) * (self.wide + GAP)
+
+    def sign(self, store: str) -> str:
+        return self.says[store].partition(":")[0]
+
+
+def bar(axes: Axes, loop: Loop, run: Gain, x: float, stores: Stores) -> None:
     """A bar at a place: its parts, and the gain above it."""
     base = 0.0
     for part, share in [] if run.full else shares(run):
-        drawn = axes.bar(x, share, WIDTH, base, color=part.colour, hatch=part.hatch, edgecolor=PALE, linewidth=0.5)
+        drawn = axes.bar(x, share, stores.wide, base, color=part.colour, hatch=part.hatch, edgecolor=PALE,
+                         linewidth=0.5)
         drawn[0].set_gid(f"{loop.name}-{run.store}-{run.cores}-{part.name}")
         base += share
     said = "full" if run.full else "-" if run.gain is None else f"{run.gain:.2f}"
-    axes.text(x, base + 0.03, said, ha="center", va="bottom", size=6.2, rotation=90 if run.full else 0,
+    axes.text(x, base + 0.03, said, ha="center", va="bottom", size=6.2,
+              rotation=90 if run.full or len(stores.words) > 2 else 0,
               weight="bold" if run.store == "caches" else "normal")
-    axes.text(x, -0.04, run.store[0], ha="center", va="top", size=6.2, color=PALE)
+    axes.text(x, -0.04, stores.sign(run.store), ha="center", va="top", size=6.2, color=PALE)
 
 
-def panel(axes: Axes, loop: Loop) -> None:
+def panel(axes: Axes, loop: Loop, stores: Stores) -> None:
     """The bars of a loop."""
     cores = sorted({run.cores for run in loop.gains.runs})
     for run in loop.gains.runs:
-        bar(axes, loop, run, cores.index(run.cores) + (STORES.index(run.store) - 0.5) * (WIDTH + 0.04))
+        bar(axes, loop, run, cores.index(run.cores) + stores.place(run.store), stores)
     axes.set_title(loop.name, size=8.5, weight="bold", loc="left", pad=15)
     axes.set_xlim(-0.6, max(len(cores), 3) - 0.4)
     axes.set_ylim(0, 1)
@@ -68,6 +89,8 @@ def drawn(loops: list[Loop]) -> str:
     matplotlib.use("svg")
     from matplotlib import pyplot
 
+    stores = Stores(loops)
+    note = NOTE.format(", ".join(stores.says.values()))
     with matplotlib.rc_context(STYLE):
         columns = min(MOST_COLUMNS, max(2, len(loops)))
         rows = -(-len(loops) // columns)
@@ -81,13 +104,13 @@ def drawn(loops: list[Loop]) -> str:
                                bottom=(below + 0.35) / height, hspace=0.68, wspace=0.16)
         panels = list(grid.flat)
         for axes, loop in zip(panels, loops):
-            panel(axes, loop)
+            panel(axes, loop, stores)
         for axes in panels[len(loops):]:
             axes.set_visible(False)
         figure.legend(handles=told, loc="lower left", ncol=columns, frameon=False, fontsize=6.8,
                       bbox_to_anchor=(0.0, 0.34 / height), handlelength=2.4,
                       handleheight=1.1, columnspacing=1.6, labelspacing=0.35, borderaxespad=0.2)
-        figure.text(0.006, 0.08 / height, NOTE, size=6.5, color=PALE, va="bottom", linespacing=1.35)
+        figure.text(0.006, 0.08 / height, note, size=6.5, color=PALE, va="bottom", linespacing=1.35)
         made = io.StringIO()
         figure.savefig(made, format="svg", facecolor="white", metadata={"Date": None, "Creator": None})
         pyplot.close(figure)

@@ -10,6 +10,7 @@ from pathlib import Path
 from typing import Any
 
 from loops import Unreadable, read_image
+from loops.stores import BadStore, asked_by
 from loops.texts import shown, text_in
 
 SCHEMA = Path(__file__).with_name("schema.json")
@@ -24,7 +25,7 @@ class BadPlan(ValueError):
 
 @dataclass(frozen=True)
 class Cell:
-    """One run. Seeds are of seeded schedules alone; a run on threads is over caches."""
+    """One run. Seeds are of seeded schedules alone; a run on threads is over the caches of the image's version."""
     loop: str
     version: int
     store: str
@@ -118,6 +119,17 @@ def wrong_places(told: dict[str, Any]) -> list[str]:
     return lines
 
 
+def wrong_stores(words: list[str]) -> list[str]:
+    """The words that name no store, a line each."""
+    lines = []
+    for place, word in enumerate(words):
+        try:
+            asked_by(word)
+        except BadStore as wrong:
+            lines.append(f"stores[{place}]: {wrong}")
+    return lines
+
+
 def image_at(path: Path, name: str) -> bytes:
     """The text of an image, which has to be a file and to be read as one."""
     at = f"loops.{name}: {shown(str(path))}"
@@ -146,7 +158,7 @@ def table_of(path: Path) -> dict[str, Any]:
 def read_plan(path: Path) -> Plan:
     """The plan of a file, with the texts of its images, whose paths are from that file."""
     told = table_of(path)
-    lines = wrong_places(told)
+    lines = wrong_places(told) or wrong_stores(told.get("stores", []))
     if lines:
         raise BadPlan("\n".join(lines))
     plan = Plan(**told)

@@ -11,7 +11,7 @@ from pathlib import Path
 from typing import TextIO
 
 from loops import Image, Stopped, read_conflicts, read_image, read_output
-from loops.programs import call
+from loops.programs import call, why_words
 from loops.texts import shown, text_in
 
 from .kept import USES, Kept, Row, Work, digest, line_of, rows_in, work_of
@@ -67,7 +67,7 @@ class Runner:
     def gains(self, work: Work) -> Row:
         """What `gain` prints of an image."""
         _, text = self.image(work.image, work.version)
-        return {"gain": call(self.programs["gain"], [str(work.cores)], text)}
+        return {"gain": call(self.programs["gain"], [str(work.cores), *([work.store] if work.store else [])], text)}
 
     def run(self, work: Work) -> Row:
         """A run, its sums and its pairs of instructions."""
@@ -77,7 +77,7 @@ class Runner:
         head, _, rest = above.partition("\n")
         turns = head.count(" ") if head.startswith("turns ") else turns_in(trace)
         output = read_output(rest if head.startswith("turns ") else above)
-        report = call(self.programs["why"], [], f"{text}trace {trace}", (0,))
+        report = call(self.programs["why"], why_words(work.store), f"{text}trace {trace}", (0,))
         conflicts = read_conflicts("\n".join(line for line in report.split("\n") if line.startswith(SUMS)))
         kinds = {kind: sum(one.rollbacks for one in conflicts.kinds if one.kind == kind) for kind in KINDS}
         run = {"stopped": None, "ending": output.report.ending, "end_epoch": output.report.epoch,

@@ -11,6 +11,7 @@ from pathlib import Path
 from loops.gains import Gain, Gains, read_gains
 from loops.images import MOST_CORES, read_image
 from loops.programs import IN_TREE, TREE
+from loops.stores import USUAL
 from loops.texts import shown, text_in
 
 from .kept import USES, Kept, Row, Work
@@ -46,13 +47,26 @@ class Study:
         most = max((cores for cores in self.plan.cores if cores <= MOST_CORES[cell.version]), default=0)
         if cell.cores > most:
             return None
-        return self.work(self.images[cell.loop], cell.version, most if cell.cores in POWERS else cell.cores, "gain")
+        return self.gains(self.images[cell.loop], cell.version, most if cell.cores in POWERS else cell.cores,
+                          cell.store)
 
-    def plotted(self) -> dict[str, Work]:
+    def gains(self, image: str, version: int, cores: int, store: str) -> Work:
+        """What `gain` is asked over a store: it is asked for caches and the plain store together."""
+        return self.work(image, version, cores, "gain", None if store in USUAL else store)
+
+    def plotted(self) -> dict[str, list[Work]]:
         """What `gain` is asked of each loop for the plot, in the version of its image."""
         return ({} if not self.plan.gain
-                else {loop: self.work(image, read_image(text_in(self.plan.texts[loop])).version, self.plan.gain, "gain")
+                else {loop: self.plotted_of(image, read_image(text_in(self.plan.texts[loop])).version)
                       for loop, image in self.images.items()})
+
+    def plotted_of(self, image: str, version: int) -> list[Work]:
+        return list(dict.fromkeys(self.gains(image, version, self.plan.gain, store) for store in self.plan.stores))
+
+    def plotted_lines(self, works: list[Work]) -> str:
+        """What `gain` printed over the stores of the plan, in their order; nothing where it was stopped."""
+        runs = [run for work in works for run in gains_in(self.rows[work].get("gain", "")).runs]
+        return "".join(run.text() for store in self.plan.stores for run in runs if run.store == store)
 
     @cached_property
     def cells(self) -> list[Cell]:
@@ -66,13 +80,12 @@ class Study:
             more = self.gains_of(cell) if cell.schedule == "even" else self.alone(cell)
             if more:
                 found[more] = None
-        return list(found | dict.fromkeys(self.plotted().values()))
+        return list(found | dict.fromkeys(work for works in self.plotted().values() for work in works))
 
     def gained(self, work: Work | None, store: str, cores: int) -> Gain | None:
         """What `gain` said of a run."""
         told = self.rows[work].get("gain") if work else None
-        return next((run for run in gains_in(told).runs if (run.store, run.cores) == (store, cores)),
-                    None) if told else None
+        return gains_in(told).of(store, cores) if told else None
 
     def speed(self, cell: Cell, row: Row) -> Row:
         """How many steps a cell took, and how many times fewer these are than on one core: at even speed as `gain`

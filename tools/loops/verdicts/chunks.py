@@ -43,7 +43,7 @@ def apart(losses: Losses) -> Counter[tuple[str, int, int]]:
             continue
         mine, other = losses.image.variable_of(violation.first), losses.image.variable_of(stored)
         stride, rest = divmod(violation.first - stored, violation.epoch - violation.by_epoch)
-        if mine is not None and mine == other and not rest and 0 < stride < losses.image.line_length:
+        if mine is not None and mine == other and not rest and 0 < stride < losses.machine.line:
             found[mine.name, stride, violation.first - stride * violation.epoch] += violation.lost
     return found
 
@@ -59,6 +59,6 @@ def proposal(losses: Losses) -> Chunk | None:
     if not found or 100 * found[0][1] < LEAST_SHARE * losses.lost:
         return None
     (array, stride, _), lost = found[0]
-    size = losses.image.line_length // stride
+    size = losses.machine.line // stride
     # whole lines, as far as elements begin with one
     return Chunk(array, stride, size, lost, losses.lost) if size > 1 else None

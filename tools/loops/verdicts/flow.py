@@ -9,24 +9,26 @@ from .registers import Way, is_at_once, way_of
 # Pairs that have fewer than a so many-th of the heaviest one's dependences aren't told; one that so many hundredths of
 # the epochs have is one of each.
 RARE, EACH = 10, 80
-NAMES = {"caches": "caches", "plain": "a plain store of bytes"}
 
 
 # --- Whether anything can roll back -----------------------------------------
 
+def name_of(told: OverStore) -> str:
+    return "a plain store of bytes" if told.store == "plain" else "caches"
+
+
 def can_roll_back(told: OverStore) -> str:
     """What is told of one store, as the end of a sentence."""
     if told.verdict == "never":
-        return f"over {NAMES[told.store]} none on up to {plural(told.cores, 'core')} does (proved)"
+        return f"over {name_of(told)} none on up to {plural(told.cores, 'core')} does (proved)"
     if told.verdict == "from":
-        return f"over {NAMES[told.store]} a schedule rolls it back from {told.cores} cores on"
-    return (f"over {NAMES[told.store]} epochs conflict from {told.cores} cores on, but no schedule that rolls back is "
-            "known")
+        return f"over {name_of(told)} a schedule rolls it back from {told.cores} cores on"
+    return f"over {name_of(told)} epochs conflict from {told.cores} cores on, but no schedule that rolls back is known"
 
 
 def rolls_back(found: Dependences) -> str:
     """Whether anything can roll back: one sentence on all stores."""
-    caches, plain = found.over("caches"), found.over("plain")
+    caches, plain = next((one for one in found.stores if one.store != "plain"), None), found.over("plain")
     if caches is not None and caches.verdict == "never":
         return f"No schedule on up to {plural(caches.cores, 'core')} can roll this loop back (proved)."
     if caches is not None and plain is not None and caches.verdict == plain.verdict == "from":

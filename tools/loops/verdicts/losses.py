@@ -4,6 +4,7 @@ from functools import cached_property
 
 from loops import Entry, Image, Violation
 from loops.runs import entry_of
+from loops.stores import Machine, Store
 from loops.pictures.attempts import Pairs, pairs_of
 
 
@@ -20,8 +21,12 @@ class Entries:
 class Losses:
     """The violations of a run at even speed over one store."""
 
-    def __init__(self, image: Image, violations: list[Violation], lines: list[str]):
-        self.image, self.violations, self.entries = image, violations, Entries(lines)
+    def __init__(self, image: Image, violations: list[Violation], lines: list[str], store: Store):
+        self.image, self.violations, self.entries, self.store = image, violations, Entries(lines), store
+
+    @property
+    def machine(self) -> Machine:
+        return self.store.machine
 
     @property
     def lost(self) -> int:
@@ -31,3 +36,15 @@ class Losses:
     def pairs(self) -> Pairs:
         """The violations by their two instructions and whether a buffer was full, those that lost most first."""
         return pairs_of(self.violations)
+
+    @cached_property
+    def most_lines(self) -> int:
+        """Of all attempts that which accesses most lines: how many these are."""
+        most, lines = 0, dict[str, set[int]]()
+        for core, what, *rest in (line.split(" ", 3) for line in self.entries.lines):
+            if what in ("start", "restart"):
+                lines[core] = set()
+            elif what in ("load", "store"):
+                lines[core].add(int(rest[0], 16) // self.machine.line)
+                most = max(most, len(lines[core]))
+        return most

@@ -7,15 +7,16 @@ from loops.gains import Gain
 from loops.images import there
 from loops.pictures.attempts import Blamed
 from loops.pictures.words import advice, listed as places_listed, plural
+from loops.stores import MOST_SETS, Store
 
 from .chunks import Chunk, Measured, maker_of
 from .flow import earliest, flow
 from .losses import Losses
+from .sizes import ALIKE, Sizes, are_alike
 
 MOST_PAIRS = 3
 # A part of the steps is told as holding a loop back where it has so many hundredths of them.
 LEAST = 5
-WAYS, SETS, BUFFER = 2, 4, {16: 4, 32: 8}
 KINDS = {"true": "true sharing", "silent": "silent stores", "false": "false sharing", "buffer": "full buffers",
          "other": "unexplained"}
 # The causes of faults, as they are printed
@@ -32,7 +33,8 @@ CAUSES = {
 class Findings:
     """What the programs say of a loop on so many cores, at even speed."""
     name: str
-    one: Gain                           # over caches, on one core
+    store: Store                        # the caches that it speaks of
+    one: Gain                           # over these, on one core
     caches: Gain
     plain: Gain
     over_caches: Losses
@@ -40,6 +42,7 @@ class Findings:
     chunk: Chunk | None = None
     measured: Measured | None = None
     flow: Dependences | None = None     # none where `depends` isn't built
+    sizes: Sizes | None = None          # none where the caches are large
 
 
 def percent(part: int, run: Gain) -> float:
@@ -72,18 +75,58 @@ def gained(found: Findings) -> str:
     if plain.gain is not None:
         told += (" Over a plain store of bytes it "
                  f"{f'gains {plain.gain:.2f}' if plain.gain >= 1 else f'loses, a gain of {plain.gain:.2f}'}.")
-    if caches_cost(found):
+    if caches_cost(found.caches, found.plain):
         told += " So the caches cost most of what there is to gain."
+    told += f" {machine_words(found.store)}{size_words(found)}"
     parts = [f"{percent(count, caches):.0f} % are {word}" for word in ("useful", "lost", "dropped", "waiting", "idle")
              for count in [caches.count(word)] if count]
     return f"{told} Of all steps {listed(parts)}."
 
 
-def caches_cost(found: Findings) -> bool:
+def caches_cost(over_caches: Gain, over_plain: Gain) -> bool:
     """Whether it gains over the plain store and nearly nothing over caches: less than a third of what there is to
     gain."""
-    caches, plain = found.caches.gain, found.plain.gain
+    caches, plain = over_caches.gain, over_plain.gain
     return caches is not None and plain is not None and plain >= 1.2 and 3 * (caches - 1) < plain - 1
+
+
+# --- The caches that it speaks of ----------------------------------------------
+
+def machine_words(store: Store) -> str:
+    """The caches, by the word that was given where it says more than the version does."""
+    return f"The caches have {store.machine.says()}{'' if store.is_usual else f', as {store.word} asks'}."
+
+
+def too_small(found: Findings) -> str:
+    """Why larger caches gain more, as far as the run says it."""
+    machine, lines = found.store.machine, found.over_caches.most_lines
+    if lines > machine.lines:
+        return f": the caches of {plural(machine.lines, 'line')} are too small for an epoch of {plural(lines, 'line')}"
+    if percent(found.caches.count("noway"), found.caches) >= LEAST:
+        return f": its epochs wait for a way in a set of {machine.ways}"
+    if any(found.caches.count(name) for name in ("orbfull", "orbbusy", "buffer")):
+        return f": the buffers of {plural(machine.buffer, 'line')} are too small"
+    return ""
+
+
+def size_words(found: Findings) -> str:
+    """Where what it gains hangs on the size of the caches; and from which size on they gain what the plain store
+    does."""
+    if found.sizes is None:
+        return ""
+    large, told = found.sizes.large, ""
+    if not are_alike(large.run, found.caches):
+        more = there(large.run.gain) > there(found.caches.gain)
+        told = (f" With {large.machine.says()}, it gains {large.run.gain:.2f}"
+                f"{too_small(found) if more else ': it hangs on the size of the caches'}.")
+    if not found.sizes.is_tried:
+        return told
+    enough, ways = found.sizes.enough, large.machine.ways
+    if enough is None:
+        return told + (f" No caches of {ways} ways up to {MOST_SETS:,} sets gain as much as the plain store: what they "
+                       "cost isn't for want of room.")
+    return told + (f" Of caches of {ways} ways, the first that gain as much as the plain store, within {ALIKE} %, have "
+                   f"{plural(enough.machine.sets, 'set')}, {plural(enough.machine.lines, 'line')}.")
 
 
 # --- What holds it back ------------------------------------------------------
@@ -139,14 +182,14 @@ def lost(losses: Losses, told_before: set[Blamed], flowing: tuple[int, int] | No
 
 def waits(losses: Losses) -> dict[str, str]:
     """Of each cause of waiting what it is, and what usually helps."""
-    length = losses.image.line_length
+    machine = losses.machine
     return {
         "nothomefree": "wait until the epochs before them have committed: it usually helps to give each epoch about as "
                        "much work",
-        "noway": f"wait for a way in a full set: it usually helps to use fewer than {WAYS + 1} lines in one epoch "
-                 f"whose addresses are the same modulo {SETS * length}",
+        "noway": f"wait for a way in a full set: it usually helps to use fewer than {machine.ways + 1} lines in one "
+                 f"epoch whose addresses are the same modulo {machine.sets * machine.line}",
         "orbfull": "wait for room in their own buffer: it usually helps to store in one epoch to fewer lines that "
-                   f"other epochs use; the buffer holds {BUFFER[length]}",
+                   f"other epochs use; the buffer holds {machine.buffer}",
         "orbbusy": "wait for another core's buffer: it usually helps to store to fewer lines that several epochs use",
     }
 
@@ -187,7 +230,7 @@ def chunk_words(found: Findings) -> str:
     maker = maker_of(found.over_caches.image)
     told = (f" Of these, {chunk.lost:,} of {plural(chunk.of, 'instruction')} were lost where epochs use neighbours in "
             f"{chunk.array}, {plural(chunk.apart, 'byte')} apart, that "
-            f"share lines of {found.over_caches.image.line_length} bytes: it usually helps to give an epoch "
+            f"share lines of {found.over_caches.machine.line} bytes: it usually helps to give an epoch "
             f"{chunk.size} iterations, as {maker} --chunk {chunk.size} does")
     if measured is None:
         return told + f"; behind -- the words of {maker} have it measured."

@@ -2,13 +2,14 @@
 another, and those that aren't shown aren't kept."""
 
 from collections.abc import Mapping
-from dataclasses import dataclass, field
+from dataclasses import asdict, dataclass, field
 from typing import TypedDict
 
 from loops import Change, Entry, Image, Step, Violation
 from loops.changes import OfAttempt, OfBuffer, OfHart, OfKept, OfMemory, OfWay
 from loops.images import there
 from loops.instructions import spelled
+from loops.stores import Machine, Store
 
 from .lanes import Lanes
 from .words import CAUSES, moves_told, turn_told
@@ -109,7 +110,12 @@ class Turns:
 class Told:
     """What sentences need of a run: its image, and the entries that they name."""
     image: Image
+    store: Store
     entries: Mapping[int, Entry] = field(default_factory=dict)
+
+    @property
+    def machine(self) -> Machine:
+        return self.store.machine
 
 
 def loaded(image: Image) -> bytearray:
@@ -156,7 +162,7 @@ def cut(turns: Turns) -> str | None:
     return f"{shown} of {count:,} {are} on this page: --from and --to of tools/view choose others."
 
 
-# What stands at a place, as the script of the page has it: numbers and names, or nothing.
+# What stands at a place, as the script of the page has it: numbers and names, masks in hexadecimal digits, or nothing.
 Value = list[object] | None
 
 
@@ -167,12 +173,12 @@ def value_of(change: Change) -> Value:
     if isinstance(change, OfMemory):
         return [change.address, [*change.data]]
     if isinstance(change, OfKept):
-        return [change.address, change.read, change.stored, [*change.data]]
+        return [change.address, f"{change.read:04x}", f"{change.stored:04x}", [*change.data]]
     if change.now is None:
         return None
     if isinstance(change, OfWay):
         copy = change.now
-        return [copy.address, copy.state, copy.loaded, copy.stored, [*copy.data]]
+        return [copy.address, copy.state, copy.loaded, f"{copy.stored:0{len(copy.data) // 4}x}", [*copy.data]]
     return [change.now.epoch, change.now.mode] if isinstance(change, OfAttempt) else [change.now.pc, change.now.done]
 
 
@@ -197,9 +203,10 @@ class Cut(TypedDict, total=False):
 class PageData(Cut):
     """All that the page shows, as its script reads it."""
     about: str
-    store: str
+    over: str                                           # the store, for people
+    plain: bool
+    machine: dict[str, int]                             # `line`, `sets`, `ways` and `buffer` of the caches
     cores: int
-    length: int                                         # of a line of the caches, in bytes
     epochs: int
     all: int                                            # turns of the run
     variables: list[list[str | int]]                    # name, address and bytes
@@ -213,13 +220,14 @@ class PageData(Cut):
     steps: list[list[object]]
 
 
-def page_data(run: Told, turns: Turns, cores: int, violations: Mapping[int, Violation], store: str) -> PageData:
+def page_data(run: Told, turns: Turns, cores: int, violations: Mapping[int, Violation]) -> PageData:
     """All that the page shows."""
     image, left_out = run.image, cut(turns)
     words = [(pc, int.from_bytes(image.code[pc:pc + 4], "little")) for pc in range(0, len(image.code), 4)]
     data: PageData = {
-        "about": image.about, "store": store, "cores": cores, "length": image.line_length, "epochs": image.epochs,
-        "all": turns.count,
+        "about": image.about, "over": run.store.says(), "plain": run.store.is_plain, "machine": asdict(run.machine),
+        "cores": cores,
+        "epochs": image.epochs, "all": turns.count,
         "variables": [[one.name, one.address, one.length] for one in image.variables],
         "code": [spelled(word, pc) for pc, word in words], "sources": image.sources, "causes": CAUSES,
         "start": first_values(image, turns), "attempts": turns.lanes.between(*turns.bounds),

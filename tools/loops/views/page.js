@@ -83,8 +83,7 @@ function toTurn(turn) {
 const fromLink = () => toTurn(Number(/turn=(\d+)/.exec(location.hash)?.[1] ?? steps[0][TURN]));
 
 function begin() {
-  const store = run.store === "caches" ? "caches" : "the plain store";
-  element("of").textContent = `${run.epochs} epochs on ${run.cores} cores over ${store}, ${run.all.toLocaleString("en")} turns, ${run.rollbacks.length.toLocaleString("en")} rollbacks`;
+  element("of").textContent = `${run.epochs} epochs on ${run.cores} cores over ${run.over}, ${run.all.toLocaleString("en")} turns, ${run.rollbacks.length.toLocaleString("en")} rollbacks`;
   element("cut").textContent = run.cut ?? "";
   for (let core = 0; core < run.cores; core++) addCoreButtons(core);
   if (!steps.length) return;

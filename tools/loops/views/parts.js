@@ -1,5 +1,8 @@
 // The parts of the page that show places.
-const SETS = 4, WAYS = 2, MOST_CODE = 120, AROUND = 20;
+const MOST_CODE = 120, AROUND = 20;
+// Of larger caches only the lines are shown that are marked or changed.
+const MOST_LINES = 64;
+const { line: LENGTH, sets: SETS, ways: WAYS, buffer: BUFFER } = run.machine;
 const OWN = "its epoch has loaded from it or stored to it";
 const STATES = {
   S: "shared: other cores may hold the line too",
@@ -61,13 +64,18 @@ function placed(tag, place, wordOf = () => "changed") {
   return part;
 }
 
+// A mask is hexadecimal digits, the bit of byte 0 the lowest.
+const NONE = "0";
+const isIn = (mask, place) => Boolean(parseInt(mask[mask.length - 1 - (place >> 2)] ?? "0", 16) >> place % 4 & 1);
+const isSome = mask => /[^0]/.test(mask);
+
 // Bytes in words of four: those of a mask are underlined, and those that are not as they were are framed. Where they are of the mask alone, no others are shown.
 function bytesShown(bytes, mask, was, alone = false) {
   const all = made("span", "", "bytes");
   for (let place = 0; place < bytes.length; place++) {
     if (place && place % 4 === 0) all.append(place % 16 ? " " : made("br"));
     if (place % 4 === 0) all.append(made("span", "", "four"));
-    const byte = bytes[place], isStored = mask >>> place & 1, isNew = was !== undefined && was[place] !== byte;
+    const byte = bytes[place], isStored = isIn(mask, place), isNew = was !== undefined && was[place] !== byte;
     const kinds = [isStored ? "stored" : "", isNew ? "new" : ""].filter(Boolean).join(" "), shown = alone && !isStored ? "--" : hex(byte, 2);
     all.lastChild.append(kinds ? made("span", shown, kinds) : shown);
   }
@@ -89,27 +97,48 @@ function wayCell(place) {
   const [address, kind, loaded, stored, bytes] = copy, [oldAddress, , , , oldBytes] = before[now][place] ?? [];
   cell.append(made("span", word(address), "address"), " ", stateShown(kind));
   if (loaded) cell.append(" ", made("span", "loaded", "mark"));
-  if (stored) cell.append(" mask ", made("span", hex(stored, run.length / 4), "mask"));
+  if (isSome(stored)) cell.append(" mask ", made("span", stored, "mask"));
   cell.append(made("br"), bytesShown(bytes, stored, oldAddress === address ? oldBytes : undefined));
-  cell.append(made("br"), made("span", namesIn(address, run.length), "names"), " ", cell.querySelector(".word") ?? "");
+  cell.append(made("br"), made("span", namesIn(address, LENGTH), "names"), " ", cell.querySelector(".word") ?? "");
   return cell;
 }
 
-function cacheTable(core) {
-  const table = made("table", "", "cache");
-  table.setAttribute("aria-label", `Cache of core ${core}`);
+// All sets and ways.
+function addSets(table, core) {
   table.append(headRow("", ...Array.from({ length: WAYS }, (_, way) => `way ${way}`)));
   for (let set = 0; set < SETS; set++) {
     const row = table.insertRow();
     row.append(headCell(`set ${set}`, "row"), ...Array.from({ length: WAYS }, (_, way) => wayCell(`line ${core} ${set} ${way}`)));
   }
+}
+
+// Whether the epoch has marked the copy at a place, or the turn has changed it.
+function isTold(place) {
+  const [, kind, loaded, stored] = at(place) ?? [];
+  return place in steps[now][CHANGES] || loaded || kind?.startsWith("Sp") || isSome(stored ?? NONE);
+}
+
+// Of larger caches what is marked or changed, a row each.
+function addTold(table, core) {
+  const told = [...state.keys()].filter(place => place.startsWith(`line ${core} `) && isTold(place)).map(place => place.split(" ").slice(2).map(Number));
+  table.append(headRow("", `marked or changed, of ${(SETS * WAYS).toLocaleString("en")} lines`));
+  for (const [set, way] of told.sort(([a, b], [c, d]) => a - c || b - d)) {
+    const row = table.insertRow();
+    row.append(headCell(`set ${set} way ${way}`, "row"), wayCell(`line ${core} ${set} ${way}`));
+  }
+}
+
+function cacheTable(core) {
+  const isSmall = SETS * WAYS <= MOST_LINES, table = made("table", "", isSmall ? "cache" : "large cache");
+  table.setAttribute("aria-label", `Cache of core ${core}`);
+  (isSmall ? addSets : addTold)(table, core);
   return table;
 }
 
 function bufferPart(core) {
   const part = placed("p", `orb ${core}`), lines = at(`orb ${core}`) ?? [];
-  const told = lines.map(line => `${word(line)} ${namesIn(line, run.length)}`.trim());
-  part.append(`buffer, ${lines.length} of ${run.length / 4} lines${told.length ? ": " : ""}${told.join("; ")}`);
+  const told = lines.map(line => `${word(line)} ${namesIn(line, LENGTH)}`.trim());
+  part.append(`buffer, ${lines.length} of ${BUFFER} lines${told.length ? ": " : ""}${told.join("; ")}`);
   return part;
 }
 
@@ -120,10 +149,10 @@ function keptTable(core) {
   table.append(headRow("keeps of", "read (mask)", "stored (mask)", "stored bytes"));
   for (const place of [...state.keys()].filter(one => one.startsWith(`kept ${core} `)).sort()) {
     const [address, read, stored, bytes] = at(place);
-    if (!read && !stored && !(place in changes)) continue;
+    if (!isSome(read) && !isSome(stored) && !(place in changes)) continue;
     const row = table.insertRow(), cell = placed("td", place);
     cell.append(made("span", `${word(address)} ${namesIn(address, 16)}`, "names"));
-    row.append(cell, made("td", hex(read, 4), "mark"), made("td", hex(stored, 4), "mask"), made("td"));
+    row.append(cell, made("td", read, "mark"), made("td", stored, "mask"), made("td"));
     row.lastChild.append(bytesShown(bytes, stored, before[now][place]?.[3], true));
   }
   return table;
@@ -165,8 +194,8 @@ function coreCard(core) {
   const card = made("div", "", steps[now][CORE] === core ? "core turns" : "core");
   card.id = `core-${core}`;
   card.append(attemptPart(core), hartPart(core), waitPart(core));
-  const table = run.store === "caches" ? cacheTable(core) : keptTable(core);
-  card.append(...(run.store === "caches" ? [bufferPart(core), table, statesPart(table)] : [table]));
+  const table = run.plain ? keptTable(core) : cacheTable(core);
+  card.append(...(run.plain ? [table] : [bufferPart(core), table, statesPart(table)]));
   return card;
 }
 
@@ -176,7 +205,7 @@ const memoryRows = new Map();
 
 function memoryCell(place) {
   const cell = placed("td", place);
-  cell.append(bytesShown(at(place)[1], 0, before[now][place]?.[1]));
+  cell.append(bytesShown(at(place)[1], NONE, before[now][place]?.[1]));
   return cell;
 }
 

@@ -10,7 +10,7 @@ from loops.pictures.words import Lost, sentence
 CAUSES = {
     "NoEpoch": "no epoch is left for it",
     "NotHomefree": "its epoch is at its end, and an earlier one has not committed yet",
-    "NoWay": "both ways of the set hold lines that its epoch has marked",
+    "NoWay": "all ways of the set hold lines that its epoch has marked",
     "OrbFull": "the line would have to enter its buffer, which is full",
     "OrbBusy": "an earlier core holds the line, whose buffer has no place for it",
 }

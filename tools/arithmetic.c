@@ -1,1 +1,0 @@
-loops/image_of/sources/arithmetic.c
