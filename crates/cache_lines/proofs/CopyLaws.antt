@@ -6,6 +6,7 @@ use Rattle.std.proofs.lemmas.Bool.{false_from_ne_true}
 use Rattle.std.proofs.lemmas.Bool.Decides.{nat_tests}
 use Rattle.spec_states.specs.declared.line.LineState.{LineState}
 use Rattle.spec_states.specs.declared.line.Marks.{Marks}
+use Rattle.spec_states.specs.declared.next.Next.{Next}
 use Rattle.spec_states.specs.Copies.{LineCopy, copy_of, no_copy, merged_line, IsUpToDate}
 use Rattle.spec_states.specs.States.{is_valid, is_speculative}
 use Rattle.spec_states.specs.Tables.{violation, settlement}
@@ -13,10 +14,10 @@ use Rattle.spec_states.proofs.CopyLaws.{IsUpToDate-gone, violation-keeps, settle
 use Rattle.spec_states.proofs.RowLaws.{violation-rolls_back, settlement-settles}
 use Rattle.cache_lines.specs.declared.line.Line.{Line}
 use Rattle.cache_lines.specs.Cells.{cell_of, with_number, line_with_number}
-use Rattle.cache_lines.specs.Changes.{rolled_back_line, published_line, with_each_line, IsFound, IsAbsent, CopiesAreFilled, CopiesChange, CopiesAllChange}
+use Rattle.cache_lines.specs.Changes.{changed_line, rolled_back_line, published_line, with_each_line, IsFound, IsAbsent, CopiesAreFilled, CopiesChange, CopiesAllChange}
 use Rattle.cache_lines.specs.Lines.{Contents, line_in, with_line, is_copy_of, way_at, held_line}
 use Rattle.cache_lines.specs.Placed.{IsPlaced, MayStand}
-use Rattle.cache_lines.specs.Protocol.{IsInPlace, copy_of_line, copy_or_none, copy_at, rolled_back_copy, published_copy, copy_with_number}
+use Rattle.cache_lines.specs.Protocol.{IsInPlace, copy_of_line, copy_or_none, copy_at, changed_copy, rolled_back_copy, published_copy, copy_with_number}
 use Rattle.cache_lines.proofs.LineLaws.{IsPlaced-once, by_way, held_none, is_copy_of-true, is_copy_of-own, held_line-own, held_line-with_line}
 use Rattle.cache_lines.proofs.WholeCache.{changed_held, held_line-each, KeepsAddresses, KeepsAddresses-rolled_back, KeepsAddresses-published}
 
@@ -109,6 +110,16 @@ copies-written cache new addr way offset width value line h way_way may is_writt
     (λ v. ap (λ (l : Line). is_valid l.state) (sym is_written) ∙ v)
     (shown_valid line (line_in cache addr way) (with_number (cell_of (line_in cache addr way)) offset width value)
     (ap (λ (l : Line). l.state) is_written) (ap (λ (l : Line). l.marks) is_written) bytes))
+
+-- the state and the marks of a line changed
+pub copies-marked : (cache new : Contents) (addr way : ℕ) (next : Next) → IsPlaced cache → way < cache.geometry.ways
+    → (is_valid next.state ≡ true → is_valid (line_in cache addr way).state ≡ true)
+    → MayStand cache addr way (changed_line (line_in cache addr way) next)
+    → new ≡ with_line cache addr way (changed_line (line_in cache addr way) next)
+    → CopiesChange cache new addr way (λ copy. changed_copy copy next)
+copies-marked cache new addr way next h way_way held may is_new =
+    subst (λ (c : Contents). CopiesChange cache c addr way (λ copy. changed_copy copy next)) (sym is_new)
+    (copies-changed cache addr way (changed_line (line_in cache addr way) next) (λ copy. changed_copy copy next) h way_way may refl held (λ v. refl))
 
 -- a change of a line, seen as one of its copy
 pub record ChangesCopy (change : Line → Line) (shown : LineCopy → LineCopy) : Type 0 where

@@ -1,13 +1,14 @@
 -- In which way a cache holds each line.
 use Rattle.std.proofs.Common.{◌≡◌, ◌≢◌, ℕ, ◌<◌, ◌==◌, ◌&&◌, Bool, true, false, cond, Option, option_map, Some, None, inl, inr, refl, sym, ap, subst, ◌∙◌, slice_index_or}
 use Rattle.std.proofs.lemmas.Bool.{false_from_ne_true}
+use Rattle.spec_states.specs.declared.next.Next.{Next}
 use Rattle.spec_states.specs.States.{is_valid}
 use Rattle.cache_lines.specs.declared.line.Line.{Line}
-use Rattle.cache_lines.specs.Changes.{with_each_line, StandIn}
+use Rattle.cache_lines.specs.Changes.{changed_line, with_each_line, StandIn}
 use Rattle.cache_lines.specs.Lines.{Contents, way_at, place, invalid_line, line_in, with_line, is_copy_of}
 use Rattle.cache_lines.specs.Placed.{IsPlaced, MayStand}
 use Rattle.cache_lines.specs.Protocol.{copy_at, copy_or_none}
-use Rattle.cache_lines.proofs.LineLaws.{line_in-with_line, is_copy_of-true, same_place, by_way, way_at-own}
+use Rattle.cache_lines.proofs.LineLaws.{line_in-with_line, is_copy_of-true, is_copy_of-own, same_place, by_way, way_at-own}
 use Rattle.cache_lines.proofs.WholeCache.{KeepsAddresses, line_in-each}
 
 -- each copy stands where it is said to
@@ -56,6 +57,17 @@ stand-changed cache addr way line h lt was x =
           rw same (was x copy)
       | inr q ↦ subst (λ (l : Line). is_copy_of l x ≡ true) q.1 e
     ]))
+
+-- a line's state and marks changed
+pub stand-marked : (cache new : Contents) (addr way : ℕ) (next : Next) → IsPlaced cache → way < cache.geometry.ways
+    → (is_valid next.state ≡ true → is_valid (line_in cache addr way).state ≡ true)
+    → new ≡ with_line cache addr way (changed_line (line_in cache addr way) next) → StandIn new (way_at cache)
+stand-marked cache new addr way next h lt held is_new =
+    subst (λ (c : Contents). StandIn c (way_at cache)) (sym is_new)
+    (stand-changed cache addr way (changed_line (line_in cache addr way) next) h lt
+    (λ x e.
+    let p = is_copy_of-true (changed_line (line_in cache addr way) next) x e in
+    subst (λ (a : ℕ). is_copy_of (line_in cache addr way) a ≡ true) p.1 (is_copy_of-own (line_in cache addr way) (held p.0))))
 
 -- every line changed
 pub stand-each : (change : Line → Line) → KeepsAddresses change → (cache : Contents) → IsPlaced cache

@@ -3,15 +3,17 @@ ghost use Rattle.spec_states.specs.declared.line.LineState.TheVariants.{I};
 ghost use Rattle.spec_states.specs.Copies.{no_copy, merged_line, IsUpToDate};
 ghost use Rattle.memory_bytes.specs.Bytes.{IsWidth};
 ghost use Rattle.spec_states.specs.States.{is_valid, is_speculative};
-ghost use Rattle.cache_lines.specs.Cells.{line_with_number};
-ghost use Rattle.cache_lines.specs.Changes.{victim_of, rolled_back_line, published_line, with_each_line, IsFound, IsAbsent, CopiesAreFilled, CopiesChange, CopiesAllChange, StandIn};
-ghost use Rattle.cache_lines.specs.Lines.{Contents, IsGeometry, default_geometry, set_of, invalid_line, line_in, with_line, is_copy_of, way_at};
+ghost use Rattle.cache_lines.specs.Cells.{line_with_number, IsWritten};
+ghost use Rattle.cache_lines.specs.Changes.{changed_line, victim_of, rolled_back_line, published_line, with_each_line, IsFound, IsAbsent, CopiesAreFilled, CopiesChange, CopiesAllChange, StandIn};
+ghost use Rattle.cache_lines.specs.Lines.{Contents, IsGeometry, default_geometry, set_of, invalid_line, place, line_in, with_line, is_copy_of, way_at};
 ghost use Rattle.rv32_image.specs.Machine.{is_line_length};
 ghost use Rattle.cache_lines.specs.Placed.{IsNotElsewhere, FitsLength, IsPlaced, MayStand};
-ghost use Rattle.cache_lines.specs.Protocol.{IsInPlace, copy_at, copy_of_line, rolled_back_copy, published_copy, copy_with_number};
+ghost use Rattle.spec_states.specs.Mask.{IsWithinLine};
+ghost use Rattle.cache_lines.specs.Protocol.{IsInPlace, copy_at, copy_of_line, rolled_back_copy, published_copy, changed_copy, copy_with_number};
 
 use crate::line::Line;
 use crate::stored::Stored;
+use spec_states::Next;
 use std::alloc::{AllocError, Global};
 use std::marker::Model;
 
@@ -122,6 +124,17 @@ impl Cache {
         set as usize * self.ways
     }
 
+    /// Where the line in a way of the set of `addr` stands.
+    fn place(&self, addr: u32, way: usize) -> usize
+        requires { way < self.now.geometry.ways }
+        ensures value { result ≡ place self.now addr way }
+        ensures within { result < length self.now.lines }
+        ensures placed { IsPlaced self.now }
+    {
+        let _ = &self.stored;
+        self.first(addr) + way
+    }
+
     /// The lines of the set of `addr`, way by way.
     fn set(&self, addr: u32) -> &[Line]
         ensures ways { length result.now ≡ self.now.geometry.ways }
@@ -209,8 +222,19 @@ impl Cache {
         ensures copies { CopiesChange self.old self.new addr way (copy_with_number offset width value) }
         ensures ways { StandIn self.new (way_at self.old) }
     {
-        let line = self.line(addr, way).with_number(offset, width, value);
-        self.put(addr, way, line);
+        self.put_number(addr, way, offset, width, value);
+    }
+
+    /// Gives the line in a way of the set of `addr` the state and the marks of this change. It is valid then only where it was.
+    pub fn mark(&mut self, addr: u32, way: usize, next: Next)
+        requires in_ways { way < self.old.geometry.ways }
+        requires held { is_valid next.state ≡ true → is_valid (line_in self.old addr way).state ≡ true }
+        requires mask { is_valid next.state ≡ true → IsWithinLine self.old.line_length next.marks.bytes }
+        ensures exact { self.new ≡ with_line self.old addr way (changed_line (line_in self.old addr way) next) }
+        ensures copies { CopiesChange self.old self.new addr way (λ copy. changed_copy copy next) }
+        ensures ways { StandIn self.new (way_at self.old) }
+    {
+        self.put_marks(addr, way, next);
     }
 
     /// Gives every line the state and the marks that the violation of the core's epoch leaves.
@@ -250,7 +274,33 @@ impl Cache {
         ensures placed { IsPlaced self.old }
         ensures may_stand { MayStand self.old addr way line }
     {
-        let place = self.first(addr) + way;
+        let place = self.place(addr, way);
         self.stored.put(place, line);
+    }
+    /// Gives the line in a way of the set of `addr` the state and the marks of this change.
+    fn put_marks(&mut self, addr: u32, way: usize, next: Next)
+        requires in_ways { way < self.old.geometry.ways }
+        requires held { is_valid next.state ≡ true → is_valid (line_in self.old addr way).state ≡ true }
+        requires mask { is_valid next.state ≡ true → IsWithinLine self.old.line_length next.marks.bytes }
+        ensures exact { self.new ≡ with_line self.old addr way (changed_line (line_in self.old addr way) next) }
+        ensures placed { IsPlaced self.old }
+    {
+        let place = self.place(addr, way);
+        self.stored.mark(place, next);
+    }
+
+    /// Writes the low `width` bytes of `value` into the cells at `offset` of the line in a way of the set of `addr`.
+    fn put_number(&mut self, addr: u32, way: usize, offset: u32, width: u32, value: u32)
+        requires in_ways { way < self.old.geometry.ways }
+        requires in_line { offset < self.old.line_length }
+        requires width { IsWidth width }
+        requires aligned { offset % width ≡ 0 }
+        ensures exact { self.new
+            ≡ with_line self.old addr way (line_with_number (line_in self.old addr way) offset width value) }
+        ensures bytes { IsWritten (line_in self.old addr way) offset width value }
+        ensures placed { IsPlaced self.old }
+    {
+        let place = self.place(addr, way);
+        self.stored.write_number(place, offset, width, value);
     }
 }

@@ -1,10 +1,13 @@
 //! Lines that a cache has in memory, with a list of those that may carry marks.
 ghost use Rattle.std.specs.Prelude.{◌≡◌, ◌+◌, ◌<◌, ◌≤◌, ℕ, [], All, Contains, map, true, false, length, slice_set, vec_capacity, IfOk};
-ghost use Rattle.cache_lines.specs.Changes.{rolled_back_line, published_line};
-ghost use Rattle.cache_lines.specs.Noted.{HasMarked, IsList, is_plain};
+ghost use Rattle.spec_states.specs.declared.line.TheConstants.{LONGEST_LINE};
+ghost use Rattle.cache_lines.specs.Cells.{line_with_number, IsWritten};
+ghost use Rattle.cache_lines.specs.Changes.{changed_line, rolled_back_line, published_line};
+ghost use Rattle.cache_lines.specs.Noted.{HasMarked, IsList, is_plain, line_at};
 ghost use Rattle.cache_lines.specs.Stored.{AreInvalid};
 
 use crate::line::Line;
+use spec_states::Next;
 use std::alloc::{AllocError, Global};
 use std::marker::Model;
 
@@ -125,6 +128,29 @@ impl Noted {
             return;
         }
         list(&mut self.places, &mut self.listed, place);
+    }
+
+    /// Gives the line in a place the state and the marks of this change, and puts the place into the list, where the line isn't plain then.
+    pub(crate) fn mark(&mut self, place: usize, next: Next)
+        requires { place < length self.old.lines }
+        ensures lines { self.new.lines ≡ slice_set self.old.lines place (changed_line (line_at self.old.lines place) next) }
+    {
+        let mut line = self.lines[place];
+        line.mark(next);
+        self.put(place, line);
+    }
+
+    /// Writes the low `width` bytes of `value` into the cells at `offset` of the line in a place.
+    pub(crate) fn write_number(&mut self, place: usize, offset: u32, width: u32, value: u32)
+        requires place { place < length self.old.lines }
+        requires in_line { offset + width ≤ LONGEST_LINE }
+        requires width { width ≤ 4 }
+        ensures lines { self.new.lines
+            ≡ slice_set self.old.lines place (line_with_number (line_at self.old.lines place) offset width value) }
+        ensures bytes { IsWritten (line_at self.old.lines place) offset width value }
+    {
+        let line = self.lines[place].with_number(offset, width, value);
+        self.put(place, line);
     }
 
     /// Gives every line the state and the marks that the violation of its core's epoch leaves, and empties the list.

@@ -7,7 +7,7 @@ use Rattle.spec_states.specs.Copies.{LineCopy, no_copy}
 use Rattle.spec_states.specs.States.{is_valid}
 use Rattle.cache_lines.specs.Changes.{IsFound, IsAbsent, CopiesAreFilled, CopiesChange, StandIn}
 use Rattle.cache_lines.specs.Lines.{Contents, Geometry, is_copy_of, way_at}
-use Rattle.cache_lines.specs.Protocol.{copy_at, copy_with_number}
+use Rattle.cache_lines.specs.Protocol.{copy_at, changed_copy, copy_with_number}
 use Rattle.cache_lines.proofs.CopyLaws.{copies-refilled, copies-found}
 use Rattle.orb.specs.Lines.{Buffer}
 use Rattle.violations.specs.declared.attempt.Attempt.{Attempt}
@@ -74,6 +74,17 @@ written_found old new addr way offset width value found changes a =
     copies-found old new addr way (copy_with_number offset width value) found changes a
     ∙ elim (addr == a) as (λ b. (addr == a) ≡ b → cond b (copy_with_number offset width value (copy_at old a)) (copy_at old a) ≡ cond b (copy_with_number offset width value (copy_at old addr)) (copy_at old a)) [
       | true ↦ λ e. let at : addr ≡ a = grind (arith, nat_tests) in ap (λ a. copy_with_number offset width value (copy_at old a)) (sym at)
+      | false ↦ λ e. refl
+    ] refl
+
+-- the state and the marks of a copy change
+pub marked_found : (old new : Contents) (addr way : ℕ) (next : Next) → IsFound old addr way
+    → CopiesChange old new addr way (λ copy. changed_copy copy next) → (a : ℕ)
+    → copy_at new a ≡ cond (addr == a) (made next.state next.marks (copy_at old addr).cell) (copy_at old a)
+marked_found old new addr way next found changes a =
+    copies-found old new addr way (λ copy. changed_copy copy next) found changes a
+    ∙ elim (addr == a) as (λ b. (addr == a) ≡ b → cond b (changed_copy (copy_at old a) next) (copy_at old a) ≡ cond b (changed_copy (copy_at old addr) next) (copy_at old a)) [
+      | true ↦ λ e. let at : addr ≡ a = grind (arith, nat_tests) in ap (λ a. changed_copy (copy_at old a) next) (sym at)
       | false ↦ λ e. refl
     ] refl
 

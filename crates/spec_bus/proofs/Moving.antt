@@ -72,7 +72,7 @@ fetched old mid cores memory message way next victim told own same_memory same_c
 -- a line that the core holds changes
 pub kept : (old : Parts) (cores : List Core) (memory : List ℕ) (core addr : ℕ) (next : Next) (cells : List ℕ)
     → length cores ≡ length old.cores.items
-    → ((j : ℕ) → core_at cores j ≡ cond (j == core) (changed_core addr next (slice_index cells) (core_at old.cores.items core)) (core_at old.cores.items j))
+    → ((j : ℕ) → core_at cores j ≡ cond (j == core) (changed_core addr next ((core_at old.cores.items core).copy addr).cell (core_at old.cores.items core)) (core_at old.cores.items j))
     → length memory ≡ length old.memory.items
     → ((p : ℕ) → slice_index memory p ≡ cond next.write_back (with_line old.machine.line_length addr (slice_index cells) (slice_index old.memory.items)) (slice_index old.memory.items) p)
     → next.enters ≡ false → ((x : ℕ) → slice_index cells x ≡ ((core_at old.cores.items core).copy addr).cell x)
@@ -80,7 +80,7 @@ pub kept : (old : Parts) (cores : List Core) (memory : List ℕ) (core addr : �
 kept old cores memory core addr next cells count is_core size bytes silent same =
     let cell : slice_index cells ≡ ((core_at old.cores.items core).copy addr).cell = fun_ext same in
     same_bus _ _ _ _ _ _ _ _ _ _ _ _ count size refl refl
-    (λ k. is_core k ∙ rw (silent, cell) refl)
+    (λ k. is_core k ∙ rw silent refl)
     (λ p. bytes p ∙ rw cell refl)
 
 pub claimed : (old mid : Parts) (cores : List Core) (memory : List ℕ) (message : Message) (next : Next)

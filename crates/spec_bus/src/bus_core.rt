@@ -64,15 +64,15 @@ impl Core {
     }
 
     /// The core's copy of the line at `addr`; an invalid line where it has none.
-    pub(crate) fn line_at(&self, addr: u32) -> Line
-        ensures state { result.state ≡ (copy_at self.now.cache addr).state }
-        ensures marks { result.marks ≡ (copy_at self.now.cache addr).marks }
-        ensures cells { (x : ℕ) → slice_index result.cells x ≡ (copy_at self.now.cache addr).cell x }
+    pub(crate) fn line_at(&self, addr: u32) -> &Line
+        ensures state { result.now.state ≡ (copy_at self.now.cache addr).state }
+        ensures marks { result.now.marks ≡ (copy_at self.now.cache addr).marks }
+        ensures cells { (x : ℕ) → slice_index result.now.cells x ≡ (copy_at self.now.cache addr).cell x }
         ensures in_place { IsInPlace self.now.cache.line_length addr (copy_at self.now.cache addr) }
     {
         match self.cache.find(addr) {
-            Some(way) => *self.cache.line(addr, way),
-            None => Line::INVALID,
+            Some(way) => self.cache.line(addr, way),
+            None => &Line::INVALID,
         }
     }
 
@@ -113,6 +113,18 @@ impl Core {
             );
         }
         self.enter_if(next.enters, addr);
+    }
+
+    /// The core's copy of the line at `addr`, which doesn't enter the buffer, gets the state and the marks of this change.
+    pub(crate) fn mark(&mut self, addr: u32, next: Next)
+        requires held { is_valid next.state ≡ true → is_valid (copy_at self.old.cache addr).state ≡ true }
+        requires mask { IsWithinLine self.old.cache.line_length next.marks.bytes }
+        requires silent { next.enters ≡ false }
+        ensures { state_of self.new ≡ changed_core addr next (copy_at self.old.cache addr).cell (state_of self.old) }
+    {
+        if let Some(way) = self.cache.find(addr) {
+            self.cache.mark(addr, way, next);
+        }
     }
 
     /// A line at `addr`, which the core does not hold, comes into this way of its set, changed so and with these bytes.
@@ -242,7 +254,7 @@ impl Core {
         let next = answer(notice, line.state, line.marks, later);
         let marked = Line {
             marks: next.marks,
-            ..line
+            ..*line
         };
         let cells = memory::bytes_after(notice, &marked, sent);
         self.change(addr, next, cells);

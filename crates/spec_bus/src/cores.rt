@@ -87,6 +87,19 @@ pub(crate) fn change(
     cores[k].change(addr, next, cells);
 }
 
+/// The copy that core `k` has of the line at `addr`, which doesn't enter its buffer, gets the state and the marks of this change.
+pub(crate) fn mark(cores: &mut Vec<Core>, k: usize, addr: u32, next: Next)
+    requires k { k < length cores.old.items }
+    requires held { is_valid next.state ≡ true → is_valid ((core_at cores.old.items k).copy addr).state ≡ true }
+    requires mask { IsWithinLine (core_at cores.old.items k).line_length next.marks.bytes }
+    requires silent { next.enters ≡ false }
+    ensures count { length cores.new.items ≡ length cores.old.items }
+    ensures core { (j : ℕ) → core_at cores.new.items j ≡ (if j == k then
+        changed_core addr next ((core_at cores.old.items k).copy addr).cell (core_at cores.old.items k) else core_at cores.old.items j) }
+{
+    cores[k].mark(addr, next);
+}
+
 /// A line at `addr` comes into this way of the cache of core `k`, changed so and with these bytes.
 pub(crate) fn fill(
     cores: &mut Vec<Core>,

@@ -10,7 +10,7 @@ ghost use Rattle.spec_states.specs.Mask.{IsWithinLine};
 ghost use Rattle.bus_states.specs.Speculative as speculative;
 ghost use Rattle.spec_bus.specs.Parts.{bus_in, line_at, IsAtLine, MaySend, IsTold};
 
-use crate::cores::{change, fill, hear};
+use crate::cores::{change, fill, hear, mark};
 use crate::memory::{write_line, write_line_if};
 use crate::parts::Parts;
 use bus_states::Notice;
@@ -116,7 +116,7 @@ impl Parts {
         requires silent { next.enters ≡ false }
         ensures { bus_in self.new ≡ speculative.kept_line (bus_in self.old) core addr next }
     {
-        let copy = self.copy(core, addr);
+        let copy = self.cores[core].line_at(addr);
         let length = self.machine.line_length as usize;
         write_line_if(
             next.write_back,
@@ -125,7 +125,7 @@ impl Parts {
             length,
             &copy.cells,
         );
-        change(&mut self.cores, core, addr, next, copy.cells);
+        mark(&mut self.cores, core, addr, next);
     }
 
     /// This core sends a message about the line at `addr`, which it holds and which has these bytes for it, and its copy changes so.

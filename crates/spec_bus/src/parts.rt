@@ -79,11 +79,11 @@ impl Parts {
     }
 
     /// The copy that core `k` has of the line at `addr`; an invalid line where it has none.
-    pub(crate) fn copy(&self, k: usize, addr: u32) -> Line
+    pub(crate) fn copy(&self, k: usize, addr: u32) -> &Line
         requires core { k < length self.now.cores.items }
-        ensures state { result.state ≡ (((bus_in self.now).core k).copy addr).state }
-        ensures marks { result.marks ≡ (((bus_in self.now).core k).copy addr).marks }
-        ensures cells { (x : ℕ) → slice_index result.cells x ≡ (((bus_in self.now).core k).copy addr).cell x }
+        ensures state { result.now.state ≡ (((bus_in self.now).core k).copy addr).state }
+        ensures marks { result.now.marks ≡ (((bus_in self.now).core k).copy addr).marks }
+        ensures cells { (x : ℕ) → slice_index result.now.cells x ≡ (((bus_in self.now).core k).copy addr).cell x }
     {
         self.core(k).line_at(addr)
     }

@@ -42,7 +42,7 @@ impl Parts {
         ensures hurt { (k : ℕ) → is_in result k ≡ message_spec.violates (bus_in self.old)
             (message_spec.message_of (bus_in self.old) Publish core addr) k }
     {
-        let copy = self.copy(core, addr);
+        let copy = *self.copy(core, addr);
         let survey = self.survey(Notice::Publish, core, addr);
         let next = settled(copy.state, copy.marks, survey.alone);
         self.claim(Notice::Publish, core, addr, &copy.cells, survey.hurt, next);

@@ -41,8 +41,9 @@ impl Parts {
     {
         let copy = self.copy(core, addr);
         let next = after_own_load(copy.state, copy.marks, offset, width, true);
+        let value = copy.number_at(offset, width);
         self.keep(core, addr, next);
-        copy.number_at(offset, width)
+        value
     }
 
     /// A load of a line that the core doesn't hold, which comes into this way.
@@ -160,8 +161,9 @@ impl Parts {
             return Ok(CoreSet::none());
         }
         if copy.state.is_valid() {
+            let cells = copy.cells;
             let (next, hurt) = self.survey_store(core, addr, offset, width)?;
-            self.claim(Notice::Store, core, addr, &copy.cells, hurt, next);
+            self.claim(Notice::Store, core, addr, &cells, hurt, next);
             Ok(hurt)
         } else {
             let Some(way) = self.core(core).cache.victim(addr) else {

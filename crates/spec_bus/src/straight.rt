@@ -85,7 +85,7 @@ impl Parts {
         ensures small { result.0 < 256 ^ width }
         ensures hurt { (k : ℕ) → is_in result.1 k ≡ straight_load_violates (bus_in self.old) core addr k }
     {
-        let copy = self.copy(core, addr);
+        let copy = *self.copy(core, addr);
         if copy.state.is_valid() {
             return (copy.number_at(offset, width), CoreSet::none());
         }
@@ -119,7 +119,7 @@ impl Parts {
             ≡ after_straight_store (bus_in self.old) core addr offset width value (room_at self.old.cores.items core addr) }
         ensures hurt { (k : ℕ) → is_in result k ≡ straight_store_violates (bus_in self.old) core addr offset width value k }
     {
-        let copy = self.copy(core, addr);
+        let copy = *self.copy(core, addr);
         if stores_alone(copy.state) {
             let stored = copy.with_number(offset, width, value);
             change(

@@ -16,7 +16,7 @@ change-requires-clause-mask c =
 pub change-requires-clause-past : goal.change-requires-clause-past
 change-requires-clause-past c x le =
     c.bytes_after-cells.ensures x
-    ∙ merged-past c.args.notice c.answer-next.result.marks.bytes (slice_index c.line_at-line.result.cells) (slice_index c.args.sent.now) x
+    ∙ merged-past c.args.notice c.answer-next.result.marks.bytes (slice_index c.line_at-line.result.now.cells) (slice_index c.args.sent.now) x
     (c.line_at-line.ensures.cells x ∙ c.line_at-line.ensures.in_place.cells x le) (c.requires.past x le)
 
 pub returns : goal.returns

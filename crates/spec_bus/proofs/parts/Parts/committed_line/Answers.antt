@@ -15,7 +15,7 @@ loop-k-init c x =
 pub loop-k-preserved : goal.loop-k-preserved
 loop-k-preserved c =
     committed_more c.loop-k.k (λ k. ((bus_in c.args.self.now).core k).copy c.args.addr) (memory_line c.args.self.now.machine.line_length (bus_in c.args.self.now).memory c.args.addr)
-    c.is_modified.result c.copy-copy.result.cells c.if-is_modified.line c.loop-k.line (c.is_modified.ensures ∙ ap is_modified c.copy-copy.ensures.state) c.copy-copy.ensures.cells c.loop-k.invariant
+    c.is_modified.result c.copy-copy.result.now.cells c.if-is_modified.line c.loop-k.line (c.is_modified.ensures ∙ ap is_modified c.copy-copy.ensures.state) c.copy-copy.ensures.cells c.loop-k.invariant
     (elim c.if-is_modified.branch [
       | then-is_modified w ↦ rw (w.line-is, w.if-is_modified.true) refl
       | else-is_modified w ↦ rw (w.line-is, w.if-is_modified.false) refl

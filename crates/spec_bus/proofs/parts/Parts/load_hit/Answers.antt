@@ -7,6 +7,6 @@ use Rattle.spec_bus.proofs.parts.Parts.load_hit.Goals as goal
 
 pub returns-clause-value : goal.returns-clause-value
 returns-clause-value c =
-    c.number_at.ensures.value
+    c.number_at-value.ensures.value
     ∙ ap (λ (line : ℕ → ℕ). number_at line c.args.offset c.args.width)
     (fun_ext (λ x. c.copy-copy.ensures.cells x ∙ sees-held (bus_in c.args.self.now) c.args.core c.args.addr c.requires.access.coherent c.requires.access.line c.requires.held x))

@@ -16,9 +16,9 @@ claim-requires-clause-may c = record {
 pub returns-clause-bus : goal.returns-clause-bus
 returns-clause-bus c =
     let listed : IsListed (bus_in c.args.self.now) c.args.core c.args.addr = record { in_cores = c.requires.core; listed = c.requires.listed } in
-    line_published c.args.self.now c.claim.new.self c.release.new.cores.items c.args.core c.args.addr c.settled-next.result (slice_index c.copy-copy.result.cells)
+    line_published c.args.self.now c.claim.new.self c.release.new.cores.items c.args.core c.args.addr c.settled-next.result (slice_index c.copy.result.now.cells)
     c.claim.ensures c.release.ensures.count c.release.ensures.core
-    (fun_ext (λ x. c.copy-copy.ensures.cells x
+    (fun_ext (λ x. c.copy.ensures.cells x
     ∙ sees-held (bus_in c.args.self.now) c.args.core c.args.addr c.requires.coherent (listed-aligned (bus_in c.args.self.now) c.args.core c.args.addr c.requires.coherent listed)
     (listed-held (bus_in c.args.self.now) c.args.core c.args.addr c.requires.coherent listed) x))
-    (c.settled-next.ensures.table ∙ rw (c.copy-copy.ensures.state, c.copy-copy.ensures.marks, c.survey-survey.ensures.alone) refl)
+    (c.settled-next.ensures.table ∙ rw (c.copy.ensures.state, c.copy.ensures.marks, c.survey-survey.ensures.alone) refl)

@@ -11,9 +11,9 @@ pub returns-then-is_valid-clause-value : goal.returns-then-is_valid-clause-value
 returns-then-is_valid-clause-value c =
     c.number_at.ensures.value
     ∙ ap (λ (line : ℕ → ℕ). number_at line c.args.offset c.args.width)
-    (fun_ext (λ x. c.copy-copy.ensures.cells x
+    (fun_ext (λ x. c.copy.ensures.cells x
     ∙ sees-held (bus_in c.args.self.now) c.args.core c.args.addr c.requires.place.coherent c.requires.place.line
-    (ap is_valid (sym c.copy-copy.ensures.state) ∙ sym c.is_valid.ensures ∙ c.if-is_valid.true) x))
+    (ap is_valid (sym c.copy.ensures.state) ∙ sym c.is_valid.ensures ∙ c.if-is_valid.true) x))
 
 pub fetch-requires-clause-past : goal.fetch-requires-clause-past
 fetch-requires-clause-past c x le =
@@ -23,7 +23,7 @@ pub returns-clause-bus : goal.returns-clause-bus
 returns-clause-bus c =
     loaded_missed (bus_in c.args.self.now) (bus_in c.fetch.new.self) c.args.core c.args.addr (room_at c.args.self.now.cores.items c.args.core c.args.addr)
     (line_at c.args.self.now.cores.items c.args.core c.args.addr (Some c.straight_way-way.result)) c.unmarked_if-next.result (slice_index c.committed_line-cells.result) c.survey-survey.result.alone
-    (ap is_valid (sym c.copy-copy.ensures.state) ∙ sym c.is_valid.ensures ∙ c.if-is_valid.false)
+    (ap is_valid (sym c.copy.ensures.state) ∙ sym c.is_valid.ensures ∙ c.if-is_valid.false)
     (sym c.straight_way-way.ensures.room)
     (fun_ext (λ x. c.committed_line-cells.ensures x
     ∙ sym (sees_committed (bus_in c.args.self.now) c.args.core c.args.addr c.requires.place.coherent c.requires.place.line c.requires.straight x)))

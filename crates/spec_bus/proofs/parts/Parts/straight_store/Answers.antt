@@ -21,8 +21,8 @@ returns-then-stores_alone-clause-bus c =
     ∙ ap (λ (next : Next). cond (j == c.args.core) (changed_core c.args.addr next (slice_index c.with_number-stored.result.cells) (core_at old c.args.core)) (core_at old j))
     c.unmarked.ensures)
     (λ x. c.with_number-stored.ensures.bytes x
-    ∙ ap (λ (cell : ℕ → ℕ). with_number cell c.args.offset c.args.width c.args.value x) (fun_ext c.copy-copy.ensures.cells))
-    (ap stores_alone (sym c.copy-copy.ensures.state) ∙ sym c.stores_alone.ensures ∙ c.if-stores_alone.true)
+    ∙ ap (λ (cell : ℕ → ℕ). with_number cell c.args.offset c.args.width c.args.value x) (fun_ext c.copy.ensures.cells))
+    (ap stores_alone (sym c.copy.ensures.state) ∙ sym c.stores_alone.ensures ∙ c.if-stores_alone.true)
 
 pub fetch-requires-clause-past : goal.fetch-requires-clause-past
 fetch-requires-clause-past c x le =
@@ -33,15 +33,15 @@ fetch-requires-clause-past c x le =
 pub returns-then-is_valid-clause-bus : goal.returns-then-is_valid-clause-bus
 returns-then-is_valid-clause-bus c =
     let held : is_valid (own (bus_in c.args.self.now) c.args.core c.args.addr).state ≡ true =
-    ap is_valid (sym c.copy-copy.ensures.state) ∙ sym c.is_valid.ensures ∙ c.if-is_valid.true in
+    ap is_valid (sym c.copy.ensures.state) ∙ sym c.is_valid.ensures ∙ c.if-is_valid.true in
     stored_sent (bus_in c.args.self.now) (bus_in c.claim.new.self) c.args.core c.args.addr c.args.offset c.args.width c.args.value
     (room_at c.args.self.now.cores.items c.args.core c.args.addr) None c.unmarked_if-next.result
     (slice_index c.with_number-stored-then-is_valid.result.cells) c.survey-survey.result.alone
-    (ap stores_alone (sym c.copy-copy.ensures.state) ∙ sym c.stores_alone.ensures ∙ c.if-stores_alone.false)
+    (ap stores_alone (sym c.copy.ensures.state) ∙ sym c.stores_alone.ensures ∙ c.if-stores_alone.false)
     (room_held (bus_in c.args.self.now) c.args.core c.args.addr (room_at c.args.self.now.cores.items c.args.core c.args.addr) held)
     (fun_ext (λ x. c.with_number-stored-then-is_valid.ensures.bytes x
     ∙ ap (λ (cell : ℕ → ℕ). with_number cell c.args.offset c.args.width c.args.value x)
-    (fun_ext (λ y. c.copy-copy.ensures.cells y ∙ sees-held (bus_in c.args.self.now) c.args.core c.args.addr c.requires.place.coherent c.requires.place.line held y))))
+    (fun_ext (λ y. c.copy.ensures.cells y ∙ sees-held (bus_in c.args.self.now) c.args.core c.args.addr c.requires.place.coherent c.requires.place.line held y))))
     c.unmarked_if-next.ensures c.survey-survey.ensures.alone c.claim.ensures
 
 pub returns-clause-bus : goal.returns-clause-bus
@@ -49,10 +49,10 @@ returns-clause-bus c =
     stored_sent (bus_in c.args.self.now) (bus_in c.fetch.new.self) c.args.core c.args.addr c.args.offset c.args.width c.args.value
     (room_at c.args.self.now.cores.items c.args.core c.args.addr) (line_at c.args.self.now.cores.items c.args.core c.args.addr (Some c.straight_way-way.result))
     c.unmarked_if-next.result (slice_index c.with_number-stored-2.result.cells) c.survey-survey.result.alone
-    (ap stores_alone (sym c.copy-copy.ensures.state) ∙ sym c.stores_alone.ensures ∙ c.if-stores_alone.false)
+    (ap stores_alone (sym c.copy.ensures.state) ∙ sym c.stores_alone.ensures ∙ c.if-stores_alone.false)
     (sym c.straight_way-way.ensures.room
     ∙ room_missed (bus_in c.args.self.now) c.args.core c.args.addr (room_at c.args.self.now.cores.items c.args.core c.args.addr)
-    (ap is_valid (sym c.copy-copy.ensures.state) ∙ sym c.is_valid.ensures ∙ c.if-is_valid.false))
+    (ap is_valid (sym c.copy.ensures.state) ∙ sym c.is_valid.ensures ∙ c.if-is_valid.false))
     (fun_ext (λ x. c.with_number-stored-2.ensures.bytes x
     ∙ ap (λ (cell : ℕ → ℕ). with_number cell c.args.offset c.args.width c.args.value x)
     (fun_ext (λ y. c.committed_line-cells.ensures y

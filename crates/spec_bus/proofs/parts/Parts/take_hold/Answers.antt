@@ -23,7 +23,7 @@ fetch-requires-clause-mask c =
 
 pub returns-in_ok-next-clause-taken : goal.returns-in_ok-next-clause-taken
 returns-in_ok-next-clause-taken c =
-    taken_held (bus_in c.args.self.now) (bus_in c.claim.new.self) c.args.core c.args.addr c.args.offset c.args.width _ c.in_ok-next.next (slice_index c.copy-copy.result.cells) (is_in c.in_ok-next.hurt)
+    taken_held (bus_in c.args.self.now) (bus_in c.claim.new.self) c.args.core c.args.addr c.args.offset c.args.width _ c.in_ok-next.next (slice_index c.copy-copy.result.now.cells) (is_in c.in_ok-next.hurt)
     c.requires.access.coherent c.requires.access.line
     (rw (← c.copy-copy.ensures.state, ← c.copy-copy.ensures.marks) (sym c.owns_line.ensures ∙ c.if-owns_line.false))
     (ap is_valid (sym c.copy-copy.ensures.state) ∙ sym c.is_valid.ensures ∙ c.if-is_valid.true)
