@@ -15,8 +15,9 @@ use Rattle.homefree.specs.DriveFixed.{AreTwinDrivers, DriveIsFixed}
 use Rattle.even_speed.specs.Even.{at_first}
 use Rattle.even_speed.specs.Fixed.{RunIsFixed}
 use Rattle.all_schedules.specs.Drawn.{DrivesDrawn, drawn, most_turns}
-use Rattle.all_schedules.specs.Fixed.{DrawnHistoryIsFixed, EvenHistoryIsFixed, HistoryIsFixed}
+use Rattle.all_schedules.specs.Fixed.{DrawnHistoryIsFixed, EvenHistoryIsFixed, HistoryIsFixed, TextIsFixed}
 use Rattle.all_schedules.specs.Made.{IsNew}
+use Rattle.turn_steps.specs.Fixed.{StepsAreFixed}
 
 -- a run ends, or goes to the most turns
 is_ended : (result : Result (Option End) TurnFault) → (result ≡ Ok None) ⊎ (result ≢ Ok None)
@@ -45,6 +46,12 @@ module _ {S : Type 0} (starts : LoadedImage → ℕ → S → Type 0) (makes : S
   history_fixed law l schedule result result' history history' fed fed' one two =
       let run = law (λ _. None) (driver one.first no_counts) one.last (driver two.first no_counts) two.last schedule result result' (new_twins l one.first two.first one.is_new two.is_new) one.driven two.driven fed fed' in
       record { result_is = run.result_is; history_is = sym two.history_is ∙ (run.twins.books.history ∙ one.history_is); twins = run.twins }
+
+  pub text_fixed : (changes : ℕ → S → S → List ℕ) → StepsAreFixed makes alike view waits changes → TextIsFixed starts makes view waits changes
+  text_fixed changes law l schedule history history' text text' one two =
+      let run = law 0 (λ _. None) (driver one.first no_counts) one.last (driver two.first no_counts) two.last schedule one.end two.end text text' (new_twins l one.first two.first one.is_new two.is_new)
+      one.stepped two.stepped in
+      (sym two.history_is ∙ (run.twins.books.history ∙ one.history_is), run.text_is)
 
   pub even_history_fixed : RunIsFixed makes alike view waits → EvenHistoryIsFixed starts makes view waits
   even_history_fixed law l schedule schedule' result result' history history' done done' one two =

@@ -1,8 +1,9 @@
 //! The laws of histories: the functions do nothing of their own, and their contracts are the laws.
-ghost use Rattle.all_schedules.specs.Fixed.{DrawnHistoryIsFixed, EvenHistoryIsFixed, HistoryIsFixed};
+ghost use Rattle.all_schedules.specs.Fixed.{DrawnHistoryIsFixed, EvenHistoryIsFixed, HistoryIsFixed, TextIsFixed};
 
 use even_speed::run_is_fixed;
 use homefree::drive_is_fixed;
+use turn_steps::{ShownStore, steps_are_fixed};
 use violations::EpochStore;
 
 /// The turns of a schedule over a fresh store come to the same each time, make the same history, and leave stores that hold the same,
@@ -12,6 +13,14 @@ pub fn history_is_fixed<S: EpochStore>()
 {
     S::calls_are_fixed();
     drive_is_fixed::<S>();
+}
+
+/// What `replay steps` tells of each turn of a schedule over a fresh store, with all that it changed of the store, is the same each time.
+pub fn text_is_fixed<S: ShownStore>()
+    ensures { TextIsFixed S.starts S.makes S.view S.waits S.changes }
+{
+    S::calls_are_fixed();
+    steps_are_fixed::<S>();
 }
 
 /// The run at even speed over a fresh store comes to the same each time, takes the same turns, and makes the same history, where it

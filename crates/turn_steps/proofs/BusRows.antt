@@ -25,8 +25,7 @@ use Rattle.bus_states.proofs.Addresses.{line-aligned, line-and_offset}
 use Rattle.spec_bus.specs.declared.bus_core.Core.{Core}
 use Rattle.spec_bus.specs.Cached.{CachedView, bus, line_in, line_of_core, store_view}
 use Rattle.spec_bus.specs.Parts.{state_or_none}
-use Rattle.turn_steps.specs.Caches.{AreHeld, AreShown, AreWhole, HasOwnRows, HasRowsOf, Held, held, line_at, lines_below, place_count}
-use Rattle.turn_steps.specs.Places.{no_line}
+use Rattle.turn_steps.specs.Caches.{AreHeld, AreShown, AreWhole, HasOwnRows, HasRowsOf, Held, held, line_at, lines_below, no_line, place_count}
 
 -- one way more
 pub own_more : (size : ℕ) (ways : List Line) (i : ℕ) (old new : BTreeSet ℕ) → HasRowsOf old new

@@ -13,8 +13,10 @@ pub mod Leaving
 pub mod Outside
 pub mod Attempts
 pub mod BusRows
+pub mod Standing
 pub mod Buses
 pub mod Steps
 pub mod Written
 pub mod TurnText
+pub mod Fixed
 pub mod Followed

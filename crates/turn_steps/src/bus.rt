@@ -33,6 +33,8 @@ impl ShownStore for CachedBus {
 
     ghost changes = { cached_changes };
 
+    fn changes_are_fixed() {}
+
     fn attempt_of(&self, core: u32) -> Option<Attempt> {
         self.attempt(core)
     }
@@ -116,7 +118,7 @@ fn push_bus_changes(
     requires machine { IsMachine machine }
     requires ways { machine.ways ≤ (bus caches.now).geometry.ways }
     ensures held { IfOk result (λ now. spec.AreHeld machine caches.now cores now.items) }
-    ensures text { (old : CachedView) → spec.AreHeld machine old cores shown.now → OnOk result (text.new.items ≡ text.old.items ++ spec.bus_changes machine old caches.now cores) }
+    ensures text { (old : CachedView) → spec.AreHeld machine old cores shown.now → OnOk result (text.new.items ≡ text.old.items ++ spec.held_changes machine old caches.now cores) }
 {
     let mut now = Vec::new(alloc);
     for core in 0..cores {

@@ -3,8 +3,9 @@ ghost use Rattle.std.specs.Prelude.{◌≡◌, ◌++◌, ◌<◌, ◌≤◌, ℕ
 ghost use Rattle.std.specs.List.{slice_index_or};
 ghost use Rattle.rv32_image.specs.Machine.{IsMachine};
 ghost use Rattle.spec_bus.specs.Cached.{bus};
+ghost use Rattle.spec_bus.specs.Laws.{IsPlacedCore};
 ghost use Rattle.turn_steps.specs.Caches as spec;
-ghost use Rattle.turn_steps.specs.Places.{no_line};
+ghost use Rattle.turn_steps.specs.Caches.{no_line};
 
 use crate::orbs::push_orb_change;
 use crate::ways::{place_count, push_way_changes};
@@ -44,8 +45,10 @@ impl ShownCore {
         requires core { core < (bus caches.now).shape.cores }
         requires machine { IsMachine machine }
         requires ways { machine.ways ≤ (bus caches.now).geometry.ways }
-        ensures { IfOk result (λ shown. shown ≡ spec.held machine caches.now core) }
+        ensures held { IfOk result (λ shown. shown ≡ spec.held machine caches.now core) }
+        ensures placed { IsPlacedCore caches.now.cores core }
     {
+        caches.look_cache(core);
         let orb = lines_of(alloc, caches.orb_at(core))?;
         let ways = ways_of(alloc, caches, machine, core)?;
         Ok(ShownCore { ways, orb })

@@ -35,6 +35,8 @@ impl ShownStore for PlainStore {
 
     ghost changes = { plain_changes };
 
+    fn changes_are_fixed() {}
+
     fn attempt_of(&self, core: u32) -> Option<Attempt> {
         self.attempt(core)
     }

@@ -4,6 +4,7 @@ ghost use Rattle.std.specs.BTreeSet.{contains};
 ghost use Rattle.std.specs.Ordering.{nat_cmp};
 ghost use Rattle.violations.specs.View.{Shape};
 ghost use Rattle.violations.specs.Rule.{shape_of};
+ghost use Rattle.turn_steps.specs.Fixed.{ChangesAreFixed};
 ghost use Rattle.turn_steps.specs.Laws.{KeepsRows};
 ghost use Rattle.turn_steps.specs.Rows.{row_count};
 
@@ -26,6 +27,10 @@ pub trait ShownStore: EpochStore {
 
     /// The text of what so many cores hold otherwise in the second store than in the first.
     ghost changes: { ℕ → Self → Self → List ℕ };
+
+    /// The law of the text: of stores that hold the same it is the same. This call does nothing, and its contract is the law.
+    fn changes_are_fixed()
+        ensures { ChangesAreFixed Self.alike changes };
 
     /// What a core runs.
     fn attempt_of(&self, core: u32) -> Option<Attempt>

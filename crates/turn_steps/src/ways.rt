@@ -1,7 +1,9 @@
 //! The ways of a cache.
 ghost use Rattle.std.specs.Prelude.{◌≡◌, ◌*◌, ◌++◌, ◌≤◌, true, length, IfOk, OnOk, IsTrue};
 ghost use Rattle.rv32_image.specs.Machine.{IsMachine, is_line_length};
-ghost use Rattle.turn_steps.specs.Caches.{place_count};
+ghost use Rattle.cache_lines.specs.Cells.{cell_of};
+ghost use Rattle.cache_lines.specs.Protocol.{copy_of_line};
+ghost use Rattle.turn_steps.specs.Caches.{place_count, standing, standing_at};
 ghost use Rattle.turn_steps.specs.Places as spec;
 
 use crate::changed::push_changed;
@@ -35,7 +37,7 @@ pub fn push_way_changes(
     requires machine { IsMachine machine }
     requires old { place_count machine ≤ length old.now }
     requires now { place_count machine ≤ length now.now }
-    ensures { OnOk result (text.new.items ≡ text.old.items ++ spec.way_changes machine core old.now now.now (place_count machine)) }
+    ensures { OnOk result (text.new.items ≡ text.old.items ++ spec.way_changes machine core (standing_at old.now) (standing_at now.now) (place_count machine)) }
 {
     for place in 0..place_count(machine) {
         push_way_change(
@@ -63,7 +65,7 @@ fn push_way_change(
 ) -> Result<(), AllocError>
     requires { IsMachine machine }
     ensures { OnOk result (text.new.items
-        ≡ text.old.items ++ spec.changed (spec.way_line machine core place old.now) (spec.way_line machine core place now.now)) }
+        ≡ text.old.items ++ spec.changed (spec.way_line machine core place (standing old.now)) (spec.way_line machine core place (standing now.now))) }
 {
     if is_same(old, now) {
         return Ok(());
@@ -89,7 +91,7 @@ fn way_line(
     line: &Line,
 ) -> Result<Vec<u8>, AllocError>
     requires { IsMachine machine }
-    ensures { IfOk result (λ text. text.items ≡ spec.way_line machine core place line.now) }
+    ensures { IfOk result (λ text. text.items ≡ spec.way_line machine core place (standing line.now)) }
 {
     let mut text = Vec::from_slice(alloc, b"line ")?;
     push_place(&mut text, machine.ways, core, place)?;
@@ -118,7 +120,7 @@ fn push_place(text: &mut Vec<u8>, ways: u32, core: u32, place: u32) -> Result<()
 /// Adds a copy: its address, its state, its marks and its bytes.
 fn push_copy(text: &mut Vec<u8>, size: u32, line: &Line) -> Result<(), AllocError>
     requires size { IsTrue (is_line_length size) }
-    ensures { OnOk result (text.new.items ≡ text.old.items ++ spec.copy_text size line.now) }
+    ensures { OnOk result (text.new.items ≡ text.old.items ++ spec.copy_text size (record { addr = line.now.addr; copy = copy_of_line line.now })) }
 {
     push_hex(text, &line.addr.to_be_bytes())?;
     text.extend_from_slice(b" ")?;
@@ -143,9 +145,10 @@ fn push_mask(text: &mut Vec<u8>, size: u32, mask: u64) -> Result<(), AllocError>
 }
 
 /// Adds the bytes of a line.
+#[tactic(auto, using(crate::proofs::Places::first_cells))]
 fn push_bytes(text: &mut Vec<u8>, size: u32, line: &Line) -> Result<(), AllocError>
     requires size { IsTrue (is_line_length size) }
-    ensures { OnOk result (text.new.items ≡ text.old.items ++ spec.bytes_text size line.now.cells) }
+    ensures { OnOk result (text.new.items ≡ text.old.items ++ spec.bytes_text size (cell_of line.now)) }
 {
     let mut digits = [0; 2 * LONGEST_LINE];
     let digits = &mut digits[..2 * size as usize];

@@ -1,8 +1,7 @@
 use Rattle.std.proofs.Common.{List, subst}
 use Rattle.cache_lines.specs.declared.line.Line.{Line}
 use Rattle.std.specs.List.{slice_index_or}
-use Rattle.turn_steps.specs.Caches.{HasOwnRows}
-use Rattle.turn_steps.specs.Places.{no_line}
+use Rattle.turn_steps.specs.Caches.{HasOwnRows, no_line}
 use Rattle.turn_steps.proofs.BusRows.{own_more}
 use Rattle.turn_steps.proofs.caches.ShownCore.push_own_rows.Goals as goal
 

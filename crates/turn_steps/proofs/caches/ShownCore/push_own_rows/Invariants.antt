@@ -1,7 +1,6 @@
 use Rattle.std.proofs.Common.{ℕ, ◌<◌}
 use Rattle.std.specs.List.{slice_index_or}
-use Rattle.turn_steps.specs.Caches.{HasOwnRows, HasRowsOf}
-use Rattle.turn_steps.specs.Places.{no_line}
+use Rattle.turn_steps.specs.Caches.{HasOwnRows, HasRowsOf, no_line}
 use Rattle.turn_steps.proofs.caches.ShownCore.push_own_rows.Given as goal
 
 -- the rows of the ways so far
