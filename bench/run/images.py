@@ -24,9 +24,9 @@ def text(words, epochs, version=1):
     return f"version {version}\nsize 65536\nepochs {epochs}\nlimit 1000000\ncode {code}\n".encode("ascii")
 
 
-def own_region():
-    """The base of the region of this epoch, one of 256, into BASE."""
-    return [word_of_i(MATCH["andi"], BASE, NUMBER, 255), MATCH["slli"] | BASE << 7 | BASE << 15 | 7 << 20]
+def own_region(regions=256):
+    """The base of the region of this epoch, one of so many, a power of two up to 256, into BASE."""
+    return [word_of_i(MATCH["andi"], BASE, NUMBER, regions - 1), MATCH["slli"] | BASE << 7 | BASE << 15 | 7 << 20]
 
 
 def filling(count):
@@ -42,11 +42,11 @@ def computing(epochs):
                 + own_region() + [word_of_s(MATCH["sw"], BASE, NUMBER, OWN - 1024), RETURN], epochs)
 
 
-def accessing(epochs, rounds, conflict, version=1):
-    """Epochs of so many rounds, each of a load and a store with BETWEEN instructions from access to access. With a
-    conflict each even epoch stores the shared word last, and each odd one loads it first. More than 8 cores need
-    version 2."""
-    body = own_region()
+def accessing(epochs, rounds, conflict, version=1, regions=256):
+    """Epochs of so many rounds, each of a load and a store with BETWEEN instructions from access to access, in one of
+    so many regions, of which one line is touched. With a conflict each even epoch stores the shared word last, and each
+    odd one loads it first. More than 8 cores need version 2."""
+    body = own_region(regions)
     if conflict:
         body += [word_of_i(MATCH["andi"], COUNT, NUMBER, 1), word_of_b(MATCH["beq"], COUNT, 0, 8),
                  word_of_i(MATCH["lw"], VALUE, 0, SHARED)]
