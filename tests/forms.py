@@ -35,8 +35,9 @@ from loops.texts import text_out  # noqa: E402
 
 try:
     from jsonschema import Draft202012Validator, ValidationError
+    HAS_SCHEMAS = True
 except ImportError:
-    Draft202012Validator = None
+    HAS_SCHEMAS = False
 
 # What a shell tells of a program that SIGPIPE ends.
 UNREAD = 141
@@ -143,7 +144,7 @@ def wrong_with(form: str, text: str | None) -> str | None:
     read = FORMS[form][1](text)
     if content_of(told) != read:
         return "is another after JSON"
-    if Draft202012Validator is not None:
+    if HAS_SCHEMAS:
         found = next(Draft202012Validator(json.loads(SCHEMA.read_text(encoding="utf-8"))).iter_errors(told), None)
         if found is not None:
             return f"isn't as the schema says: {found.message[:200]}"
@@ -302,7 +303,7 @@ def packages() -> Iterator[Check]:
 
 def schema() -> Iterator[Check]:
     """The schema refuses what isn't a document."""
-    if Draft202012Validator is None:
+    if not HAS_SCHEMAS:
         left_out("the schema", "python3-jsonschema isn't installed")
         return
     checker = Draft202012Validator(json.loads(SCHEMA.read_text(encoding="utf-8")))

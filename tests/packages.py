@@ -15,7 +15,7 @@ from pathlib import Path
 PROGRAMS = {
     "chromium": "chromium", "chromium-driver": "chromedriver", "clang": "clang", "csmith": "csmith", "g++": "g++",
     "gcc": "cc", "gcc-riscv64-unknown-elf": "riscv64-unknown-elf-gcc", "lld": "ld.lld", "llvm": "llvm-ar",
-    "mypy": "mypy", "snakemake": "snakemake",
+    "help2man": "help2man", "mypy": "mypy", "snakemake": "snakemake",
 }
 MODULES = {"python3-jsonschema": "jsonschema", "python3-matplotlib": "matplotlib", "python3-pyelftools": "elftools",
            "python3-selenium": "selenium", "python3-unicorn": "unicorn"}

@@ -45,6 +45,7 @@ from loops.image_of.reasons import SOURCES, Refused
 from loops.image_of.start import Start
 from loops.image_of.texts import LARGEST_SIZE, LINE, image_text
 from loops.names import line as printable
+from loops.version import add_version
 
 # What the tool is called, and its name in an image, which says nothing of how the tool was installed.
 CALLED = Path(sys.argv[0]).name
@@ -165,6 +166,7 @@ def parser() -> Parser:
     made.add_argument("--compiler", choices=sorted(COMPILERS),
                       help="gcc is Debian's gcc-riscv64-unknown-elf, clang needs lld too (gcc where it is there, else "
                            "clang)")
+    add_version(made, "-V")
     made.add_argument("--assembly", action="store_true",
                       help="prints the assembly of the linked program instead of the image")
     made.add_argument("sources", type=input_path, nargs="+", metavar="INPUT",

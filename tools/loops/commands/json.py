@@ -19,6 +19,7 @@ from loops.documents import FORMS, SCHEMA
 from loops.images import Unreadable
 from loops.streams import iter_document, write_text
 from loops.texts import keep_input
+from loops.version import add_version
 
 
 def write_document(form: str | None) -> None:
@@ -47,6 +48,7 @@ def main() -> int:
     parser.add_argument("--form", choices=sorted(FORMS), help="the form of the input (seen from its first words)")
     parser.add_argument("--back", action="store_true", help="from JSON to the text")
     parser.add_argument("--schema", action="store_true", help="prints the JSON schema")
+    add_version(parser)
     given = parser.parse_args()
     if given.schema:
         sys.stdout.write(SCHEMA.read_text(encoding="utf-8"))

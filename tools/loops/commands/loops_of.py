@@ -38,6 +38,7 @@ from loops.loops_of.images import LIMIT
 from loops.loops_of.making import Choice, Maker
 from loops.loops_of.reasons import NOT_ENTERED, Otherwise, Refused, Unusable, iteration, too_long
 from loops.loops_of.starts import ROOM, ROOM_OF_CHUNKS
+from loops.version import add_version
 
 ALL_WRITTEN, SOME_REFUSED, UNUSABLE, FAULTY = range(4)
 MOST_NAMED = 12
@@ -96,6 +97,7 @@ def parser() -> Parser:
                       help="further flags for clang, as one word: --cflags='-std=c99'")
     made.add_argument("--version", type=int, default=2, choices=(1, 2),
                       help="version of the images: 1 has up to 65536 bytes of memory, 2 up to 1048576 (2)")
+    add_version(made, "-V")
     made.add_argument("--heap", type=int, default=262_144, metavar="BYTES", help="memory for malloc (262144)")
     made.add_argument("--stack", type=int, default=131_072, metavar="BYTES",
                       help="memory for the program's stack (131072)")

@@ -31,6 +31,7 @@ from loops.stores import add_store, store_of
 from loops.texts import read_input
 from loops.pictures.attempts import Run
 from loops.pictures.words import sentence
+from loops.version import add_version
 
 
 def variable_at(image: Image, violation: Violation) -> str | None:
@@ -142,6 +143,7 @@ def main() -> int:
     parser.add_argument("--cores", type=int, metavar="N",
                         help="with --depends: on up to so many cores (as many as the image's version allows)")
     add_build(parser)
+    add_version(parser)
     given = parser.parse_args()
     try:
         for line in lines_of(read_input(), given):

@@ -24,6 +24,7 @@ from loops.stores import add_store, store_of
 from loops.texts import read_input
 from loops.pictures import lanes, overview, perfetto
 from loops.pictures.attempts import Run
+from loops.version import add_version
 
 MOST_ENTRIES = 300
 
@@ -43,6 +44,7 @@ def main() -> int:
     add_store(parser, "what the run was over")
     parser.add_argument("--why", metavar="COMMAND", help="the program that says which conflicts rolled back (./why)")
     add_build(parser)
+    add_version(parser)
     given = parser.parse_args()
     gc.disable()        # nothing that is made here goes before the end
     text = read_input()

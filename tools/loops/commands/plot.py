@@ -22,6 +22,7 @@ from loops.documents import form_of
 from loops.gains import Gains, read_gains
 from loops.start import words_of
 from loops.texts import shown, text_in
+from loops.version import add_version
 
 
 DEBIANS = "/usr/bin/python3"
@@ -90,6 +91,7 @@ def main() -> int:
                         help="has NAME.image, whose remarks name variables and lines of dependences")
     parser.add_argument("files", nargs="*", metavar="NAME=FILE",
                         help="what gain or depends printed of a loop (standard input)")
+    add_version(parser)
     given = parser.parse_args()
     if not given.csv:
         find_matplotlib()

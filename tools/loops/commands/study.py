@@ -41,6 +41,7 @@ from loops.studies.kept import USES, Kept, Row, digest
 from loops.studies.page import page
 from loops.studies.plans import BadPlan, Plan, read_plan
 from loops.studies.together import Study, write_tables
+from loops.version import add_version
 
 
 def number(word: str) -> int:
@@ -63,6 +64,7 @@ def given_words(words: list[str]) -> argparse.Namespace:
     parser.add_argument("--chunk", type=number, metavar="N",
                         help="so many runs a job (as many as take some 20 seconds, by a trial)")
     add_build(parser)
+    add_version(parser)
     at = words.index("--") if "--" in words else len(words)
     given = parser.parse_args(words[:at])
     given.words = words[at + 1:]

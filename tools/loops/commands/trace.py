@@ -21,6 +21,7 @@ from loops import Programs, Stopped, with_trace
 from loops.images import there
 from loops.programs import add_build
 from loops.texts import text_in, write_output
+from loops.version import add_version
 
 
 @tool
@@ -31,6 +32,7 @@ def main() -> int:
     parser.add_argument("cores", type=int, metavar="CORES",
                         help="how many cores run it, each a thread: 1 to 16, in version 1 of an image to 8")
     add_build(parser)
+    add_version(parser)
     given = parser.parse_args()
     text = text_in(given.image.read_bytes())
     try:

@@ -36,6 +36,7 @@ from loops.verdicts.chunks import Measured, maker_of, proposal
 from loops.verdicts.losses import Losses
 from loops.verdicts.sizes import Sized, Sizes, enough, larger_than
 from loops.verdicts.words import Findings, caches_cost, faulted, paragraph, past
+from loops.version import add_version
 
 PAST, FAULT = 5, 6
 COLUMNS = 100
@@ -124,6 +125,7 @@ def options_of(words: list[str]) -> tuple[argparse.Namespace, list[str]]:
     parser.add_argument("--min-gain", type=float, metavar="G", help="the status is 5 where the loop gains less")
     add_store(parser, "the caches that it speaks of, those of the image's version where it isn't said", "caches")
     add_build(parser)
+    add_version(parser)
     given = parser.parse_args(own)
     if given.store == "plain":
         parser.error("argument --store: what it gains over the plain store is told beside what it gains over caches")

@@ -23,6 +23,7 @@ from loops.programs import add_build, ended
 from loops.runs import cores_of, entry_of
 from loops.stores import Store, add_store
 from loops.texts import iter_lines, keep_input, text_out
+from loops.version import add_version
 from loops.views import page
 from loops.views.data import Told, Turns, page_data
 
@@ -81,6 +82,7 @@ def main() -> int:
     parser.add_argument("--to", type=int, metavar="TURN", dest="last", help="the last turn that is shown")
     parser.add_argument("--why", metavar="COMMAND", help="the program that says which conflicts rolled back (./why)")
     add_build(parser)
+    add_version(parser)
     given = parser.parse_args()
     try:
         with tempfile.TemporaryDirectory(prefix="view-") as room:
