@@ -88,6 +88,16 @@ def check_words(program: list[str]) -> Iterator[Row]:
 
 
 @comparing
+def check_many_stores(program: list[str]) -> Iterator[Row]:
+    """A line for each word of a store, however many there are: an epoch of one instruction takes three steps."""
+    words = ["plain", "caches"] * 30_000
+    output, errors, status = run(program, ["1", *words], image("67800000", epochs=1, limit=1))
+    yield ("60,000 stores: status", (errors, status), ("", 0))
+    yield ("60,000 stores: lines", [line.split()[:6] for line in output.splitlines()],
+           [["store", word, "cores", "1", "steps", "3"] for word in words])
+
+
+@comparing
 def check_full(program: list[str]) -> Iterator[Row]:
     """The lines of a loop whose history is full on four cores: an epoch takes a step to begin, one for each
     instruction, and one to commit."""
@@ -166,6 +176,9 @@ def check_runs(gain: list[str], replay: list[str], count: int) -> Iterator[Row]:
         yield (f"replay {words}", run(replay, words, COUNTER), ("", "usage\n", 2))
 
 
+PARTS = (check_words, check_many_stores, check_examples, check_full, check_write)
+
+
 def main() -> int:
     script = Script()
     parser = argparse.ArgumentParser(description="Tests the program gain, and replay even.")
@@ -176,7 +189,7 @@ def main() -> int:
     if gain is None or replay is None:
         left_out("gain", "it and replay weren't built beside the program that is tested")
         return 0
-    script.run(*[partial(part, [str(gain)]) for part in (check_words, check_examples, check_full, check_write)],
+    script.run(*[partial(part, [str(gain)]) for part in PARTS],
                partial(check_runs, [str(gain)], [str(replay)], given.random))
     print("random images:", ", ".join(f"{seen[key]} {key}" for key in sorted(seen)))
     return script.ended()

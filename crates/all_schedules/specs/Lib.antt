@@ -2,6 +2,7 @@
 pub mod Schedules
 pub mod Made
 pub mod Settings
+pub mod Stores
 pub mod Evenly
 pub mod Drawn
 pub mod Survey

@@ -1,8 +1,7 @@
--- Definitions to believe: the pairs of instructions and their lines, which machines can run an image, what `never` says, a violation
--- that turns make, what is told of a store, and all lines.
+-- Definitions to believe: the pairs of instructions and their lines, what `never` says, a violation that turns make, what is told of a
+-- store, and all lines.
 pub mod Rows
 pub mod Text
-pub mod Runs
 pub mod Never
 pub mod Shown
 pub mod Line

@@ -18,7 +18,7 @@ use Rattle.depends.specs.declared.least.Grain.TheVariants.{Lines, Bytes}
 use Rattle.depends.specs.declared.line.Line.{Line}
 use Rattle.depends.specs.Line.{IsLine, line_text}
 use Rattle.depends.specs.Rows.{AreRowsOf}
-use Rattle.depends.specs.Runs.{on_store}
+use Rattle.all_schedules.specs.Stores.{on_store}
 use Rattle.depends.specs.Text.{row_text}
 
 -- a line for each pair of instructions that some of these dependences join, heaviest first

@@ -8,7 +8,7 @@ ghost use Rattle.trace_commands.specs.Stores.{names_store};
 ghost use Rattle.depends.specs.Answers as spec;
 
 use crate::lines::print_lines;
-use crate::runs::check_stores;
+use all_schedules::check_stores;
 use rv32_image::{Image, read_image};
 use std::alloc::Global;
 use std::convert::AsStr;

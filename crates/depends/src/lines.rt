@@ -2,20 +2,20 @@
 ghost use Rattle.std.specs.Prelude.{◌≡◌, ◌≤◌, IfOk, OnOk, map};
 ghost use Rattle.violations.specs.Rule.{IsCoreCount};
 ghost use Rattle.trace_commands.specs.Stores.{store_named};
-ghost use Rattle.all_schedules.specs.Settings.{IsRunnable};
-ghost use Rattle.depends.specs.Runs.{RunsOn, RunsOnAll, on_store};
+ghost use Rattle.all_schedules.specs.Stores.{RunsOn, RunsOnAll};
 ghost use Rattle.depends.specs.Lines as spec;
 
 use crate::least::Grain;
 use crate::line::{Known, Line, line_over, push_line};
 use crate::rows::rows_of;
 use crate::text::push_rows;
+use all_schedules::store_on;
 use dependences::{Dependence, dependences_in_order, lengths_in_order};
 use rv32_exec::Image;
 use spec_bus::CachedBus;
 use std::alloc::{AllocError, Global};
 use std::convert::AsStr;
-use trace_commands::{Store, store_named};
+use trace_commands::Store;
 use violations::PlainStore;
 
 /// The lines of the dependences, and then those of each store that these words name, whose machine can run the image on so many cores.
@@ -95,26 +95,9 @@ fn push_store(
     requires most { room ≤ 1048576 }
     ensures { OnOk result (spec.AddStore image.now cores room word.now (store_named word.now) text.old.items text.new.items) }
 {
-    let Some(store) = store_named(word) else {
-        unreachable!()
-    };
-    let image = image_on(alloc, image, store, cores)?;
+    let (store, image) = store_on(alloc, image, cores, word)?;
     let line = line_of(alloc, &image, store, cores, room, known)?;
     push_line(text, word, cores, &line)
-}
-
-/// The loop on the machine that a store asks for, which can run it on so many cores.
-fn image_on(alloc: Global, image: &Image, store: Store, cores: u32) -> Result<Image, AllocError>
-    requires { IsRunnable (on_store store image.now) cores }
-    ensures { IfOk result (λ on. on ≡ on_store store image.now) }
-{
-    let Ok(image) = image.copy(alloc) else {
-        return Err(AllocError);
-    };
-    match store.asked().on(image) {
-        Some(image) => Ok(image),
-        None => unreachable!(),
-    }
 }
 
 /// What is told of a store, of the loop on its machine.

@@ -13,7 +13,6 @@ mod least;
 mod line;
 mod lines;
 mod rows;
-mod runs;
 mod shown;
 mod text;
 mod work;

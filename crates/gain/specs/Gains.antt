@@ -15,8 +15,8 @@ use Rattle.trace_commands.specs.Outcome.{AppendsPrefix, Conclusion, IsRefusal}
 use Rattle.trace_commands.specs.Program.{Stream}
 use Rattle.trace_commands.specs.declared.store.Store.{Store}
 use Rattle.trace_commands.specs.declared.store.Store.TheVariants.{Caches, Plain}
-use Rattle.trace_commands.specs.Stores.{StoresAsked, asked_by, on_machine, store_named}
-use Rattle.all_schedules.specs.Settings.{IsRunnable}
+use Rattle.trace_commands.specs.Stores.{StoresAsked, store_named}
+use Rattle.all_schedules.specs.Stores.{HasRefused, RunsOnAll, on_store}
 use Rattle.gain.specs.Lines.{AddLines}
 
 -- ---- of an image
@@ -26,10 +26,9 @@ abbrev pub AddLinesOf : LoadedImage → Store → ℕ → ℕ → List ℕ → L
 AddLinesOf image (Caches asked) cores room word old new = AddLines cache.Starts cache.Makes caches.store_view caches.waits image room word cores old new
 AddLinesOf image Plain cores room word old new = AddLines plain.Starts plain.Makes plain.store_view (λ _. never_waits) image room word cores old new
 
--- so on the machine that the store asks for, which can run the image on so many cores
+-- so of the loop on the machine that the store asks for
 abbrev pub AddStore : LoadedImage → ℕ → ℕ → List ℕ → Option Store → List ℕ → List ℕ → Type 0
-AddStore image cores room word (Some store) old new =
-    IsRunnable (on_machine (asked_by store) image) cores × AddLinesOf (on_machine (asked_by store) image) store cores room word old new
+AddStore image cores room word (Some store) old new = AddLinesOf (on_store store image) store cores room word old new
 AddStore image cores room word None old new = ⊥
 
 -- those of each store, one after another
@@ -38,35 +37,16 @@ AddStores image cores room [] old new = new ≡ old
 AddStores image cores room (word ∷ words) old new =
     (mid : List ℕ) × AddStore image cores room word (store_named word) old mid × AddStores image cores room words mid new
 
--- the store asks for a machine that can't run the image on so many cores
-abbrev pub IsRefused : LoadedImage → ℕ → Option Store → Type 0
-IsRefused image cores (Some store) = IsRunnable (on_machine (asked_by store) image) cores → ⊥
-IsRefused image cores None = ⊥
-
--- one of the stores does
-abbrev pub HasRefused : LoadedImage → ℕ → List (List ℕ) → Type 0
-HasRefused image cores [] = ⊥
-HasRefused image cores (word ∷ words) = IsRefused image cores (store_named word) ⊎ HasRefused image cores words
-
--- the lines of a store aren't added: its machine or the number of cores is refused, or memory ran out
-abbrev pub IsStopAt : LoadedImage → ℕ → Option Store → Outcome → Type 0
-IsStopAt image cores store Usage = IsRefused image cores store
-IsStopAt image cores store (Stopped NoMemory) = Unit {0}
-IsStopAt image cores store outcome = ⊥
-
-abbrev pub IsStop : LoadedImage → ℕ → List (List ℕ) → Outcome → Type 0
-IsStop image cores words Usage = HasRefused image cores words
-IsStop image cores words (Stopped NoMemory) = Unit {0}
-IsStop image cores words outcome = ⊥
-
--- they were written
+-- they were written: each store's machine can run the image on so many cores
 abbrev pub IsWrittenOf : LoadedImage → ℕ → List (List ℕ) → ℕ → Option (List ℕ) → Option (List ℕ) → Type 0
-IsWrittenOf image cores stores room old new = (text : List ℕ) × AddStores image cores room stores [] text × Appends old new text
+IsWrittenOf image cores stores room old new =
+    RunsOnAll image cores stores × (text : List ℕ) × AddStores image cores room stores [] text × Appends old new text
 
 -- they weren't: a machine or the number of cores is refused, memory ran out or a write failed
 abbrev pub IsUnwrittenOf : LoadedImage → ℕ → List (List ℕ) → ℕ → Option (List ℕ) → Option (List ℕ) → Outcome → Type 0
 IsUnwrittenOf image cores stores room old new Usage = HasRefused image cores stores × Keeps old new
-IsUnwrittenOf image cores stores room old new (Stopped Write) = (text : List ℕ) × AddStores image cores room stores [] text × AppendsPrefix old new text
+IsUnwrittenOf image cores stores room old new (Stopped Write) =
+    RunsOnAll image cores stores × (text : List ℕ) × AddStores image cores room stores [] text × AppendsPrefix old new text
 IsUnwrittenOf image cores stores room old new (Stopped NoMemory) = Keeps old new
 IsUnwrittenOf image cores stores room old new outcome = ⊥
 

@@ -8,6 +8,7 @@ ghost use Rattle.trace_commands.specs.Stores.{names_store};
 ghost use Rattle.gain.specs.Gains as spec;
 
 use crate::stores::push_stores;
+use all_schedules::check_stores;
 use rv32_image::{Image, read_image};
 use std::alloc::Global;
 use std::convert::AsStr;
@@ -82,8 +83,11 @@ fn gains_of_image<S: AsStr, W: Write>(
     ensures { MatchResult result (λ _. spec.IsWrittenOf image.now cores (map S.text stores.now) room (W.contents writer.old) (W.contents writer.new))
         (spec.IsUnwrittenOf image.now cores (map S.text stores.now) room (W.contents writer.old) (W.contents writer.new)) }
 {
+    check_stores(alloc, image, cores, stores)?;
     let mut text = Vec::new(alloc);
-    push_stores(alloc, &mut text, image, cores, room, stores)?;
+    let Ok(()) = push_stores(alloc, &mut text, image, cores, room, stores) else {
+        return Err(Outcome::Stopped(CommandStop::NoMemory));
+    };
     if write_whole(writer, text.as_slice()) {
         Ok(())
     } else {

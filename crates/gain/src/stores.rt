@@ -1,20 +1,22 @@
 //! The lines of all stores.
-ghost use Rattle.std.specs.Prelude.{◌≡◌, ◌≤◌, true, Some, MatchResult, OnOk, map};
-ghost use Rattle.std.specs.List.{list_all};
+ghost use Rattle.std.specs.Prelude.{◌≡◌, ◌≤◌, OnOk, map};
 ghost use Rattle.violations.specs.Rule.{IsCoreCount};
-ghost use Rattle.trace_commands.specs.Stores.{names_store, store_named};
+ghost use Rattle.trace_commands.specs.Stores.{store_named};
+ghost use Rattle.all_schedules.specs.Stores.{RunsOn, RunsOnAll};
 ghost use Rattle.gain.specs.Gains as spec;
 
 use crate::lines::push_lines;
-use all_schedules::runnable;
+use all_schedules::store_on;
 use rv32_image::Image;
 use spec_bus::CachedBus;
 use std::alloc::{AllocError, Global};
 use std::convert::AsStr;
-use trace_commands::{CommandStop, Outcome, Store, first_word, store_named};
+use trace_commands::Store;
 use violations::PlainStore;
 
-/// Adds the lines of each store that these words name.
+/// Adds the lines of each store that these words name, whose machine can run the image on so many cores.
+///
+/// `AllocError`: memory ran out.
 pub fn push_stores<S: AsStr>(
     alloc: Global,
     text: &mut Vec<u8>,
@@ -22,71 +24,34 @@ pub fn push_stores<S: AsStr>(
     cores: u32,
     room: u32,
     words: &[S],
-) -> Result<(), Outcome>
-    requires cores { 1 ≤ cores }
+) -> Result<(), AllocError>
+    requires stores { RunsOnAll image.now cores (map S.text words.now) }
     requires least { 16 ≤ room }
     requires most { room ≤ 1048576 }
-    requires stores { list_all names_store (map S.text words.now) ≡ true }
-    ensures { MatchResult result (λ _. spec.AddStores image.now cores room (map S.text words.now) text.old.items text.new.items)
-        (spec.IsStop image.now cores (map S.text words.now)) }
+    ensures { OnOk result (spec.AddStores image.now cores room (map S.text words.now) text.old.items text.new.items) }
 {
-    match first_word(words) {
-        None => Ok(()),
-        Some((word, rest)) => {
-            push_named(alloc, text, image, cores, room, word)?;
-            push_stores(alloc, text, image, cores, room, rest)
-        }
+    for word in words {
+        push_store(alloc, text, image, cores, room, word.as_str())?;
     }
+    Ok(())
 }
 
 /// Adds the lines of the store that this word names.
-fn push_named(
+fn push_store(
     alloc: Global,
     text: &mut Vec<u8>,
     image: &Image,
     cores: u32,
     room: u32,
     word: &str,
-) -> Result<(), Outcome>
-    requires cores { 1 ≤ cores }
+) -> Result<(), AllocError>
+    requires store { RunsOn image.now cores (store_named word.now) }
     requires least { 16 ≤ room }
     requires most { room ≤ 1048576 }
-    requires store { names_store word.now ≡ true }
-    ensures { MatchResult result (λ _. spec.AddStore image.now cores room word.now (store_named word.now) text.old.items text.new.items)
-        (spec.IsStopAt image.now cores (store_named word.now)) }
+    ensures { OnOk result (spec.AddStore image.now cores room word.now (store_named word.now) text.old.items text.new.items) }
 {
-    let Some(store) = store_named(word) else {
-        unreachable!()
-    };
-    let Ok(image) = image.copy(alloc) else {
-        return Err(Outcome::Stopped(CommandStop::NoMemory));
-    };
-    push_store(alloc, text, image, cores, room, word, store)
-}
-
-/// Adds the lines of this store, by the word that names it.
-fn push_store(
-    alloc: Global,
-    text: &mut Vec<u8>,
-    image: Image,
-    cores: u32,
-    room: u32,
-    word: &str,
-    store: Store,
-) -> Result<(), Outcome>
-    requires cores { 1 ≤ cores }
-    requires least { 16 ≤ room }
-    requires most { room ≤ 1048576 }
-    ensures { MatchResult result (λ _. spec.AddStore image cores room word.now (Some store) text.old.items text.new.items)
-        (spec.IsStopAt image cores (Some store)) }
-{
-    let Some(image) = runnable(image, store.asked(), cores) else {
-        return Err(Outcome::Usage);
-    };
-    match push_lines_of(alloc, text, word.as_bytes(), &image, cores, room, store) {
-        Ok(()) => Ok(()),
-        Err(_) => Err(Outcome::Stopped(CommandStop::NoMemory)),
-    }
+    let (store, image) = store_on(alloc, image, cores, word)?;
+    push_lines_of(alloc, text, word.as_bytes(), &image, cores, room, store)
 }
 
 /// Adds the lines of this store, of the loop on its machine.

@@ -1,8 +1,8 @@
 use Rattle.std.proofs.Common.{◌≡◌, true, map, drop}
 use Rattle.std.specs.List.{list_all}
 use Rattle.trace_commands.specs.Stores.{names_store}
-use Rattle.depends.specs.Runs.{HasRefused, RunsOnAll}
-use Rattle.depends.proofs.runs.check_stores.Given as goal
+use Rattle.all_schedules.specs.Stores.{HasRefused, RunsOnAll}
+use Rattle.all_schedules.proofs.stores.check_stores.Given as goal
 
 -- what is so of the stores that are left, is so of all
 abbrev pub invariant-loop-word : goal.invariant-loop-word

@@ -1,14 +1,15 @@
 //! Whether the machines that stores ask for can run an image.
-ghost use Rattle.std.specs.Prelude.{◌≡◌, ◌≤◌, true, MatchResult, map};
+ghost use Rattle.std.specs.Prelude.{◌≡◌, ◌≤◌, true, IfOk, MatchResult, Some, map};
 ghost use Rattle.std.specs.List.{list_all};
 ghost use Rattle.trace_commands.specs.Stores.{names_store, store_named};
-ghost use Rattle.depends.specs.Runs as spec;
+ghost use Rattle.all_schedules.specs.Settings.{IsRunnable};
+ghost use Rattle.all_schedules.specs.Stores as spec;
 
-use all_schedules::runnable;
+use crate::settings::runnable;
 use rv32_image::Image;
-use std::alloc::Global;
+use std::alloc::{AllocError, Global};
 use std::convert::AsStr;
-use trace_commands::{CommandStop, Outcome, store_named};
+use trace_commands::{CommandStop, Outcome, Store, store_named};
 
 /// Whether the machine of each store that these words name can run the image on so many cores, which are at least 1.
 ///
@@ -46,5 +47,31 @@ fn check_store(alloc: Global, image: &Image, cores: u32, word: &str) -> Result<(
     match runnable(image, store.asked(), cores) {
         Some(_) => Ok(()),
         None => Err(Outcome::Usage),
+    }
+}
+
+/// The store that a word names, and the loop on the machine that it asks for, which can run the image on so many cores.
+///
+/// `AllocError`: memory ran out.
+pub fn store_on(
+    alloc: Global,
+    image: &Image,
+    cores: u32,
+    word: &str,
+) -> Result<(Store, Image), AllocError>
+    requires { spec.RunsOn image.now cores (store_named word.now) }
+    ensures store { IfOk result (λ found. store_named word.now ≡ Some found.0) }
+    ensures image { IfOk result (λ found. found.1 ≡ spec.on_store found.0 image.now) }
+    ensures can { IfOk result (λ found. IsRunnable found.1 cores) }
+{
+    let Some(store) = store_named(word) else {
+        unreachable!()
+    };
+    let Ok(image) = image.copy(alloc) else {
+        return Err(AllocError);
+    };
+    match store.asked().on(image) {
+        Some(image) => Ok((store, image)),
+        None => unreachable!(),
     }
 }
