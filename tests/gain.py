@@ -25,8 +25,8 @@ FIGURES = "steps useful lost dropped waiting idle restarts".split()
 CAUSES = "nothomefree noway orbfull orbbusy".split()
 KINDS = "true silent false buffer".split()
 COUNTER = image("83220004938212002320500467800000", epochs=4, limit=50)
-# Epoch 0 counts down from 409,600 and then sets a word, for which three others look again and again: on four cores a
-# history is full.
+# Epoch 0 counts down from 409,600 and then sets a word, for which three others look again and again: on four cores
+# there are more entries than a trace may have.
 COUNT_DOWN = image("631e0500b74206009382f2ffe39e02fe13031000232060046780000003230004e30e03fe67800000", epochs=4,
                    limit=1_000_000)
 # How often a random image came to each kind, cause and end.
@@ -98,18 +98,21 @@ def check_many_stores(program: list[str]) -> Iterator[Row]:
 
 
 @comparing
-def check_full(program: list[str]) -> Iterator[Row]:
-    """The lines of a loop whose history is full on four cores: an epoch takes a step to begin, one for each
-    instruction, and one to commit."""
+def check_long(program: list[str]) -> Iterator[Row]:
+    """A loop of a long history: an epoch takes a step to begin, one for each instruction, and one to commit. Epoch 0
+    stores in step 819,204, counted from 0, and commits two steps later; the others look in both. Over caches the store
+    violates them, and over the plain store the commit. They begin again at once, and commit five steps later. On two
+    cores epoch 2 begins a step after the commit, and epoch 3 when epoch 1 has committed."""
     output, errors, status = run(program, ["4"], COUNT_DOWN)
-    yield ("full: status", (errors, status), ("", 0))
-    lines = output.splitlines()
-    steps = 2 * 409_600 + 7 + 3 * 6
-    for first, store in ((0, "caches"), (3, "plain")):
-        yield (f"full: {store} 1", lines[first].split()[:10],
-               f"store {store} cores 1 steps {steps} gain 1.00 useful {steps}".split())
-        yield (f"full: {store} 2", lines[first + 1].split()[9], str(steps))
-        yield (f"full: {store} 4", lines[first + 2], f"store {store} cores 4 full")
+    yield ("long: status", (errors, status), ("", 0))
+    rows = lines_of(output)
+    useful = 2 * 409_600 + 7 + 3 * 6
+    wanted = [(store, cores, steps, useful, again * hurt, again, again)
+              for store, hurt in (("caches", 819_204), ("plain", 819_206))
+              for cores, steps, again in (("1", useful, 0), ("2", hurt + 12, 1), ("4", hurt + 6, 3))]
+    keys = ("steps", "useful", "lost", "restarts", "true")
+    yield ("long: lines", [(row["store"], row["cores"], *(int(row[key]) for key in keys)) for row in rows], wanted)
+    yield from check_sums("long", rows)
 
 
 @comparing
@@ -176,7 +179,7 @@ def check_runs(gain: list[str], replay: list[str], count: int) -> Iterator[Row]:
         yield (f"replay {words}", run(replay, words, COUNTER), ("", "usage\n", 2))
 
 
-PARTS = (check_words, check_many_stores, check_examples, check_full, check_write)
+PARTS = (check_words, check_many_stores, check_examples, check_long, check_write)
 
 
 def main() -> int:

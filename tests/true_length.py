@@ -40,6 +40,12 @@ LONG_CODE = "version 2\n" + image(ADD * 124_995 + STORE_SUM, epochs=2, limit=125
 # bne x10,x0,+20; lui x5,49; lw x6,64(x0); addi x5,x5,-1; bne x5,x0,-8; jalr x0,0(x1)
 CORES, COUNTED = 16, 49 * 4096
 COUNTS_DOWN = "version 2\n" + image("631a0500b7120300032300049382f2ffe39c02fe67800000", epochs=CORES, limit=1_000_000)
+# Each epoch loads a word 254 times: 256 entries each on one core, 16,776,960 in all, of 16,777,216 that a history of
+# `gain` may have. Epoch 0 first loads it 241 times more, or 242: bne x10,x0,+972; and addi x0,x0,0 for a load. The last
+# turn has to find 16 free entries, so it is just taken, or just not.
+SHARE, SKIP, NOTHING, MORE = 254, "6316053c", "13000000", 242
+JUST_ROOM, JUST_FULL = (image(SKIP + LOAD * count + NOTHING * (MORE - count) + LOAD * SHARE + RETURN, epochs=EPOCHS,
+                              limit=1000, size=2048) for count in (MORE - 1, MORE))
 # Each epoch loads a word of each of these rows of 16 bytes: lw x5,ROW(x0). What `steps` has to say of so many epochs is
 # 28 MB, for which a program that keeps it takes more memory than this.
 ROWS, TOLD = range(64, 288, 16), 9_000
@@ -201,6 +207,18 @@ def even_steps(gain: str) -> Results:
            None if (lines, errors, status) == (wanted, "", 0) else f"{lines}, {errors!r}, {status}, not {wanted}")
 
 
+def longest(gain: str) -> Results:
+    """Each epoch takes a step to begin, one for each of its branch, its loads and its return, and one to commit; epoch
+    0 takes one for each of the others."""
+    steps = EPOCHS * (SHARE + 4) + MORE
+    sums = "lost 0 dropped 0 waiting 0 idle 0 restarts 0 true 0 silent 0 false 0 buffer 0"
+    told = f"steps {steps} gain 1.00 useful {steps} {sums} nothomefree 0 noway 0 orbfull 0 orbbusy 0"
+    for name, text, wanted in (("16,777,201 entries", JUST_ROOM, told), ("a full history", JUST_FULL, "full")):
+        for store in ("plain", "caches"):
+            yield (f"gain {store}: {name}",
+                   differs(run([gain], ["1", store], text), (f"store {store} cores 1 {wanted}\n", "", 0)))
+
+
 def main() -> int:
     script = Script()
     program, why, replay, gain = (program_of(script.words, name) for name in ("trace_cli", "why", "replay", "gain"))
@@ -212,7 +230,7 @@ def main() -> int:
             left_out(f"inputs of true length to {name}", "it wasn't built beside the program that is tested")
     script.run(partial(traces, program, why), partial(long_code, program), partial(on_threads, program),
                *([partial(even_turns, replay), partial(steps, replay)] if replay else []),
-               *([partial(even_steps, gain)] if gain else []))
+               *([partial(even_steps, gain), partial(longest, gain)] if gain else []))
     return script.ended()
 
 

@@ -1,6 +1,7 @@
 //! What the run at even speed makes.
 ghost use Rattle.std.specs.Prelude.{◌≤◌, IfOk, IfErr};
 ghost use Rattle.violations.specs.Rule.{IsCoreCount};
+ghost use Rattle.homefree.specs.Room.{most_room};
 ghost use Rattle.all_schedules.specs.Made.{loop_on};
 ghost use Rattle.all_schedules.specs.Evenly as spec;
 
@@ -23,7 +24,7 @@ pub struct EvenRun<S: EpochStore> {
 }
 
 /// Runs a loop at even speed from an empty history on, over a fresh store, up to its end. The cores are at least 1, and the room is 16
-/// to 1,048,576 entries.
+/// to `homefree::MOST_ROOM` entries.
 ///
 /// `HistoryFull`: a turn found too few free entries. `NoMemory`: memory ran out.
 pub fn run_evenly<S: EpochStore>(
@@ -34,7 +35,7 @@ pub fn run_evenly<S: EpochStore>(
 ) -> Result<EvenRun<S>, TurnFault>
     requires cores { IsCoreCount image.now cores }
     requires least { 16 ≤ room }
-    requires most { room ≤ 1048576 }
+    requires most { room ≤ most_room }
     ensures made { IfOk result (λ run. spec.IsEvenRun S.starts S.makes S.view S.waits (loop_on image.now cores room) run.schedule.items run.ran run.book) }
     ensures fault { IfErr result (spec.IsEvenFault S.starts S.makes S.view S.waits (loop_on image.now cores room)) }
 {

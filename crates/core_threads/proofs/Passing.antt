@@ -11,6 +11,7 @@ use Rattle.ticket_lock.proofs.Pasts.{starts_trans, entries_of-entries_of}
 use Rattle.homefree.specs.declared.book.Loop.{Loop}
 use Rattle.homefree.specs.BookView.{BookView}
 use Rattle.homefree.specs.LockView.{loop_of, past_of}
+use Rattle.homefree.specs.Room.{most_room}
 use Rattle.core_threads.specs.Passes.{Knows, IsLater, IsCounted, counts_in}
 use Rattle.core_threads.specs.Starting.{IsNew, IsNewOf, HasBook, HasBookAs}
 use Rattle.core_threads.proofs.Counting.{few_in, own_no_more, counts_of_both}
@@ -25,7 +26,7 @@ counts-empty : counts_in [] ≡ no_counts
 unfolding counts_of
 counts-empty = refl
 
-pub new_counted : (p : Knows) (c : Counts) → mine p ≡ [] → length p.seen ≤ 1048576 → c ≡ no_counts → IsCounted p c
+pub new_counted : (p : Knows) (c : Counts) → mine p ≡ [] → length p.seen ≤ most_room → c ≡ no_counts → IsCounted p c
 new_counted p c none few is = record { counted = is ∙ (sym counts-empty ∙ sym (ap (λ (l : Past). counts_in l) none)); few = few }
 
 -- a pass that has no entries of its own has none in its parts
@@ -90,7 +91,7 @@ both_counted a b r c d beside low high ca cb is ma mb =
     let sums : counts_in M ≡ sum_of c d = ap (λ (l : Past). counts_in l) (sym again) ∙ (whole ∙ (λ i. sum_of ((ap (λ (l : Past). counts_in l) ma ∙ sym ca.counted) i) ((ap (λ (l : Past). counts_in l) two ∙ sym cb.counted) i))) in
     record {
       counted = sym sums;
-      few = subst (λ (z : Knows). length z.seen ≤ 1048576) (sym is) (few_longer a.seen b.seen 1048576 ca.few cb.few (nat_lt (length a.seen) (length b.seen)));
+      few = subst (λ (z : Knows). length z.seen ≤ most_room) (sym is) (few_longer a.seen b.seen most_room ca.few cb.few (nat_lt (length a.seen) (length b.seen)));
     }
 
 -- no sum of two shares is large

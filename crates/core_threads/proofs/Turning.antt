@@ -21,6 +21,7 @@ use Rattle.homefree.specs.declared.answer.StopCause.{StopCause}
 use Rattle.homefree.specs.BookView.{BookView, IsOfSameLoop}
 use Rattle.homefree.specs.Counted.{counted_in, IsNoMore}
 use Rattle.homefree.specs.LockView.{loop_of, past_of}
+use Rattle.homefree.specs.Room.{most_room}
 use Rattle.core_threads.specs.Adds.{Adds}
 use Rattle.core_threads.specs.Passes.{Knows, IsCounted, IsOver, counts_in}
 use Rattle.core_threads.proofs.Counting.{none_more, own_no_more, counts-append, counts-past, past-append, past-length, history-past}
@@ -87,7 +88,7 @@ module _ {S : Type 0} where
 
   -- the pass after a turn
   pub after_turn : (p hp r : Knows) (v b n : BookView S) (core : ℕ) (s u : Counts) → hp ≡ record p { seen = past_of v.history } → mine hp ≡ mine p → b ≡ v → p.lo < p.hi → core ≡ p.lo
-      → s ≡ counts_in (mine p) → Adds core b n s u → length n.history ≤ 1048576 → r ≡ record hp { seen = past_of n.history } → IsCounted r u
+      → s ≡ counts_in (mine p) → Adds core b n s u → length n.history ≤ most_room → r ≡ record hp { seen = past_of n.history } → IsCounted r u
   after_turn p hp r v b n core s u pass own shows some who is a few after =
       let q : Knows = record p { seen = past_of n.history } in
       let same : r ≡ q = after ∙ ap (λ (k : Knows). let z : Knows = record k { seen = past_of n.history } in z) pass in
@@ -116,8 +117,8 @@ module _ {S : Type 0} where
   stopped_same b n false cause is =
       (record { image = ap (λ (x : BookView S). x.image) is; cores = ap (λ (x : BookView S). x.cores) is; room = ap (λ (x : BookView S). x.room) is }, ap (λ (x : BookView S). x.history) is)
 
-  pub still_few : (b n : BookView S) → n.history ≡ b.history → length b.history ≤ b.room → b.room ≤ 1048576 → length n.history ≤ 1048576
-  still_few b n same within most = subst (λ (h : List Entry). length h ≤ 1048576) (sym same) (omega arith)
+  pub still_few : (b n : BookView S) → n.history ≡ b.history → length b.history ≤ b.room → b.room ≤ most_room → length n.history ≤ most_room
+  still_few b n same within most = subst (λ (h : List Entry). length h ≤ most_room) (sym same) (omega arith)
 
   -- ---- an end
 

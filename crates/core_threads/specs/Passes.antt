@@ -10,6 +10,7 @@ use Rattle.ticket_lock.specs.Known.{Known, mine}
 use Rattle.homefree.specs.declared.book.Loop.{Loop}
 use Rattle.homefree.specs.Counted.{counted_in}
 use Rattle.homefree.specs.LockView.{history_of}
+use Rattle.homefree.specs.Room.{most_room}
 
 -- what a pass of a book's lock knows
 abbrev pub Knows : Type 0
@@ -29,7 +30,7 @@ counts_in past = counted_in (history_of past)
 -- the shares are the counts of the pass's own entries, and it has seen no more entries than a history may have
 pub record IsCounted (p : Knows) (c : Counts) : Type 0 where
   pub counted : c ≡ counts_in (mine p)
-  pub few : length p.seen ≤ 1048576
+  pub few : length p.seen ≤ most_room
 
 -- the loop is over after this past: it replays to a state with an end
 pub record IsOver (l : Loop) (past : List (ℕ × What)) : Type 0 where

@@ -5,6 +5,7 @@ use Rattle.ticket_lock.specs.Known.{LockOf, Hold, mine}
 use Rattle.homefree.specs.declared.book.Loop.{Loop}
 use Rattle.homefree.specs.BookView.{BookView}
 use Rattle.homefree.specs.LockView.{loop_of, past_of}
+use Rattle.homefree.specs.Room.{most_room}
 use Rattle.core_threads.specs.Passes.{Knows}
 
 -- the pass covers the numbers lo..hi of the lock
@@ -16,7 +17,7 @@ pub record IsNew (l : LockOf Loop) (p : Knows) : Type 0 where
   pub lock : p.lock ≡ Some l
   pub some : p.lo < p.hi
   pub none : mine p ≡ []
-  pub few : length p.seen ≤ 1048576
+  pub few : length p.seen ≤ most_room
 
 abbrev pub IsNewOf : LockOf Loop → ℕ → ℕ → Knows → Type 0
 IsNewOf l lo hi p = IsNew l p × (p.lo ≡ lo) × (p.hi ≡ hi)

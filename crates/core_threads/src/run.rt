@@ -2,6 +2,7 @@
 ghost use Rattle.std.specs.Prelude.{◌≡◌, ◌≤◌, IfOk, IfErr, None};
 ghost use Rattle.run_ledger.specs.Counts.{no_counts};
 ghost use Rattle.homefree.specs.LockView.{loop_of};
+ghost use Rattle.homefree.specs.Room.{most_room};
 ghost use Rattle.violations.specs.Rule.{IsCoreCount};
 ghost use Rattle.core_threads.specs.Sentence.{Explains, Finishes, HaltsWith};
 
@@ -56,7 +57,7 @@ const NOTHING: Counts = Counts {
 ///
 /// Where the loop is over, its end and committed memory are those of the sequential loop. Else the run was halted, for the cause for
 /// which the book was stopped, or since all tickets of the lock were drawn. The cores are 1 to the most that the image's version
-/// allows, and the room is 16 to 1,048,576 entries.
+/// allows, and the room is 16 to `homefree::MOST_ROOM` entries.
 ///
 /// Beside that, the history of each book that it gives back is explained (`history_is_explained`).
 pub fn run_cores<S: EpochStore, G: Gate, R: Threads + Wait + Sync>(
@@ -69,7 +70,7 @@ pub fn run_cores<S: EpochStore, G: Gate, R: Threads + Wait + Sync>(
 ) -> Result<Finished<S>, Halted<S>>
     requires cores { IsCoreCount image.now cores }
     requires least { 16 ≤ room }
-    requires most { room ≤ 1048576 }
+    requires most { room ≤ most_room }
     ensures finished { IfOk result (λ f. Finishes S.view (record { image = image.now; cores = cores; room = room }) f.book f.end f.totals f.counted) }
     ensures halted { IfErr result (λ h. HaltsWith S.view (record { image = image.now; cores = cores; room = room }) h.book h.fault h.counted) }
 {

@@ -6,6 +6,7 @@ ghost use Rattle.homefree.specs.Acted.{IfArrived};
 ghost use Rattle.homefree.specs.BookView.{IsFull, IsOfSameLoop};
 ghost use Rattle.homefree.specs.Counted.{IsNoMore, counted_in};
 ghost use Rattle.homefree.specs.LockView.{loop_of, past_of};
+ghost use Rattle.homefree.specs.Room.{most_room};
 ghost use Rattle.core_threads.specs.Adds.{Adds};
 ghost use Rattle.core_threads.specs.Answered.{IsShut, Takes, TakesTurn, TakesTurns, after_answer, cause_for, hart_after};
 ghost use Rattle.core_threads.specs.Passes.{IsLater, IsCounted, IsOver, IsGoing};
@@ -150,7 +151,7 @@ fn act<S: EpochStore>(
     requires next { IfArrived book.old.image (option_copied next) }
     requires shares { IsNoMore shares.old (counted_in book.old.history) }
     ensures adds { Adds core book.old book.new shares.old shares.new }
-    ensures few { length book.new.history ≤ 1048576 }
+    ensures few { length book.new.history ≤ most_room }
     ensures shut { IsErr passed → (s : FlatState) → replay book.old.image book.old.cores book.old.history ≡ Some s → IsShut book.old book.new s result }
     ensures takes { IsOk passed → (s : FlatState) → replay book.old.image book.old.cores book.old.history ≡ Some s
         → Takes S.makes S.view S.waits book.old book.new s core (option_copied next.entry) shares.old shares.new hart.old hart.new result }
@@ -176,7 +177,7 @@ fn take_turn<S: EpochStore>(
     requires next { IfArrived book.old.image (option_copied next) }
     requires shares { IsNoMore shares.old (counted_in book.old.history) }
     ensures adds { Adds core book.old book.new shares.old shares.new }
-    ensures few { length book.new.history ≤ 1048576 }
+    ensures few { length book.new.history ≤ most_room }
     ensures takes { (s : FlatState) → replay book.old.image book.old.cores book.old.history ≡ Some s
         → Takes S.makes S.view S.waits book.old book.new s core (option_copied next.entry) shares.old shares.new hart.old hart.new result }
     ensures over { result ≡ After.Ends LoopEnd.Over → IsOver (loop_of book.new) (past_of book.new.history) }
@@ -233,7 +234,7 @@ pub(crate) fn stop<S: EpochStore>(book: &mut Book<S>, cause: StopCause) -> LoopE
     ensures history { book.new.history ≡ book.old.history }
     ensures book { (s : FlatState) → replay book.old.image book.old.cores book.old.history ≡ Some s
         → book.new ≡ (if is_none s.end && is_none book.old.stopped then record book.old { stopped = Some cause } else book.old) }
-    ensures few { length book.new.history ≤ 1048576 }
+    ensures few { length book.new.history ≤ most_room }
     ensures over { result ≡ LoopEnd.Over → IsOver (loop_of book.new) (past_of book.new.history) }
     ensures stopped { result ≡ LoopEnd.Stopped → IsGoing (loop_of book.new) (past_of book.new.history) }
     ensures spent { result ≢ LoopEnd.Spent }

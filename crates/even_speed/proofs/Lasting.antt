@@ -24,6 +24,7 @@ use Rattle.homefree.specs.declared.answer.Cause.TheVariants.{NoEpoch, NotHomefre
 use Rattle.homefree.specs.declared.answer.StopCause.{StopCause}
 use Rattle.homefree.specs.BookView.{BookView, IsOfSameLoop}
 use Rattle.homefree.specs.Driven.{Driver}
+use Rattle.homefree.specs.Room.{most_room}
 use Rattle.even_speed.specs.declared.clock.Clock.{Clock}
 use Rattle.even_speed.specs.declared.clock.Next.{Next}
 use Rattle.even_speed.specs.declared.clock.Next.TheVariants.{Due, Waits, Gone}
@@ -352,7 +353,7 @@ never_undue b clocks taken count None is_image least same l none next =
     one_is_due b.image b.cores l.state b.history clocks is_image l.replays least l.under_way (λ k below. next k (omega (arith, below, same)))
 
 -- it has taken fewer turns than it may
-pub never_spent : {S : Type 0} (b : BookView S) (clocks : ℕ → Clock) (taken : ℕ) → IsLasting b clocks taken → length b.history ≤ 1048576 → b.cores ≤ 16 → 17825809 ≤ taken → ⊥
+pub never_spent : {S : Type 0} (b : BookView S) (clocks : ℕ → Clock) (taken : ℕ) → IsLasting b clocks taken → length b.history ≤ most_room → b.cores ≤ 16 → 17 * most_room + 17 ≤ taken → ⊥
 never_spent b clocks taken l within most spent = omega (arith, l.few, within, most, spent, few_undue clocks b.cores)
 
 module _ {S : Type 0} (old mid : Driver S) (p : Pace) (t : Turn) (same : IsOfSameLoop old.book mid.book) (first : IsFirst p.clocks old.book.cores t) (most : old.book.cores ≤ 16) where

@@ -12,6 +12,7 @@ use Rattle.homefree.specs.declared.answer.Cause.TheVariants.{NoEpoch, NotHomefre
 use Rattle.homefree.specs.declared.answer.StopCause.{StopCause}
 use Rattle.homefree.specs.declared.fault.TurnFault.{TurnFault}
 use Rattle.homefree.specs.Driven.{Driver}
+use Rattle.homefree.specs.Room.{most_room}
 use Rattle.even_speed.specs.declared.clock.Clock.{Clock}
 use Rattle.even_speed.specs.declared.clock.Next.{Next}
 use Rattle.even_speed.specs.declared.clock.Next.TheVariants.{Due, Waits, Gone}
@@ -123,7 +124,7 @@ pub record Leads {S : Type 0} (old new : Driver S) (core : ℕ) (held : Option H
   pub leads : replay new.book.image new.book.cores new.book.history ≡ Some after
   pub came : CameBy old.book.image before after core held (restarts old new) result
   pub adds : IfOk result (Adds old.book.stopped (before.cores core) held (length old.book.history) (length new.book.history))
-  pub few : length new.book.history ≤ 1048576
+  pub few : length new.book.history ≤ most_room
   pub stopped : new.book.stopped ≡ old.book.stopped
 
 -- ---- the clocks

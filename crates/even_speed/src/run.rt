@@ -15,15 +15,15 @@ ghost use Rattle.even_speed.specs.Timed.{Leads};
 
 use crate::account::Account;
 use crate::clocks::{account_of, clock_of, first_clocks, next_turn, set_clock, wake_all};
-use homefree::{Answer, Book, TurnFault};
+use homefree::{Answer, Book, MOST_ROOM, TurnFault};
 use run_ledger::Shares;
 use rv32_exec::{Arrived, End, Image};
 use std::alloc::Global;
 use violations::{EpochStore, MAX_CORES};
 
-/// The most turns that a run takes. Each turn that isn't answered `Again` makes an entry, of which there are at most 1,048,576, and
+/// The most turns that a run takes. Each turn that isn't answered `Again` makes an entry, of which there are at most `MOST_ROOM`, and
 /// between two of them each core asks at most once in vain.
-const MOST_TURNS: u32 = 17_825_809;
+const MOST_TURNS: u32 = 17 * MOST_ROOM + 17;
 
 /// A run that came to the end of its loop.
 #[derive(Clone, Copy, Debug, PartialEq, Eq)]

@@ -4,6 +4,7 @@ ghost use Rattle.std.specs.List.{list_all};
 ghost use Rattle.rv32_image.specs.Input.{TakesAtMost};
 ghost use Rattle.rv32_image.specs.ImageText.{longest_image_text};
 ghost use Rattle.rv32_image.specs.Reading.{ForText};
+ghost use Rattle.homefree.specs.Room.{most_room};
 ghost use Rattle.trace_commands.specs.Stores.{names_store};
 ghost use Rattle.gain.specs.Gains as spec;
 
@@ -16,7 +17,8 @@ use std::io::{Read, Write};
 use trace_commands::{CommandStop, Outcome, write_whole};
 
 /// Runs the image that the reader gives at even speed on 1, 2, 4, 8 cores, as far as these are fewer than the cores, and on the cores,
-/// over each of these stores, and writes a line for each run. The cores are at least 1, and the room is 16 to 1,048,576 entries.
+/// over each of these stores, and writes a line for each run. The cores are at least 1, and the room is 16 to `homefree::MOST_ROOM`
+/// entries.
 ///
 /// The status is 0 where that was written; 2 where the image, a machine or the number of cores is refused; 3 where memory ran out or a
 /// write failed. With 2 and 3 one line on the error stream says which. All that is written was made before the first byte: after a
@@ -32,7 +34,7 @@ pub fn do_gain<S: AsStr, R: Read, W: Write, E: Write>(
 ) -> u8
     requires cores { 1 ≤ cores }
     requires least { 16 ≤ room }
-    requires most { room ≤ 1048576 }
+    requires most { room ≤ most_room }
     requires stores { list_all names_store (map S.text stores.now) ≡ true }
     ensures outcome { ForText (R.remaining reader.old) (λ text. spec.GainAnswers (record { cores = cores; stores = map S.text stores.now }) room text
         (record { old = W.contents writer.old; new = W.contents writer.new }) (record { old = E.contents errors.old; new = E.contents errors.new }) result) }
@@ -55,7 +57,7 @@ fn gains_of_input<S: AsStr, R: Read, W: Write>(
 ) -> Result<(), Outcome>
     requires cores { 1 ≤ cores }
     requires least { 16 ≤ room }
-    requires most { room ≤ 1048576 }
+    requires most { room ≤ most_room }
     requires stores { list_all names_store (map S.text stores.now) ≡ true }
     ensures outcome { ForText (R.remaining reader.old) (λ text. MatchResult result
         (λ _. spec.IsWritten (record { cores = cores; stores = map S.text stores.now }) room text (W.contents writer.old) (W.contents writer.new))
@@ -78,7 +80,7 @@ fn gains_of_image<S: AsStr, W: Write>(
 ) -> Result<(), Outcome>
     requires cores { 1 ≤ cores }
     requires least { 16 ≤ room }
-    requires most { room ≤ 1048576 }
+    requires most { room ≤ most_room }
     requires stores { list_all names_store (map S.text stores.now) ≡ true }
     ensures { MatchResult result (λ _. spec.IsWrittenOf image.now cores (map S.text stores.now) room (W.contents writer.old) (W.contents writer.new))
         (spec.IsUnwrittenOf image.now cores (map S.text stores.now) room (W.contents writer.old) (W.contents writer.new)) }

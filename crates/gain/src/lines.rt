@@ -1,6 +1,7 @@
 //! The lines of one store.
 ghost use Rattle.std.specs.Prelude.{◌≡◌, ◌≤◌, ◌++◌, All, IfOk, IfSome, OnOk};
 ghost use Rattle.violations.specs.Rule.{IsCoreCount};
+ghost use Rattle.homefree.specs.Room.{most_room};
 ghost use Rattle.gain.specs.Measured.{HasFewSteps};
 ghost use Rattle.gain.specs.Lines as spec;
 
@@ -11,7 +12,7 @@ use std::alloc::{AllocError, Global};
 use violations::EpochStore;
 
 /// Adds a line for each of 1, 2, 4 and 8 cores that are fewer than these, and one for these. The cores are at least 1, and the room
-/// is 16 to 1,048,576 entries.
+/// is 16 to `homefree::MOST_ROOM` entries.
 ///
 /// `AllocError`: memory ran out.
 pub fn push_lines<S: EpochStore>(
@@ -24,7 +25,7 @@ pub fn push_lines<S: EpochStore>(
 ) -> Result<(), AllocError>
     requires cores { IsCoreCount image.now cores }
     requires least { 16 ≤ room }
-    requires most { room ≤ 1048576 }
+    requires most { room ≤ most_room }
     ensures { OnOk result (spec.AddLines S.starts S.makes S.view S.waits image.now room store.now cores text.old.items text.new.items) }
 {
     let first = measure::<S>(alloc, image, 1, room)?;
@@ -45,7 +46,7 @@ fn push_each<S: EpochStore>(
 ) -> Result<(), AllocError>
     requires counts { All (λ k. IsCoreCount image.now k) counts.now }
     requires least { 16 ≤ room }
-    requires most { room ≤ 1048576 }
+    requires most { room ≤ most_room }
     requires first { IfSome first.now HasFewSteps }
     ensures { OnOk result (spec.AddEach S.starts S.makes S.view S.waits image.now room store.now first.now counts.now text.old.items text.new.items) }
 {

@@ -2,9 +2,10 @@
 //! of cores 1, 2, 4, 8 below CORES, and CORES, of the run at even speed.
 #![tactic(auto)]
 
+use homefree::MOST_ROOM;
 use std::alloc::Global;
 use std::process::ExitCode;
-use trace_commands::{ROOM, words_given};
+use trace_commands::words_given;
 use work::work;
 
 mod gains;
@@ -14,6 +15,10 @@ mod measure;
 mod stores;
 mod text;
 mod work;
+
+/// How many entries the history of a run may have: as many as a book has room for, since no trace is printed of it that has to be read
+/// again.
+const ROOM: u32 = MOST_ROOM;
 
 fn main(rt: HostRuntime) -> ExitCode {
     let status = match words_given(&rt) {

@@ -1,6 +1,7 @@
 //! What is measured of one run.
 ghost use Rattle.std.specs.Prelude.{◌≤◌, IfOk, IfSome};
 ghost use Rattle.violations.specs.Rule.{IsCoreCount};
+ghost use Rattle.homefree.specs.Room.{most_room};
 ghost use Rattle.all_schedules.specs.Made.{loop_on};
 ghost use Rattle.gain.specs.Measured as spec;
 
@@ -24,7 +25,7 @@ pub struct Measured {
 }
 
 /// Runs the loop at even speed over a fresh store, and answers what is told of the run. None: its history was full before the loop
-/// was over. The cores are at least 1, and the room is 16 to 1,048,576 entries.
+/// was over. The cores are at least 1, and the room is 16 to `homefree::MOST_ROOM` entries.
 ///
 /// `AllocError`: memory ran out.
 pub fn measure<S: EpochStore>(
@@ -35,7 +36,7 @@ pub fn measure<S: EpochStore>(
 ) -> Result<Option<Measured>, AllocError>
     requires cores { IsCoreCount image.now cores }
     requires least { 16 ≤ room }
-    requires most { room ≤ 1048576 }
+    requires most { room ≤ most_room }
     ensures is { IfOk result (spec.IsMeasured S.starts S.makes S.view S.waits (loop_on image.now cores room)) }
     ensures few { IfOk result (λ told. IfSome told spec.HasFewSteps) }
 {

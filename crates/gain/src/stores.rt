@@ -1,6 +1,7 @@
 //! The lines of all stores.
 ghost use Rattle.std.specs.Prelude.{◌≡◌, ◌≤◌, OnOk, map};
 ghost use Rattle.violations.specs.Rule.{IsCoreCount};
+ghost use Rattle.homefree.specs.Room.{most_room};
 ghost use Rattle.trace_commands.specs.Stores.{store_named};
 ghost use Rattle.all_schedules.specs.Stores.{RunsOn, RunsOnAll};
 ghost use Rattle.gain.specs.Gains as spec;
@@ -27,7 +28,7 @@ pub fn push_stores<S: AsStr>(
 ) -> Result<(), AllocError>
     requires stores { RunsOnAll image.now cores (map S.text words.now) }
     requires least { 16 ≤ room }
-    requires most { room ≤ 1048576 }
+    requires most { room ≤ most_room }
     ensures { OnOk result (spec.AddStores image.now cores room (map S.text words.now) text.old.items text.new.items) }
 {
     for word in words {
@@ -47,7 +48,7 @@ fn push_store(
 ) -> Result<(), AllocError>
     requires store { RunsOn image.now cores (store_named word.now) }
     requires least { 16 ≤ room }
-    requires most { room ≤ 1048576 }
+    requires most { room ≤ most_room }
     ensures { OnOk result (spec.AddStore image.now cores room word.now (store_named word.now) text.old.items text.new.items) }
 {
     let (store, image) = store_on(alloc, image, cores, word)?;
@@ -66,7 +67,7 @@ fn push_lines_of(
 ) -> Result<(), AllocError>
     requires cores { IsCoreCount image.now cores }
     requires least { 16 ≤ room }
-    requires most { room ≤ 1048576 }
+    requires most { room ≤ most_room }
     ensures { OnOk result (spec.AddLinesOf image.now store cores room word.now text.old.items text.new.items) }
 {
     match store {

@@ -3,6 +3,7 @@ ghost use Rattle.std.specs.List.{list_all};
 ghost use Rattle.rv32_image.specs.Input.{TakesAtMost};
 ghost use Rattle.rv32_image.specs.ImageText.{longest_image_text};
 ghost use Rattle.rv32_image.specs.Reading.{ForText};
+ghost use Rattle.homefree.specs.Room.{most_room};
 ghost use Rattle.trace_commands.specs.Stores.{names_store, or_both};
 ghost use Rattle.gain.specs.Gains.{GainAnswers};
 ghost use Rattle.gain.specs.Work as spec;
@@ -16,7 +17,8 @@ use trace_commands::{Outcome, first_word, stores_asked};
 /// The whole program: what the loop gains on as many cores as the words ask for, 1 to 16, over each of the stores that they name,
 /// `gain CORES STORE ..`; over caches and the plain store, where they name none. The first word is the program's name.
 ///
-/// Any other words are refused as `usage`, with status 2, and nothing is read or written. The room is 16 to 1,048,576 entries.
+/// Any other words are refused as `usage`, with status 2, and nothing is read or written. The room is 16 to `homefree::MOST_ROOM`
+/// entries.
 pub fn work<S: AsStr, R: Read, W: Write, E: Write>(
     alloc: Global,
     words: &[S],
@@ -26,7 +28,7 @@ pub fn work<S: AsStr, R: Read, W: Write, E: Write>(
     errors: &mut E,
 ) -> u8
     requires least { 16 ≤ room }
-    requires most { room ≤ 1048576 }
+    requires most { room ≤ most_room }
     ensures { ForText (R.remaining reader.old) (λ text. spec.WorkAnswers (map S.text words.now) room text
         (record { old = R.remaining reader.old; new = R.remaining reader.new })
         (record { old = W.contents writer.old; new = W.contents writer.new })
@@ -51,7 +53,7 @@ fn gain_over<S: AsStr, R: Read, W: Write, E: Write>(
 ) -> u8
     requires cores { 1 ≤ cores }
     requires least { 16 ≤ room }
-    requires most { room ≤ 1048576 }
+    requires most { room ≤ most_room }
     requires stores { list_all names_store (map S.text stores.now) ≡ true }
     ensures outcome { ForText (R.remaining reader.old) (λ text. GainAnswers (record { cores = cores; stores = or_both (map S.text stores.now) }) room text
         (record { old = W.contents writer.old; new = W.contents writer.new }) (record { old = E.contents errors.old; new = E.contents errors.new }) result) }

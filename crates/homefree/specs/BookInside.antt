@@ -11,6 +11,7 @@ use Rattle.homefree.specs.Ending.{IsOverAfterCancel, NoneStartsAfterCancel}
 use Rattle.homefree.specs.BookView.{BookView}
 use Rattle.homefree.specs.Kept.{Fits}
 use Rattle.homefree.specs.Missed.{PassesOverNone, IsOfCaches}
+use Rattle.homefree.specs.Room.{most_room}
 
 pub record IsBook {S : Type 0} (view : S → StoreView) (r : Register) (store : S) (room : ℕ) (stopped : Option StopCause) : Type 0 where
   pub fits : Fits r (view store)
@@ -22,7 +23,7 @@ pub record IsBook {S : Type 0} (view : S → StoreView) (r : Register) (store : 
   pub meets : (view store).cached ≡ false → MeetInBytes r.image (length r.running.items) r.history.items
   pub passes : IsOfCaches view → PassesOverNone r.image (length r.running.items) r.history.items
   pub within : length r.history.items ≤ room
-  pub most : room ≤ 1048576
+  pub most : room ≤ most_room
   pub full : stopped ≡ Some HistoryFull → room < length r.history.items + (limits_of r.image.version).free_entries
 
 -- the fields are as they were, room aside

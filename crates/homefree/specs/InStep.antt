@@ -11,6 +11,7 @@ use Rattle.homefree.specs.Counted.{counted_in}
 use Rattle.homefree.specs.Ending.{NoneStartsAfterCancel}
 use Rattle.homefree.specs.BookView.{BookView, IsFull, ReplaysTo}
 use Rattle.homefree.specs.Missed.{PassesOverNone, IsOfCaches}
+use Rattle.homefree.specs.Room.{most_room}
 
 pub record InStep {S : Type 0} (view : S → StoreView) (b : BookView S) : Type 0 where
   -- the state that the history leads to
@@ -34,6 +35,6 @@ pub record InStep {S : Type 0} (view : S → StoreView) (b : BookView S) : Type 
   pub is_image : IsImage b.image
   pub core_count : IsCoreCount b.image b.cores
   pub within : length b.history ≤ b.room
-  pub most : b.room ≤ 1048576
+  pub most : b.room ≤ most_room
   -- a book that was stopped for a full history has a full one
   pub full : b.stopped ≡ Some HistoryFull → IsFull b

@@ -12,9 +12,11 @@ pub mod Caused
 pub mod Ending
 pub mod InStep
 pub mod Driven
--- Words of contracts: BookView (what contracts see of a book), LockView (what a lock keeps of it) and Names (printed names).
+-- Words of contracts: BookView (what contracts see of a book), LockView (what a lock keeps of it), Room (how many entries it may have) and
+-- Names (printed names).
 pub mod BookView
 pub mod LockView
+pub mod Room
 pub mod Names
 -- What the code keeps.
 pub mod Kept

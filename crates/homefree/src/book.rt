@@ -7,6 +7,7 @@ ghost use Rattle.violations.specs.Rule.{IsSameView};
 ghost use Rattle.homefree.specs.BookView.{IsFull, ReplaysTo};
 ghost use Rattle.homefree.specs.BookInside.{IsAsBefore, IsBook, book_of};
 ghost use Rattle.homefree.specs.InStep.{InStep};
+ghost use Rattle.homefree.specs.Room.{most_room};
 ghost use Rattle.homefree.specs.Turned.{Turned, MayAct, turn_at};
 ghost use Rattle.homefree.specs.Fixed.{TurnsStore};
 ghost use Rattle.homefree.specs.Moves.{StoreMoves, standing_of};
@@ -29,6 +30,9 @@ use std::alloc::Global;
 use std::marker::Model;
 use ticket_lock::Kept;
 use violations::EpochStore;
+
+/// The most entries for which a book has room.
+pub const MOST_ROOM: u32 = 16_777_216;
 
 /// A history of speculative epochs, with the store and the cores that it has led to.
 #[derive(Drop)]
@@ -84,7 +88,7 @@ impl<S: EpochStore> Kept for Book<S> {
 
 impl<S: EpochStore> Book<S> {
     /// An empty history over a fresh store, and the shares that hold its counts. It keeps a copy of the image. The cores are 1 to
-    /// the most that the image's version allows, and the room is 16 to 1,048,576 entries.
+    /// the most that the image's version allows, and the room is 16 to `MOST_ROOM` entries.
     ///
     /// `NoMemory`: there was no memory for it, and nothing was made.
     pub fn new(
@@ -95,7 +99,7 @@ impl<S: EpochStore> Book<S> {
     ) -> Result<(Book<S>, Shares), NoMemory>
         requires cores { IsCoreCount image.now cores }
         requires least { 16 ≤ room }
-        requires most { room ≤ 1048576 }
+        requires most { room ≤ most_room }
         ensures image { IfOk result (λ made. made.0.image ≡ image.now) }
         ensures cores { IfOk result (λ made. made.0.cores ≡ cores) }
         ensures room { IfOk result (λ made. made.0.room ≡ room) }

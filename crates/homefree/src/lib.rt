@@ -18,7 +18,7 @@ mod speculative;
 mod straight;
 
 pub use answer::{Answer, Cause, StopCause};
-pub use book::{Book, Loop};
+pub use book::{Book, Loop, MOST_ROOM};
 pub use fault::TurnFault;
 pub use laws::{drive_is_fixed, turn_is_fixed};
 pub use schedule::{drive, step};

@@ -34,6 +34,7 @@ use Rattle.homefree.specs.Counted.{counted_in, IsNoMore}
 use Rattle.homefree.specs.InStep.{InStep}
 use Rattle.homefree.specs.Kept.{Fits, running_at}
 use Rattle.homefree.specs.Missed.{PassesOverNone, IsOfCaches}
+use Rattle.homefree.specs.Room.{most_room}
 use Rattle.homefree.specs.Turned as turn
 use Rattle.homefree.specs.Turned.{Turned, does}
 use Rattle.homefree.proofs.Violations.Caused.{acts, grown, none_yet}
@@ -64,7 +65,7 @@ fits_first r w cores is count fresh len idle history totals homefree next_epoch 
 
 pub first_book : {S : Type 0} (view : S → StoreView) (r : Register) (store : S) (cores room : ℕ) → IsImage r.image → IsCoreCount r.image cores → IsFresh r.image cores (view store) → length r.running.items ≡ cores
     → ((k : ℕ) → running_at r.running.items k ≡ None) → r.history.items ≡ [] → r.totals ≡ no_counts → r.homefree ≡ 0 → r.next_epoch ≡ 0 → r.end ≡ end_at r.image 0
-    → room ≤ 1048576 → IsBook view r store room None
+    → room ≤ most_room → IsBook view r store room None
 first_book view r store cores room is count fresh len idle history totals homefree next_epoch end most = record {
   fits = fits_first r (view store) cores is count fresh len idle history totals homefree next_epoch end;
   by_cores = rw history (All-nil (λ (e : Entry). e.by < length r.running.items));
@@ -253,12 +254,12 @@ few_entries Two cores entries most (inl few) = omega (arith, most, few)
 few_entries Two cores entries most (inr few) = omega (arith, most, few)
 
 -- the counts of a book are small
-small_totals : {S : Type 0} (view : S → StoreView) (r : Register) (store : S) (room : ℕ) (cause : Option StopCause) → IsBook view r store room cause → IsAtMost 1048576 r.totals
+small_totals : {S : Type 0} (view : S → StoreView) (r : Register) (store : S) (room : ℕ) (cause : Option StopCause) → IsBook view r store room cause → IsAtMost most_room r.totals
 small_totals view r store room cause b =
     let few = few_counts r.history.items in
     let l = few.loads in let s = few.stores in let e = few.restarts in let c = few.commits in
     let within = b.within in let most = b.most in
-    subst (IsAtMost 1048576) (sym b.fits.counted) (record { loads = omega arith; stores = omega arith; restarts = omega arith; commits = omega arith })
+    subst (IsAtMost most_room) (sym b.fits.counted) (record { loads = omega arith; stores = omega arith; restarts = omega arith; commits = omega arith })
 
 pub may_note : {S : Type 0} (view : S → StoreView) (r q : Register) (store : S) (room : ℕ) (shares : Counts) (cause : Option StopCause) → IsBook view r store room cause → IsAsBefore r q
     → vec_len q.history + (limits_of r.image.version).free_entries ≤ vec_capacity q.history → IsNoMore shares r.totals → MayNote q shares

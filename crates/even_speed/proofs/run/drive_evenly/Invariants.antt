@@ -6,6 +6,7 @@ use Rattle.homefree.specs.BookView.{IsOfSameLoop}
 use Rattle.homefree.specs.Counted.{IsNoMore}
 use Rattle.homefree.specs.Driven.{Driver, driver}
 use Rattle.homefree.specs.Held.{HaveArrived, harts_of}
+use Rattle.homefree.specs.Room.{most_room}
 use Rattle.even_speed.specs.declared.run.Ran.{Ran}
 use Rattle.even_speed.specs.Clocks.{clock_at}
 use Rattle.even_speed.specs.Even.{Evenly, at_first}
@@ -26,7 +27,7 @@ invariant-loop-taken g l = record {
   timed : l.initial.book.history ≡ [] → (s : FlatState) × (replay l.book.image l.book.cores l.book.history ≡ Some s)
       × AreOnTime l.book.image l.book.cores s (record { held = harts_of l.held; clocks = clock_at l.clocks.items });
   lasting : l.initial.book.history ≡ [] → IsLasting l.book (clock_at l.clocks.items) l._taken;
-  few : length l.book.history ≤ 1048576;
+  few : length l.book.history ≤ most_room;
   stopped : l.book.stopped ≡ l.initial.book.stopped;
   busy : l.initial.book.history ≡ [] → l.book.cores ≡ 1 → IsNeverIdle (clock_at l.clocks.items 0);
   alone : l.book.cores ≡ 1 → (l.book.totals.restarts ≡ 0) × IsAloneClock (clock_at l.clocks.items 0);
