@@ -169,6 +169,12 @@ def by_hand(folder: Path | str) -> Results:
     image.write_text(IMAGE)
     for name, output in (("gain", GAIN), ("replay", RUN), ("why", WHY)):
         stub(folder, name, output)
+    Path(folder, "replay").write_text("#!/bin/sh\n[ \"$2\" != plain ] || { echo 'stopped HistoryFull' >&2; exit 3; }\n"
+                                      f"cat <<'END'\n{RUN}END\n")
+    got = verdict(folder, image, "--cores", "2")
+    yield ("a history over the plain store that is longer than a trace",
+           None if got == (SAID.replace(" over a plain store already", ""), "", 0) else f"got {got}")
+    stub(folder, "replay", RUN)
     for words, ending, status in ((list[str](), "", 0),
                                   (["--max-lost", "20", "--min-gain", "1.2"], " Within the limits.", 0),
                                   (["--max-lost", "19"],

@@ -40,6 +40,8 @@ from loops.version import add_version
 
 PAST, FAULT = 5, 6
 COLUMNS = 100
+# What `replay` says where a history is longer than a trace may be
+FULL = "stopped HistoryFull\n"
 
 
 @dataclass
@@ -57,6 +59,17 @@ def ran(programs: Programs, text: str, image: Image, store: Store, cores: int) -
     trace = head[1:] + below
     violations = programs.why(text.removesuffix("\n") + "\n" + trace, store.word).violations
     return Ran(read_report("\n".join(kept)), Losses(image, violations, trace.split("\n")[1:-1], store))
+
+
+def losses_of(programs: Programs, text: str, image: Image, store: Store, cores: int) -> Losses | None:
+    """What the run over a store lost; None where its history is longer than a trace may be, and `gain` alone counts
+    it."""
+    try:
+        return ran(programs, text, image, store, cores).losses
+    except Stopped as stopped:
+        if stopped.line != FULL:
+            raise
+        return None
 
 
 def measured(programs: Programs, maker: str, words: list[str], size: int, store: Store, cores: int) -> Measured:
@@ -94,11 +107,11 @@ def findings(programs: Programs, given: argparse.Namespace, words: list[str]) ->
     one, caches, plain = (there(gains.of(*run))
                           for run in ((store.word, 1), (store.word, cores), (plain_store.word, cores)))
     if caches.full:
-        raise Stopped(3, "stopped HistoryFull\n")
+        raise Stopped(3, FULL)
     over_caches = ran(programs, text, image, store, cores)
     if over_caches.report.ending == "fault":
         return faulted(shown(given.image.stem), over_caches.losses, over_caches.report)
-    over_plain = None if plain.full else ran(programs, text, image, plain_store, cores).losses
+    over_plain = None if plain.full else losses_of(programs, text, image, plain_store, cores)
     chunk = proposal(over_caches.losses)
     tried = measured(programs, maker_of(image), words, chunk.size, store, cores) if chunk and words else None
     stores = [] if store.is_usual else [store.word, plain_store.word]

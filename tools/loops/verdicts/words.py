@@ -38,7 +38,7 @@ class Findings:
     caches: Gain
     plain: Gain
     over_caches: Losses
-    over_plain: Losses | None           # none where its history is full
+    over_plain: Losses | None           # none where its history is longer than a trace may be
     chunk: Chunk | None = None
     measured: Measured | None = None
     flow: Dependences | None = None     # none where `depends` isn't built
