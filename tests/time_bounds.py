@@ -5,11 +5,11 @@ never seconds.
 Usage: tests/time_bounds.py [COMMAND ..]
 
 COMMAND is a command of `trace_cli` that ends with the word `seq`, such as crates/trace_cli/out/trace_cli seq; `why`,
-`replay` and `depends` are the programs that were built beside it. Without it those of this repository are tested. Where
-one isn't built its rows are left out, and a line says so. A time is that of one process, by what the system counts of
-it, the least of ROUNDS; the two calls of a row take turns. Other work disturbs times: a row that is past its bound has
-as many rounds again, at most TRIES times. The traces on which `why` is held to the audit are those of
-`bench/audit/hard.py`. Exits with 1 where a ratio is past its bound, or a call fails.
+`replay`, `gain` and `depends` are the programs that were built beside it. Without it those of this repository are
+tested. Where one isn't built its rows are left out, and a line says so. A time is that of one process, by what the
+system counts of it, the least of ROUNDS; the two calls of a row take turns. Other work disturbs times: a row that is
+past its bound has as many rounds again, at most TRIES times. The traces on which `why` is held to the audit are those
+of `bench/audit/hard.py`. Exits with 1 where a ratio is past its bound, or a call fails.
 """
 
 import os
@@ -113,6 +113,8 @@ def bounds() -> list[Bound]:
         steps = [Call("replay", ("steps", store, "4"), counters(65_535) + "turns" + " 0 1 2 3" * count + "\n")
                  for count in (10_000, 5_000)]
         rows.append(Bound(f"steps {store}, twice the turns", MOST_OF_TWICE, *steps))
+        gains = [Call("gain", ("4", store), counters(count)) for count in (20_000, 10_000)]
+        rows.append(Bound(f"gain {store}, twice the epochs", MOST_OF_TWICE, *gains))
     for name, loop in (("nothing depends", loads), ("each epoch depends", counters), ("the last epoch depends", late)):
         twice = [Call("depends", ("8",), loop(count)) for count in (60_000, 30_000)]
         rows.append(Bound(f"depends where {name}, twice the epochs", MOST_OF_TWICE, *twice))
@@ -176,7 +178,7 @@ def within(rows: list[Bound], programs: dict[str, str]) -> Iterator[Check]:
 
 def main() -> int:
     script = Script()
-    found = {name: program_of(script.words, name) for name in ("trace_cli", "why", "replay", "depends")}
+    found = {name: program_of(script.words, name) for name in ("trace_cli", "why", "replay", "gain", "depends")}
     programs = {name: program for name, program in found.items() if program}
     for name in sorted(found.keys() - programs.keys()):
         left_out(f"bounds on the time of {name}", "it isn't the program that is tested, nor was it built beside that")
