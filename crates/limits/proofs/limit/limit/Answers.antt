@@ -1,8 +1,11 @@
-use Rattle.std.proofs.Common.{ap, sym, subst, ◌+◌}
+use Rattle.std.proofs.Common.{ap, sym, subst, ◌+◌, ◌∙◌}
 use Rattle.limits.specs.Limits.{IsLimit}
 use Rattle.limits.specs.Kept.{HaveRun}
 use Rattle.limits.proofs.Least.{run_limit}
 use Rattle.limits.proofs.limit.limit.Goals as goal
 
 pub returns : goal.returns
-returns c = ?
+returns c =
+    let image = c.args.image.now in
+    let run = subst (λ w. HaveRun image c.args.cores w c.run_all.new.times) c.in_ok-times.ensures.waits c.in_ok-run_all.ensures in
+    subst (λ n. IsLimit image c.args.waits c.args.cores (n + 1)) (sym c.last_commit.ensures) (run_limit image c.args.cores c.args.waits c.run_all.new.times c.requires run)
