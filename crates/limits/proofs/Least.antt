@@ -1,13 +1,13 @@
 -- Steps that are as early as they can be are a timing, and no timing has earlier ones.
-use Rattle.std.proofs.Common.{◌≡◌, ◌⊎◌, ℕ, zero, suc, ◌+◌, ◌-◌, ◌<◌, ◌≤◌, List, length, slice_index, refl, sym, ap, subst, ◌∙◌, inl, inr, arith}
-use Rattle.std.proofs.lemmas.Bool.{cases_eq, cases_lt}
+use Rattle.std.proofs.Common.{◌≡◌, ℕ, zero, suc, ◌+◌, ◌-◌, ◌<◌, ◌≤◌, List, length, slice_index, refl, sym, ap, subst, ◌∙◌, inl, inr, arith}
+use Rattle.std.proofs.lemmas.Bool.{cases_lt}
 use Rattle.rv32_image.specs.Image.{LoadedImage}
 use Rattle.dependences.specs.Kept.{AreAll}
 use Rattle.dependences.specs.Lengths.{Lasts}
 use Rattle.limits.specs.declared.limit.Waits.{Waits}
 use Rattle.limits.specs.declared.limit.Waits.TheVariants.{Commit, Store}
 use Rattle.limits.specs.Limits.{IsLimit, IsTiming, Timing, awaited, steps_of}
-use Rattle.limits.specs.Kept.{HasWaited, HaveRun, HaveCommitted, IsEarliest, Kept, last_commit}
+use Rattle.limits.specs.Kept.{HasWaited, HaveRun, IsEarliest, Kept, last_commit}
 use Rattle.limits.proofs.Extending.{last_none}
 use Rattle.limits.proofs.Stopping.{lasts_once, lasts_some, before_end}
 

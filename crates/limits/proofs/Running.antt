@@ -1,5 +1,5 @@
 -- One epoch in order, each of its steps as early as it can be, and the last store of each byte.
-use Rattle.std.proofs.Common.{◌≡◌, ◌⊎◌, ℕ, zero, suc, ◌+◌, ◌-◌, ◌*◌, ◌<◌, ◌≤◌, Bool, List, ◌∷◌, ◌++◌, [], length, max, nat_lt, slice_index, Option, Some, None, if◌then◌else◌, refl, sym, ap, subst, ◌∙◌, inl, inr, arith, add-one}
+use Rattle.std.proofs.Common.{◌≡◌, ◌⊎◌, ℕ, zero, suc, ◌+◌, ◌-◌, ◌*◌, ◌<◌, ◌≤◌, Bool, List, length, max, nat_lt, slice_index, Option, Some, None, if◌then◌else◌, refl, sym, ap, subst, ◌∙◌, inl, inr, arith, add-one}
 use Rattle.std.proofs.lemmas.Bool.{cases_eq, cases_lt}
 use Rattle.std.proofs.lemmas.Bool.Decides.{nat_tests}
 use Rattle.rv32_image.specs.Image.{LoadedImage}
@@ -16,11 +16,10 @@ use Rattle.rv32_exec.specs.Sequential.{SequentialResult, after_stop, first_epoch
 use Rattle.rv32_exec.specs.Laws.{HasStopped}
 use Rattle.spec_history.proofs.OneEntry.Accesses.{load_counts}
 use Rattle.spec_history.proofs.OneEntry.Progress.{counted}
-use Rattle.dependences.specs.Paths.{LoadsAt, ReadsOutside, StoresAt}
+use Rattle.dependences.specs.Paths.{ReadsOutside, StoresAt}
 use Rattle.dependences.specs.Conflict.{IsInOrder, memory_before}
 use Rattle.dependences.specs.Flow.{DependsAt, LastStore}
 use Rattle.dependences.specs.Kept.{AreAll}
-use Rattle.dependences.specs.Lengths.{Lasts}
 use Rattle.dependences.proofs.Paths.{IsAt, access_stops, at_start, before_event, covered, either, load_after, loads_there, neither, past_load, past_store, same_store, start_after, store_after, stores_there}
 use Rattle.dependences.proofs.Following.{all_loaded, all_stored_early, hart_before, hart_there, load_late, no_both, store_late, to_event, unmarked}
 use Rattle.dependences.proofs.Outside.{OnPath, lasts, read_by_load, read_by_store, seen_now}
@@ -127,11 +126,11 @@ pub record Running (image : LoadedImage) (cores epoch : ℕ) (waits : Waits) (co
   pub soon : base ≤ epoch * 1000002 + 2
 
 -- from the start on, all places come after the beginning
-pub running_start : (image : LoadedImage) (cores epoch : ℕ) (memory : List ℕ) (s : Kept) (begin : ℕ) → length memory ≡ image.size
+pub running_start : (image : LoadedImage) (cores epoch : ℕ) (memory : List ℕ) (s : Kept) (begin base : ℕ) → length memory ≡ image.size
     → first_epochs image epoch ≡ record { end = end.Done epoch; bytes = memory } → 1 ≤ cores → (kept : AreKept image cores epoch s)
-    → (epoch < cores → begin ≡ 0) → (cores ≤ epoch → begin ≡ slice_index s.commits (epoch - cores) + 1)
-    → Running image cores epoch s.waits s.commits memory s (start_of image epoch) (begin + 1)
-running_start image cores epoch memory s begin long done some kept early late =
+    → (epoch < cores → begin ≡ 0) → (cores ≤ epoch → begin ≡ slice_index s.commits (epoch - cores) + 1) → base ≡ begin + 1
+    → Running image cores epoch s.waits s.commits memory s (start_of image epoch) base
+running_start image cores epoch memory s begin base long done some kept early late after =
     let bytes : memory_before image epoch ≡ memory = ap (λ (r : SequentialResult). r.bytes) done in
     let long' : length (memory_before image epoch) ≡ image.size = ap (λ m. length m) bytes ∙ long in record {
       own = nothing;
@@ -149,19 +148,19 @@ running_start image cores epoch memory s begin long done some kept early late =
             let place : epoch - cores ≡ d = omega (arith, sum) in
             late (omega (arith, sum)) ∙ ap (λ n. n + 1) (ap (slice_index s.commits) place ∙ kept.before.are d (omega (arith, sum, some)));
       };
-      bases = λ place. begin + 1;
-      are = record { rise = λ place. omega arith; first = omega arith; why = λ place. inl refl };
+      bases = λ place. base;
+      are = record { rise = λ place. omega arith; first = omega (arith, after); why = λ place. inl after };
       rest = λ place from. refl;
       ready = λ place byte earlier stored low depends. absurd (omega (arith, low));
       mine = λ a byte is. absurd cc;
       others = λ a none. kept.last a;
       soon = elim (cases_lt epoch cores) [
-        | inl less ↦ (let none = early less in omega (arith, none))
+        | inl less ↦ (let none = early less in omega (arith, none, after))
         | inr from ↦
             (let is = late from in
             let low : epoch - cores < epoch = omega (arith, from, some) in
             let same = kept.before.are (epoch - cores) low in
-            let soon = kept.before.soon (epoch - cores) low in omega (arith, is, same, soon))
+            let soon = kept.before.soon (epoch - cores) low in omega (arith, is, same, soon, after))
       ];
     }
 
@@ -180,7 +179,7 @@ reads_of image later loaded byte d step x = record { step = loaded; there = x.th
 
 -- the base after a load that waits for this step
 abbrev pub raised : ℕ → ℕ → ℕ → ℕ
-raised base ready done = max base (ready - done)
+raised base ready done = base + (ready - (base + done))
 
 bases_from : (place from x y : ℕ) → from ≤ place → (if nat_lt place from then x else y) ≡ y
 bases_from place from x y high = grind (arith, nat_tests)
@@ -347,9 +346,9 @@ module _ (image : LoadedImage) (cores epoch : ℕ) (waits : Waits) (commits memo
           let is = depends.3 in omega (arith, is, soon))
     ]
 
-    pub running_load : (value : ℕ) → number_at (λ a. slice_index memory a) address width ≡ value
-        → Running image cores epoch waits commits memory s (after_number (next_event image h).now (next_event image h).at value) (raised base ready (next_event image h).now.done)
-    running_load value number =
+    pub running_load : (value base' : ℕ) → number_at (λ a. slice_index memory a) address width ≡ value → base' ≡ raised base ready (next_event image h).now.done
+        → Running image cores epoch waits commits memory s (after_number (next_event image h).now (next_event image h).at value) base'
+    running_load value base' number is_raised =
         let seen = seen_now image epoch (memory_before image epoch) memory h x.own x.at x.is address width value number in
         let count = load_counts image h address width signed rd value is in
         let later = hart_before image h in record {
@@ -365,7 +364,7 @@ module _ (image : LoadedImage) (cores epoch : ℕ) (waits : Waits) (commits memo
           begins = x.begins;
           bases = new_bases;
           are = new_are;
-          rest = λ place from. new_from place (omega (arith, from, count));
+          rest = λ place from. new_from place (omega (arith, from, count)) ∙ sym is_raised;
           ready = λ place byte d q low depends. elim (cases_lt place h.done) [
             | inl before ↦
                 (let same = new_below place (omega (arith, before, later)) in let old = x.ready place byte d q before depends in omega (arith, same, old))
@@ -380,7 +379,7 @@ module _ (image : LoadedImage) (cores epoch : ℕ) (waits : Waits) (commits memo
               (λ place low. new_below place (omega (arith, low, later)))
               (λ q from low there. no_store_by_load address width signed rd a q is from (omega (arith, low, count)) there) (x.mine a byte some);
           others = x.others;
-          soon = let soon = x.soon in let ready' = ready_soon in omega (arith, soon, ready');
+          soon = let soon = x.soon in let ready' = ready_soon in omega (arith, soon, ready', is_raised);
         }
 
   -- ---- a store
@@ -394,22 +393,22 @@ module _ (image : LoadedImage) (cores epoch : ℕ) (waits : Waits) (commits memo
       (access_stops image h (rw is tt) ∙ ap Stops is) (ap (hart_effect image) here ∙ there.stops) there.from there.below in
       let some = stored_within address width value a within.0 within.1 in cc
 
-  mine_by : (s' : Kept) (address width value a byte : ℕ) → (next_event image h).at ≡ stop.Store address width value
-      → AreMarked s s' address width (epoch + 1) (base + (next_event image h).now.done) → (o : Option ℕ) → stored address width value a ≡ o
+  mine_by : (s' : Kept) (address width value writer step a byte : ℕ) → (next_event image h).at ≡ stop.Store address width value
+      → AreMarked s s' address width writer step → writer ≡ epoch + 1 → step ≡ base + (next_event image h).now.done → (o : Option ℕ) → stored address width value a ≡ o
       → ((b : ℕ) × (stored address width value a ≡ Some b)) ⊎ (x.own a ≡ Some byte)
       → IsMine image epoch ((next_event image h).now.done + 1) x.bases a (slice_index s'.writers a) (slice_index s'.stores a)
-  mine_by s' address width value a byte is marked (Some b) now either =
+  mine_by s' address width value writer step a byte is marked number at (Some b) now either =
       let within = covered address width value a b now in
       record {
-        number = marked.writers.here a within.0 within.1;
+        number = marked.writers.here a within.0 within.1 ∙ number;
         stored = (next_event image h).now.done;
         there = stores_there image epoch (memory_before image epoch) h x.own x.at address width value a is within.0 within.1;
         low = omega arith;
-        is = marked.stores.here a within.0 within.1 ∙ sym (ap (λ n. n + (next_event image h).now.done) (x.rest (next_event image h).now.done (hart_before image h)));
+        is = marked.stores.here a within.0 within.1 ∙ (at ∙ sym (ap (λ n. n + (next_event image h).now.done) (x.rest (next_event image h).now.done (hart_before image h))));
         last = λ q low there. omega (arith, low);
       }
-  mine_by s' address width value a byte is marked None now (inl some) = let one = some.1 in absurd cc
-  mine_by s' address width value a byte is marked None now (inr before) =
+  mine_by s' address width value writer step a byte is marked number at None now (inl some) = let one = some.1 in absurd cc
+  mine_by s' address width value writer step a byte is marked number at None now (inr before) =
       let later = hart_before image h in
       rw (
         unmarked s.writers s'.writers address width _ value a marked.writers now,
@@ -418,10 +417,10 @@ module _ (image : LoadedImage) (cores epoch : ℕ) (waits : Waits) (commits memo
       (mine_on image epoch h.done ((next_event image h).now.done + 1) x.bases x.bases a _ _ (omega (arith, later)) (λ place low. refl)
       (λ step from low there. no_store_of address width value a step is now from low there) (x.mine a byte before))
 
-  pub running_store : (s' : Kept) (address width value : ℕ) → (next_event image h).at ≡ stop.Store address width value
-      → AreMarked s s' address width (epoch + 1) (base + (next_event image h).now.done)
+  pub running_store : (s' : Kept) (address width value writer step : ℕ) → (next_event image h).at ≡ stop.Store address width value
+      → AreMarked s s' address width writer step → writer ≡ epoch + 1 → step ≡ base + (next_event image h).now.done
       → Running image cores epoch waits commits (with_number memory address width value) s' (stepped (next_event image h).now) base
-  running_store s' address width value is marked =
+  running_store s' address width value writer step is marked number step_is =
       let later = hart_before image h in record {
         own = joined (stored address width value) x.own;
         at = past_store image epoch (memory_before image epoch) h x.own address width value x.at is;
@@ -442,7 +441,7 @@ module _ (image : LoadedImage) (cores epoch : ℕ) (waits : Waits) (commits memo
               (let early = read_by_store image epoch (memory_before image epoch) h x.own x.at address width value byte is (reads_of image epoch place byte d q depends) low in
               absurd (omega (arith, early, from)))
         ];
-        mine = λ a byte some. mine_by s' address width value a byte is marked (stored address width value a) refl (either (stored address width value a) (x.own a) byte some);
+        mine = λ a byte some. mine_by s' address width value writer step a byte is marked number step_is (stored address width value a) refl (either (stored address width value a) (x.own a) byte some);
         others = λ a none.
             let parts = neither (stored address width value a) (x.own a) none in
             rw (
@@ -489,10 +488,9 @@ module _ (image : LoadedImage) (cores epoch : ℕ) (waits : Waits) (commits memo
         stored_on image x.timing t' epoch a _ _ w.same (x.others a is)
         (λ q there. x.at.no_others a q is (all_stored_early image epoch (memory_before image epoch) h x.own x.at stopped a q there) there)
 
-    pub running_end : AreKept image cores (epoch + 1) (with_commit s (base + (next_event image h).now.done))
+    pub running_end : (end : ℕ) → end ≡ base + (next_event image h).now.done → AreKept image cores (epoch + 1) (with_commit s end)
     unfolding running_path
-    running_end =
-        let end = base + (next_event image h).now.done in
+    running_end end end_is =
         let commit = max end (last_commit commits) in
         let t' = with_epoch x.timing epoch x.begin x.bases commit in
         let w = with_it x.timing epoch x.begin x.bases commit in
@@ -501,7 +499,8 @@ module _ (image : LoadedImage) (cores epoch : ℕ) (waits : Waits) (commits memo
         let soon = x.soon in
         let all = committed_more image waits cores epoch commits x.timing x.before some x.begin (next_event image h).now.done end x.bases x.begins x.are
         (λ place byte d q depends. all_ready place byte d q depends)
-        (lasts image epoch (memory_before image epoch) memory h running_path refl stopped) (ap (λ n. n + (next_event image h).now.done) (sym rest)) t' w (omega (arith, soon, most, limit)) in record {
+        (lasts image epoch (memory_before image epoch) memory h running_path refl stopped) (end_is ∙ ap (λ n. n + (next_event image h).now.done) (sym rest)) t' w
+        (omega (arith, end_is, soon, most, limit)) in record {
           timing = t';
           long = record { writers = x.long.writers; stores = x.long.stores };
           before = rw (x.waits_are, x.commits_are) all;

@@ -1,7 +1,7 @@
--- In how few steps so many cores can run the loop, where a load that depends on an earlier epoch waits for what it needs alone.
--- Each core takes one instruction a step, without latency, and its beginning and its commit take a step each.
--- Source: limits that dependences alone set are those of Lam and Wilson, "Limits of Control Flow on Parallelism", ISCA 1992; over
--- speculative threads, those of Oplinger, Heine and Lam, "In Search of Speculative Thread-Level Parallelism", PACT 1999.
+-- In how few steps so many cores can run the loop, where a load that depends on an earlier epoch waits only for what it needs.
+-- A core takes an instruction a step, without latency, and a step each to begin and to commit, as in a run at even speed.
+-- Source: the limits that dependences alone set are those of Lam and Wilson, "Limits of Control Flow on Parallelism", ISCA 1992; over
+-- speculative threads, of Oplinger, Heine and Lam, "In Search of Speculative Thread-Level Parallelism", PACT 1999.
 use Rattle.std.specs.Prelude.{◌≡◌, ℕ, zero, suc, ◌+◌, ◌<◌, ◌≤◌}
 use Rattle.rv32_image.specs.Image.{LoadedImage}
 use Rattle.dependences.specs.Flow.{DependsAt}
@@ -10,14 +10,14 @@ use Rattle.dependences.specs.Lengths.{Lasts}
 use Rattle.limits.specs.declared.limit.Waits.{Waits}
 use Rattle.limits.specs.declared.limit.Waits.TheVariants.{Commit, Store}
 
--- the step in which each epoch begins, in which it executes the instruction at each place, or comes to its end past the last one,
--- and in which it commits
+-- in which step each epoch begins, executes the instruction at each place or comes to its end after the last of them, and commits;
+-- a place is how many instructions it has executed before
 pub record Timing : Type 0 where
   pub begin : ℕ → ℕ
   pub at : ℕ → ℕ → ℕ
   pub commit : ℕ → ℕ
 
--- the step of what a load waits for that depends on this store of this epoch
+-- the step that a load waits for that depends on this store of this epoch
 abbrev pub awaited : Waits → Timing → ℕ → ℕ → ℕ
 awaited Store t earlier stored = t.at earlier stored
 awaited Commit t earlier stored = t.commit earlier

@@ -6,19 +6,19 @@ ghost use Rattle.dependences.specs.Conflict.{IsInOrder};
 ghost use Rattle.limits.specs.Kept as spec;
 ghost use Rattle.limits.specs.Limits.{IsLimit};
 
-use crate::greedy::Times;
 use crate::laws::forward_is_within_commit;
+use crate::times::Times;
 use memory_bytes::{read_number, write_number};
 use rv32_exec::{NoMemory, Stop, advance, loaded, start, stored};
 use rv32_image::Image;
 use std::alloc::Global;
 
-/// In how few steps so many cores can run the loop, where a load that depends on an earlier epoch waits for one of two things.
+/// In how few steps so many cores can run a loop.
 #[derive(Clone, Copy, Debug)]
 pub struct Limits {
-    /// For the store of each byte that it reads from outside.
+    /// Where a load that depends on an earlier epoch waits for the store.
     pub forward: u64,
-    /// For the commits of the epochs that store these.
+    /// Where it waits for the commit of that epoch.
     pub commit: u64,
 }
 
@@ -31,7 +31,8 @@ pub enum Waits {
     Commit,
 }
 
-/// The limits that the dependences of the run in order set to so many cores, at least 1.
+/// The limits that the dependences of the run in order set to so many cores, at least 1: the least steps, from the beginning of the
+/// first epoch to the commit of the last, of all timings in which no load comes before what it waits for. 1 where no epoch runs.
 ///
 /// `NoMemory`: there was none for a copy of the image's bytes, two words beside each, and one for each epoch.
 pub fn limits_in_order(alloc: Global, image: &Image, cores: u32) -> Result<Limits, NoMemory>
@@ -58,12 +59,7 @@ fn limit(alloc: Global, image: &Image, cores: u32, waits: Waits) -> Result<u64, 
 }
 
 /// Runs the epochs over memory, in order, each step as early as it can be. Nothing has been kept before.
-fn run_all(
-    image: &Image,
-    cores: u32,
-    memory: &mut [u8],
-    times: &mut Times,
-) -> Result<(), NoMemory>
+fn run_all(image: &Image, cores: u32, memory: &mut [u8], times: &mut Times) -> Result<(), NoMemory>
     requires cores { 1 ≤ cores }
     requires memory { memory.old ≡ image.now.bytes }
     requires none { spec.AreNone times.old image.now.size }
@@ -98,28 +94,28 @@ fn follow(
     ensures ends { IfOk result (λ goes_on. goes_on ≡ false → IsInOrder image.now (epoch + 1) → ⊥) }
 {
     let mut hart = start(image, epoch);
-    // The next instruction takes its step so many steps after this one as the epoch has executed.
+    // The instruction at each place comes so many steps after this one as the place says.
     let mut base = times.begin(cores, epoch) + 1;
     'accesses: loop {
         let arrived = advance(image, hart);
         let now = arrived.now();
+        let step = base + now.done();
         match arrived.at() {
             Stop::Load { addr, width, .. } => {
-                let ready = times.ready(epoch, addr, width);
-                base = base.max(ready.saturating_sub(now.done()));
+                base += times.ready(epoch, addr, width).saturating_sub(step);
                 hart = loaded(&arrived, read_number(memory, addr as usize, width));
             }
             Stop::Store { addr, width, value } => {
                 write_number(memory, addr as usize, width, value);
-                times.mark(addr, width, epoch + 1, base + now.done());
+                times.mark(addr, width, epoch + 1, step);
                 hart = stored(&arrived);
             }
             Stop::Ended => {
-                times.commit(base + now.done())?;
+                times.commit(step)?;
                 return Ok(!now.exits(image));
             }
             Stop::Fault { .. } => {
-                times.commit(base + now.done())?;
+                times.commit(step)?;
                 return Ok(false);
             }
         }

@@ -1,4 +1,4 @@
-//! Tests of the decoder, of images, of the sequential machine and of dependences, over their public calls.
+//! Tests of the decoder, of images, of the sequential machine, of dependences and of limits, over their public calls.
 #![tactic(auto)]
 
 #[cfg(test)]
@@ -15,3 +15,5 @@ mod execution;
 mod flow;
 #[cfg(test)]
 mod images;
+#[cfg(test)]
+mod limits;

@@ -1,4 +1,4 @@
-use Rattle.std.proofs.Common.{◌≡◌, ◌+◌, ◌-◌, ◌≤◌, max, sym, ap, ◌∙◌, arith}
+use Rattle.std.proofs.Common.{◌≡◌, sym, ap, ◌∙◌, arith}
 use Rattle.std.proofs.lemmas.Bool.{not-false, not-true}
 use Rattle.rv32_exec.specs.declared.stop.Stop.TheVariants as stop
 use Rattle.rv32_exec.specs.Hart.{HartState, stepped}
@@ -11,17 +11,25 @@ use Rattle.spec_history.proofs.OneEntry.Accesses.{load_counts}
 use Rattle.dependences.specs.Conflict.{memory_before}
 use Rattle.dependences.proofs.Following.{runs_in_order}
 use Rattle.dependences.proofs.Outside.{done_before, ends_so, no_exit, no_fault}
-use Rattle.limits.specs.Kept.{AreKept, with_commit}
-use Rattle.limits.proofs.Running.{most_done, raised, running_end, running_load, running_path, running_start, running_store}
+use Rattle.limits.proofs.Running.{most_done, running_end, running_load, running_path, running_start, running_store}
 use Rattle.limits.proofs.limit.follow.Goals as goal
 
 pub accesses-init : goal.accesses-init
 accesses-init c = record {
   running = rw c.start-hart.ensures
-      (running_start c.args.image.now c.args.cores c.args.epoch c.args.memory.now c.args.times.now c.begin-base.result c.requires.size c.requires.before c.requires.cores
-      c.requires.kept c.begin-base.ensures.early c.begin-base.ensures.late);
+      (running_start c.args.image.now c.args.cores c.args.epoch c.args.memory.now c.args.times.now c.begin-base.result _ c.requires.size c.requires.before c.requires.cores
+      c.requires.kept c.begin-base.ensures.early c.begin-base.ensures.late (omega arith));
   within = rw c.start-hart.ensures (omega arith);
 }
+
+pub overflow_add-step : goal.overflow_add-step
+overflow_add-step c =
+    let image = c.args.image.now in
+    let h = c.accesses.hart in
+    let done : c.done.result ≡ (next_event image h).now.done = c.done.ensures ∙ ap (λ (g : HartState). g.done) (c.now-now.ensures ∙ c.advance-arrived.ensures.now) in
+    let most = most_done image c.args.cores c.args.epoch c.args.times.now.waits c.args.times.now.commits c.accesses.memory c.accesses.times h c.accesses.base
+    c.accesses.invariant.running in
+    let soon = c.accesses.invariant.running.soon in omega (arith, done, most, soon, c.requires.limits.limit_most, c.requires.limits.epochs_most, c.requires.epoch)
 
 pub accesses-preserved-in-Load : goal.accesses-preserved-in-Load
 accesses-preserved-in-Load c =
@@ -32,15 +40,17 @@ accesses-preserved-in-Load c =
     rw (c.advance-arrived.ensures.now, c.advance-arrived.ensures.at) at c.loaded-hart.ensures in
     let order = runs_in_order image c.args.epoch c.args.memory.now c.requires.before in
     let done : c.done.result ≡ (next_event image h).now.done = c.done.ensures ∙ ap (λ (g : HartState). g.done) (c.now-now.ensures ∙ c.advance-arrived.ensures.now) in
-    let base : c.max-base.result ≡ raised c.accesses.base c.ready-ready.result (next_event image h).now.done =
-    c.max-base.ensures ∙ ap (max c.accesses.base) (c.saturating_sub.ensures ∙ ap (λ n. c.ready-ready.result - n) done) in
-    let next = running_load image c.args.cores c.args.epoch c.args.times.now.waits c.args.times.now.commits c.accesses.memory c.accesses.times h c.accesses.base
-    c.accesses.invariant.running order c.requires.epoch c.in-Load.addr c.in-Load.width c.in-Load.signed c.in-Load.rd c.ready-ready.result is c.ready-ready.ensures
-    c.read_number.result (sym c.read_number.ensures.number) in
+    let less = c.saturating_sub-base.ensures in
     let access : IsAccess image (next_event image h).now c.in-Load.addr c.in-Load.width = rw is at (stop_of_event image h) in
     let room = access.room in
     let count = load_counts image h c.in-Load.addr c.in-Load.width c.in-Load.signed c.in-Load.rd c.read_number.result is in
-    record { running = rw (hart, base) next; within = rw hart (omega (arith, count, room)) }
+    record {
+      running = rw hart
+          (running_load image c.args.cores c.args.epoch c.args.times.now.waits c.args.times.now.commits c.accesses.memory c.accesses.times h c.accesses.base
+          c.accesses.invariant.running order c.requires.epoch c.in-Load.addr c.in-Load.width c.in-Load.signed c.in-Load.rd c.ready.result is c.ready.ensures
+          c.read_number.result _ (sym c.read_number.ensures.number) (omega (arith, less, done)));
+      within = rw hart (omega (arith, count, room));
+    }
 
 pub accesses-preserved : goal.accesses-preserved
 accesses-preserved c =
@@ -48,34 +58,22 @@ accesses-preserved c =
     let h = c.accesses.hart in
     let is : (next_event image h).at ≡ stop.Store c.in-Store.addr c.in-Store.width c.in-Store.value = sym c.advance-arrived.ensures.at ∙ (sym c.at.ensures.at ∙ c.in-Store.is) in
     let hart : c.stored-hart.result ≡ stepped (next_event image h).now = rw c.advance-arrived.ensures.now at c.stored-hart.ensures in
-    let done : c.done-in-Store.result ≡ (next_event image h).now.done =
-    c.done-in-Store.ensures ∙ ap (λ (g : HartState). g.done) (c.now-now.ensures ∙ c.advance-arrived.ensures.now) in
+    let done : c.done.result ≡ (next_event image h).now.done = c.done.ensures ∙ ap (λ (g : HartState). g.done) (c.now-now.ensures ∙ c.advance-arrived.ensures.now) in
     let next = running_store image c.args.cores c.args.epoch c.args.times.now.waits c.args.times.now.commits c.accesses.memory c.accesses.times h c.accesses.base
-    c.accesses.invariant.running c.mark.new.self c.in-Store.addr c.in-Store.width c.in-Store.value is (rw done at c.mark.ensures) in
+    c.accesses.invariant.running c.mark.new.self c.in-Store.addr c.in-Store.width c.in-Store.value _ _ is c.mark.ensures (omega arith) (omega (arith, done)) in
     let store : IsStore image (next_event image h).now c.in-Store.addr c.in-Store.width c.in-Store.value = rw is at (stop_of_event image h) in
     let room = store.access.room in
     record { running = rw (c.write_number.ensures, hart) next; within = rw hart (omega (arith, room)) }
-
-pub overflow_add-base-in-Ended : goal.overflow_add-base-in-Ended
-overflow_add-base-in-Ended c =
-    let image = c.args.image.now in
-    let h = c.accesses.hart in
-    let done : c.done-in-Ended.result ≡ (next_event image h).now.done =
-    c.done-in-Ended.ensures ∙ ap (λ (g : HartState). g.done) (c.now-now.ensures ∙ c.advance-arrived.ensures.now) in
-    let most = most_done image c.args.cores c.args.epoch c.args.times.now.waits c.args.times.now.commits c.accesses.memory c.accesses.times h c.accesses.base
-    c.accesses.invariant.running in
-    let soon = c.accesses.invariant.running.soon in omega (arith, done, most, soon, c.requires.limits.limit_most, c.requires.limits.epochs_most, c.requires.epoch)
 
 pub returns-in-Ended-clause-kept : goal.returns-in-Ended-clause-kept
 returns-in-Ended-clause-kept c =
     let image = c.args.image.now in
     let h = c.accesses.hart in
     let is : (next_event image h).at ≡ stop.Ended = sym c.advance-arrived.ensures.at ∙ (sym c.at.ensures.at ∙ c.in-Ended.is) in
-    let done : c.done-in-Ended.result ≡ (next_event image h).now.done =
-    c.done-in-Ended.ensures ∙ ap (λ (g : HartState). g.done) (c.now-now.ensures ∙ c.advance-arrived.ensures.now) in
+    let done : c.done.result ≡ (next_event image h).now.done = c.done.ensures ∙ ap (λ (g : HartState). g.done) (c.now-now.ensures ∙ c.advance-arrived.ensures.now) in
     let kept = running_end image c.args.cores c.args.epoch c.args.times.now.waits c.args.times.now.commits c.accesses.memory c.accesses.times h c.accesses.base
-    c.accesses.invariant.running c.requires.cores c.requires.limits.limit_most (rw is tt) in
-    rw (c.in_ok-commit-in-Ended.ensures, done) kept
+    c.accesses.invariant.running c.requires.cores c.requires.limits.limit_most (rw is tt) _ (omega (arith, done)) in
+    rw c.in_ok-commit-in-Ended.ensures kept
 
 pub returns-in-Ended-clause-goes_on : goal.returns-in-Ended-clause-goes_on
 returns-in-Ended-clause-goes_on c goes =
@@ -97,26 +95,15 @@ returns-in-Ended-clause-ends c ends order =
     (running_path image c.args.cores c.args.epoch c.args.times.now.waits c.args.times.now.commits c.accesses.memory c.accesses.times h c.accesses.base c.accesses.invariant.running)
     (done_before image c.args.epoch c.args.memory.now c.requires.before) is (sym exit ∙ not-false c.exits.result ends) order
 
-pub overflow_add-base-in-Fault : goal.overflow_add-base-in-Fault
-overflow_add-base-in-Fault c =
-    let image = c.args.image.now in
-    let h = c.accesses.hart in
-    let done : c.done-in-Fault.result ≡ (next_event image h).now.done =
-    c.done-in-Fault.ensures ∙ ap (λ (g : HartState). g.done) (c.now-now.ensures ∙ c.advance-arrived.ensures.now) in
-    let most = most_done image c.args.cores c.args.epoch c.args.times.now.waits c.args.times.now.commits c.accesses.memory c.accesses.times h c.accesses.base
-    c.accesses.invariant.running in
-    let soon = c.accesses.invariant.running.soon in omega (arith, done, most, soon, c.requires.limits.limit_most, c.requires.limits.epochs_most, c.requires.epoch)
-
 pub returns-in-Fault-clause-kept : goal.returns-in-Fault-clause-kept
 returns-in-Fault-clause-kept c =
     let image = c.args.image.now in
     let h = c.accesses.hart in
     let is : (next_event image h).at ≡ stop.Fault c.in-Fault.cause c.in-Fault.pc = sym c.advance-arrived.ensures.at ∙ (sym c.at.ensures.at ∙ c.in-Fault.is) in
-    let done : c.done-in-Fault.result ≡ (next_event image h).now.done =
-    c.done-in-Fault.ensures ∙ ap (λ (g : HartState). g.done) (c.now-now.ensures ∙ c.advance-arrived.ensures.now) in
+    let done : c.done.result ≡ (next_event image h).now.done = c.done.ensures ∙ ap (λ (g : HartState). g.done) (c.now-now.ensures ∙ c.advance-arrived.ensures.now) in
     let kept = running_end image c.args.cores c.args.epoch c.args.times.now.waits c.args.times.now.commits c.accesses.memory c.accesses.times h c.accesses.base
-    c.accesses.invariant.running c.requires.cores c.requires.limits.limit_most (rw is tt) in
-    rw (c.in_ok-commit-in-Fault.ensures, done) kept
+    c.accesses.invariant.running c.requires.cores c.requires.limits.limit_most (rw is tt) _ (omega (arith, done)) in
+    rw c.in_ok-commit-in-Fault.ensures kept
 
 pub returns-in-Fault-clause-ends : goal.returns-in-Fault-clause-ends
 returns-in-Fault-clause-ends c ends order =

@@ -1,4 +1,4 @@
-use Rattle.std.proofs.Common.{ap, sym, subst, ◌+◌, ◌∙◌}
+use Rattle.std.proofs.Common.{sym, subst, ◌+◌}
 use Rattle.limits.specs.Limits.{IsLimit}
 use Rattle.limits.specs.Kept.{HaveRun}
 use Rattle.limits.proofs.Least.{run_limit}

@@ -1,5 +1,5 @@
 use Rattle.limits.specs.Kept.{IsReady}
-use Rattle.limits.proofs.greedy.Times.ready.Given as goal
+use Rattle.limits.proofs.times.Times.ready.Given as goal
 
 -- so of the bytes so far
 abbrev pub invariant-loop-byte : goal.invariant-loop-byte

@@ -1,5 +1,5 @@
 use Rattle.dependences.specs.Kept.{IsMarked}
-use Rattle.limits.proofs.greedy.mark.Given as goal
+use Rattle.limits.proofs.times.mark.Given as goal
 
 -- the bytes so far are marked
 abbrev pub invariant-loop-i : goal.invariant-loop-i

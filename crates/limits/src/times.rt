@@ -129,14 +129,7 @@ impl Times {
 }
 
 /// Notes who stored these bytes, and when.
-fn mark(
-    writers: &mut [u32],
-    stores: &mut [u64],
-    addr: u32,
-    width: u32,
-    writer: u32,
-    step: u64,
-)
+fn mark(writers: &mut [u32], stores: &mut [u64], addr: u32, width: u32, writer: u32, step: u64)
     requires small { length writers.old < 2 ^ 32 }
     requires long { length stores.old ≡ length writers.old }
     requires within { addr + width ≤ length writers.old }
