@@ -71,8 +71,8 @@ with_commit s end = record s { commits = s.commits ++ max end (last_commit s.com
 
 -- ---- steps
 
--- a load of the epoch at or before this place waited: as many steps after what it waited for as its place is before this one, so
--- many steps after `base` as the place says are over
+-- at this place or before it the epoch has a load that came in the step that it waits for, so many steps after this base as the place
+-- of the load says
 pub record HasWaited (image : LoadedImage) (waits : Waits) (t : Timing) (epoch place base : ℕ) : Type 0 where
   pub load : ℕ
   pub byte : ℕ
@@ -82,14 +82,14 @@ pub record HasWaited (image : LoadedImage) (waits : Waits) (t : Timing) (epoch p
   pub depends : DependsAt image epoch load byte earlier stored
   pub is : base + load ≡ awaited waits t earlier stored
 
--- the instruction at each place of this epoch comes so many steps after its base as the place says: bases never fall, and where one
--- isn't the step after the epoch's beginning, a load has waited
+-- the instruction at each place comes so many steps after the base there as the place says. Bases never fall, and each is the step
+-- after the epoch's beginning, or a load has waited up to it
 pub record AreBases (image : LoadedImage) (waits : Waits) (t : Timing) (epoch begin : ℕ) (bases : ℕ → ℕ) : Type 0 where
   pub rise : (place : ℕ) → bases place ≤ bases (place + 1)
   pub first : begin < bases 0
   pub why : (place : ℕ) → (bases place ≡ begin + 1) ⊎ HasWaited image waits t epoch place (bases place)
 
--- where this epoch begins as early as it can
+-- the epoch begins here as early as it can
 pub record IsBegin (cores : ℕ) (t : Timing) (epoch begin : ℕ) : Type 0 where
   pub early : epoch < cores → begin ≡ 0
   pub late : (before : ℕ) → epoch ≡ before + cores → begin ≡ t.commit before + 1

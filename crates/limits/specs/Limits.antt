@@ -26,9 +26,12 @@ awaited Commit t earlier stored = t.commit earlier
 pub record IsTiming (image : LoadedImage) (waits : Waits) (cores epochs : ℕ) (t : Timing) : Type 0 where
   -- a core begins its next epoch after one has committed
   pub begins : (epoch : ℕ) → epoch + cores < epochs → t.commit epoch < t.begin (epoch + cores)
+  -- it takes a step at least for each instruction, and comes to the end after them
   pub first : (epoch : ℕ) → epoch < epochs → t.begin epoch < t.at epoch 0
   pub next : (epoch place length : ℕ) → epoch < epochs → Lasts image epoch length → place < length → t.at epoch place < t.at epoch (place + 1)
+  -- a load isn't before what it waits for
   pub ready : (epoch place byte earlier stored : ℕ) → DependsAt image epoch place byte earlier stored → awaited waits t earlier stored ≤ t.at epoch place
+  -- an epoch commits where it is at its end, and not before the one before it
   pub ends : (epoch length : ℕ) → epoch < epochs → Lasts image epoch length → t.at epoch length ≤ t.commit epoch
   pub in_order : (epoch : ℕ) → epoch + 1 < epochs → t.commit epoch ≤ t.commit (epoch + 1)
 

@@ -60,7 +60,8 @@ impl Times {
         }
     }
 
-    /// In which step the last of what these bytes wait for is there: of those that an earlier epoch stores last. 0 for nothing.
+    /// The step in which a load of these bytes is ready: the last of those that its bytes wait for which an earlier epoch has stored
+    /// last. 0 where it waits for none.
     pub(crate) fn ready(&self, epoch: u32, addr: u32, width: u32) -> u64
         requires long { spec.AreLong self.now (length self.now.writers) }
         requires small { length self.now.writers < 2 ^ 32 }
