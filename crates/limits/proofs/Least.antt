@@ -1,5 +1,5 @@
 -- Steps that are as early as they can be are a timing, and no timing has earlier ones.
-use Rattle.std.proofs.Common.{◌≡◌, ℕ, zero, suc, ◌+◌, ◌-◌, ◌<◌, ◌≤◌, List, length, slice_index, refl, sym, ap, subst, ◌∙◌, inl, inr, arith}
+use Rattle.std.proofs.Common.{◌≡◌, ℕ, zero, suc, ◌+◌, ◌-◌, ◌*◌, ◌<◌, ◌≤◌, List, length, slice_index, refl, sym, ap, subst, ◌∙◌, inl, inr, arith}
 use Rattle.std.proofs.lemmas.Bool.{cases_lt}
 use Rattle.rv32_image.specs.Image.{LoadedImage}
 use Rattle.dependences.specs.Kept.{AreAll}
@@ -183,3 +183,13 @@ last_is (suc last) commits t long are =
 pub run_limit : (image : LoadedImage) (cores : ℕ) (waits : Waits) (s : Kept) → 1 ≤ cores → HaveRun image cores waits s → IsLimit image waits cores (last_commit s.commits + 1)
 run_limit image cores waits s some x =
     earliest_limit image waits cores x.epochs x.timing x.before.each some x.all (last_commit s.commits + 1) (sym (last_is x.epochs s.commits x.timing x.before.long x.before.are))
+
+pub run_soon : (image : LoadedImage) (cores : ℕ) (waits : Waits) (s : Kept) → HaveRun image cores waits s → image.epochs ≤ 65535 → last_commit s.commits ≤ 65535 * 1000002
+run_soon image cores waits s x few =
+    let is = last_is x.epochs s.commits x.timing x.before.long x.before.are in let low = soon_by x.epochs refl in omega (arith, is, low)
+  where
+    soon_by : (n : ℕ) → n ≡ x.epochs → steps_of n x.timing ≤ 65535 * 1000002 + 1
+    soon_by zero all = omega arith
+    soon_by (suc last) all =
+        let most = x.all.most in
+        let soon = x.before.soon last (omega (arith, all)) in omega (arith, all, most, few, soon)

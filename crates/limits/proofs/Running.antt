@@ -1,5 +1,5 @@
 -- One epoch in order, each of its steps as early as it can be, and the last store of each byte.
-use Rattle.std.proofs.Common.{◌≡◌, ◌⊎◌, ℕ, zero, suc, ◌+◌, ◌-◌, ◌*◌, ◌<◌, ◌≤◌, Bool, List, length, max, nat_lt, slice_index, Option, Some, None, if◌then◌else◌, refl, sym, ap, subst, ◌∙◌, inl, inr, arith, add-one}
+use Rattle.std.proofs.Common.{◌≡◌, ◌⊎◌, ℕ, zero, suc, ◌+◌, ◌-◌, ◌*◌, ◌<◌, ◌≤◌, Bool, List, [], length, max, nat_lt, slice_index, Option, Some, None, if◌then◌else◌, refl, sym, ap, subst, ◌∙◌, inl, inr, arith, add-one}
 use Rattle.std.proofs.lemmas.Bool.{cases_eq, cases_lt}
 use Rattle.std.proofs.lemmas.Bool.Decides.{nat_tests}
 use Rattle.rv32_image.specs.Image.{LoadedImage}
@@ -26,7 +26,7 @@ use Rattle.dependences.proofs.Outside.{OnPath, lasts, read_by_load, read_by_stor
 use Rattle.limits.specs.declared.limit.Waits.{Waits}
 use Rattle.limits.specs.declared.limit.Waits.TheVariants.{Commit, Store}
 use Rattle.limits.specs.Limits.{Timing, awaited}
-use Rattle.limits.specs.Kept.{AreBases, AreKept, AreLong, AreMarked, AreNone, HasWaited, HaveCommitted, HaveRun, IsAwaited, IsBegin, IsEarliest, IsReady, IsStoredLast, Kept, awaited_by, awaited_in, last_commit, with_commit}
+use Rattle.limits.specs.Kept.{AreBases, AreKept, AreLong, AreMarked, HasWaited, HaveCommitted, HaveRun, IsAwaited, IsBegin, IsEarliest, IsReady, IsStoredLast, Kept, awaited_by, awaited_in, last_commit, with_commit}
 use Rattle.limits.proofs.Stopping.{before_end}
 use Rattle.limits.proofs.Extending.{AreSame, IsWith, committed_more, with_epoch, with_it}
 
@@ -512,17 +512,17 @@ module _ (image : LoadedImage) (cores epoch : ℕ) (waits : Waits) (commits memo
 abbrev no_steps : Timing
 no_steps = record { begin = λ d. 0; at = λ d place. 0; commit = λ d. 0 }
 
-pub kept_none : (image : LoadedImage) (cores : ℕ) (s : Kept) → AreNone s image.size → AreKept image cores 0 s
-kept_none image cores s none = record {
+pub kept_none : (image : LoadedImage) (cores : ℕ) (s : Kept) → AreLong s image.size → s.commits ≡ [] → ((a : ℕ) → slice_index s.writers a ≡ 0) → AreKept image cores 0 s
+kept_none image cores s long commits writers = record {
   timing = no_steps;
-  long = none.long;
+  long = long;
   before = record {
-    long = ap length none.commits;
+    long = ap length commits;
     are = λ d low. absurd (omega (arith, low));
     soon = λ d low. absurd (omega (arith, low));
     each = λ d low. absurd (omega (arith, low));
   };
-  last = λ a. subst (λ w. IsStoredLast image no_steps 0 a w (slice_index s.stores a)) (sym (none.writers a)) (λ d q low there. absurd (omega (arith, low)));
+  last = λ a. subst (λ w. IsStoredLast image no_steps 0 a w (slice_index s.stores a)) (sym (writers a)) (λ d q low there. absurd (omega (arith, low)));
 }
 
 pub have_run : (image : LoadedImage) (cores epochs : ℕ) (waits : Waits) (s : Kept) → s.waits ≡ waits → AreAll image epochs → AreKept image cores epochs s

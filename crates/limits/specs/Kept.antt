@@ -25,12 +25,6 @@ pub record AreLong (s : Kept) (size : ℕ) : Type 0 where
   pub writers : length s.writers ≡ size
   pub stores : length s.stores ≡ size
 
--- nothing is kept yet
-pub record AreNone (s : Kept) (size : ℕ) : Type 0 where
-  pub long : AreLong s size
-  pub commits : s.commits ≡ []
-  pub writers : (a : ℕ) → slice_index s.writers a ≡ 0
-
 -- the bytes of a store have this writer and this step now
 pub record AreMarked (old new : Kept) (address width writer step : ℕ) : Type 0 where
   pub waits : new.waits ≡ old.waits

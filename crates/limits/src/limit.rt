@@ -1,4 +1,4 @@
-ghost use Rattle.std.specs.Prelude.{◌≡◌, ℕ, ◌+◌, ◌<◌, ◌≤◌, IfOk, OnOk, true, false, length};
+ghost use Rattle.std.specs.Prelude.{◌≡◌, ℕ, ◌+◌, ◌<◌, ◌≤◌, IfOk, OnOk, true, false, [], length, slice_index};
 ghost use Rattle.rv32_image.specs.Image.{IsImage};
 ghost use Rattle.rv32_exec.specs.declared.sequential.End.TheVariants.{Done};
 ghost use Rattle.rv32_exec.specs.Sequential.{first_epochs};
@@ -62,7 +62,9 @@ fn limit(alloc: Global, image: &Image, cores: u32, waits: Waits) -> Result<u64, 
 fn run_all(image: &Image, cores: u32, memory: &mut [u8], times: &mut Times) -> Result<(), NoMemory>
     requires cores { 1 ≤ cores }
     requires memory { memory.old ≡ image.now.bytes }
-    requires none { spec.AreNone times.old image.now.size }
+    requires long { spec.AreLong times.old image.now.size }
+    requires commits { times.old.commits ≡ [] }
+    requires writers { (a : ℕ) → slice_index times.old.writers a ≡ 0 }
     ensures { IfOk result (λ done. spec.HaveRun image.now cores times.old.waits times.new) }
 {
     for epoch in 0..image.epochs() {

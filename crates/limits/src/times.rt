@@ -1,5 +1,5 @@
 //! When epochs store and commit, where each step comes as early as it can.
-ghost use Rattle.std.specs.Prelude.{◌≡◌, ℕ, ◌+◌, ◌-◌, ◌<◌, ◌≤◌, ◌^◌, IfOk, OnOk, length, slice_index};
+ghost use Rattle.std.specs.Prelude.{◌≡◌, ℕ, ◌+◌, ◌-◌, ◌<◌, ◌≤◌, ◌^◌, IfOk, OnOk, [], length, slice_index};
 ghost use Rattle.dependences.specs.Kept.{IsMarked};
 ghost use Rattle.limits.specs.Kept as spec;
 
@@ -33,7 +33,9 @@ impl Times {
     /// None, of so many bytes.
     pub(crate) fn none(alloc: Global, size: usize, waits: Waits) -> Result<Times, NoMemory>
         ensures waits { IfOk result (λ t. t.waits ≡ waits) }
-        ensures none { IfOk result (λ t. spec.AreNone t size) }
+        ensures long { IfOk result (λ t. spec.AreLong t size) }
+        ensures commits { IfOk result (λ t. t.commits ≡ []) }
+        ensures writers { IfOk result (λ t. (a : ℕ) → slice_index t.writers a ≡ 0) }
     {
         let writers = vec![in alloc; 0; size].map_err(|_| NoMemory)?;
         let stores = vec![in alloc; 0; size].map_err(|_| NoMemory)?;

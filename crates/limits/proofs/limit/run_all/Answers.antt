@@ -10,7 +10,7 @@ use Rattle.limits.proofs.limit.run_all.Goals as goal
 pub loop-epoch-init : goal.loop-epoch-init
 loop-epoch-init c = record {
   done = first_epochs-none c.args.image.now ∙ ap (λ (m : List ℕ). let r : SequentialResult = record { end = Done 0; bytes = m } in r) (sym c.requires.memory);
-  kept = kept_none c.args.image.now c.args.cores c.args.times.now c.requires.none;
+  kept = kept_none c.args.image.now c.args.cores c.args.times.now c.requires.long c.requires.commits c.requires.writers;
   waits = search;
 }
 
