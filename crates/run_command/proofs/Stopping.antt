@@ -1,6 +1,5 @@
--- Why a run over caches stops.
+-- Why a run stops.
 use Rattle.std.proofs.Common.{◌≡◌, Option, Some, None, IfSome, refl, subst}
-use Rattle.rv32_image.specs.Image.{LoadedImage}
 use Rattle.run_ledger.specs.declared.counts.Counts.{Counts}
 use Rattle.violations.specs.View.{StoreView}
 use Rattle.homefree.specs.declared.answer.StopCause.{StopCause}
@@ -13,9 +12,8 @@ use Rattle.core_threads.specs.declared.fault.RunFault.{RunFault}
 use Rattle.core_threads.specs.declared.fault.RunFault.TheVariants as fault
 use Rattle.core_threads.specs.Faults.{fault_of}
 use Rattle.core_threads.specs.Sentence.{Explains, Halts, HaltsWith}
-use Rattle.run_command.specs.declared.options.RunOptions.{RunOptions}
-use Rattle.run_command.specs.Run.{IsFullHistory, IsStop, cause_of, loop_asked}
-use Rattle.run_command.proofs.Printing.{made}
+use Rattle.run_command.specs.Run.{IsFullHistory, IsStop, cause_of}
+use Rattle.run_command.proofs.Printing.{made, within_room}
 
 stopped_full : (stopped : Option StopCause) → fault.HistoryFull ≡ fault_of stopped → stopped ≡ Some stop.HistoryFull
 stopped_full (Some stop.HistoryFull) is = refl
@@ -27,21 +25,22 @@ stopped_full None is = absurd cc
 not_full : fault.HistoryFull ≡ fault.NoMemory → ⊥
 not_full is = cc
 
-module _ {S : Type 0} (view : S → StoreView) (image : LoadedImage) (options : RunOptions) (caches : IsOfCaches view) where
-  full : (b : BookView S) (counted : Counts) → Halts view (loop_asked image options) b fault.HistoryFull counted → Explains view b → IsFullHistory (loop_asked image options) b.history
+module _ {S : Type 0} (view : S → StoreView) (l : Loop) where
+  full : (b : BookView S) (counted : Counts) → Halts view l b fault.HistoryFull counted → Explains view b → IsFullHistory (IsOfCaches view) l b.history
   full b counted h so =
-      let own : IsFullHistory (loop_of b) b.history = record {
-        made = made view b (loop_of b) refl so caches;
+      let own : IsFullHistory (IsOfCaches view) (loop_of b) b.history = record {
+        made = made view b (loop_of b) refl so;
+        within = within_room view b (loop_of b) refl so;
         state = h.state;
         replays = h.stands.replays;
         going = h.going;
         full = h.full (stopped_full b.stopped h.fault_is);
       } in
-      subst (λ (l : Loop). IsFullHistory l b.history) h.loop own
+      subst (λ (it : Loop). IsFullHistory (IsOfCaches view) it b.history) h.loop own
 
   -- the cause of a halted run is one for which a run may stop
-  pub may_stop : (book : Option (BookView S)) (why : RunFault) (counted : Counts) → HaltsWith view (loop_asked image options) book why counted → IfSome book (Explains view)
-      → IsStop options image (cause_of why)
+  pub may_stop : (book : Option (BookView S)) (why : RunFault) (counted : Counts) → HaltsWith view l book why counted → IfSome book (Explains view)
+      → IsStop (IsOfCaches view) l (cause_of why)
   may_stop (Some b) fault.HistoryFull counted h so = (b.history, full b counted h so)
   may_stop None fault.HistoryFull counted h so = absurd (not_full h.0)
   may_stop book fault.NoMemory counted h so = tt

@@ -1,4 +1,6 @@
--- Definitions to believe: what a run prints, and what the command comes to.
+-- Definitions to believe: which loops can be run, what a run prints, and what the command comes to.
+pub mod Runnable
 pub mod Run
+pub mod Threads
 -- What the law says.
 pub mod Laws

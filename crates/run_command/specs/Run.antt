@@ -1,4 +1,4 @@
--- What `run` comes to, and what it wrote.
+-- What `run` comes to, and what it wrote; and what a run on threads prints and why it stops, over any store.
 -- Source: this project.
 use Rattle.std.specs.Prelude.{◌≡◌, ℕ, ◌+◌, ◌<◌, ◌≤◌, ◌++◌, Bool, true, false, List, [], length, codes, Option, Some, None, MatchResult}
 use Rattle.std.specs.Fmt.{decimal}
@@ -43,33 +43,34 @@ counted n = codes " " ++ decimal n
 abbrev pub counts_line : Counts → List ℕ
 counts_line c = codes "counts" ++ counted c.loads ++ counted c.stores ++ counted c.restarts ++ counted c.commits ++ codes "\n"
 
--- a history that turns over caches make: each violation has its cause and is of a kind, no epoch starts once one has been cancelled,
--- no entry passes over a later epoch that has read in a line which it writes, further stores aside, and the entries are within the room
-pub record IsMade (l : Loop) (history : List Entry) : Type 0 where
+-- a history that turns over a store make: each violation has its cause and is of a kind, and no epoch starts once one has been
+-- cancelled; where the store is one of caches, no entry passes over a later epoch that has read in a line which it writes, further
+-- stores aside
+pub record IsMade (OfCaches : Type 0) (l : Loop) (history : List Entry) : Type 0 where
   pub caused : HasCauses history
   pub known : AreKnown l.image l.cores history
   pub starts : NoneStartsAfterCancel history
-  pub passes : PassesOverNone l.image l.cores history
-  pub within : length history ≤ l.room
+  pub passes : OfCaches → PassesOverNone l.image l.cores history
 
--- a history of the loop that ends as the sequential loop does: it replays on the one-thread machine to that end; its numbers are of
--- 32 bits
+-- a history of the loop that ends as the sequential loop does: it replays on the one-thread machine to that end; its entries are
+-- within the room, and their numbers are of 32 bits
 pub record IsWholeHistory (l : Loop) (history : List Entry) : Type 0 where
-  pub made : IsMade l history
+  pub within : length history ≤ l.room
   pub numbers : AreEntries history
   pub state : FlatState
   pub replays : replay l.image l.cores history ≡ Some state
   pub over : state.end ≡ Some (sequential_result l.image).end
 
--- below the report: nothing, or with a trace the counts and the text of a whole history
-abbrev pub IsBelow : Bool → Loop → List ℕ → Type 0
-IsBelow false l text = text ≡ []
-IsBelow true l text = (history : List Entry) × IsWholeHistory l history × (text ≡ counts_line (counted_in history) ++ printed_trace l.cores history)
+-- below the report: nothing, or with a trace the counts and the text of a whole history that turns over the store make
+abbrev pub IsBelow : Type 0 → Bool → Loop → List ℕ → Type 0
+IsBelow OfCaches false l text = text ≡ []
+IsBelow OfCaches true l text =
+    (history : List Entry) × IsWholeHistory l history × IsMade OfCaches l history × (text ≡ counts_line (counted_in history) ++ printed_trace l.cores history)
 
--- all that a run prints: the report of the sequential loop, which `seq` prints too, and what is below it
-abbrev pub IsPrinted : LoadedImage → RunOptions → List ℕ → Type 0
-IsPrinted image options text = (below : List ℕ) × IsBelow options.trace (loop_asked image options) below
-    × (text ≡ report_of image (sequential_result image) ++ below)
+-- all that a run of this loop prints, which is that of the image but for its machine: the report of the sequential loop, which `seq`
+-- prints too, and what is below it
+abbrev pub IsPrinted : Type 0 → LoadedImage → Loop → Bool → List ℕ → Type 0
+IsPrinted OfCaches image l trace text = (below : List ℕ) × IsBelow OfCaches trace l below × (text ≡ report_of image (sequential_result image) ++ below)
 
 -- ---- why a run stops
 
@@ -82,39 +83,46 @@ cause_of fault.Spent = Spent
 cause_of fault.Shut = Shut
 
 -- a history of the loop that isn't over, and has fewer free entries than a turn asks for
-pub record IsFullHistory (l : Loop) (history : List Entry) : Type 0 where
-  pub made : IsMade l history
+pub record IsFullHistory (OfCaches : Type 0) (l : Loop) (history : List Entry) : Type 0 where
+  pub made : IsMade OfCaches l history
+  pub within : length history ≤ l.room
   pub state : FlatState
   pub replays : replay l.image l.cores history ≡ Some state
   pub going : state.end ≡ None
   pub full : l.room < length history + (limits_of l.image.version).free_entries
 
 -- a run may stop so before its loop is over
-abbrev pub IsStop : RunOptions → LoadedImage → CommandStop → Type 0
-IsStop options image Write = ⊥
-IsStop options image HistoryFull = (history : List Entry) × IsFullHistory (loop_asked image options) history
-IsStop options image other = Unit {0}
+abbrev pub IsStop : Type 0 → Loop → CommandStop → Type 0
+IsStop OfCaches l Write = ⊥
+IsStop OfCaches l HistoryFull = (history : List Entry) × IsFullHistory OfCaches l history
+IsStop OfCaches l other = Unit {0}
 
 -- ---- outcomes
 
--- what running this image on so many cores as its version allows came to is right, and this was written
-abbrev pub IsRun : RunOptions → LoadedImage → Option (List ℕ) → Option (List ℕ) → Outcome → Type 0
-IsRun options image old new (Reported end) =
-    (end ≡ (sequential_result image).end) × (text : List ℕ) × IsPrinted image options text × Appends old new text
-IsRun options image old new (Stopped Write) = (text : List ℕ) × IsPrinted image options text × AppendsPrefix old new text
-IsRun options image old new (Stopped cause) = IsStop options image cause × Keeps old new
-IsRun options image old new other = ⊥
+-- what running this loop of the image came to is right, and this was written
+abbrev pub IsRun : Type 0 → LoadedImage → Loop → Bool → Option (List ℕ) → Option (List ℕ) → Outcome → Type 0
+IsRun OfCaches image l trace old new (Reported end) =
+    (end ≡ (sequential_result image).end) × (text : List ℕ) × IsPrinted OfCaches image l trace text × Appends old new text
+IsRun OfCaches image l trace old new (Stopped Write) = (text : List ℕ) × IsPrinted OfCaches image l trace text × AppendsPrefix old new text
+IsRun OfCaches image l trace old new (Stopped cause) = IsStop OfCaches l cause × Keeps old new
+IsRun OfCaches image l trace old new other = ⊥
 
--- the same of an image, whose version may not allow so many cores
-abbrev pub IsImageOutcome : RunOptions → LoadedImage → Option (List ℕ) → Option (List ℕ) → Outcome → Type 0
-IsImageOutcome options image old new Usage = ((limits_of image.version).most_cores < options.cores) × Keeps old new
-IsImageOutcome options image old new outcome = IsCoreCount image options.cores × IsRun options image old new outcome
+-- what came of a text is right: of its image, where it has one
+abbrev pub IsOutcomeOf : (LoadedImage → Outcome → Type 0) → List ℕ → Option (List ℕ) → Option (List ℕ) → Outcome → Type 0
+IsOutcomeOf IsRight text old new (BadImage fault) = IsRefusal fault.kind fault (image_text text) × Keeps old new
+IsOutcomeOf IsRight text old new (Stopped NoMemory) = Keeps old new
+IsOutcomeOf IsRight text old new outcome = MatchResult (image_text text) (λ image. IsRight image outcome) (λ fault. ⊥)
+
+-- ---- `run`, over caches
+
+-- what `run` came to for an image, whose version may not allow so many cores
+abbrev pub IsImageOutcome : RunOptions → Option (List ℕ) → Option (List ℕ) → LoadedImage → Outcome → Type 0
+IsImageOutcome options old new image Usage = ((limits_of image.version).most_cores < options.cores) × Keeps old new
+IsImageOutcome options old new image outcome = IsCoreCount image options.cores × IsRun (Unit {0}) image (loop_asked image options) options.trace old new outcome
 
 -- what `run` came to is right for this input, and this was written
 abbrev pub IsRunOutcome : RunOptions → List ℕ → Option (List ℕ) → Option (List ℕ) → Outcome → Type 0
-IsRunOutcome options text old new (BadImage fault) = IsRefusal fault.kind fault (image_text text) × Keeps old new
-IsRunOutcome options text old new (Stopped NoMemory) = Keeps old new
-IsRunOutcome options text old new outcome = MatchResult (image_text text) (λ image. IsImageOutcome options image old new outcome) (λ fault. ⊥)
+IsRunOutcome options text old new outcome = IsOutcomeOf (IsImageOutcome options old new) text old new outcome
 
 -- what `run` answers for an input
 abbrev pub RunAnswers : RunOptions → List ℕ → Option (List ℕ) → Option (List ℕ) → Option (List ℕ) → Option (List ℕ) → ℕ → Type 0

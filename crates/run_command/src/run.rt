@@ -4,8 +4,12 @@ ghost use Rattle.rv32_image.specs.Input.{TakesAtMost};
 ghost use Rattle.rv32_image.specs.Reading.{ForText};
 ghost use Rattle.rv32_exec.specs.Sequential.{sequential_result};
 ghost use Rattle.violations.specs.Rule.{IsCoreCount};
+ghost use Rattle.homefree.specs.Missed.{IsOfCaches};
+ghost use Rattle.trace_commands.specs.Outcome.{Conclusion};
 ghost use Rattle.run_command.specs.Run as spec;
+ghost use Rattle.run_command.specs.Threads.{IsMachineOutcome, IsThreadsOutcome};
 
+use crate::machine::runnable;
 use crate::options::RunOptions;
 use crate::text::printed;
 use core_threads::{Finished, Gate, Halted, RunFault, history_is_explained, run_cores};
@@ -15,16 +19,10 @@ use std::alloc::{AllocError, Global};
 use std::io::{Read, Write};
 use std::sync::Wait;
 use std::thread::Threads;
-use trace_commands::{CommandStop, Outcome, write_whole};
+use trace_commands::{CommandStop, MachineAsked, Outcome, write_whole};
+use violations::EpochStore;
 
-/// `run`: runs the image that the reader gives, its epochs speculatively on a thread for each core, over caches on a coherent bus, and writes the report; with a
-/// trace, below it `counts LOADS STORES RESTARTS COMMITS` and the trace of the history. Each core passes the gate before each of its
-/// turns. The cores are at least 1, and the room is 16 to 1,048,576 entries.
-///
-/// The status is 0 where the loop is done or exited, 1 where an epoch faulted, 2 where the image is refused, or is good and its version
-/// doesn't allow so many cores, and 3 where the run was stopped, memory ran out or a write failed. In the last cases
-/// one line on the error stream says which. All that is written was made before the first byte: nothing was written where the
-/// status is 2 or the run was stopped, and after a failed write a prefix was.
+/// `run`: `do_threads` over caches on a coherent bus, on the machine of the image's version.
 pub fn do_run<G: Gate, T: Threads + Wait + Sync, R: Read, W: Write, E: Write>(
     rt: &T,
     alloc: Global,
@@ -41,13 +39,43 @@ pub fn do_run<G: Gate, T: Threads + Wait + Sync, R: Read, W: Write, E: Write>(
         spec.RunAnswers options text (W.contents writer.old) (W.contents writer.new) (E.contents errors.old) (E.contents errors.new) result) }
     ensures taken { TakesAtMost (R.remaining reader.old) (R.remaining reader.new) (longest_image_text + 1) }
 {
-    run_input(rt, alloc, options, gate, reader, writer).conclude(errors)
+    let asked = MachineAsked::NOTHING;
+    do_threads::<CachedBus, G, T, R, W, E>(rt, alloc, asked, options, gate, reader, writer, errors)
 }
 
-/// Runs `run`, all but its line on the error stream.
-fn run_input<G: Gate, T: Threads + Wait + Sync, R: Read, W: Write>(
+/// Runs the image that the reader gives, its epochs speculatively on a thread for each core, over a fresh store on the machine that is
+/// asked for, and writes the report; with a trace, below it `counts LOADS STORES RESTARTS COMMITS` and the trace of the history. Each
+/// core passes the gate before each of its turns. The cores are at least 1, and the room is 16 to 1,048,576 entries.
+///
+/// The status is 0 where the loop is done or exited, 1 where an epoch faulted, 2 where the image is refused, or is good and its version
+/// doesn't allow so many cores or there is no such machine for it, and 3 where the run was stopped, memory ran out or a write failed.
+/// With 2 and 3 one line on the error stream says which. All that is written was made before the first byte: nothing was written where
+/// the status is 2 or the run was stopped, and after a failed write a prefix was.
+pub fn do_threads<S: EpochStore, G: Gate, T: Threads + Wait + Sync, R: Read, W: Write, E: Write>(
     rt: &T,
     alloc: Global,
+    asked: MachineAsked,
+    options: RunOptions,
+    gate: &G,
+    reader: &mut R,
+    writer: &mut W,
+    errors: &mut E,
+) -> u8
+    requires cores { 1 ≤ options.cores }
+    requires least { 16 ≤ options.room }
+    requires most { options.room ≤ 1048576 }
+    ensures outcome { ForText (R.remaining reader.old) (λ text.
+        Conclusion (IsThreadsOutcome (IsOfCaches S.view) asked options text (W.contents writer.old) (W.contents writer.new)) (E.contents errors.old) (E.contents errors.new) result) }
+    ensures taken { TakesAtMost (R.remaining reader.old) (R.remaining reader.new) (longest_image_text + 1) }
+{
+    run_input::<S, G, T, R, W>(rt, alloc, asked, options, gate, reader, writer).conclude(errors)
+}
+
+/// Runs an input, all but its line on the error stream.
+fn run_input<S: EpochStore, G: Gate, T: Threads + Wait + Sync, R: Read, W: Write>(
+    rt: &T,
+    alloc: Global,
+    asked: MachineAsked,
     options: RunOptions,
     gate: &G,
     reader: &mut R,
@@ -56,16 +84,38 @@ fn run_input<G: Gate, T: Threads + Wait + Sync, R: Read, W: Write>(
     requires cores { 1 ≤ options.cores }
     requires least { 16 ≤ options.room }
     requires most { options.room ≤ 1048576 }
-    ensures outcome { ForText (R.remaining reader.old) (λ text. spec.IsRunOutcome options text (W.contents writer.old) (W.contents writer.new) result) }
+    ensures outcome { ForText (R.remaining reader.old) (λ text.
+        IsThreadsOutcome (IsOfCaches S.view) asked options text (W.contents writer.old) (W.contents writer.new) result) }
     ensures taken { TakesAtMost (R.remaining reader.old) (R.remaining reader.new) (longest_image_text + 1) }
 {
     match read_image(alloc, reader) {
-        Ok(image) => run_image(rt, alloc, options, gate, &image, writer),
+        Ok(image) => run_image::<S, G, T, W>(rt, alloc, asked, options, gate, image, writer),
         Err(fault) => Outcome::of_fault(fault),
     }
 }
 
-fn run_image<G: Gate, T: Threads + Wait + Sync, W: Write>(
+fn run_image<S: EpochStore, G: Gate, T: Threads + Wait + Sync, W: Write>(
+    rt: &T,
+    alloc: Global,
+    asked: MachineAsked,
+    options: RunOptions,
+    gate: &G,
+    image: Image,
+    writer: &mut W,
+) -> Outcome
+    requires cores { 1 ≤ options.cores }
+    requires least { 16 ≤ options.room }
+    requires most { options.room ≤ 1048576 }
+    ensures { IsMachineOutcome (IsOfCaches S.view) asked options (W.contents writer.old) (W.contents writer.new) image result }
+{
+    match runnable(image, asked, options.cores) {
+        Some(image) => run_runnable::<S, G, T, W>(rt, alloc, options, gate, &image, writer),
+        None => Outcome::Usage,
+    }
+}
+
+/// Runs an image on its own machine, on so many cores as its version allows.
+fn run_runnable<S: EpochStore, G: Gate, T: Threads + Wait + Sync, W: Write>(
     rt: &T,
     alloc: Global,
     options: RunOptions,
@@ -73,15 +123,12 @@ fn run_image<G: Gate, T: Threads + Wait + Sync, W: Write>(
     image: &Image,
     writer: &mut W,
 ) -> Outcome
-    requires cores { 1 ≤ options.cores }
+    requires cores { IsCoreCount image.now options.cores }
     requires least { 16 ≤ options.room }
     requires most { options.room ≤ 1048576 }
-    ensures { spec.IsImageOutcome options image.now (W.contents writer.old) (W.contents writer.new) result }
+    ensures { spec.IsRun (IsOfCaches S.view) image.now (spec.loop_asked image.now options) options.trace (W.contents writer.old) (W.contents writer.new) result }
 {
-    if image.version().limits().most_cores < options.cores {
-        return Outcome::Usage;
-    }
-    match run_and_print(rt, alloc, options, gate, image) {
+    match run_and_print::<S, G, T>(rt, alloc, options, gate, image) {
         Ok((end, text)) => {
             if write_whole(writer, text.as_slice()) {
                 Outcome::Reported(end)
@@ -94,7 +141,7 @@ fn run_image<G: Gate, T: Threads + Wait + Sync, W: Write>(
 }
 
 /// How the loop ends on so many cores, and all that is printed of the run.
-fn run_and_print<G: Gate, T: Threads + Wait + Sync>(
+fn run_and_print<S: EpochStore, G: Gate, T: Threads + Wait + Sync>(
     rt: &T,
     alloc: Global,
     options: RunOptions,
@@ -105,10 +152,10 @@ fn run_and_print<G: Gate, T: Threads + Wait + Sync>(
     requires least { 16 ≤ options.room }
     requires most { options.room ≤ 1048576 }
     ensures end { IfOk result (λ r. r.0 ≡ (sequential_result image.now).end) }
-    ensures text { IfOk result (λ r. spec.IsPrinted image.now options r.1.items) }
-    ensures stopped { IfErr result (λ cause. spec.IsStop options image.now cause) }
+    ensures text { IfOk result (λ r. spec.IsPrinted (IsOfCaches S.view) image.now (spec.loop_asked image.now options) options.trace r.1.items) }
+    ensures stopped { IfErr result (spec.IsStop (IsOfCaches S.view) (spec.loop_asked image.now options)) }
 {
-    let run: Result<Finished<CachedBus>, Halted<CachedBus>> = run_cores(
+    let run: Result<Finished<S>, Halted<S>> = run_cores(
         rt,
         alloc,
         image,

@@ -30,8 +30,7 @@ pub(crate) fn printed<S: EpochStore>(
 ) -> Result<Vec<u8>, AllocError>
     requires finishes { Finishes S.view (spec.loop_asked image.now options) run.now.book run.now.end run.now.totals run.now.counted }
     requires explained { Explains S.view run.now.book }
-    requires caches { IsOfCaches S.view }
-    ensures { IfOk result (λ text. spec.IsPrinted image.now options text.items) }
+    ensures { IfOk result (λ text. spec.IsPrinted (IsOfCaches S.view) image.now (spec.loop_asked image.now options) options.trace text.items) }
 {
     let report = report_of(alloc, image, run)?;
     if !options.trace {
