@@ -98,14 +98,15 @@ AUDITS = [
     ("an image that is refused", traced(FOUR + "at 00000000 00\n", NINE), refused(5, "Place")),
 ]
 
+TRACED = ("end done 1\ncounts 1 1 0 1\ntrace 1\n0 start 0\n0 load 00000040 4 00000000\n0 store 00000040 4 00000000\n"
+          "0 commit\n", "", 0)
+
 # the same, of runs: (what it shows, words, image text, what is printed)
 ON_THREADS: list[tuple[str, list[str], str, Outcome]] = [
     ("four epochs on four cores", ["run", "--cores", "4"], FOUR, done(4, at(0x40, "06"))),
     ("a word for each epoch", ["run", "--cores", "4"], image("9312250023a0a20467800000", epochs=4),
      done(4, at(0x40, "00000000010000000200000003000000"))),
-    ("a trace", ["run", "--cores", "1", "--trace"], image(COUNTER),
-     ("end done 1\ncounts 1 1 0 1\ntrace 1\n0 start 0\n0 load 00000040 4 00000000\n0 store 00000040 4 00000000\n0 "
-      "commit\n", "", 0)),
+    ("a trace", ["run", "--cores", "1", "--trace"], image(COUNTER), TRACED),
     ("more cores than the version allows", ["run", "--cores", "9"], FOUR, ("", "usage\n", 2)),
 ]
 
@@ -192,16 +193,25 @@ def audits(command: list[str], shim: Path) -> Iterator[Check]:
         yield name, differences([*command[:-1], "audit"], shim, text, expected)[0]
 
 
+def on_cores(name: str, run_on: list[str], cores: str, shim: Path, text: str, expected: Outcome) -> Iterator[Check]:
+    """Allocations of a run on so many cores, and its threads."""
+    starts = (NO_THREAD, expected) if expected[0] else ()
+    yield name, differences(run_on, shim, text, expected, (STOPPED, *starts))[0]
+    wrong, number = differences(run_on, shim, text, expected, starts, "thread")
+    threads = int(cores) if starts else 0
+    if not wrong and number != threads + 1:
+        wrong = f"{number - 1} threads were started, not {threads}"
+    yield f"{name}, threads", wrong
+
+
 def on_threads(command: list[str], shim: Path) -> Iterator[Check]:
-    """Allocations of runs on threads, and the threads themselves."""
+    """Runs on threads, over the caches of `run` and over other stores."""
     for name, words, text, expected in ON_THREADS:
-        starts = (NO_THREAD, expected) if expected[0] else ()
-        yield name, differences([*command[:-1], *words], shim, text, expected, (STOPPED, *starts))[0]
-        wrong, number = differences([*command[:-1], *words], shim, text, expected, starts, "thread")
-        threads = int(words[2]) if starts else 0
-        if not wrong and number != threads + 1:
-            wrong = f"{number - 1} threads were started, not {threads}"
-        yield f"{name}, threads", wrong
+        yield from on_cores(name, [*command[:-1], *words], words[2], shim, text, expected)
+    replay = beside(command, "replay")
+    for store in ("plain", "caches:sets=64,ways=4,buffer=16") if replay else ():
+        yield from on_cores(f"a trace over {store}", [str(replay), "threads", store, "1"], "1", shim, image(COUNTER),
+                            TRACED)
 
 
 def others(command: list[str], shim: Path) -> Iterator[Check]:

@@ -95,7 +95,8 @@ CALLS: Calls = {
 }
 ALL_OF_REPLAY: Calls = {
     "a schedule": lambda word: ([word, "2"], EVEN + "turns 0 1 0\n"),
-    "seeded": lambda word: (["seeded", "1", word, "2"], EVEN), "all": lambda word: (["all", word, "2", "3"], EVEN),
+    "seeded": lambda word: (["seeded", "1", word, "2"], EVEN),
+    "threads": lambda word: (["threads", word, "2"], EVEN), "all": lambda word: (["all", word, "2", "3"], EVEN),
     "steps": lambda word: (["steps", word, "2"], EVEN + "turns 0 1 0\n"),
     "a trace": lambda word: ([word], EVEN + TRACE),
 }

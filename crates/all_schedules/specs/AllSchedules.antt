@@ -1,6 +1,6 @@
 -- What every schedule of a loop comes to, and what was written of it.
 -- Source: this project.
-use Rattle.std.specs.Prelude.{◌≡◌, ◌⊎◌, ℕ, ◌<◌, List, Option, MatchResult, Contains}
+use Rattle.std.specs.Prelude.{◌≡◌, ◌⊎◌, ℕ, List, Option, MatchResult, Contains}
 use Rattle.std.specs.Io.KnownBytes.{Appends, Keeps}
 use Rattle.rv32_image.specs.ImageText.{image_text}
 use Rattle.rv32_image.specs.Image.{LoadedImage}
@@ -14,7 +14,8 @@ use Rattle.trace_commands.specs.declared.outcome.CommandStop.TheVariants.{Write,
 use Rattle.trace_commands.specs.Outcome.{AppendsPrefix, Conclusion, IsRefusal}
 use Rattle.all_schedules.specs.declared.survey.Survey.{Survey}
 use Rattle.all_schedules.specs.declared.settings.Settings.{Settings}
-use Rattle.all_schedules.specs.Settings.{IsRunnable, loop_with}
+use Rattle.run_command.specs.Runnable.{IsRunnable}
+use Rattle.all_schedules.specs.Settings.{loop_with}
 use Rattle.all_schedules.specs.Made.{IsFull}
 use Rattle.all_schedules.specs.Schedules.{AreAllSchedules}
 use Rattle.all_schedules.specs.Survey.{Surveys}

@@ -13,7 +13,7 @@ use Rattle.all_schedules.specs.declared.paced.Pace.{Pace}
 use Rattle.all_schedules.specs.declared.paced.Pace.TheVariants.{Even, Seeded}
 use Rattle.trace_commands.specs.Stores.{store_named}
 use Rattle.all_schedules.specs.declared.words.Turns.{Turns}
-use Rattle.all_schedules.specs.declared.words.Turns.TheVariants.{Given, Every, Paced}
+use Rattle.all_schedules.specs.declared.words.Turns.TheVariants.{Given, Every, Paced, Threaded}
 use Rattle.all_schedules.specs.declared.words.Request.{Request}
 
 -- ---- words
@@ -56,6 +56,13 @@ paced pace (store ∷ words) = do
   cores ← only_up_to_16 words
   over store (Paced pace cores)
 
+-- `threads STORE CORES`: a run on threads
+unfoldable pub threaded : List (List ℕ) → Option Request
+threaded [] = None
+threaded (store ∷ words) = do
+  cores ← only_up_to_16 words
+  over store (Threaded cores)
+
 -- `seeded SEED STORE CORES`: by the pace that a seed draws
 unfoldable pub seeded : List (List ℕ) → Option Request
 seeded [] = None
@@ -82,6 +89,7 @@ command word words =
     else if bytes_eq word (codes "even") then paced Even words
     else if bytes_eq word (codes "seeded") then seeded words
     else if bytes_eq word (codes "all") then every words
+    else if bytes_eq word (codes "threads") then threaded words
     else given Whole word words
 
 -- the command that stands behind the program's name

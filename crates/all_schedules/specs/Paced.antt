@@ -1,6 +1,6 @@
 -- What a run comes to whose turns the program takes by its own pace, at even speed or as a seed draws them, and what was written of it.
 -- Source: this project.
-use Rattle.std.specs.Prelude.{◌≡◌, ℕ, ◌<◌, ◌++◌, List, Option, Some, Ok, MatchResult}
+use Rattle.std.specs.Prelude.{◌≡◌, ℕ, ◌++◌, List, Option, Some, Ok, MatchResult}
 use Rattle.std.specs.Io.KnownBytes.{Appends, Keeps}
 use Rattle.rv32_image.specs.ImageText.{image_text}
 use Rattle.rv32_image.specs.Image.{LoadedImage}
@@ -18,7 +18,8 @@ use Rattle.homefree.specs.declared.fault.TurnFault.{TurnFault}
 use Rattle.rv32_exec.specs.declared.sequential.End.{End}
 use Rattle.even_speed.specs.declared.run.Ran.{Ran}
 use Rattle.all_schedules.specs.declared.settings.Settings.{Settings}
-use Rattle.all_schedules.specs.Settings.{IsRunnable, loop_with}
+use Rattle.run_command.specs.Runnable.{IsRunnable}
+use Rattle.all_schedules.specs.Settings.{loop_with}
 use Rattle.all_schedules.specs.Evenly.{IsEvenFault, MakesEvenly}
 use Rattle.all_schedules.specs.Drawn.{IsDrawnFault, MakesDrawn}
 use Rattle.all_schedules.specs.SurveyText.{turns_line}

@@ -7,7 +7,7 @@ use Rattle.trace_commands.specs.declared.outcome.Outcome.TheVariants.{Usage, Sto
 use Rattle.trace_commands.specs.declared.outcome.CommandStop.TheVariants.{NoMemory}
 use Rattle.trace_commands.specs.declared.store.Store.{Store}
 use Rattle.trace_commands.specs.Stores.{asked_by, on_machine, store_named}
-use Rattle.all_schedules.specs.Settings.{IsRunnable}
+use Rattle.run_command.specs.Runnable.{IsRunnable}
 
 -- the loop on the machine that a store asks for
 abbrev pub on_store : Store → LoadedImage → LoadedImage

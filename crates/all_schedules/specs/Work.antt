@@ -1,5 +1,5 @@
 -- What the program answers.
-use Rattle.std.specs.Prelude.{ℕ, ◌+◌, ◌^◌, ◌≤◌, List, Option, Some, None, IfSome}
+use Rattle.std.specs.Prelude.{ℕ, ◌+◌, ◌^◌, ◌≤◌, true, List, Option, Some, None, IfSome}
 use Rattle.rv32_image.specs.ImageText.{longest_image_text}
 use Rattle.rv32_image.specs.Input.{TakesAtMost}
 use Rattle.rv32_image.specs.Image.{LoadedImage}
@@ -8,6 +8,7 @@ use Rattle.violations.specs.Calls.{Call}
 use Rattle.violations.specs.Plain as plain
 use Rattle.spec_bus.specs.Cached as caches
 use Rattle.spec_bus.specs.Laws as cache
+use Rattle.homefree.specs.Missed.{IsOfCaches}
 use Rattle.trace_text.specs.TraceText.{longest_trace_text}
 use Rattle.turn_steps.specs.Caches.{cached_changes}
 use Rattle.turn_steps.specs.KeptCores.{plain_changes}
@@ -15,9 +16,11 @@ use Rattle.trace_commands.specs.Outcome.{Conclusion}
 use Rattle.trace_commands.specs.declared.store.Store.{Store}
 use Rattle.trace_commands.specs.declared.store.Store.TheVariants.{Caches, Plain}
 use Rattle.trace_commands.specs.Stores.{asked_by}
+use Rattle.run_command.specs.declared.options.RunOptions.{RunOptions}
+use Rattle.run_command.specs.Threads.{IsThreadsOutcome}
 use Rattle.all_schedules.specs.declared.settings.Settings.{Settings}
 use Rattle.all_schedules.specs.declared.words.Turns.{Turns}
-use Rattle.all_schedules.specs.declared.words.Turns.TheVariants.{Given, Every, Paced}
+use Rattle.all_schedules.specs.declared.words.Turns.TheVariants.{Given, Every, Paced, Threaded}
 use Rattle.all_schedules.specs.declared.words.Request.{Request}
 use Rattle.all_schedules.specs.Asked.{request_in}
 use Rattle.all_schedules.specs.AllSchedules.{AllAnswers}
@@ -31,9 +34,14 @@ abbrev pub AreTurns : Turns → Type 0
 AreTurns (Given detail cores) = IfSome cores IsUpTo16
 AreTurns (Every cores turns) = IsUpTo16 cores × IsUpTo16 turns × (cores ^ turns ≤ 65536)
 AreTurns (Paced pace cores) = IsUpTo16 cores
+AreTurns (Threaded cores) = IsUpTo16 cores
+
+-- a run on threads that prints its trace
+abbrev pub options_of : Settings → ℕ → RunOptions
+options_of settings cores = record { cores = cores; room = settings.room; trace = true }
 
 -- over a store: the trace or the schedule of the input was replayed, every schedule of so many turns was driven, or the run was by
--- this pace; and of the input no more than it may be long, and one byte, was taken
+-- this pace or on threads; and of the input no more than it may be long, and one byte, was taken
 abbrev pub TurnsAnswer : {S : Type 0} → (LoadedImage → ℕ → S → Type 0) → (S → Call → S → Type 0) → (S → StoreView) → (S → Waits) → (ℕ → S → S → List ℕ) → Settings → Turns → List ℕ → Stream → Stream → Stream → ℕ → Type 0
 TurnsAnswer starts makes view waits changes settings (Given detail cores) text input output errors status =
     Conclusion (IsReplayOutcome starts makes view waits (IsHead starts makes view waits changes detail) cores settings text output.old output.new) errors.old errors.new status
@@ -42,6 +50,9 @@ TurnsAnswer starts makes view waits changes settings (Every cores turns) text in
     AllAnswers starts makes view waits cores settings turns text output errors status × TakesAtMost input.old input.new (longest_image_text + 1)
 TurnsAnswer starts makes view waits changes settings (Paced pace cores) text input output errors status =
     Conclusion (IsPacedOutcome starts makes view waits pace cores settings text output.old output.new) errors.old errors.new status
+    × TakesAtMost input.old input.new (longest_image_text + 1)
+TurnsAnswer starts makes view waits changes settings (Threaded cores) text input output errors status =
+    Conclusion (IsThreadsOutcome (IsOfCaches view) settings.asked (options_of settings cores) text output.old output.new) errors.old errors.new status
     × TakesAtMost input.old input.new (longest_image_text + 1)
 
 -- what the store asks for, and so much room for a history

@@ -10,9 +10,10 @@ ghost use Rattle.all_schedules.specs.AllSchedules as spec;
 
 use crate::replay::cause_of;
 use crate::schedules::every_schedule;
-use crate::settings::{Settings, runnable};
+use crate::settings::Settings;
 use crate::survey::survey_schedules;
 use crate::text::print_survey;
+use run_command::runnable;
 use rv32_image::{Image, read_image};
 use std::alloc::{AllocError, Global};
 use std::io::{Read, Write};

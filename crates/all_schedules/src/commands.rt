@@ -7,22 +7,29 @@ use crate::paced::do_paced;
 use crate::replay::do_replay;
 use crate::settings::Settings;
 use crate::words::{Turns, request_of};
+use core_threads::Gate;
+use run_command::{RunOptions, do_threads};
 use spec_bus::CachedBus;
 use std::alloc::Global;
 use std::convert::AsStr;
 use std::io::{Read, Write};
+use std::sync::Wait;
+use std::thread::Threads;
 use trace_commands::{MachineAsked, Outcome, Store};
 use turn_steps::ShownStore;
 use violations::PlainStore;
 
 /// The whole program: replays over the store that the words ask for, the first of which is the program's name, or
-/// drives every schedule of so many turns, or runs by a pace, and answers its status: what `request_in` of `specs/Asked.antt` says.
+/// drives every schedule of so many turns, or runs by a pace or on threads, whose turns pass this gate, and answers its status: what
+/// `request_in` of `specs/Asked.antt` says.
 ///
 /// Any other words are refused as `usage`, with status 2, and nothing is read or written. The room is 16 to 1,048,576 entries.
-pub fn work<S: AsStr, R: Read, W: Write, E: Write>(
+pub fn work<S: AsStr, G: Gate, T: Threads + Wait + Sync, R: Read, W: Write, E: Write>(
+    rt: &T,
     alloc: Global,
     words: &[S],
     room: u32,
+    gate: &G,
     reader: &mut R,
     writer: &mut W,
     errors: &mut E,
@@ -38,15 +45,26 @@ pub fn work<S: AsStr, R: Read, W: Write, E: Write>(
         Some(request) => match request.store {
             Store::Caches(asked) => {
                 let settings = Settings { asked, room };
-                answer::<CachedBus, R, W, E>(alloc, request.turns, settings, reader, writer, errors)
+                answer::<CachedBus, G, T, R, W, E>(
+                    rt,
+                    alloc,
+                    request.turns,
+                    settings,
+                    gate,
+                    reader,
+                    writer,
+                    errors,
+                )
             }
             Store::Plain => {
                 let asked = MachineAsked::NOTHING;
                 let settings = Settings { asked, room };
-                answer::<PlainStore, R, W, E>(
+                answer::<PlainStore, G, T, R, W, E>(
+                    rt,
                     alloc,
                     request.turns,
                     settings,
+                    gate,
                     reader,
                     writer,
                     errors,
@@ -58,10 +76,12 @@ pub fn work<S: AsStr, R: Read, W: Write, E: Write>(
 }
 
 /// Takes these turns over this store.
-fn answer<S: ShownStore, R: Read, W: Write, E: Write>(
+fn answer<S: ShownStore, G: Gate, T: Threads + Wait + Sync, R: Read, W: Write, E: Write>(
+    rt: &T,
     alloc: Global,
     turns: Turns,
     settings: Settings,
+    gate: &G,
     reader: &mut R,
     writer: &mut W,
     errors: &mut E,
@@ -83,6 +103,15 @@ fn answer<S: ShownStore, R: Read, W: Write, E: Write>(
         }
         Turns::Paced { pace, cores } => {
             do_paced::<S, R, W, E>(alloc, pace, cores, settings, reader, writer, errors)
+        }
+        Turns::Threaded { cores } => {
+            let asked = settings.asked;
+            let options = RunOptions {
+                cores,
+                room: settings.room,
+                trace: true,
+            };
+            do_threads::<S, G, T, R, W, E>(rt, alloc, asked, options, gate, reader, writer, errors)
         }
     }
 }

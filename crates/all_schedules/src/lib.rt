@@ -33,7 +33,7 @@ pub use paced::do_paced;
 pub use replay::do_replay;
 pub use schedules::every_schedule;
 pub use seeded::{SeededRun, run_seeded};
-pub use settings::{Settings, runnable};
+pub use settings::Settings;
 pub use stores::{check_stores, store_on};
 pub use survey::{Extreme, Survey, survey_schedules};
 pub use text::{print_survey, push_turns};

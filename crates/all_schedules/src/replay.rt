@@ -12,11 +12,12 @@ ghost use Rattle.all_schedules.specs.Told.{IsHead};
 
 use crate::detail::Detail;
 use crate::driving::drive_schedule;
-use crate::settings::{Settings, runnable};
+use crate::settings::Settings;
 use crate::told::{show_told, tell_turns};
 use crate::traced::{begins_trace, retrace};
 use crate::turns::read_turns;
 use homefree::TurnFault;
+use run_command::runnable;
 use rv32_image::{Image, image_of, parts_of, read_input};
 use std::alloc::Global;
 use std::io::{Read, Write};

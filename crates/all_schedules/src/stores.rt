@@ -2,10 +2,10 @@
 ghost use Rattle.std.specs.Prelude.{◌≡◌, ◌≤◌, true, IfOk, MatchResult, Some, map};
 ghost use Rattle.std.specs.List.{list_all};
 ghost use Rattle.trace_commands.specs.Stores.{names_store, store_named};
-ghost use Rattle.all_schedules.specs.Settings.{IsRunnable};
+ghost use Rattle.run_command.specs.Runnable.{IsRunnable};
 ghost use Rattle.all_schedules.specs.Stores as spec;
 
-use crate::settings::runnable;
+use run_command::runnable;
 use rv32_image::Image;
 use std::alloc::{AllocError, Global};
 use std::convert::AsStr;

@@ -18,6 +18,8 @@ pub enum Turns {
     Every { cores: u32, turns: u32 },
     /// Those of the run by this pace.
     Paced { pace: Pace, cores: u32 },
+    /// Those of threads, one for each core, as they come.
+    Threaded { cores: u32 },
 }
 
 /// What the words of a command line ask for.
@@ -52,6 +54,8 @@ fn command<S: AsStr>(word: &str, words: &[S]) -> Option<Request>
         seeded(words)
     } else if word == "all" {
         every(words)
+    } else if word == "threads" {
+        threaded(words)
     } else {
         given(Detail::Whole, word, words)
     }
@@ -94,6 +98,17 @@ fn paced<S: AsStr>(pace: Pace, words: &[S]) -> Option<Request>
     let (store, words) = first_word(words)?;
     let cores = only_number(words)?;
     over(store, Turns::Paced { pace, cores })
+}
+
+/// `threads STORE CORES`.
+#[tactic(auto, unfolding(crate::specs::Asked::threaded))]
+fn threaded<S: AsStr>(words: &[S]) -> Option<Request>
+    ensures asked { result ≡ spec.threaded (map S.text words.now) }
+    ensures turns { IfSome result (λ request. AreTurns request.turns) }
+{
+    let (store, words) = first_word(words)?;
+    let cores = only_number(words)?;
+    over(store, Turns::Threaded { cores })
 }
 
 /// `seeded SEED STORE CORES`.

@@ -1,8 +1,9 @@
 //! Runs that can be repeated: `replay STORE CORES` takes an image and lines of turns on standard input, `replay STORE` an image and a
-//! trace, and prints what exactly that schedule makes, over the store `caches` or `plain`.
+//! trace, and prints what exactly that schedule makes, over the store `caches` or `plain`; and runs on threads over that store.
 #![tactic(auto)]
 
 use all_schedules::work;
+use core_threads::Open;
 use std::alloc::Global;
 use std::process::ExitCode;
 use trace_commands::{ROOM, words_given};
@@ -10,9 +11,11 @@ use trace_commands::{ROOM, words_given};
 fn main(rt: HostRuntime) -> ExitCode {
     let status = match words_given(&rt) {
         Ok(words) => work(
+            &rt,
             rt.alloc(),
             words.as_slice(),
             ROOM,
+            &Open,
             &mut rt.stdin(),
             &mut rt.stdout(),
             &mut rt.stderr(),

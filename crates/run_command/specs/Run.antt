@@ -113,7 +113,7 @@ IsOutcomeOf IsRight text old new (BadImage fault) = IsRefusal fault.kind fault (
 IsOutcomeOf IsRight text old new (Stopped NoMemory) = Keeps old new
 IsOutcomeOf IsRight text old new outcome = MatchResult (image_text text) (λ image. IsRight image outcome) (λ fault. ⊥)
 
--- ---- `run`, over caches
+-- ---- `run`, whose store is one of caches: nothing is left to show of that
 
 -- what `run` came to for an image, whose version may not allow so many cores
 abbrev pub IsImageOutcome : RunOptions → Option (List ℕ) → Option (List ℕ) → LoadedImage → Outcome → Type 0

@@ -1,9 +1,11 @@
-//! The command `run`: what no contract can say, which is that a run with room and memory comes to its end, and which failures stop it.
+//! Runs on threads, the command `run` among them: what no contract can say, which is that a run with room and memory comes to its end,
+//! and which failures stop it.
 
 use crate::words::{cell, is_row, number};
 use core_threads::{Gate, Open, Shut};
-use run_command::{RunOptions, do_run};
-use rv32_exec::Arrived;
+use run_command::{RunOptions, do_run, do_threads, runnable};
+use rv32_exec::{Arrived, read_image};
+use spec_bus::CachedBus;
 use std::alloc::Global;
 use std::io;
 use std::io::{Error, ErrorKind, Read, Write};
@@ -11,6 +13,8 @@ use std::process::Abort;
 use std::sync::Wait;
 use std::test::Fail;
 use std::thread::Threads;
+use trace_commands::{MachineAsked, store_named};
+use violations::{EpochStore, PlainStore};
 
 /// The image whose epochs add their numbers to one word.
 const COUNTER: &str = "size 256\nepochs 4\nlimit 100\ncode 83220004b382a2002320500467800000\n";
@@ -70,37 +74,122 @@ fn ran<G: Gate, T: Abort + Threads + Wait + Sync, R: Read, W: Write>(
     do_run(rt, alloc, options, gate, reader, writer, errors)
 }
 
-/// The run of a row answers as the row says.
-fn answers<T: Abort + Threads + Wait + Sync>(rt: &T, alloc: Global, line: &str) {
-    let options = RunOptions {
+/// The same over a store on this machine.
+fn ran_over<S: EpochStore, T: Abort + Threads + Wait + Sync>(
+    rt: &T,
+    alloc: Global,
+    asked: MachineAsked,
+    options: RunOptions,
+    mut reader: &[u8],
+    writer: &mut Vec<u8>,
+    errors: &mut Vec<u8>,
+) -> u8 {
+    assert!(rt; 1 <= options.cores && 16 <= options.room && options.room <= 1_048_576);
+    do_threads::<S, Open, T, &[u8], Vec<u8>, Vec<u8>>(
+        rt,
+        alloc,
+        asked,
+        options,
+        &Open,
+        &mut reader,
+        writer,
+        errors,
+    )
+}
+
+/// What a run came to is what its row says.
+fn is_of_row<A: Abort>(rt: &A, line: &str, status: u8, printed: &[u8], told: &[u8]) {
+    assert!(rt; u32::from(status) == number(cell(line, 4), 0), "{line}");
+    assert!(rt; printed == text_of(cell(line, 5)).as_bytes(), "{line}");
+    assert!(rt; is_line(told, cell(line, 6)), "{line}");
+}
+
+fn options_of(line: &str) -> RunOptions {
+    RunOptions {
         cores: number(cell(line, 0), 0),
         room: number(cell(line, 1), 0),
         trace: cell(line, 2) == "traced",
-    };
+    }
+}
+
+/// The run of a row answers as the row says.
+fn answers<T: Abort + Threads + Wait + Sync>(rt: &T, alloc: Global, line: &str) {
     let mut reader = text_of(cell(line, 3)).as_bytes();
     let mut printed = Vec::new(alloc);
     let mut told = Vec::new(alloc);
     let status = ran(
         rt,
         alloc,
-        options,
+        options_of(line),
         &Open,
         &mut reader,
         &mut printed,
         &mut told,
     );
-    assert!(rt; u32::from(status) == number(cell(line, 4), 0), "{line}");
-    assert!(rt;
-        printed.as_slice() == text_of(cell(line, 5)).as_bytes(),
-        "{line}"
+    is_of_row(rt, line, status, printed.as_slice(), told.as_slice());
+}
+
+/// So does that over another store.
+fn answers_over<S: EpochStore, T: Abort + Threads + Wait + Sync>(
+    rt: &T,
+    alloc: Global,
+    asked: MachineAsked,
+    line: &str,
+) {
+    let mut printed = Vec::new(alloc);
+    let mut told = Vec::new(alloc);
+    let status = ran_over::<S, T>(
+        rt,
+        alloc,
+        asked,
+        options_of(line),
+        text_of(cell(line, 3)).as_bytes(),
+        &mut printed,
+        &mut told,
     );
-    assert!(rt; is_line(told.as_slice(), cell(line, 6)), "{line}");
+    is_of_row(rt, line, status, printed.as_slice(), told.as_slice());
+}
+
+/// The machine that these words ask for.
+fn asked(words: &str) -> MachineAsked {
+    match store_named(words) {
+        Some(store) => store.asked(),
+        None => MachineAsked::NOTHING,
+    }
 }
 
 #[test]
 fn a_run_answers(rt: HostRuntime) {
+    let large = asked("caches:sets=64,ways=4,buffer=16");
     for line in RUNS.split('\n').filter(|line| is_row(line)) {
         answers(&rt, rt.alloc(), line);
+        answers_over::<CachedBus, HostRuntime>(&rt, rt.alloc(), large, line);
+        answers_over::<PlainStore, HostRuntime>(&rt, rt.alloc(), MachineAsked::NOTHING, line);
+    }
+}
+
+/// On so many cores and this machine, whether the loop can be run.
+const RUNNABLE: &str = "
+1 | caches | yes
+8 | caches | yes
+9 | caches | no
+8 | caches:sets=64,ways=4,buffer=16 | yes
+9 | caches:sets=64,ways=4,buffer=16 | no
+8 | caches:line=64 | yes
+1 | caches:line=48 | no
+1 | caches:sets=3 | no
+";
+
+#[test]
+fn a_loop_is_runnable_on_some_machines(rt: HostRuntime) {
+    for line in RUNNABLE.split('\n').filter(|line| is_row(line)) {
+        let mut reader = COUNTER.as_bytes();
+        let Ok(image) = read_image(rt.alloc(), &mut reader) else {
+            assert!(rt; false);
+            return;
+        };
+        let on = runnable(image, asked(cell(line, 1)), number(cell(line, 0), 0).max(1));
+        assert!(rt; on.is_some() == (cell(line, 2) == "yes"), "{line}");
     }
 }
 

@@ -2,15 +2,17 @@ use Rattle.std.proofs.Common.{◌+◌, sym, subst}
 use Rattle.rv32_image.specs.ImageText.{longest_image_text}
 use Rattle.rv32_image.specs.Input.{TakesAtMost}
 use Rattle.rv32_image.specs.Reading.{ForText}
+use Rattle.homefree.specs.Missed.{IsOfCaches}
 use Rattle.trace_text.specs.TraceText.{longest_trace_text}
 use Rattle.trace_commands.specs.Outcome.{Conclusion}
+use Rattle.run_command.specs.Threads.{IsThreadsOutcome}
 use Rattle.all_schedules.specs.declared.words.Turns.{Turns}
 use Rattle.all_schedules.specs.AllSchedules.{AllAnswers}
 use Rattle.all_schedules.specs.Paced.{IsPacedOutcome}
 use Rattle.all_schedules.specs.Replay.{IsReplayOutcome}
 use Rattle.trace_commands.specs.Program.{Stream}
 use Rattle.all_schedules.specs.Told.{IsHead}
-use Rattle.all_schedules.specs.Work.{TurnsAnswer}
+use Rattle.all_schedules.specs.Work.{TurnsAnswer, options_of}
 use Rattle.all_schedules.proofs.Works.{for_both}
 use Rattle.all_schedules.proofs.commands.answer.Goals as goal
 
@@ -55,3 +57,17 @@ returns-in-Paced g c =
     subst (λ (turns : Turns). ForText input.old (λ text. TurnsAnswer starts makes view waits g.S.ShownStore.changes c.args.settings turns text input output errors c.do_paced.result)) (sym c.in-Paced.is)
     (for_both input.old (λ text. Conclusion (IsPacedOutcome starts makes view waits c.in-Paced.pace cores c.args.settings text output.old output.new) errors.old errors.new c.do_paced.result)
     (TakesAtMost input.old input.new (longest_image_text + 1)) c.do_paced.ensures.outcome c.do_paced.ensures.taken)
+
+pub returns-in-Threaded : goal.returns-in-Threaded
+returns-in-Threaded g c =
+    let starts = g.S.EpochStore.starts in
+    let makes = g.S.EpochStore.makes in
+    let view = g.S.EpochStore.view in
+    let waits = g.S.EpochStore.waits in
+    let options = options_of c.args.settings c.in-Threaded.cores in
+    let input : Stream = record { old = g.R.Read.remaining c.args.reader.now; new = g.R.Read.remaining c.do_threads.new.reader } in
+    let output : Stream = record { old = g.W.Write.contents c.args.writer.now; new = g.W.Write.contents c.do_threads.new.writer } in
+    let errors : Stream = record { old = g.E.Write.contents c.args.errors.now; new = g.E.Write.contents c.do_threads.new.errors } in
+    subst (λ (turns : Turns). ForText input.old (λ text. TurnsAnswer starts makes view waits g.S.ShownStore.changes c.args.settings turns text input output errors c.do_threads.result)) (sym c.in-Threaded.is)
+    (for_both input.old (λ text. Conclusion (IsThreadsOutcome (IsOfCaches view) c.args.settings.asked options text output.old output.new) errors.old errors.new c.do_threads.result)
+    (TakesAtMost input.old input.new (longest_image_text + 1)) c.do_threads.ensures.outcome c.do_threads.ensures.taken)

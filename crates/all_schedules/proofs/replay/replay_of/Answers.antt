@@ -2,7 +2,8 @@ use Rattle.std.proofs.Common.{◌<◌, All, ap, sym, subst, ◌∙◌}
 use Rattle.rv32_image.specs.ImageText.{image_text}
 use Rattle.trace_text.specs.Reading.{IsFaultOf}
 use Rattle.all_schedules.specs.Made.{loop_on}
-use Rattle.all_schedules.specs.Settings.{IsRunnable, RunsWith, loop_with}
+use Rattle.run_command.specs.Runnable.{IsRunnable}
+use Rattle.all_schedules.specs.Settings.{RunsWith, loop_with}
 use Rattle.all_schedules.specs.Replay.{IsTurnsOutcome}
 use Rattle.all_schedules.specs.Told.{IsHead}
 use Rattle.all_schedules.proofs.Cores.{are_cores}

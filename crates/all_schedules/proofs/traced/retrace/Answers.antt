@@ -1,5 +1,6 @@
 use Rattle.std.proofs.Common.{subst, sym, ◌∙◌}
-use Rattle.all_schedules.specs.Settings.{IsRunnable, loop_with}
+use Rattle.run_command.specs.Runnable.{IsRunnable}
+use Rattle.all_schedules.specs.Settings.{loop_with}
 use Rattle.all_schedules.specs.Made.{loop_on}
 use Rattle.all_schedules.specs.Told.{IsHead}
 use Rattle.all_schedules.specs.Traced.{IsTraceOutcome}
