@@ -1,5 +1,5 @@
 -- A line more for each number of cores.
-use Rattle.std.proofs.Common.{◌≡◌, ℕ, ◌+◌, ◌<◌, ◌≤◌, Bool, true, false, nat_lt, List, [], ◌++◌, length, get_or, drop, All, Option, Result, Ok, Err, OnOk, refl, sym, subst, arith}
+use Rattle.std.proofs.Common.{◌≡◌, ℕ, ◌+◌, ◌<◌, ◌≤◌, Bool, true, false, nat_lt, List, [], ◌∷◌, ◌++◌, length, get_or, drop, All, Option, Result, Ok, Err, OnOk, refl, sym, subst, arith}
 use Rattle.std.proofs.lemmas.Bool.Decides.{nat_tests}
 use Rattle.std.proofs.lemmas.List.{drop_more}
 use Rattle.std.proofs.lemmas.List.Elements.{All-nil, All-cons, All-append}
@@ -12,6 +12,7 @@ use Rattle.gain.specs.declared.measure.Measured.{Measured}
 use Rattle.gain.specs.Measured.{IsMeasured}
 use Rattle.gain.specs.Text.{line_text}
 use Rattle.gain.specs.Lines.{AddEach, AddLines, count_if, more_counts}
+use Rattle.gain.specs.Limits.{AddLimit, AddLimits}
 
 module _ {S : Type 0} (starts : LoadedImage → ℕ → S → Type 0) (makes : S → Call → S → Type 0) (view : S → StoreView) (waits : S → Waits) (image : LoadedImage) (room : ℕ) (store : List ℕ) (first : Option Measured) (counts start : List ℕ) where
   pub adds_more : (i : ℕ) (text text' : List ℕ) (told : Option Measured) → i < length counts
@@ -34,24 +35,43 @@ lines_of starts makes view waits image room cores store first counts old mid new
 )
 lines_of starts makes view waits image room cores store first counts old mid new (Err fault) are longer measured each = each
 
--- each number of cores is allowed where the most is
-allowed_if : (image : LoadedImage) (cores count : ℕ) (b : Bool) → (b ≡ true → IsCoreCount image count) → All (λ k. IsCoreCount image k) (count_if b count)
-allowed_if image cores count true is = All-cons (λ k. IsCoreCount image k) count [] (is refl) (All-nil (λ k. IsCoreCount image k))
-allowed_if image cores count false is = All-nil (λ k. IsCoreCount image k)
+-- each number of cores passes, where these and all fewer do
+passes_if : (P : ℕ → Type 0) (count : ℕ) (b : Bool) → (b ≡ true → P count) → All P (count_if b count)
+passes_if P count true is = All-cons P count [] (is refl) (All-nil P)
+passes_if P count false is = All-nil P
 
-fewer : (image : LoadedImage) (cores count : ℕ) → 1 ≤ count → IsCoreCount image cores → nat_lt count cores ≡ true → IsCoreCount image count
-fewer image cores count least most less =
-    let below : count < cores = grind (arith, nat_tests) in record { least = least; most = omega (arith, below, most.most) }
-
-pub are_allowed : (image : LoadedImage) (cores : ℕ) → IsCoreCount image cores → All (λ k. IsCoreCount image k) (more_counts cores)
-are_allowed image cores allowed =
-    let P : ℕ → Type 0 = λ k. IsCoreCount image k in
+pub counts_pass : (P : ℕ → Type 0) (cores : ℕ) → P cores → ((k : ℕ) → 1 ≤ k → nat_lt k cores ≡ true → P k) → All P (more_counts cores)
+counts_pass P cores these fewer =
     let two = count_if (nat_lt 2 cores) 2 in
     let four = count_if (nat_lt 4 cores) 4 in
     let eight = count_if (nat_lt 8 cores) 8 in
     All-append P ((two ++ four) ++ eight) (count_if (nat_lt 1 cores) cores)
     (All-append P (two ++ four) eight
-    (All-append P two four (allowed_if image cores 2 (nat_lt 2 cores) (fewer image cores 2 (omega arith) allowed))
-    (allowed_if image cores 4 (nat_lt 4 cores) (fewer image cores 4 (omega arith) allowed)))
-    (allowed_if image cores 8 (nat_lt 8 cores) (fewer image cores 8 (omega arith) allowed)))
-    (allowed_if image cores cores (nat_lt 1 cores) (λ more. allowed))
+    (All-append P two four (passes_if P 2 (nat_lt 2 cores) (fewer 2 (omega arith))) (passes_if P 4 (nat_lt 4 cores) (fewer 4 (omega arith))))
+    (passes_if P 8 (nat_lt 8 cores) (fewer 8 (omega arith))))
+    (passes_if P cores (nat_lt 1 cores) (λ more. these))
+
+fewer : (image : LoadedImage) (cores : ℕ) → IsCoreCount image cores → (k : ℕ) → 1 ≤ k → nat_lt k cores ≡ true → IsCoreCount image k
+fewer image cores allowed k least less =
+    let below : k < cores = grind (arith, nat_tests) in record { least = least; most = omega (arith, below, allowed.most) }
+
+pub are_allowed : (image : LoadedImage) (cores : ℕ) → IsCoreCount image cores → All (λ k. IsCoreCount image k) (more_counts cores)
+are_allowed image cores allowed = counts_pass (λ k. IsCoreCount image k) cores allowed (fewer image cores allowed)
+
+-- ---- of the limits
+
+pub are_some : (cores : ℕ) → 1 ≤ cores → All (λ k. 1 ≤ k) (more_counts cores)
+are_some cores some = counts_pass (λ k. 1 ≤ k) cores some (λ k least less. least)
+
+pub limits_more : (image : LoadedImage) (counts start : List ℕ) (i : ℕ) (text text' : List ℕ) → i < length counts
+    → ((new : List ℕ) → AddLimits image (drop i counts) text new → AddLimits image counts start new)
+    → AddLimit image (get_or counts i 0) text text'
+    → (new : List ℕ) → AddLimits image (drop (i + 1) counts) text' new → AddLimits image counts start new
+limits_more image counts start i text text' there adds one new more =
+    adds new (subst (λ ks. AddLimits image ks text new) (sym (drop_more counts i 0 there)) (text', one, more))
+
+-- the line of one core, and those of more
+pub limits_of : {T E : Type 0} (image : LoadedImage) (cores : ℕ) (counts old mid new : List ℕ) (result : Result T E) → counts ≡ more_counts cores
+    → AddLimit image 1 old mid → OnOk result (AddLimits image counts mid new) → OnOk result (AddLimits image (1 ∷ more_counts cores) old new)
+limits_of image cores counts old mid new (Ok done) are one each = (mid, one, subst (λ ks. AddLimits image ks mid new) are each)
+limits_of image cores counts old mid new (Err fault) are one each = each

@@ -15,52 +15,55 @@ use Rattle.trace_commands.proofs.Audits.{for_each, keeps_itself}
 use Rattle.trace_commands.specs.Program.{Stream}
 use Rattle.trace_commands.proofs.Programs.{kept, unread_answers}
 use Rattle.gain.specs.Gains.{GainAnswers, IsUnwritten, IsUnwrittenOf, IsWritten, IsWrittenOf}
-use Rattle.trace_commands.specs.Stores.{StoresAsked, stores_asked_in}
+use Rattle.gain.specs.declared.gains.Study.{Study}
+use Rattle.gain.specs.Asked.{GainAsked, gain_asked_in}
 use Rattle.gain.specs.Work.{AskedAnswers, WorkAnswers}
 
 -- ---- of an image
 
-module _ (asked : StoresAsked) (room : ℕ) (text : List ℕ) (image : LoadedImage) (old new : Option (List ℕ)) (said : image_text text ≡ Ok image) where
+module _ (study : Study) (stores : List (List ℕ)) (text : List ℕ) (image : LoadedImage) (old new : Option (List ℕ)) (said : image_text text ≡ Ok image) where
   by_image : (P : LoadedImage → Type 0) → P image → MatchResult (image_text text) P (λ fault. ⊥)
   by_image P is = subst (λ (r : Result LoadedImage ImageFault). MatchResult r P (λ fault. ⊥)) (sym said) is
 
-  unwritten_of : (outcome : Outcome) → IsUnwrittenOf image asked.cores asked.stores room old new outcome → IsUnwritten asked room text old new outcome
+  unwritten_of : (outcome : Outcome) → IsUnwrittenOf image study stores old new outcome → IsUnwritten study stores text old new outcome
   unwritten_of (BadImage fault) is = absurd is
   unwritten_of (Stopped NoMemory) is = is
-  unwritten_of outcome is = by_image (λ i. IsUnwrittenOf i asked.cores asked.stores room old new outcome) is
+  unwritten_of outcome is = by_image (λ i. IsUnwrittenOf i study stores old new outcome) is
 
   pub of_image : {A : Type 0} (result : Result A Outcome)
-      → MatchResult result (λ _. IsWrittenOf image asked.cores asked.stores room old new) (IsUnwrittenOf image asked.cores asked.stores room old new)
-      → MatchResult result (λ _. IsWritten asked room text old new) (IsUnwritten asked room text old new)
-  of_image (Ok done) is = by_image (λ i. IsWrittenOf i asked.cores asked.stores room old new) is
+      → MatchResult result (λ _. IsWrittenOf image study stores old new) (IsUnwrittenOf image study stores old new)
+      → MatchResult result (λ _. IsWritten study stores text old new) (IsUnwritten study stores text old new)
+  of_image (Ok done) is = by_image (λ i. IsWrittenOf i study stores old new) is
   of_image (Err outcome) is = unwritten_of outcome is
 
 -- the image is refused
-pub refused : (asked : StoresAsked) (room : ℕ) (text : List ℕ) (output : Option (List ℕ)) (line : ℕ) (kind : ImageFaultKind)
+pub refused : (study : Study) (stores : List (List ℕ)) (text : List ℕ) (output : Option (List ℕ)) (line : ℕ) (kind : ImageFaultKind)
     → IsReadFaultOf kind (record { line = line; kind = kind }) (image_text text)
-    → IsUnwritten asked room text output output (outcome_of_fault kind (record { line = line; kind = kind }))
-refused asked room text output line kind.NoMemory is = keeps_itself output
-refused asked room text output line other is = (is, keeps_itself output)
+    → IsUnwritten study stores text output output (outcome_of_fault kind (record { line = line; kind = kind }))
+refused study stores text output line kind.NoMemory is = keeps_itself output
+refused study stores text output line other is = (is, keeps_itself output)
 
-pub unwritten_answers : (asked : StoresAsked) (room : ℕ) (output errors : Stream) (text : List ℕ) (outcome : Outcome) (status : ℕ) → status ≡ status_of outcome
-    → AppendsPrefix errors.old errors.new (error_line outcome) → IsUnwritten asked room text output.old output.new outcome
-    → GainAnswers asked room text output errors status
-unwritten_answers asked room output errors text outcome status is line so = inr (record { outcome = outcome; output = so; status = is; line = line })
+pub unwritten_answers : (study : Study) (stores : List (List ℕ)) (output errors : Stream) (text : List ℕ) (outcome : Outcome) (status : ℕ) → status ≡ status_of outcome
+    → AppendsPrefix errors.old errors.new (error_line outcome) → IsUnwritten study stores text output.old output.new outcome
+    → GainAnswers study stores text output errors status
+unwritten_answers study stores output errors text outcome status is line so = inr (record { outcome = outcome; output = so; status = is; line = line })
 
 -- ---- of the words
 
 -- they ask for cores and stores
-pub gain_answers : (words : List (List ℕ)) (wanted : StoresAsked) (room : ℕ) (input output errors : Stream) (status : ℕ) → Some wanted ≡ stores_asked_in words
+pub gain_answers : (words : List (List ℕ)) (study : Study) (stores : List (List ℕ)) (room : ℕ) (input output errors : Stream) (status : ℕ)
+    → gain_asked_in words ≡ Some (record { cores = study.cores; stores = stores; limits = study.limits }) → study.room ≡ room
     → TakesAtMost input.old input.new (longest_image_text + 1)
-    → ForText input.old (λ text. GainAnswers wanted room text output errors status) → ForText input.old (λ text. WorkAnswers words room text input output errors status)
-gain_answers words wanted room input output errors status asked taken =
-    for_each (λ text. GainAnswers wanted room text output errors status) (λ text. WorkAnswers words room text input output errors status) input.old
-    (λ text answers. subst (λ (o : Option StoresAsked). AskedAnswers o room text input output errors status) asked (answers, taken))
+    → ForText input.old (λ text. GainAnswers study stores text output errors status) → ForText input.old (λ text. WorkAnswers words room text input output errors status)
+gain_answers words study stores room input output errors status asked with_room taken =
+    for_each (λ text. GainAnswers study stores text output errors status) (λ text. WorkAnswers words room text input output errors status) input.old
+    (λ text answers. subst (λ r. WorkAnswers words r text input output errors status) with_room
+    (subst (λ (o : Option GainAsked). AskedAnswers o study.room text input output errors status) (sym asked) (answers, taken)))
 
 -- they ask for nothing
-pub refused_answers : (words : List (List ℕ)) (room : ℕ) (input output : Option (List ℕ)) (errors : Stream) (status : ℕ) → None ≡ stores_asked_in words
+pub refused_answers : (words : List (List ℕ)) (room : ℕ) (input output : Option (List ℕ)) (errors : Stream) (status : ℕ) → None ≡ gain_asked_in words
     → status ≡ status_of Usage → AppendsPrefix errors.old errors.new (error_line Usage)
     → ForText input (λ text. WorkAnswers words room text (kept input) (kept output) errors status)
 refused_answers words room input output errors status none is line =
     unread_answers (λ it. it ≡ Usage) (λ text. WorkAnswers words room text (kept input) (kept output) errors status) input output errors Usage status refl is line
-    (λ text so. subst (λ (o : Option StoresAsked). AskedAnswers o room text (kept input) (kept output) errors status) none so)
+    (λ text so. subst (λ (o : Option GainAsked). AskedAnswers o room text (kept input) (kept output) errors status) none so)

@@ -15,9 +15,11 @@ use Rattle.trace_commands.specs.Outcome.{AppendsPrefix, Conclusion, IsRefusal}
 use Rattle.trace_commands.specs.Program.{Stream}
 use Rattle.trace_commands.specs.declared.store.Store.{Store}
 use Rattle.trace_commands.specs.declared.store.Store.TheVariants.{Caches, Plain}
-use Rattle.trace_commands.specs.Stores.{StoresAsked, store_named}
+use Rattle.trace_commands.specs.Stores.{store_named}
 use Rattle.all_schedules.specs.Stores.{HasRefused, RunsOnAll, on_store}
+use Rattle.gain.specs.declared.gains.Study.{Study}
 use Rattle.gain.specs.Lines.{AddLines}
+use Rattle.gain.specs.Limits.{AddLimitsIf}
 
 -- ---- of an image
 
@@ -37,31 +39,37 @@ AddStores image cores room [] old new = new ≡ old
 AddStores image cores room (word ∷ words) old new =
     (mid : List ℕ) × AddStore image cores room word (store_named word) old mid × AddStores image cores room words mid new
 
+-- the lines of all stores, and below them those of the limits, where they are asked for
+pub record IsText (image : LoadedImage) (study : Study) (stores : List (List ℕ)) (text : List ℕ) : Type 0 where
+  pub lines : List ℕ
+  pub runs : AddStores image study.cores study.room stores [] lines
+  pub limits : AddLimitsIf study.limits image study.cores lines text
+
 -- they were written: each store's machine can run the image on so many cores
-abbrev pub IsWrittenOf : LoadedImage → ℕ → List (List ℕ) → ℕ → Option (List ℕ) → Option (List ℕ) → Type 0
-IsWrittenOf image cores stores room old new =
-    RunsOnAll image cores stores × (text : List ℕ) × AddStores image cores room stores [] text × Appends old new text
+abbrev pub IsWrittenOf : LoadedImage → Study → List (List ℕ) → Option (List ℕ) → Option (List ℕ) → Type 0
+IsWrittenOf image study stores old new =
+    RunsOnAll image study.cores stores × (text : List ℕ) × IsText image study stores text × Appends old new text
 
 -- they weren't: a machine or the number of cores is refused, memory ran out or a write failed
-abbrev pub IsUnwrittenOf : LoadedImage → ℕ → List (List ℕ) → ℕ → Option (List ℕ) → Option (List ℕ) → Outcome → Type 0
-IsUnwrittenOf image cores stores room old new Usage = HasRefused image cores stores × Keeps old new
-IsUnwrittenOf image cores stores room old new (Stopped Write) =
-    RunsOnAll image cores stores × (text : List ℕ) × AddStores image cores room stores [] text × AppendsPrefix old new text
-IsUnwrittenOf image cores stores room old new (Stopped NoMemory) = Keeps old new
-IsUnwrittenOf image cores stores room old new outcome = ⊥
+abbrev pub IsUnwrittenOf : LoadedImage → Study → List (List ℕ) → Option (List ℕ) → Option (List ℕ) → Outcome → Type 0
+IsUnwrittenOf image study stores old new Usage = HasRefused image study.cores stores × Keeps old new
+IsUnwrittenOf image study stores old new (Stopped Write) =
+    RunsOnAll image study.cores stores × (text : List ℕ) × IsText image study stores text × AppendsPrefix old new text
+IsUnwrittenOf image study stores old new (Stopped NoMemory) = Keeps old new
+IsUnwrittenOf image study stores old new outcome = ⊥
 
 -- ---- of a text
 
-abbrev pub IsWritten : StoresAsked → ℕ → List ℕ → Option (List ℕ) → Option (List ℕ) → Type 0
-IsWritten asked room text old new = MatchResult (image_text text) (λ image. IsWrittenOf image asked.cores asked.stores room old new) (λ fault. ⊥)
+abbrev pub IsWritten : Study → List (List ℕ) → List ℕ → Option (List ℕ) → Option (List ℕ) → Type 0
+IsWritten study stores text old new = MatchResult (image_text text) (λ image. IsWrittenOf image study stores old new) (λ fault. ⊥)
 
-abbrev pub IsUnwritten : StoresAsked → ℕ → List ℕ → Option (List ℕ) → Option (List ℕ) → Outcome → Type 0
-IsUnwritten asked room text old new (BadImage fault) = IsRefusal fault.kind fault (image_text text) × Keeps old new
-IsUnwritten asked room text old new (Stopped NoMemory) = Keeps old new
-IsUnwritten asked room text old new outcome = MatchResult (image_text text) (λ image. IsUnwrittenOf image asked.cores asked.stores room old new outcome) (λ fault. ⊥)
+abbrev pub IsUnwritten : Study → List (List ℕ) → List ℕ → Option (List ℕ) → Option (List ℕ) → Outcome → Type 0
+IsUnwritten study stores text old new (BadImage fault) = IsRefusal fault.kind fault (image_text text) × Keeps old new
+IsUnwritten study stores text old new (Stopped NoMemory) = Keeps old new
+IsUnwritten study stores text old new outcome = MatchResult (image_text text) (λ image. IsUnwrittenOf image study stores old new outcome) (λ fault. ⊥)
 
 -- they were written, and the status is 0; or the program concludes with what kept them from being written
-abbrev pub GainAnswers : StoresAsked → ℕ → List ℕ → Stream → Stream → ℕ → Type 0
-GainAnswers asked room text output errors status =
-    ((status ≡ 0) × IsWritten asked room text output.old output.new × Keeps errors.old errors.new)
-    ⊎ Conclusion (IsUnwritten asked room text output.old output.new) errors.old errors.new status
+abbrev pub GainAnswers : Study → List (List ℕ) → List ℕ → Stream → Stream → ℕ → Type 0
+GainAnswers study stores text output errors status =
+    ((status ≡ 0) × IsWritten study stores text output.old output.new × Keeps errors.old errors.new)
+    ⊎ Conclusion (IsUnwritten study stores text output.old output.new) errors.old errors.new status

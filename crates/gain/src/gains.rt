@@ -1,46 +1,58 @@
 //! What the loop of an image gains, over any reader and writers.
-ghost use Rattle.std.specs.Prelude.{◌≡◌, ◌≤◌, ◌+◌, true, MatchResult, map};
+ghost use Rattle.std.specs.Prelude.{◌≡◌, ◌≤◌, ◌+◌, true, IfOk, MatchResult, map};
 ghost use Rattle.std.specs.List.{list_all};
 ghost use Rattle.rv32_image.specs.Input.{TakesAtMost};
 ghost use Rattle.rv32_image.specs.ImageText.{longest_image_text};
 ghost use Rattle.rv32_image.specs.Reading.{ForText};
 ghost use Rattle.homefree.specs.Room.{most_room};
 ghost use Rattle.trace_commands.specs.Stores.{names_store};
+ghost use Rattle.all_schedules.specs.Stores.{RunsOnAll};
 ghost use Rattle.gain.specs.Gains as spec;
 
+use crate::limit_lines::push_limits;
 use crate::stores::push_stores;
 use all_schedules::check_stores;
 use rv32_image::{Image, read_image};
-use std::alloc::Global;
+use std::alloc::{AllocError, Global};
 use std::convert::AsStr;
 use std::io::{Read, Write};
 use trace_commands::{CommandStop, Outcome, write_whole};
 
+/// What is asked about a loop.
+#[derive(Clone, Copy)]
+pub struct Study {
+    /// The most cores that it runs on.
+    pub cores: u32,
+    /// How many entries the history of a run may have.
+    pub room: u32,
+    /// Whether what its dependences allow is asked too.
+    pub limits: bool,
+}
+
 /// Runs the image that the reader gives at even speed on 1, 2, 4, 8 cores, as far as these are fewer than the cores, and on the cores,
-/// over each of these stores, and writes a line for each run. The cores are at least 1, and the room is 16 to `homefree::MOST_ROOM`
-/// entries.
+/// over each of these stores, and writes a line for each run; below them a line of the limits for each number of cores, where they are
+/// asked for. The cores are at least 1, and the room is 16 to `homefree::MOST_ROOM` entries.
 ///
 /// The status is 0 where that was written; 2 where the image, a machine or the number of cores is refused; 3 where memory ran out or a
 /// write failed. With 2 and 3 one line on the error stream says which. All that is written was made before the first byte: after a
 /// failed write a prefix of it was written.
 pub fn do_gain<S: AsStr, R: Read, W: Write, E: Write>(
     alloc: Global,
-    cores: u32,
+    study: Study,
     stores: &[S],
-    room: u32,
     reader: &mut R,
     writer: &mut W,
     errors: &mut E,
 ) -> u8
-    requires cores { 1 ≤ cores }
-    requires least { 16 ≤ room }
-    requires most { room ≤ most_room }
+    requires cores { 1 ≤ study.cores }
+    requires least { 16 ≤ study.room }
+    requires most { study.room ≤ most_room }
     requires stores { list_all names_store (map S.text stores.now) ≡ true }
-    ensures outcome { ForText (R.remaining reader.old) (λ text. spec.GainAnswers (record { cores = cores; stores = map S.text stores.now }) room text
+    ensures outcome { ForText (R.remaining reader.old) (λ text. spec.GainAnswers study (map S.text stores.now) text
         (record { old = W.contents writer.old; new = W.contents writer.new }) (record { old = E.contents errors.old; new = E.contents errors.new }) result) }
     ensures taken { TakesAtMost (R.remaining reader.old) (R.remaining reader.new) (longest_image_text + 1) }
 {
-    match gains_of_input(alloc, cores, stores, room, reader, writer) {
+    match gains_of_input(alloc, study, stores, reader, writer) {
         Ok(()) => 0,
         Err(outcome) => outcome.conclude(errors),
     }
@@ -49,23 +61,22 @@ pub fn do_gain<S: AsStr, R: Read, W: Write, E: Write>(
 /// All but the line on the error stream.
 fn gains_of_input<S: AsStr, R: Read, W: Write>(
     alloc: Global,
-    cores: u32,
+    study: Study,
     stores: &[S],
-    room: u32,
     reader: &mut R,
     writer: &mut W,
 ) -> Result<(), Outcome>
-    requires cores { 1 ≤ cores }
-    requires least { 16 ≤ room }
-    requires most { room ≤ most_room }
+    requires cores { 1 ≤ study.cores }
+    requires least { 16 ≤ study.room }
+    requires most { study.room ≤ most_room }
     requires stores { list_all names_store (map S.text stores.now) ≡ true }
     ensures outcome { ForText (R.remaining reader.old) (λ text. MatchResult result
-        (λ _. spec.IsWritten (record { cores = cores; stores = map S.text stores.now }) room text (W.contents writer.old) (W.contents writer.new))
-        (spec.IsUnwritten (record { cores = cores; stores = map S.text stores.now }) room text (W.contents writer.old) (W.contents writer.new))) }
+        (λ _. spec.IsWritten study (map S.text stores.now) text (W.contents writer.old) (W.contents writer.new))
+        (spec.IsUnwritten study (map S.text stores.now) text (W.contents writer.old) (W.contents writer.new))) }
     ensures taken { TakesAtMost (R.remaining reader.old) (R.remaining reader.new) (longest_image_text + 1) }
 {
     match read_image(alloc, reader) {
-        Ok(image) => gains_of_image(alloc, &image, cores, stores, room, writer),
+        Ok(image) => gains_of_image(alloc, &image, study, stores, writer),
         Err(fault) => Err(Outcome::of_fault(fault)),
     }
 }
@@ -73,21 +84,19 @@ fn gains_of_input<S: AsStr, R: Read, W: Write>(
 fn gains_of_image<S: AsStr, W: Write>(
     alloc: Global,
     image: &Image,
-    cores: u32,
+    study: Study,
     stores: &[S],
-    room: u32,
     writer: &mut W,
 ) -> Result<(), Outcome>
-    requires cores { 1 ≤ cores }
-    requires least { 16 ≤ room }
-    requires most { room ≤ most_room }
+    requires cores { 1 ≤ study.cores }
+    requires least { 16 ≤ study.room }
+    requires most { study.room ≤ most_room }
     requires stores { list_all names_store (map S.text stores.now) ≡ true }
-    ensures { MatchResult result (λ _. spec.IsWrittenOf image.now cores (map S.text stores.now) room (W.contents writer.old) (W.contents writer.new))
-        (spec.IsUnwrittenOf image.now cores (map S.text stores.now) room (W.contents writer.old) (W.contents writer.new)) }
+    ensures { MatchResult result (λ _. spec.IsWrittenOf image.now study (map S.text stores.now) (W.contents writer.old) (W.contents writer.new))
+        (spec.IsUnwrittenOf image.now study (map S.text stores.now) (W.contents writer.old) (W.contents writer.new)) }
 {
-    check_stores(alloc, image, cores, stores)?;
-    let mut text = Vec::new(alloc);
-    let Ok(()) = push_stores(alloc, &mut text, image, cores, room, stores) else {
+    check_stores(alloc, image, study.cores, stores)?;
+    let Ok(text) = text_of(alloc, image, study, stores) else {
         return Err(Outcome::Stopped(CommandStop::NoMemory));
     };
     if write_whole(writer, text.as_slice()) {
@@ -95,4 +104,25 @@ fn gains_of_image<S: AsStr, W: Write>(
     } else {
         Err(Outcome::Stopped(CommandStop::Write))
     }
+}
+
+/// The lines of these stores, and those of the limits, where they are asked for.
+fn text_of<S: AsStr>(
+    alloc: Global,
+    image: &Image,
+    study: Study,
+    stores: &[S],
+) -> Result<Vec<u8>, AllocError>
+    requires cores { 1 ≤ study.cores }
+    requires least { 16 ≤ study.room }
+    requires most { study.room ≤ most_room }
+    requires stores { RunsOnAll image.now study.cores (map S.text stores.now) }
+    ensures { IfOk result (λ text. spec.IsText image.now study (map S.text stores.now) text.items) }
+{
+    let mut text = Vec::new(alloc);
+    push_stores(alloc, &mut text, image, study.cores, study.room, stores)?;
+    if study.limits {
+        push_limits(alloc, &mut text, image, study.cores)?;
+    }
+    Ok(text)
 }

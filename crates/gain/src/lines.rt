@@ -58,7 +58,7 @@ fn push_each<S: EpochStore>(
 }
 
 /// The numbers of cores below the first line.
-fn more_counts(alloc: Global, cores: u32) -> Result<Vec<u32>, AllocError>
+pub fn more_counts(alloc: Global, cores: u32) -> Result<Vec<u32>, AllocError>
     ensures { IfOk result (λ counts. counts.items ≡ spec.more_counts cores) }
 {
     let mut counts = Vec::new(alloc);

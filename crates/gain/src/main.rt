@@ -1,5 +1,5 @@
 //! What a loop gains on more cores: `gain CORES STORE ..` takes an image on standard input, and prints a line for each store and each number
-//! of cores 1, 2, 4, 8 below CORES, and CORES, of the run at even speed.
+//! of cores 1, 2, 4, 8 below CORES, and CORES, of the run at even speed; with `--limits` behind that a line of what its dependences allow, for each number of cores.
 #![tactic(auto)]
 
 use homefree::MOST_ROOM;
@@ -10,6 +10,7 @@ use work::work;
 
 mod gains;
 mod kinds;
+mod limit_lines;
 mod lines;
 mod measure;
 mod stores;

@@ -107,7 +107,8 @@ fn push_waits(text: &mut Vec<u8>, account: &Account) -> Result<(), AllocError>
     push_number(text, b" orbbusy ", account.orb_busy)
 }
 
-fn push_number(text: &mut Vec<u8>, name: &[u8], n: u64) -> Result<(), AllocError>
+/// Adds a name and a number.
+pub fn push_number(text: &mut Vec<u8>, name: &[u8], n: u64) -> Result<(), AllocError>
     ensures { OnOk result (text.new.items ≡ text.old.items ++ spec.number name.now n) }
 {
     text.extend_from_slice(name)?;

@@ -1,21 +1,23 @@
-ghost use Rattle.std.specs.Prelude.{◌≡◌, ◌≤◌, ◌+◌, true, map};
+ghost use Rattle.std.specs.Prelude.{◌≡◌, ◌≤◌, ◌+◌, true, Some, None, IfNone, IfSome, map};
 ghost use Rattle.std.specs.List.{list_all};
 ghost use Rattle.rv32_image.specs.Input.{TakesAtMost};
 ghost use Rattle.rv32_image.specs.ImageText.{longest_image_text};
 ghost use Rattle.rv32_image.specs.Reading.{ForText};
 ghost use Rattle.homefree.specs.Room.{most_room};
 ghost use Rattle.trace_commands.specs.Stores.{names_store, or_both};
+ghost use Rattle.gain.specs.Asked.{asks_limits, gain_asked_in, without_limits};
 ghost use Rattle.gain.specs.Gains.{GainAnswers};
 ghost use Rattle.gain.specs.Work as spec;
 
-use crate::gains::do_gain;
+use crate::gains::{Study, do_gain};
 use std::alloc::Global;
 use std::convert::AsStr;
 use std::io::{Read, Write};
 use trace_commands::{Outcome, first_word, stores_asked};
 
 /// The whole program: what the loop gains on as many cores as the words ask for, 1 to 16, over each of the stores that they name,
-/// `gain CORES STORE ..`; over caches and the plain store, where they name none. The first word is the program's name.
+/// `gain CORES STORE ..`; over caches and the plain store, where they name none; and what its dependences allow, where the last word is
+/// `--limits`. The first word is the program's name.
 ///
 /// Any other words are refused as `usage`, with status 2, and nothing is read or written. The room is 16 to `homefree::MOST_ROOM`
 /// entries.
@@ -34,9 +36,43 @@ pub fn work<S: AsStr, R: Read, W: Write, E: Write>(
         (record { old = W.contents writer.old; new = W.contents writer.new })
         (record { old = E.contents errors.old; new = E.contents errors.new }) result) }
 {
-    match stores_asked(words) {
-        Some((cores, stores)) => gain_over(alloc, cores, stores, room, reader, writer, errors),
+    match study_asked(words, room) {
+        Some((study, stores)) => gain_over(alloc, study, stores, reader, writer, errors),
         None => Outcome::Usage.conclude(errors),
+    }
+}
+
+/// What the words ask for, and the words of stores among them. None: they ask for nothing.
+fn study_asked<S: AsStr>(words: &[S], room: u32) -> Option<(Study, &[S])>
+    ensures asked { IfSome result (λ found. gain_asked_in (map S.text words.now)
+        ≡ Some (record { cores = found.0.cores; stores = or_both (map S.text found.1.now); limits = found.0.limits })) }
+    ensures cores { IfSome result (λ found. 1 ≤ found.0.cores) }
+    ensures room { IfSome result (λ found. found.0.room ≡ room) }
+    ensures stores { IfSome result (λ found. list_all names_store (map S.text found.1.now) ≡ true) }
+    ensures none { IfNone result (gain_asked_in (map S.text words.now) ≡ None) }
+{
+    let (limits, words) = cut_limits(words);
+    let (cores, stores) = stores_asked(words)?;
+    let study = Study {
+        cores,
+        room,
+        limits,
+    };
+    Some((study, stores))
+}
+
+/// Whether the last word is `--limits`, and the words without it.
+fn cut_limits<S: AsStr>(words: &[S]) -> (bool, &[S])
+    ensures limits { result.0 ≡ asks_limits (map S.text words.now) }
+    ensures words { map S.text result.1.now ≡ without_limits (map S.text words.now) }
+{
+    let Some((last, before)) = words.split_last() else {
+        return (false, words);
+    };
+    if last.as_str() == "--limits" {
+        (true, before)
+    } else {
+        (false, words)
     }
 }
 
@@ -44,26 +80,25 @@ pub fn work<S: AsStr, R: Read, W: Write, E: Write>(
 #[tactic(auto, unfolding(trace_commands::specs::Stores::store_named))]
 fn gain_over<S: AsStr, R: Read, W: Write, E: Write>(
     alloc: Global,
-    cores: u32,
+    study: Study,
     stores: &[S],
-    room: u32,
     reader: &mut R,
     writer: &mut W,
     errors: &mut E,
 ) -> u8
-    requires cores { 1 ≤ cores }
-    requires least { 16 ≤ room }
-    requires most { room ≤ most_room }
+    requires cores { 1 ≤ study.cores }
+    requires least { 16 ≤ study.room }
+    requires most { study.room ≤ most_room }
     requires stores { list_all names_store (map S.text stores.now) ≡ true }
-    ensures outcome { ForText (R.remaining reader.old) (λ text. GainAnswers (record { cores = cores; stores = or_both (map S.text stores.now) }) room text
+    ensures outcome { ForText (R.remaining reader.old) (λ text. GainAnswers study (or_both (map S.text stores.now)) text
         (record { old = W.contents writer.old; new = W.contents writer.new }) (record { old = E.contents errors.old; new = E.contents errors.new }) result) }
     ensures taken { TakesAtMost (R.remaining reader.old) (R.remaining reader.new) (longest_image_text + 1) }
 {
     match first_word(stores) {
-        Some(_) => do_gain(alloc, cores, stores, room, reader, writer, errors),
+        Some(_) => do_gain(alloc, study, stores, reader, writer, errors),
         None => {
             let both = ["caches", "plain"];
-            do_gain(alloc, cores, &both, room, reader, writer, errors)
+            do_gain(alloc, study, &both, reader, writer, errors)
         }
     }
 }

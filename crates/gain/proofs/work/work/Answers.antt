@@ -5,11 +5,11 @@ use Rattle.gain.proofs.work.work.Goals as goal
 
 pub returns-in-Some : goal.returns-in-Some
 returns-in-Some g c =
-    gain_answers (map g.S.AsStr.text c.args.words.now) (record { cores = c.in-Some.cores; stores = or_both (map g.S.AsStr.text c.in-Some.stores.now) }) c.args.room
+    gain_answers (map g.S.AsStr.text c.args.words.now) c.in-Some.study (or_both (map g.S.AsStr.text c.in-Some.stores.now)) c.args.room
     (record { old = g.R.Read.remaining c.args.reader.now; new = g.R.Read.remaining c.gain_over.new.reader })
     (record { old = g.W.Write.contents c.args.writer.now; new = g.W.Write.contents c.gain_over.new.writer })
     (record { old = g.E.Write.contents c.args.errors.now; new = g.E.Write.contents c.gain_over.new.errors })
-    c.gain_over.result (sym c.in-Some.ensures.asked) c.gain_over.ensures.taken c.gain_over.ensures.outcome
+    c.gain_over.result c.in-Some.ensures.asked c.in-Some.ensures.room c.gain_over.ensures.taken c.gain_over.ensures.outcome
 
 pub returns-in-None : goal.returns-in-None
 returns-in-None g c =
