@@ -1,5 +1,5 @@
 -- The rows in which a core on the bus has stored bytes.
-use Rattle.std.proofs.Common.{◌≡◌, ◌⊎◌, ℕ, ◌+◌, ◌*◌, ◌/◌, ◌%◌, ◌<◌, zero, suc, true, false, List, [], ◌∷◌, option_map, length, slice_get, IsTrue, Option, Some, None, inl, inr, refl, sym, ap, subst, ◌∙◌, ◌++◌, add-one, arith, true≢false}
+use Rattle.std.proofs.Common.{◌≡◌, ℕ, ◌+◌, ◌*◌, ◌/◌, ◌%◌, ◌<◌, zero, suc, true, false, List, [], ◌∷◌, option_map, length, slice_get, Option, Some, None, inl, inr, refl, sym, ap, subst, ◌∙◌, ◌++◌, add-one, arith, true≢false}
 use Rattle.std.specs.BTreeSet.{BTreeSet, contains}
 use Rattle.std.specs.List.{slice_index_or}
 use Rattle.std.specs.Ordering.{nat_cmp}
@@ -23,7 +23,7 @@ use Rattle.cache_lines.proofs.LineLaws.{is_copy_of-true, by_way, row-lt, sets-wi
 use Rattle.bus_states.specs.Coherent.{IsCoherent}
 use Rattle.bus_states.proofs.Addresses.{line-aligned, line-and_offset}
 use Rattle.spec_bus.specs.declared.bus_core.Core.{Core}
-use Rattle.spec_bus.specs.Cached.{CachedView, bus, line_in, line_of_core, store_view}
+use Rattle.spec_bus.specs.Cached.{CachedView, bus, line_of_core, store_view}
 use Rattle.spec_bus.specs.Parts.{state_or_none}
 use Rattle.turn_steps.specs.Caches.{AreHeld, AreShown, AreWhole, HasOwnRows, HasRowsOf, Held, held, line_at, lines_below, no_line, place_count}
 

@@ -1,5 +1,5 @@
 -- That the text of turns is fixed, from that a turn is and that what changed of a store is.
-use Rattle.std.proofs.Common.{◌≡◌, ◌≢◌, ℕ, suc, List, [], ◌∷◌, ◌++◌, Option, Some, None, Result, Ok, Err, refl, sym, ap, subst, ◌∙◌}
+use Rattle.std.proofs.Common.{◌≡◌, ℕ, suc, List, [], ◌∷◌, ◌++◌, Option, Some, None, Result, Ok, sym, ap, subst, ◌∙◌}
 use Rattle.std.proofs.lemmas.List.{append_cancel_left}
 use Rattle.rv32_exec.specs.declared.sequential.End.{End}
 use Rattle.rv32_exec.specs.Hart.{HartState}
@@ -10,7 +10,6 @@ use Rattle.violations.specs.Rule.{IsSameView}
 use Rattle.homefree.specs.declared.answer.Answer.{Answer}
 use Rattle.homefree.specs.declared.answer.Answer.TheVariants.{Go, Again, Left, Over, Stopped}
 use Rattle.homefree.specs.declared.fault.TurnFault.{TurnFault}
-use Rattle.homefree.specs.declared.fault.TurnFault.TheVariants.{NoMemory}
 use Rattle.homefree.specs.BookView.{BookView}
 use Rattle.homefree.specs.Driven.{Driver, EndsOrGoes, held_after, with_held}
 use Rattle.homefree.specs.DriveFixed.{AreTwinDrivers}

@@ -1,5 +1,5 @@
 -- How the lines of text of a cache go on.
-use Rattle.std.proofs.Common.{◌≡◌, ℕ, zero, suc, ◌+◌, ◌<◌, ◌≤◌, List, ◌++◌, Option, length, map, get_or, take, slice_index, refl, ap, sym, subst, ◌∙◌, arith, add-one, append_assoc}
+use Rattle.std.proofs.Common.{◌≡◌, ℕ, zero, suc, ◌+◌, ◌<◌, ◌≤◌, List, ◌++◌, Option, length, map, take, slice_index, refl, ap, sym, subst, ◌∙◌, arith, add-one, append_assoc}
 use Rattle.std.proofs.lemmas.List.{append-nil, length-take-le, get_or-take}
 use Rattle.std.proofs.lemmas.List.FromFn.{fill_by_all}
 use Rattle.std.specs.List.{range_with_len}

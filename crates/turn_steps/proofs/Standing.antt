@@ -1,10 +1,10 @@
 -- The line in a place of a cache is the one that the bus has there.
-use Rattle.std.proofs.Common.{◌≡◌, ℕ, zero, suc, ◌+◌, ◌*◌, ◌/◌, ◌%◌, ◌<◌, ◌≤◌, ◌==◌, ◌&&◌, ◌++◌, Bool, true, false, true≢false, IsTrue, List, Option, Some, None, option_map, length, slice_get, inl, inr, refl, sym, ap, subst, ◌∙◌, arith}
+use Rattle.std.proofs.Common.{◌≡◌, ℕ, zero, suc, ◌*◌, ◌/◌, ◌%◌, ◌<◌, ◌≤◌, ◌==◌, ◌&&◌, ◌++◌, Bool, true, false, true≢false, List, Option, Some, None, option_map, length, slice_get, inl, inr, refl, sym, ap, subst, ◌∙◌, arith}
 use Rattle.std.specs.List.{find, range_with_len}
 use Rattle.std.proofs.Math.Nat.{mod-lt, mod-eq_of_lt, mul-div_cancel, div-lt_iff_lt-mul}
 use Rattle.std.proofs.lemmas.Bool.{and_parts, false_from_ne_true}
 use Rattle.std.proofs.lemmas.Bool.Decides.{nat_tests}
-use Rattle.std.proofs.lemmas.Option.{slice_get_cases, same_Some}
+use Rattle.std.proofs.lemmas.Option.{slice_get_cases}
 use Rattle.rv32_image.specs.declared.machine.Machine.{Machine}
 use Rattle.rv32_image.specs.Machine.{is_line_length, IsMachine}
 use Rattle.spec_states.specs.Copies.{LineCopy}
@@ -12,18 +12,16 @@ use Rattle.spec_states.specs.States.{is_valid}
 use Rattle.cache_lines.specs.declared.line.Line.{Line}
 use Rattle.cache_lines.specs.Lines.{Contents, Geometry, geometry_of, set_of, line_in, is_copy_of, way_at}
 use Rattle.cache_lines.specs.Placed.{IsPlaced}
-use Rattle.cache_lines.specs.Protocol.{copy_at, copy_of_line}
+use Rattle.cache_lines.specs.Protocol.{copy_at}
 use Rattle.cache_lines.proofs.CopyLaws.{copy_at-own}
 use Rattle.cache_lines.proofs.Firsts.{first_is, found_first, none_is}
-use Rattle.cache_lines.proofs.LineLaws.{is_copy_of-true, is_copy_of-own, line_in-same_set, sets-within, way_at-own}
-use Rattle.bus_states.specs.Bus.{Bus, CoreState}
+use Rattle.cache_lines.proofs.LineLaws.{is_copy_of-true, is_copy_of-own, line_in-same_set, way_at-own}
 use Rattle.bus_states.specs.Coherent.{IsCoherent}
 use Rattle.spec_bus.specs.declared.bus_core.Core.{Core}
 use Rattle.spec_bus.specs.Cached.{CachedView, bus, line_of_core}
-use Rattle.spec_bus.specs.CoreStates.{line_in_place}
 use Rattle.spec_bus.specs.Laws.{IsPlacedCore}
 use Rattle.spec_bus.specs.Parts.{state_or_none}
-use Rattle.turn_steps.specs.Caches.{AreHeld, bus_changes, changes, core_changes, held, held_changes, is_way, line_at, place_count, standing, standing_at, standing_in}
+use Rattle.turn_steps.specs.Caches.{bus_changes, changes, core_changes, held, held_changes, is_way, line_at, place_count, standing, standing_at, standing_in}
 use Rattle.turn_steps.specs.Places.{Standing, changed, orb_line, way_changes}
 use Rattle.turn_steps.proofs.BusRows.{at_place}
 use Rattle.turn_steps.proofs.Places.{way_changes-same}

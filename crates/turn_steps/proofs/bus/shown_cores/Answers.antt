@@ -1,4 +1,4 @@
-use Rattle.std.proofs.Common.{◌≡◌, List, subst, arith}
+use Rattle.std.proofs.Common.{◌≡◌, subst, arith}
 use Rattle.turn_steps.specs.Caches.{AreHeld}
 use Rattle.turn_steps.proofs.Buses.{more_held}
 use Rattle.turn_steps.proofs.bus.shown_cores.Goals as goal

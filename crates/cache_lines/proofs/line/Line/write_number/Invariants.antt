@@ -1,5 +1,4 @@
 use Rattle.std.proofs.Common.{◌≡◌}
-use Rattle.cache_lines.specs.declared.line.Line.{Line}
 use Rattle.cache_lines.specs.Cells.{cell_of, with_number}
 use Rattle.cache_lines.proofs.Bytes.{AreCells}
 use Rattle.cache_lines.proofs.line.Line.write_number.Given as goal

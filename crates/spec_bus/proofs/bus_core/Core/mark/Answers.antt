@@ -1,4 +1,4 @@
-use Rattle.std.proofs.Common.{◌≡◌, refl, ap, sym, ◌∙◌}
+use Rattle.std.proofs.Common.{refl, ap}
 use Rattle.cache_lines.specs.Lines.{Contents}
 use Rattle.cache_lines.specs.Protocol.{copy_at}
 use Rattle.cache_lines.proofs.Ways.{way_at-stands}
