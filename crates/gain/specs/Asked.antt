@@ -24,5 +24,5 @@ abbrev pub with_limits : Bool → StoresAsked → GainAsked
 with_limits limits asked = record { cores = asked.cores; stores = asked.stores; limits = limits }
 
 -- any other words ask for nothing
-abbrev pub gain_asked_in : List (List ℕ) → Option GainAsked
+unfoldable pub gain_asked_in : List (List ℕ) → Option GainAsked
 gain_asked_in words = option_map (with_limits (asks_limits words)) (stores_asked_in (without_limits words))

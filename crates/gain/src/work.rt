@@ -43,6 +43,7 @@ pub fn work<S: AsStr, R: Read, W: Write, E: Write>(
 }
 
 /// What the words ask for, and the words of stores among them. None: they ask for nothing.
+#[tactic(auto, unfolding(crate::specs::Asked::gain_asked_in))]
 fn study_asked<S: AsStr>(words: &[S], room: u32) -> Option<(Study, &[S])>
     ensures asked { IfSome result (λ found. gain_asked_in (map S.text words.now)
         ≡ Some (record { cores = found.0.cores; stores = or_both (map S.text found.1.now); limits = found.0.limits })) }
