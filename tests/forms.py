@@ -27,7 +27,8 @@ sys.path.insert(0, str(ROOT / "tools"))
 
 from loops import Programs, Stopped, pieces, read_conflicts, read_image, with_trace  # noqa: E402
 from loops.changes import Copy, Hand, OfAttempt, OfBuffer, OfHart, OfKept, OfMemory, OfWay, Running  # noqa: E402
-from loops.documents import FORMS, SCHEMA, content_of, document, form_of, to_json  # noqa: E402
+from loops.documents import FORMS, SCHEMA, content_of, document, form_of, from_json, to_json  # noqa: E402
+from loops.gains import Limit, read_gains  # noqa: E402
 from loops.programs import call  # noqa: E402
 from loops.runs import read_output  # noqa: E402
 from loops.streams import iter_document, iter_text  # noqa: E402
@@ -50,6 +51,7 @@ TOTAL = "total epochs 2 committed 2 useful 8 rollbacks 1 lost 3 cancelled 0 drop
 GAIN = ("store plain cores 4 steps 108 gain 4.00 useful 432 lost 0 dropped 0 waiting 0 idle 0 restarts 0 true 0 silent "
         "0 false 0 buffer 0 "
         "nothomefree 0 noway 0 orbfull 0 orbbusy 0\n")
+LIMITS = "limit cores 1 forward 5 commit 5\nlimit cores 4 forward 3 commit 4\n"
 STEPS = ("turn 0 0 go\nentry 0 start 0\nattempt 0 0 homefree\nhart 0 00000000 0\nturn 1 1 again NoWay\nturn 2 0 over "
          "done 1\n"
          "entry 0 store 00000040 4 00000001\nentry 0 commit\nattempt 0 -\nhart 0 -\norb 0\nline 0 0 0 00000040 M - "
@@ -98,6 +100,7 @@ TEXTS = [
                   "00000004 victim 1 3 causer 0 0\n"
                   "kind buffer rollbacks 1 lost 3\n" + TOTAL),
     ("gains", GAIN + "store caches cores 1 full\n" + GAIN.replace("gain 4.00", "gain -")),
+    ("gains", GAIN + LIMITS),
     ("gains", "".join(GAIN.replace("plain", word)
                       for word in ("caches:sets=64,ways=4,buffer=16", "caches:line=64", "caches"))),
     ("dependences", DEPENDS.replace("caches", "caches:line=64,buffer=1").replace("never plain", "never caches:sets=1")),
@@ -118,6 +121,7 @@ REFUSED = [
     ("traced", "size 64\ntrace 2\n0 begin 0\n"), ("output", "end soon 3\n"),
     ("conflicts", "hurt 4 true epoch 1\n"), ("conflicts", "vain 4 hurt\n"),
     ("conflicts", HURT.replace("vain 4", "vain 5")), ("gains", "store caches cores 2 fast\n"),
+    ("gains", GAIN + LIMITS.replace("forward 3", "forward -")), ("gains", GAIN + LIMITS + GAIN),
     *(("gains", GAIN.replace("plain", word))
       for word in ("plane", "caches:", "caches:sets=3", "caches:sets=4,sets=4", "plain:ways=2")),
     ("dependences", "never caches:ways=17 4\n"),
@@ -262,6 +266,12 @@ def by_hand() -> Iterator[Check]:
                      steps.steps[2].end, steps.output.counts.stores)
     yield "what steps say", differs(said_of_steps, (3, "again NoWay", 2, "NoWay", "done", 1))
     yield "what turns change", differs([step.changes for step in steps.steps], CHANGES)
+    gains = read_gains(GAIN + LIMITS)
+    yield ("what limits say", differs([gains.limit(4), gains.limit(2), read_gains(GAIN).limits],
+                                      [Limit(4, 3, 4), None, []]))
+    before = json.loads(to_json(GAIN))
+    del before["content"]["limits"]
+    yield "gains of before there were limits", differs(from_json(json.dumps(before)), GAIN)
     told = FORMS["dependences"][1](DEPENDS)
     said_of_dependences = (told.pairs[0].at.length, told.pairs[0].stored.of, told.over("caches").turns,
                            told.over("caches").causer, told.over("plain").verdict)

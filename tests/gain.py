@@ -1,6 +1,6 @@
 #!/usr/bin/env python3
-"""The program `gain` on all examples and on random images: the figures of tests/gain.txt, the sums, refusals; and
-`replay even`, whose turns are replayed.
+"""The program `gain` on all examples and on random images: the figures of tests/gain.txt and tests/limits.tsv, the
+sums, refusals; and `replay even`, whose turns are replayed.
 
 Usage: tests/gain.py [--random N] [COMMAND ..]
 
@@ -85,6 +85,51 @@ def check_words(program: list[str]) -> Iterator[Row]:
     rows = lines_of(run(program, ["3"], COUNTER)[0])
     yield ("the numbers of cores", [row["cores"] for row in rows], ["1", "2", "3"] * 2)
     yield from check_sums("counter", rows)
+
+
+@comparing
+def check_limits(program: list[str]) -> Iterator[Row]:
+    """What the dependences allow stands below the runs, as the figures of another program have it; and no run over the
+    plain store takes less than where loads wait for commits."""
+    known: dict[str, list[tuple[int, ...]]] = {}
+    for line in (ROOT / "tests/limits.tsv").read_text().splitlines()[3:]:
+        name, *figures = line.split("\t")
+        known.setdefault(name, []).append(tuple(map(int, figures)))
+    for path in sorted((ROOT / "examples").glob("*.image")):
+        text, name = path.read_bytes(), path.stem
+        without = run(program, ["8"], text)
+        output, errors, status = run(program, ["8", "--limits"], text)
+        stores, told = without_limits(output)
+        yield (f"{name}: the runs", (stores, errors, status), without)
+        yield (f"{name}: the limits", told, known.get(name, told))
+        plain = {int(row["cores"]): int(row["steps"]) for row in lines_of(stores) if row["store"] == "plain"}
+        yield (f"{name}: the numbers of cores", [cores for cores, _, _ in told], list(plain))
+        yield (f"{name}: in order", [one for one in told if not one[1] <= one[2] <= plain[one[0]]], [])
+
+
+def without_limits(output: str) -> tuple[str, list[tuple[int, ...]]]:
+    """What stands above the first limit, and the cores, `forward` and `commit` of each limit."""
+    above, mark, below = output.partition("limit ")
+    return above, [tuple(map(int, line.split()[2::2])) for line in (mark + below).splitlines()]
+
+
+@comparing
+def check_limit_words(program: list[str]) -> Iterator[Row]:
+    """`--limits` is the last word or none. Of the counter an epoch takes six steps: it begins, loads, adds, stores,
+    returns and commits. A load comes in the step of the store before it, two steps after the load there, or in that of
+    the commit, four after it."""
+    for words in (["--limits"], ["--limits", "4"], ["4", "--limits", "plain"], ["4", "--limits", "--limits"],
+                  ["4", "plain", "--limits", "--limits"], ["4", "--limit"], ["4", "--limits="], ["17", "--limits"]):
+        yield (f"words {words}", run(program, words, COUNTER), ("", "usage\n", 2))
+    yield ("an image that is refused, and limits", run(program, ["2", "--limits"], "size 1\n"),
+           ("", "image 1 Range\n", 2))
+    output, errors, status = run(program, ["3", "plain", "--limits"], COUNTER)
+    runs, told = without_limits(output)
+    yield ("limits: the runs", (runs, errors, status), run(program, ["3", "plain"], COUNTER))
+    yield ("limits: of the counter", told, [(1, 24, 24), (2, 14, 18), (3, 12, 18)])
+    with open("/dev/full", "w", encoding="ascii") as full:
+        done = called([*program, "2", "--limits"], COUNTER, stdout=full)
+    yield ("limits: a write that fails", (done.stderr, done.returncode), ("stopped Write\n", 3))
 
 
 @comparing
@@ -179,7 +224,7 @@ def check_runs(gain: list[str], replay: list[str], count: int) -> Iterator[Row]:
         yield (f"replay {words}", run(replay, words, COUNTER), ("", "usage\n", 2))
 
 
-PARTS = (check_words, check_many_stores, check_examples, check_long, check_write)
+PARTS = (check_words, check_limit_words, check_limits, check_many_stores, check_examples, check_long, check_write)
 
 
 def main() -> int:

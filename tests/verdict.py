@@ -41,6 +41,16 @@ TWO = ("store {} cores 2 steps 10 gain 1.20 useful 12 lost 4 dropped 0 waiting 0
 LARGE = "caches:line=16,sets=64,ways=4,buffer=16"
 GAIN = "".join(line.format(store) for store in ("caches", LARGE, "plain") for line in (ONE, TWO))
 CACHES = "The caches have 4 sets of 2 ways with lines of 16 bytes, and buffers of 4 lines."
+# What `gain --limits` prints below that on two cores, and what is told then.
+LIMITS = "limit cores 1 forward 12 commit 12\nlimit cores 2 forward {} commit {}\n"
+ALLOWED = [
+    (8, 10, " Its dependences allow 1.20 on 2 cores where a load waits for the commit of the epoch that it depends on, "
+            "and 1.50 where it gets the value as soon as it is stored."),
+    (7, 8, " Its dependences allow 1.50 on 2 cores where a load waits for the commit of the epoch that it depends on, "
+           "and 1.71 where it gets the value as soon as it is stored."),
+    (8, 8, " Its dependences allow 1.50 on 2 cores."),
+    (9, 9, ""),         # 1.33, less than a fifth above 1.20
+]
 LARGER = " With 64 sets of 4 ways with lines of 16 bytes, and buffers of 16 lines, it gains {}"
 SAID = ("waits gains 1.20 on 2 cores at even speed: 10 steps in place of 12. Over a plain store of bytes it gains "
         f"1.20. {CACHES} Of all steps 60 % are useful, 20 % are lost and "
@@ -182,8 +192,14 @@ def by_hand(folder: Path | str) -> Results:
                                   (["--min-gain", "1.5"], " Past the limits: it gains 1.20, less than 1.50.", 5)):
         got = verdict(folder, image, "--cores", "2", *words)
         yield f"the verdict {words}", None if got == (SAID + ending, "", status) else f"got {got}"
+    for forward, commit, said in ALLOWED:
+        stub(folder, "gain", GAIN + LIMITS.format(forward, commit))
+        got = verdict(folder, image, "--cores", "2")
+        yield (f"what its dependences allow: {forward} and {commit} steps",
+               None if got == (SAID.replace(" are idle.", f" are idle.{said}"), "", 0) else f"got {got}")
     stub(folder, "gain",
-         GAIN.replace(ONE.format("caches"), "store caches cores 1 full\n").replace("gain 1.20", "gain -"))
+         GAIN.replace(ONE.format("caches"), "store caches cores 1 full\n").replace("gain 1.20", "gain -")
+         + LIMITS.format(8, 10))
     got = verdict(folder, image, "--cores", "2", "--min-gain", "1.5")
     yield "full on one core", None if "so what it gains isn't known" in got[0] and got[2] == 5 else f"got {got}"
     stub(folder, "gain", GAIN.replace(TWO.format("caches"), "store caches cores 2 full\n"))
@@ -237,6 +253,7 @@ def gain_by_sets(folder: Path | str, gains: dict[int, float]) -> None:
     cases = "".join(f"{'*' * (key[-1] == ',')}{key}{'*' * (key[-1] == ',')}) "
                     f"echo \"{ONE.format('$word')}{line.rstrip()}\" ;;\n" for key, line in lines.items())
     path = Path(folder, "gain")
+    cases += "--limits) ;;\n"
     path.write_text(f"#!/bin/sh\ncat >/dev/null\nshift\nfor word; do\ncase $word in\n{cases}*) exit 9 ;;\nesac\ndone\n")
     path.chmod(0o755)
 

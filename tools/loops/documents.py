@@ -23,6 +23,8 @@ from .steps import Step, Steps, read_steps
 from .stores import is_store
 
 VERSION = 1
+# The fields that documents of before may lack
+LATER = {"limits"}
 SCHEMA = Path(__file__).with_name("schema.json")
 FORMS: dict[str, tuple[type, Callable[[str], Any]]] = {
     "image": (Image, read_image), "traced": (Traced, read_traced), "output": (Output, read_output),
@@ -115,7 +117,8 @@ def made(kind: Any, value: Any) -> Any:
     if kind is Step:
         return step_made(value)
     if is_dataclass(kind):
-        return kind(**{name: made(one, value[name]) for name, one in types_of(kind).items()})
+        return kind(**{name: made(one, value[name]) for name, one in types_of(kind).items()
+                       if name in value or name not in LATER})
     return bytes.fromhex(value) if kind is bytes else value
 
 

@@ -1,4 +1,5 @@
-"""What `gain` prints: a line for each store and each number of cores, of the run at even speed."""
+"""What `gain` prints: a line for each store and each number of cores, of the run at even speed; and where they are
+asked for, the limits that dependences set to each number of cores."""
 
 import re
 from dataclasses import dataclass, field, fields
@@ -50,33 +51,70 @@ NAMES = [one.name for one in fields(Gain)[3:]]
 
 
 @dataclass
+class Limit:
+    """In how few steps so many cores could run the loop, where a load that depends on an earlier epoch waits for the
+    store, or for the commit."""
+    cores: int
+    forward: int
+    commit: int
+
+    def text(self) -> str:
+        return f"limit cores {self.cores} forward {self.forward} commit {self.commit}\n"
+
+
+@dataclass
 class Gains:
-    """All runs, in the order in which they are printed."""
+    """All runs, in the order in which they are printed, and the limits below them."""
     runs: list[Gain] = field(default_factory=list)
+    limits: list[Limit] = field(default_factory=list)       # none where they weren't asked for
 
     def of(self, store: str, cores: int) -> Gain | None:
         """The run over a store on so many cores, where there is one."""
         return next((run for run in self.runs if (run.store, run.cores) == (store, cores)), None)
 
+    def limit(self, cores: int) -> Limit | None:
+        """The limits of so many cores, where they are told."""
+        return next((one for one in self.limits if one.cores == cores), None)
+
+    def allowed(self, cores: int) -> tuple[float, float] | None:
+        """What the loop could gain on so many cores where loads wait for commits, and where for stores, rounded down as
+        `gain` does; None where limits aren't told."""
+        one, limit = self.limit(1), self.limit(cores)
+        if one is None or limit is None:
+            return None
+        return one.commit * 100 // limit.commit / 100, one.forward * 100 // limit.forward / 100
+
     def text(self) -> str:
-        return "".join(run.text() for run in self.runs)
+        return "".join(run.text() for run in self.runs) + "".join(limit.text() for limit in self.limits)
 
 
 NUMBER, HUNDREDTHS = r"(\d+)", r"(\d+\.\d\d|-)"
 FORM = re.compile(r"store (\S+) cores (\d+) (?:full|"
                   + " ".join(f"{name} {HUNDREDTHS if name == 'gain' else NUMBER}" for name in NAMES) + ")")
+LIMIT = re.compile(r"limit cores (\d+) forward (\d+) commit (\d+)")
+
+
+def run_of(line: str) -> Gain:
+    """A run, by its line."""
+    match = FORM.fullmatch(line)
+    if match is None or not is_store(match[1]):
+        raise Unreadable(f"{line!r} is no line of gain")
+    run = Gain(match[1], int(match[2]), match[3] is None)
+    for name, word in zip(NAMES, match.groups()[2:]):
+        if word not in (None, "-"):
+            setattr(run, name, float(word) if name == "gain" else int(word))
+    return run
 
 
 def read_gains(text: str) -> Gains:
     """The lines that `gain` printed."""
     gains = Gains()
     for line in text.splitlines():
-        match = FORM.fullmatch(line)
-        if match is None or not is_store(match[1]):
-            raise Unreadable(f"{line!r} is no line of gain")
-        run = Gain(match[1], int(match[2]), match[3] is None)
-        for name, word in zip(NAMES, match.groups()[2:]):
-            if word not in (None, "-"):
-                setattr(run, name, float(word) if name == "gain" else int(word))
-        gains.runs.append(run)
+        match = LIMIT.fullmatch(line)
+        if match:
+            gains.limits.append(Limit(*map(int, match.groups())))
+        elif gains.limits:
+            raise Unreadable(f"{line!r} stands below a limit")
+        else:
+            gains.runs.append(run_of(line))
     return gains

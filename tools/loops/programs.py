@@ -182,9 +182,11 @@ class Programs:
         """What `why` says of a trace that stands in a file, line by line."""
         return iter_conflicts(iter_call(self.why_command or self.folder / "why", why_words(store), source, (0,)))
 
-    def gain(self, image: Image | str, cores: int, *stores: str) -> Gains:
-        """What the loop gains on up to so many cores over these stores; without any over `caches` and `plain`."""
-        return read_gains(call(self.folder / "gain", [str(cores), *stores], text_of(image)))
+    def gain(self, image: Image | str, cores: int, *stores: str, limits: bool = False) -> Gains:
+        """What the loop gains on up to so many cores over these stores; without any over `caches` and `plain`. With
+        `limits` also what its dependences allow."""
+        words = [str(cores), *stores, *["--limits"] * limits]
+        return read_gains(call(self.folder / "gain", words, text_of(image)))
 
     def has_depends(self) -> bool:
         """Whether `depends` can be called."""

@@ -7,7 +7,8 @@ What it gains is what `gain` says, of one instruction a step on each core and no
 `why` says of the runs that `replay even plain N` and `replay even STORE N` print: over the plain store first, since
 waiting for the caches may hide what epochs need of one another. STORE is the caches that it speaks of, those of the
 image's version where it isn't said. Where large caches gain something else it says so, and where the plain store gains
-and they don't, which are the first to gain as much. Where `depends` is built it says whether anything can roll back at
+and they don't, which are the first to gain as much. Where its dependences allow a fifth more than it gains it says so.
+Where `depends` is built it says whether anything can roll back at
 all, on any schedule, and what an epoch needs earliest of another. Where neighbours of an array share lines it proposes
 --chunk of the tool that made the image, tools/image-of or tools/loops-of; the words behind `--` are those by which it
 did, and with them it measures what that gains. Limits are of the run over caches: how many hundredths of the steps of
@@ -103,7 +104,7 @@ def findings(programs: Programs, given: argparse.Namespace, words: list[str]) ->
         raise
     store, plain_store = (Store.of_word(word, image.version) for word in (given.store, "plain"))
     large = larger_than(store.machine)
-    gains = programs.gain(text, cores, store.word, *([large.word] if large else []), plain_store.word)
+    gains = programs.gain(text, cores, store.word, *([large.word] if large else []), plain_store.word, limits=True)
     one, caches, plain = (there(gains.of(*run))
                           for run in ((store.word, 1), (store.word, cores), (plain_store.word, cores)))
     if caches.full:
@@ -119,7 +120,7 @@ def findings(programs: Programs, given: argparse.Namespace, words: list[str]) ->
     sized = Sized(large, there(gains.of(large.word, cores))) if large else None
     sizes = sizes_of(programs, text, store.machine, sized, caches, plain) if sized else None
     return Findings(shown(given.image.stem), store, one, caches, plain, over_caches.losses, over_plain, chunk, tried,
-                    flow, sizes)
+                    flow, sizes, gains.allowed(cores))
 
 
 def options_of(words: list[str]) -> tuple[argparse.Namespace, list[str]]:

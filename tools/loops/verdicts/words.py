@@ -15,6 +15,8 @@ from .losses import Losses
 from .sizes import ALIKE, Sizes, are_alike
 
 MOST_PAIRS = 3
+# What dependences allow is told where it is so many times what the loop gains.
+WELL_ABOVE = 1.2
 # A part of the steps is told as holding a loop back where it has so many hundredths of them.
 LEAST = 5
 KINDS = {"true": "true sharing", "silent": "silent stores", "false": "false sharing", "buffer": "full buffers",
@@ -43,6 +45,8 @@ class Findings:
     measured: Measured | None = None
     flow: Dependences | None = None     # none where `depends` isn't built
     sizes: Sizes | None = None          # none where the caches are large
+    # what its dependences allow, where loads wait for commits, and where for stores
+    allowed: tuple[float, float] | None = None
 
 
 def percent(part: int, run: Gain) -> float:
@@ -127,6 +131,23 @@ def size_words(found: Findings) -> str:
                        "cost isn't for want of room.")
     return told + (f" Of caches of {ways} ways, the first that gain as much as the plain store, within {ALIKE} %, have "
                    f"{plural(enough.machine.sets, 'set')}, {plural(enough.machine.lines, 'line')}.")
+
+
+# --- What its dependences allow ----------------------------------------------
+
+def allowed_words(found: Findings) -> str:
+    """What the loop could gain if loads waited only for what they need, where that is well above what it gains."""
+    gain = found.caches.gain
+    if gain is None or found.allowed is None:
+        return ""
+    commit, forward = found.allowed
+    if forward < WELL_ABOVE * gain:
+        return ""
+    told = f" Its dependences allow {commit:.2f} on {plural(found.caches.cores, 'core')}"
+    if forward == commit:
+        return f"{told}."
+    return (f"{told} where a load waits for the commit of the epoch that it depends on, and {forward:.2f} where it "
+            "gets the value as soon as it is stored.")
 
 
 # --- What holds it back ------------------------------------------------------
@@ -250,6 +271,7 @@ def paragraph(found: Findings) -> str:
     caches = holding(found.caches, found.over_caches, before, chunk_words(found))
     head = gained(found) + ("" if found.flow is None
                             else f" {flow(found.over_caches.image, found.flow, found.caches.cores)}")
+    head += allowed_words(found)
     if not plain and not caches:
         return f"{head} Nothing holds it back."
     told = [f"What holds it back over a plain store already: {' '.join(plain)}"] if plain else []
