@@ -120,6 +120,9 @@ OTHERS: list[tuple[str, str, list[str], str, Outcome]] = [
     # A start, a load, an addition, a store, a return and a commit. The second core has no epoch.
     ("the gains of an epoch", "gain", ["2"], (CRATES / "gain" / "stdin").read_text(),
      ((CRATES / "gain" / "stdout").read_text(), "", 0)),
+    ("the gains of an epoch and its limits", "gain", ["2", "--limits"], (CRATES / "gain" / "stdin").read_text(),
+     ((CRATES / "gain" / "stdout").read_text() + "limit cores 1 forward 6 commit 6\nlimit cores 2 forward 6 commit 6\n",
+      "", 0)),
     ("what a counter rolls back through", "depends", ["2"], (CRATES / "depends" / "stdin").read_text(),
      ((CRATES / "depends" / "stdout").read_text(), "", 0)),
     ("one schedule", "replay", ["all", "plain", "1", "4"], image(COUNTER),
