@@ -16,4 +16,4 @@ mod flow;
 #[cfg(test)]
 mod images;
 #[cfg(test)]
-mod limits;
+mod timings;
