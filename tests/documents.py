@@ -3,12 +3,14 @@
 
 Usage: tests/documents.py [--list]
 
-`docs/reading.md` has to be what `tools/definitions` writes. The README has to say how many definitions the sentence
-stands on, and none of them may be of the caches or their bus. A definition is cited where a clause (`requires` or
-`ensures`) of an exported function names it, from a file of `specs/` that the source imports by `ghost use`; each has to
-be in its file. `--list` prints all of them. The drawing of docs/architecture.md and the README's list have the crates
-of crates.txt, by its floors, and each crate names there no crate that nothing of it names. Needs Python 3 alone. Exits
-with 1 where a check failed.
+No sentence may be longer than 40 words, and few runs of nine words may stand on two pages. A crate's page opens with
+three sentences: what the crate does, promises and rests on. `docs/reading.md` has to be what `tools/definitions`
+writes. The README has to say how many definitions the sentence stands on, and none of them may be of the caches or
+their bus. A definition is cited where a clause (`requires` or `ensures`) of an exported function names it, from a file
+of `specs/` that the source imports by `ghost use`; each has to be in its file. `--list` prints all of them. The drawing
+of docs/architecture.md and the README's list have the crates of crates.txt, by its floors, the list with the titles of
+their pages, and each crate names there no crate that nothing of it names. Needs Python 3 alone. Exits with 1 where a
+check failed.
 """
 
 import re
@@ -22,6 +24,10 @@ DOCS = ROOT / "docs"
 MOST_WORDS = 34_000
 LONGEST_LINE = 120
 MOST_WORDS_OF_README = 1600
+MOST_WORDS_OF_SENTENCE = 40
+# So many words in a row are a run; and so many runs may stand on more than one page.
+RUN = 9
+MOST_SHARED_RUNS = 100
 # Crates whose functions nobody outside uses: tests.
 WITHOUT_CONTRACTS = {"machine_tests"}
 NAME = r"[^\s(){}.,;λ]+"
@@ -165,6 +171,10 @@ def floors() -> list[list[str]]:
     return list(filter(None, (re.findall(r"(?m)^(\w+)[^:#\n]*:", part) for part in parts)))
 
 
+# A line of the README's list of crates: the crate, and the title of its page
+LISTED = re.compile(r"(?m)^- \[`(\w+)`\]\(crates/\w+/README\.md\): (.*)$")
+
+
 def drawn() -> list[list[str]]:
     """The rows of the drawing of the crates, the lowest first: the names in each."""
     drawing = there(re.search(r"(?ms)^```\n(.*?)^```", (DOCS / "architecture.md").read_text()))[1]
@@ -186,11 +196,23 @@ def architecture() -> Iterator[Check]:
     for names, row in zip(listed, rows):
         yield (f"the floor of {names[0]} in docs/architecture.md",
                None if sorted(names) == sorted(row) else f"has {row}, in crates.txt {names}")
-    table = re.findall(r"(?m)^- \[`(\w+)`\]\(crates/", (ROOT / "README.md").read_text())
+    table = LISTED.findall((ROOT / "README.md").read_text())
     yield ("the README's list of crates",
-           None if table == sum(listed, []) else "doesn't have the crates of crates.txt in their order")
-    for name in listed_crates():
-        yield f"crates/{name}/README.md", None if (ROOT / "crates" / name / "README.md").is_file() else "isn't there"
+           None if [name for name, _ in table] == sum(listed, [])
+           else "doesn't have the crates of crates.txt in their order")
+    for name, title in table:
+        yield f"crates/{name}/README.md", wrong_in_page(ROOT / "crates" / name / "README.md", f"# `{name}`: {title}")
+
+
+def wrong_in_page(page: Path, title: str) -> str | None:
+    """What is wrong in the beginning of a crate's page, which has this title."""
+    if not page.is_file():
+        return "isn't there"
+    paragraphs = page.read_text().split("\n\n")
+    if paragraphs[0] != title:
+        return f"doesn't begin with {title}"
+    opening = list(sentences(paragraphs[1]))
+    return None if len(opening) >= 3 else f"opens with {len(opening)} sentences, and not with three"
 
 
 def named_in(name: str) -> set[str]:
@@ -262,6 +284,38 @@ def too_long(text: str) -> Iterator[int]:
             yield number
 
 
+def blocks(text: str) -> Iterator[str]:
+    """The paragraphs, items and headings of a page, each on one line, without targets of links, code and tables."""
+    text = re.sub(r"(?ms)^ *```.*?^ *```|^    .*?$|^\|.*?$", "\n\n", text)
+    for part in re.split(r"\n\s*\n|\n(?=\s*(?:[-*>#]+|\d+\.)\s)", text):
+        words = re.sub(r"\]\([^)]*\)", "]", re.sub(r"^\s*(?:[-*>#]+|\d+\.)\s*", "", part)).split()
+        if words:
+            yield " ".join(words)
+
+
+def sentences(text: str) -> Iterator[str]:
+    """The sentences of a page."""
+    for part in blocks(text):
+        yield from re.split(r"(?<=[.!?])[\")*]*\s+", part)
+
+
+def readable() -> Iterator[Check]:
+    """The length of each page's sentences, and how many runs of words stand on more than one page."""
+    homes: dict[str, set[Path]] = {}
+    for page in pages():
+        text = LISTED.sub("", page.read_text())
+        longest = max(sentences(text), key=lambda it: len(it.split()), default="")
+        count = len(longest.split())
+        yield (f"the sentences of {page.relative_to(ROOT)}",
+               None if count <= MOST_WORDS_OF_SENTENCE else f"have one of {count} words: {longest}")
+        for words in (part.lower().split() for part in blocks(text)):
+            for place in range(len(words) - RUN + 1):
+                homes.setdefault(" ".join(words[place:place + RUN]), set()).add(page)
+    shared = sorted(run for run, found in homes.items() if len(found) > 1)
+    yield ("runs of words on two pages", None if len(shared) <= MOST_SHARED_RUNS
+           else f"are {len(shared)}, more than {MOST_SHARED_RUNS}: {'; '.join(shared[:20])}")
+
+
 NUMBERS = ("no one two three four five six seven eight nine ten eleven twelve thirteen fourteen fifteen sixteen "
            "seventeen eighteen nineteen twenty").split()
 COUNTED = re.compile(r"\b(?:all|the)\s+(\d[\d,]*|" + "|".join(NUMBERS[2:])
@@ -305,7 +359,7 @@ def main() -> int:
         for name, wrong in definitions():
             print(name, wrong or "")
         return 0
-    script.run(definitions, reading, architecture, dependencies, links, lengths, counts)
+    script.run(definitions, reading, architecture, dependencies, links, lengths, readable, counts)
     return script.ended()
 
 
