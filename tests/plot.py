@@ -158,6 +158,33 @@ def tables(words: list[str], folder: str) -> Iterator[Check]:
         yield f"refused: {name}", None if got[0] == "" and said in got[1] and got[2] == 2 else f"{got}"
 
 
+def many(folder: str) -> Iterator[Check]:
+    """The bars of ten stores stand apart, within the place of their number of cores, and the note fits."""
+    words = [f"caches:sets={2 ** place}" for place in range(9)] + ["plain"]
+    rows = "".join(f"{word} {cores} 464 1.00 464 0 0 0 0 0 0 0 0 0 0 0 0 0\n" for word in words for cores in (1, 2))
+    Path(folder, "many.txt").write_text(text_of(rows))
+    out, errors, status = plot(f"{folder}/many.txt")
+    if "is not installed" in errors:
+        return
+    yield "a plot of ten stores", None if (errors, status) == ("", 0) else f"{errors!r}, {status}"
+    root, ends = xml.fromstring(out), []
+    for group in root.iter(f"{SVG}g"):
+        if re.fullmatch(r"many-.*-useful", group.get("id", "")):
+            across = [float(x) for x in re.findall(r"[ML] ([-\d.]+) ", there(group.find(f"{SVG}path")).get("d", ""))]
+            ends.append((min(across), max(across)))
+    ends.sort()
+    yield "a bar for each store and number of cores", None if len(ends) == 20 else f"{len(ends)}"
+    yield ("no bar overlaps another one",
+           None if all(one[1] < other[0] for one, other in zip(ends, ends[1:])) else f"{ends}")
+    yield ("two numbers of cores are further apart than two bars",
+           None if ends[10][0] - ends[9][1] > 2 * (ends[1][0] - ends[0][1]) else f"{ends[8:12]}")
+    wide = float(there(re.match(r"[\d.]+", root.get("width", "")))[0])
+    longest = max((text for text in root.iter(f"{SVG}text")), key=lambda text: len("".join(text.itertext())))
+    letters = max(len(line) for line in ("".join(part.itertext()) for part in [*longest, longest]))
+    # A letter of the note, which is 6.5 points high, is at least 3.1 wide on an average.
+    yield "each line of the note fits", None if 3.1 * letters <= wide else f"{letters} letters in {wide} points"
+
+
 def depends(folder: str) -> Iterator[Check]:
     """(what it shows, what is wrong or None) of what `depends` printed."""
     Path(folder, "flows.image").write_text(IMAGE)
@@ -198,7 +225,7 @@ def main() -> int:
     script = Script()
     with tempfile.TemporaryDirectory() as folder:
         words = list(files(folder))
-        script.run(partial(plots, words), partial(tables, words, folder), partial(depends, folder))
+        script.run(partial(plots, words), partial(tables, words, folder), partial(many, folder), partial(depends, folder))
     return script.ended()
 
 

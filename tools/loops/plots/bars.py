@@ -3,6 +3,7 @@ that is the same from the same lines."""
 
 import io
 import logging
+import textwrap
 from dataclasses import dataclass
 from typing import Any
 
@@ -18,8 +19,10 @@ from .parts import PARTS, shares  # noqa: E402
 
 Axes = Any              # matplotlib's, which has no types
 MOST_COLUMNS, PANEL_WIDTH, PANEL_HEIGHT = 3, 3.1, 1.8
-# So wide are the bars of a number of cores together, and so far are they apart.
+# So wide are the bars of a number of cores together, and so far are they apart at most.
 WIDTH, GAP, INK, PALE = 0.88, 0.04, "#1d2733", "#6b7785"
+# So many letters of the note fit in an inch, and so high is a line of it.
+LETTERS, NOTE_LINE = 21, 0.12
 NOTE = ("Each bar is all steps of all cores of a run at even speed, one instruction a step and no latency; above it "
         "stands the gain over one core.\n"
         "{}, below them the cores. Lost steps are shared out over the kinds by their violations.")
@@ -44,12 +47,17 @@ class Stores:
         words = list(dict.fromkeys(run.store for loop in loops for run in loop.gains.runs))
         numbered = [word for word in words if word not in SIGNS]
         self.words = [*USUAL] if set(words) <= set(USUAL) else words
-        self.wide = WIDTH / len(self.words) - GAP / 2
+        self.gap = min(GAP, WIDTH / len(self.words) / 4)
+        self.wide = (WIDTH - (len(self.words) - 1) * self.gap) / len(self.words)
         self.says = {word: SIGNS.get(word) or f"{numbered.index(word) + 1}: over {word}" for word in self.words}
 
     def place(self, store: str) -> float:
         """How far right of the middle its bar is."""
-        return (self.words.index(store) - (len(self.words) - 1) / 2) * (self.wide + GAP)
+        return (self.words.index(store) - (len(self.words) - 1) / 2) * (self.wide + self.gap)
+
+    def are_many(self) -> bool:
+        """There are more than the usual ones, so the gains above the bars are upright."""
+        return len(self.words) > len(USUAL)
 
     def sign(self, store: str) -> str:
         return self.says[store].partition(":")[0]
@@ -64,8 +72,8 @@ def bar(axes: Axes, loop: Loop, run: Gain, x: float, stores: Stores) -> None:
         drawn[0].set_gid(f"{loop.name}-{run.store}-{run.cores}-{part.name}")
         base += share
     said = "full" if run.full else "-" if run.gain is None else f"{run.gain:.2f}"
-    axes.text(x, base + 0.03, said, ha="center", va="bottom", size=6.2,
-              rotation=90 if run.full or len(stores.words) > 2 else 0,
+    axes.text(x, base + 0.03, said, ha="center", va="bottom", size=6.2 if len(stores.words) < 6 else 5.0,
+              rotation=90 if run.full or stores.are_many() else 0,
               weight="bold" if run.store == "caches" else "normal")
     axes.text(x, -0.04, stores.sign(run.store), ha="center", va="top", size=6.2, color=PALE)
 
@@ -75,7 +83,7 @@ def panel(axes: Axes, loop: Loop, stores: Stores) -> None:
     cores = sorted({run.cores for run in loop.gains.runs})
     for run in loop.gains.runs:
         bar(axes, loop, run, cores.index(run.cores) + stores.place(run.store), stores)
-    axes.set_title(loop.name, size=8.5, weight="bold", loc="left", pad=15)
+    axes.set_title(loop.name, size=8.5, weight="bold", loc="left", pad=20 if stores.are_many() else 15)
     axes.set_xlim(-0.6, max(len(cores), 3) - 0.4)
     axes.set_ylim(0, 1)
     axes.set_xticks(range(len(cores)), [f"{count} core{'s' if count > 1 else ''}" for count in cores], size=6.8)
@@ -84,20 +92,30 @@ def panel(axes: Axes, loop: Loop, stores: Stores) -> None:
     axes.spines[["top", "right"]].set_visible(False)
 
 
+def noted(stores: Stores, columns: int) -> str:
+    """The note below so many columns of panels, in lines that fit."""
+    note = NOTE.format(", ".join(stores.says.values()))
+    if not stores.are_many():
+        return note
+    return "\n".join(textwrap.fill(line, int(columns * PANEL_WIDTH * LETTERS), break_on_hyphens=False)
+                     for line in note.split("\n"))
+
+
 def drawn(loops: list[Loop]) -> str:
     """The plot of these loops."""
     matplotlib.use("svg")
     from matplotlib import pyplot
 
     stores = Stores(loops)
-    note = NOTE.format(", ".join(stores.says.values()))
     with matplotlib.rc_context(STYLE):
         columns = min(MOST_COLUMNS, max(2, len(loops)))
+        note = noted(stores, columns)
+        more = NOTE_LINE * (note.count("\n") - 1)
         rows = -(-len(loops) // columns)
         occur = {part for loop in loops for run in loop.gains.runs if not run.full for part, _ in shares(run)}
         told = [Patch(facecolor=part.colour, hatch=part.hatch, edgecolor=PALE, linewidth=0.5, label=part.says)
                 for part in PARTS if part in occur]
-        below = 0.5 + 0.16 * -(-len(told) // columns)
+        below = 0.5 + 0.16 * -(-len(told) // columns) + more
         height = rows * PANEL_HEIGHT + below + 0.1
         figure, grid = pyplot.subplots(rows, columns, figsize=(columns * PANEL_WIDTH, height), squeeze=False)
         figure.subplots_adjust(left=0.4 / (columns * PANEL_WIDTH), right=0.995, top=1 - 0.42 / height,
@@ -108,7 +126,7 @@ def drawn(loops: list[Loop]) -> str:
         for axes in panels[len(loops):]:
             axes.set_visible(False)
         figure.legend(handles=told, loc="lower left", ncol=columns, frameon=False, fontsize=6.8,
-                      bbox_to_anchor=(0.0, 0.34 / height), handlelength=2.4,
+                      bbox_to_anchor=(0.0, (0.34 + more) / height), handlelength=2.4,
                       handleheight=1.1, columnspacing=1.6, labelspacing=0.35, borderaxespad=0.2)
         figure.text(0.006, 0.08 / height, note, size=6.5, color=PALE, va="bottom", linespacing=1.35)
         made = io.StringIO()
