@@ -225,7 +225,8 @@ def main() -> int:
     script = Script()
     with tempfile.TemporaryDirectory() as folder:
         words = list(files(folder))
-        script.run(partial(plots, words), partial(tables, words, folder), partial(many, folder), partial(depends, folder))
+        script.run(partial(plots, words), partial(tables, words, folder), partial(many, folder),
+                   partial(depends, folder))
     return script.ended()
 
 

@@ -3,10 +3,10 @@
 
 Usage: tests/release.py [--only WORD] [COMMAND ..]
 
-COMMAND is a command of `trace_cli` that ends with the word `seq`, as for the other tests. The archive is made of this
-tree, and unpacked in an empty folder. There the commands run that the README begins with, on a PATH without the kit's
-`rt`. All of it is left out where the programs of this tree aren't built, or git doesn't know it. Exits with 1 where a
-check failed.
+COMMAND is a command of `trace_cli` that ends with the word `seq`, as for the other tests; `why`, `replay`, `gain` and
+`depends` are the programs that were built beside it. The archive is made of these and of this tree, and unpacked in an
+empty folder. There the commands run that the README begins with, on a PATH without the kit's `rt`. All of it is left
+out where a program isn't built, or git doesn't know the tree. Exits with 1 where a check failed.
 """
 
 import hashlib
@@ -21,7 +21,7 @@ from collections.abc import Iterator
 from functools import partial
 from pathlib import Path
 
-from common import ROOT, Check, Row, Script, called, comparing, differs, left_out
+from common import ROOT, Check, Row, Script, beside, called, comparing, differs, left_out
 
 PROGRAMS = ("trace_cli", "why", "replay", "gain", "depends")
 # A command of the README's section that says how the program is tried
@@ -29,19 +29,25 @@ COMMAND = re.compile(r"(?m)^\$ (\S.*)$")
 MAKE = [str(ROOT / "tools" / "release")]
 
 
-def unbuilt() -> str | None:
-    """Why no archive can be made of this tree, or None."""
-    if called(["git", "-C", str(ROOT), "rev-parse", "HEAD"]).returncode:
-        return "git doesn't know this tree"
-    lacks = [name for name in PROGRAMS if called([str(ROOT / name), "--is-built"]).returncode]
-    return f"{' '.join(lacks)} isn't built for these sources" if lacks else None
+def given(command: list[str], room: Path) -> list[str | Path] | None:
+    """The words for tools/release that name the programs of a command: none for those of the tree. None where one isn't
+    built."""
+    if Path(command[0]).resolve() == ROOT / "trace_cli":
+        return None if any(called([ROOT / name, "--is-built"]).returncode for name in PROGRAMS) else []
+    room.mkdir()
+    for name in PROGRAMS:
+        path = Path(command[0]) if name == "trace_cli" else beside(command, name)
+        if path is None:
+            return None
+        shutil.copy(path, room / name)
+    return ["--programs", room]
 
 
 class Release:
     """An archive, and the folder into which it is unpacked."""
 
-    def __init__(self, room: Path) -> None:
-        self.first, self.second = (called([*MAKE, str(room / folder)]) for folder in ("first", "second"))
+    def __init__(self, room: Path, programs: list[str | Path]) -> None:
+        self.first, self.second = (called([*MAKE, *programs, room / folder]) for folder in ("first", "second"))
         self.archives = [Path(done.stdout.strip()) for done in (self.first, self.second)]
         self.folder = room / "unpacked"
         if not self.first.returncode:
@@ -91,7 +97,7 @@ def runs(release: Release) -> Iterator[Row]:
     """The first commands of the README, and each program's version."""
     text = (release.folder / "README.md").read_text(encoding="utf-8")
     report = release.call("./trace_cli seq < examples/histogram.image").stdout
-    yield "the report", report.splitlines()[:1], ["done 4"]
+    yield "the report", report.splitlines()[:1], ["end done 16"]
     for command in COMMAND.findall(text[text.index("## Try it"):text.index("## Your own loop")]):
         done = release.call(command)
         right = done.stdout.startswith("legal ") if "audit" in command else done.stdout.startswith(report)
@@ -108,12 +114,15 @@ def runs(release: Release) -> Iterator[Row]:
 
 def main() -> int:
     script = Script()
-    why = unbuilt()
-    if why:
-        left_out("the archive of a release", why)
+    if called(["git", "-C", ROOT, "rev-parse", "HEAD"]).returncode:
+        left_out("the archive of a release", "git doesn't know this tree")
         return script.ended()
     with tempfile.TemporaryDirectory() as room:
-        release = Release(Path(room))
+        programs = given(script.command(), Path(room, "programs"))
+        if programs is None:
+            left_out("the archive of a release", "a program isn't built for these sources")
+            return script.ended()
+        release = Release(Path(room), programs)
         script.run(partial(made, release))
         if not release.first.returncode:
             script.run(partial(whole, release), partial(runs, release))
