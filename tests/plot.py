@@ -18,7 +18,7 @@ from collections.abc import Iterator
 from functools import partial
 from pathlib import Path
 
-from common import ROOT, Check, Script, called, left_out, there
+from common import ROOT, Check, Script, called, differs, left_out, there
 
 SVG = "{http://www.w3.org/2000/svg}"
 NAMES = ("store cores steps gain useful lost dropped waiting idle restarts true silent false buffer nothomefree noway "
@@ -185,6 +185,42 @@ def many(folder: str) -> Iterator[Check]:
     yield "each line of the note fits", None if 3.1 * letters <= wide else f"{letters} letters in {wide} points"
 
 
+# Of own_counters the limits of 1 and of 4 cores
+LIMITS = "limit cores 1 forward 464 commit 464\nlimit cores 4 forward 58 commit 116\n"
+
+
+def times(folder: str) -> Iterator[Check]:
+    """Bars as high as the time of their runs, and the limits as marks."""
+    path = Path(folder, "timed.txt")
+    path.write_text(text_of(LINES["own_counters"]) + LIMITS)
+    out, errors, status = plot("--times", f"timed={path}")
+    if "is not installed" in errors:
+        return
+    yield "a plot of times", None if (errors, status) == ("", 0) else f"{errors!r}, {status}"
+    root = xml.fromstring(out)
+    high = {name: max(one for *_, one in parts) - min(one for _, one, _ in parts) for name, parts in bars(root).items()}
+    one = high["timed-caches-1"]
+    heights = {name: round(100 * height / one) for name, height in high.items()}
+    wanted = {"timed-caches-1": 100, "timed-caches-4": 92, "timed-plain-1": 100, "timed-plain-4": 25}
+    yield "bars as high as the steps of a run to those on one core", differs(heights, wanted)
+    texts = ["".join(text.itertext()).strip() for text in root.iter(f"{SVG}text")]
+    yield "the hundredths above them", differs([text for text in texts if text in ("100", "92", "25")],
+                                               ["100", "92", "100", "25"])
+    lines = {}
+    for group in root.iter(f"{SVG}g"):
+        if re.fullmatch(r"timed-\d+-(commit|forward)", group.get("id", "")):
+            path_of = there(group.find(f"{SVG}path"))
+            lines[group.get("id", "")] = (float(re.findall(r"M [-\d.]+ ([-\d.]+)", path_of.get("d", ""))[0]),
+                                          "stroke-dasharray" in path_of.get("style", ""))
+    foot = max(low for parts in bars(root).values() for _, _, low in parts)
+    marks = {name: (round(100 * (foot - y) / one), dotted) for name, (y, dotted) in lines.items()}
+    yield "a line for each limit, of which one is dotted", differs(
+        marks, {"timed-1-commit": (100, False), "timed-1-forward": (100, True), "timed-4-commit": (25, False),
+                "timed-4-forward": (12, True)})
+    got = plot("--times", "--sizes", f"timed={path}")
+    yield "both forms", None if got[0] == "" and "not allowed with" in got[1] and got[2] == 2 else f"{got}"
+
+
 def depends(folder: str) -> Iterator[Check]:
     """(what it shows, what is wrong or None) of what `depends` printed."""
     Path(folder, "flows.image").write_text(IMAGE)
@@ -226,7 +262,7 @@ def main() -> int:
     with tempfile.TemporaryDirectory() as folder:
         words = list(files(folder))
         script.run(partial(plots, words), partial(tables, words, folder), partial(many, folder),
-                   partial(depends, folder))
+                   partial(times, folder), partial(depends, folder))
     return script.ended()
 
 

@@ -1,13 +1,14 @@
 """Plots what loops gain and where the steps of their cores went, from what `./gain CORES` printed; or what their epochs
 need of one another, from what `./depends CORES` printed. The plot is SVG on standard output.
 
-Usage: tools/plot [--csv] [--sizes] [--images FOLDER] [NAME=FILE ..] > GAINS.svg
+Usage: tools/plot [--csv] [--sizes | --times] [--images FOLDER] [NAME=FILE ..] > GAINS.svg
 
 Each FILE has the lines of one loop, called NAME, or without `NAME=` after the file; without a FILE standard input is
 read. --csv writes a row for each line in the place of the plot, of `depends` for each line `dep`. --sizes draws what
-loops gain by the size of the caches, of lines over several stores. Where FOLDER has NAME.image, its remarks name
-variables and lines of dependences. The same lines give the same bytes. The plot needs Debian's python3-matplotlib. What
-is no line of either program is refused with a line on standard error and status 2.
+loops gain by the size of the caches, of lines over several stores. --times draws the time of each run in hundredths of
+the loop on one core, and what its dependences allow, of lines of `gain --limits`. Where FOLDER has NAME.image, its
+remarks name variables and lines of dependences. The same lines give the same bytes. The plot needs Debian's
+python3-matplotlib. What is no line of either program is refused with a line on standard error and status 2.
 """
 
 import argparse
@@ -61,23 +62,24 @@ def plot_flows(flows: list[tuple[str, Dependences]], folder: Path | None, as_tab
     return drawn([Flow(name, found, image_of(folder, name)) for name, found in flows])
 
 
-def plot_gains(loops: list[tuple[str, Gains]], as_table: bool, by_size: bool) -> str:
+def plot_gains(found: list[tuple[str, Gains]], given: argparse.Namespace) -> str:
     """What loops gain."""
-    if not all(gains.runs for _, gains in loops):
+    if not all(gains.runs for _, gains in found):
         raise Unreadable("there is no line of gain")
-    if as_table:
+    if given.csv:
         from loops.plots.table import table
-        return table(loops)
-    from loops.plots.bars import Loop, drawn
-    if by_size:
-        from loops.plots.sizes import drawn
-    return drawn([Loop(*one) for one in loops])
+        return table(found)
+    from loops.plots import bars, sizes, times
+    loops = [bars.Loop(*one) for one in found]
+    if given.sizes:
+        return sizes.drawn(loops)
+    return bars.drawn(loops, times.Times() if given.times else bars.Scale())
 
 
 def plotted(printed: Printed, given: argparse.Namespace) -> str:
     if is_of_depends(printed):
         return plot_flows([(name, read_dependences(text)) for name, text in printed], given.images, given.csv)
-    return plot_gains([(name, read_gains(text)) for name, text in printed], given.csv, given.sizes)
+    return plot_gains([(name, read_gains(text)) for name, text in printed], given)
 
 
 @tool
@@ -86,7 +88,10 @@ def main() -> int:
                                                  "what their epochs need of one another, as SVG on "
                                                  "standard output.")
     parser.add_argument("--csv", action="store_true", help="a row for each line, in the place of the plot")
-    parser.add_argument("--sizes", action="store_true", help="what loops gain by the size of the caches")
+    form = parser.add_mutually_exclusive_group()
+    form.add_argument("--sizes", action="store_true", help="what loops gain by the size of the caches")
+    form.add_argument("--times", action="store_true",
+                      help="the time of each run in hundredths of the loop on one core, and what dependences allow")
     parser.add_argument("--images", type=Path, metavar="FOLDER",
                         help="has NAME.image, whose remarks name variables and lines of dependences")
     parser.add_argument("files", nargs="*", metavar="NAME=FILE",

@@ -40,6 +40,26 @@ class Loop:
     gains: Gains
 
 
+class Scale:
+    """How high bars are, and what stands above them: here all are as high, below their gains."""
+    note = NOTE
+
+    def height(self, loop: Loop, run: Gain) -> float | None:
+        """How high the bar of a run is; none where it has no bar."""
+        return None if run.full else 1.0
+
+    def top(self, loop: Loop) -> float:
+        """How high the axis of a loop is."""
+        return 1.0
+
+    def said(self, loop: Loop, run: Gain) -> str:
+        """What stands above a bar."""
+        return "full" if run.full else "-" if run.gain is None else f"{run.gain:.2f}"
+
+    def mark(self, axes: Axes, loop: Loop, cores: int, place: int) -> None:
+        """What is drawn over the bars of a number of cores: nothing."""
+
+
 class Stores:
     """The stores of all loops, in the order in which they come: where their bars stand, and the sign below each."""
 
@@ -63,45 +83,47 @@ class Stores:
         return self.says[store].partition(":")[0]
 
 
-def bar(axes: Axes, loop: Loop, run: Gain, x: float, stores: Stores) -> None:
-    """A bar at a place: its parts, and the gain above it."""
-    base = 0.0
-    for part, share in [] if run.full else shares(run):
-        drawn = axes.bar(x, share, stores.wide, base, color=part.colour, hatch=part.hatch, edgecolor=PALE,
+def bar(axes: Axes, loop: Loop, run: Gain, x: float, stores: Stores, scale: Scale) -> None:
+    """A bar at a place: its parts, and what is said above it."""
+    base, height, top = 0.0, scale.height(loop, run), scale.top(loop)
+    parts = [] if height is None else [(part, share * height) for part, share in shares(run)]
+    for part, high in parts:
+        drawn = axes.bar(x, high, stores.wide, base, color=part.colour, hatch=part.hatch, edgecolor=PALE,
                          linewidth=0.5)
         drawn[0].set_gid(f"{loop.name}-{run.store}-{run.cores}-{part.name}")
-        base += share
-    said = "full" if run.full else "-" if run.gain is None else f"{run.gain:.2f}"
-    axes.text(x, base + 0.03, said, ha="center", va="bottom", size=6.2 if len(stores.words) < 6 else 5.0,
+        base += high
+    size = 6.2 if len(stores.words) < 6 else 5.0
+    axes.text(x, base + 0.03 * top, scale.said(loop, run), ha="center", va="bottom", size=size,
               rotation=90 if run.full or stores.are_many() else 0,
               weight="bold" if run.store == "caches" else "normal")
-    axes.text(x, -0.04, stores.sign(run.store), ha="center", va="top", size=6.2, color=PALE)
+    axes.text(x, -0.04 * top, stores.sign(run.store), ha="center", va="top", size=6.2, color=PALE)
 
 
-def panel(axes: Axes, loop: Loop, stores: Stores) -> None:
+def panel(axes: Axes, loop: Loop, stores: Stores, scale: Scale) -> None:
     """The bars of a loop."""
-    cores = sorted({run.cores for run in loop.gains.runs})
+    cores, top = sorted({run.cores for run in loop.gains.runs}), scale.top(loop)
     for run in loop.gains.runs:
-        bar(axes, loop, run, cores.index(run.cores) + stores.place(run.store), stores)
+        bar(axes, loop, run, cores.index(run.cores) + stores.place(run.store), stores, scale)
+    for place, count in enumerate(cores):
+        scale.mark(axes, loop, count, place)
     axes.set_title(loop.name, size=8.5, weight="bold", loc="left", pad=20 if stores.are_many() else 15)
     axes.set_xlim(-0.6, max(len(cores), 3) - 0.4)
-    axes.set_ylim(0, 1)
+    axes.set_ylim(0, top)
     axes.set_xticks(range(len(cores)), [f"{count} core{'s' if count > 1 else ''}" for count in cores], size=6.8)
     axes.tick_params(axis="x", length=0, pad=9)
-    axes.set_yticks([0, 0.5, 1], ["0", "50 %", "100 %"], size=6.2)
+    axes.set_yticks([0, 0.5, *range(1, int(top) + 1)],
+                    ["0", "50 %", *(f"{whole}00 %" for whole in range(1, int(top) + 1))], size=6.2)
     axes.spines[["top", "right"]].set_visible(False)
 
 
-def noted(stores: Stores, columns: int) -> str:
+def noted(stores: Stores, scale: Scale, columns: int) -> str:
     """The note below so many columns of panels, in lines that fit."""
-    note = NOTE.format(", ".join(stores.says.values()))
-    if not stores.are_many():
-        return note
+    note = scale.note.format(", ".join(stores.says.values()))
     return "\n".join(textwrap.fill(line, int(columns * PANEL_WIDTH * LETTERS), break_on_hyphens=False)
                      for line in note.split("\n"))
 
 
-def drawn(loops: list[Loop]) -> str:
+def drawn(loops: list[Loop], scale: Scale = Scale()) -> str:
     """The plot of these loops."""
     matplotlib.use("svg")
     from matplotlib import pyplot
@@ -109,7 +131,7 @@ def drawn(loops: list[Loop]) -> str:
     stores = Stores(loops)
     with matplotlib.rc_context(STYLE):
         columns = min(MOST_COLUMNS, max(2, len(loops)))
-        note = noted(stores, columns)
+        note = noted(stores, scale, columns)
         more = NOTE_LINE * (note.count("\n") - 1)
         rows = -(-len(loops) // columns)
         occur = {part for loop in loops for run in loop.gains.runs if not run.full for part, _ in shares(run)}
@@ -122,7 +144,7 @@ def drawn(loops: list[Loop]) -> str:
                                bottom=(below + 0.35) / height, hspace=0.68, wspace=0.16)
         panels = list(grid.flat)
         for axes, loop in zip(panels, loops):
-            panel(axes, loop, stores)
+            panel(axes, loop, stores, scale)
         for axes in panels[len(loops):]:
             axes.set_visible(False)
         figure.legend(handles=told, loc="lower left", ncol=columns, frameon=False, fontsize=6.8,
