@@ -23,6 +23,7 @@ import time
 from pathlib import Path
 
 import rv32_seq
+from rv32_seq import Outcome
 
 ROOT = Path(__file__).resolve().parent.parent.parent
 MASK32 = 0xFFFFFFFF
@@ -35,20 +36,20 @@ EDGE_IMMEDIATES = [0, 1, -1, 2, 3, 4, 7, 8, 16, 31, 32, 63, 64, -4, -16, 2047, -
 
 # --- Words -----------------------------------------------------------------
 
-def word_of_i(match, rd, rs1, imm):
+def word_of_i(match: int, rd: int, rs1: int, imm: int) -> int:
     return match | rd << 7 | rs1 << 15 | (imm & 0xFFF) << 20
 
 
-def word_of_s(match, rs1, rs2, imm):
+def word_of_s(match: int, rs1: int, rs2: int, imm: int) -> int:
     return match | rs1 << 15 | rs2 << 20 | (imm & 31) << 7 | (imm >> 5 & 127) << 25
 
 
-def word_of_b(match, rs1, rs2, imm):
+def word_of_b(match: int, rs1: int, rs2: int, imm: int) -> int:
     return (match | rs1 << 15 | rs2 << 20 | (imm >> 11 & 1) << 7 | (imm >> 1 & 15) << 8
             | (imm >> 5 & 63) << 25 | (imm >> 12 & 1) << 31)
 
 
-def word_of_j(rd, imm):
+def word_of_j(rd: int, imm: int) -> int:
     return (0x6F | rd << 7 | (imm >> 12 & 255) << 12 | (imm >> 11 & 1) << 20
             | (imm >> 1 & 0x3FF) << 21 | (imm >> 20 & 1) << 31)
 
@@ -67,7 +68,7 @@ WIDTH = {"lb": 1, "lbu": 1, "sb": 1, "lh": 2, "lhu": 2, "sh": 2, "lw": 4, "sw": 
 class ProgramMaker:
     """A random program over a memory of which some registers know the places."""
 
-    def __init__(self, rng, size, code_length):
+    def __init__(self, rng: random.Random, size: int, code_length: int) -> None:
         self.rng = rng
         self.size = size
         self.code_length = code_length
@@ -75,26 +76,26 @@ class ProgramMaker:
         self.pointers = {8: self.place(), 9: code_length if rng.random() < 0.9 else self.place()}
         self.counter = 13
 
-    def place(self):
+    def place(self) -> int:
         """An address in memory, mostly one that may be stored to."""
         if self.rng.random() < 0.1 or self.code_length >= self.size:
             return self.rng.choice([0, self.size - 4, self.size, self.code_length - 4]) & MASK32
         return self.rng.randrange(self.code_length, self.size) & ~3
 
-    def source(self):
+    def source(self) -> int:
         return self.rng.choice(self.values + [0, 1, 8, 10])
 
-    def target(self):
+    def target(self) -> int:
         if self.rng.random() < 0.03:
             return self.rng.choice([0, 1, 8, 10, 10, 13])
         return self.rng.choice(self.values)
 
-    def immediate(self):
+    def immediate(self) -> int:
         if self.rng.random() < 0.6:
             return self.rng.choice(EDGE_IMMEDIATES)
         return self.rng.randrange(-2048, 2048)
 
-    def arithmetic(self):
+    def arithmetic(self) -> int:
         if self.rng.random() < 0.5:
             name = self.rng.choice(OF_REGISTERS)
             return MATCH[name] | self.target() << 7 | self.source() << 15 | self.source() << 20
@@ -105,7 +106,7 @@ class ProgramMaker:
         immediate = self.rng.randrange(32) if FORM[name] == "shift" else self.immediate()
         return word_of_i(MATCH[name], self.target(), self.source(), immediate)
 
-    def access(self):
+    def access(self) -> int:
         """A load or store, mostly aligned and in memory."""
         name = self.rng.choice(LOADS + STORES)
         base = self.rng.choice([8, 8, 9, 9, 0])
@@ -123,7 +124,7 @@ class ProgramMaker:
             return word_of_i(MATCH[name], self.target(), base, offset)
         return word_of_s(MATCH[name], base, self.source(), offset)
 
-    def jump(self, here, end):
+    def jump(self, here: int, end: int) -> int:
         """A branch or jump at word `here`, mostly forwards to a word not past `end`."""
         ahead = self.rng.randint(1, max(1, min(6, end - here)))
         offset = 4 * ahead
@@ -136,7 +137,7 @@ class ProgramMaker:
             return word_of_i(0x67, self.target(), 0, 4 * (here + ahead) + self.rng.choice([0, 0, 1]))
         return word_of_b(MATCH[self.rng.choice(BRANCHES)], self.source(), self.source(), offset)
 
-    def odd(self):
+    def odd(self) -> int:
         """A word that may be refused, or a rare way to end or to jump."""
         choice = self.rng.randrange(7)
         if choice == 0:
@@ -153,7 +154,7 @@ class ProgramMaker:
             return word_of_i(0x67, self.target(), self.source(), self.immediate())
         return 0x0000000F | self.rng.getrandbits(17) << 15 | self.rng.getrandbits(5) << 7
 
-    def one(self, here, end):
+    def one(self, here: int, end: int) -> int:
         chance = self.rng.random()
         if chance < 0.50:
             return self.arithmetic()
@@ -163,25 +164,25 @@ class ProgramMaker:
             return self.jump(here, end)
         return self.odd()
 
-    def loop(self, here, length):
+    def loop(self, here: int, length: int) -> list[int]:
         """Words that run `length` random ones some times, counted in x13."""
         body = [self.one(here + 1 + i, here + 1 + length) for i in range(length)]
         step = [word_of_i(0x13, self.counter, self.counter, -1),
                 word_of_b(MATCH["bne"], self.counter, 0, -4 * (length + 1))]
         return [word_of_i(0x13, self.counter, 0, self.rng.randint(1, 9))] + body + step
 
-    def show(self, count):
+    def show(self, count: int) -> list[int]:
         """Stores of registers, so that the report tells what they hold."""
         room = (self.size - self.pointers[9]) // 4
         registers = self.rng.sample(self.values + [0, 1, 8, 10, 13], min(count, room, 12))
         return [word_of_s(MATCH["sw"], 9, register, 4 * i) for i, register in enumerate(registers)]
 
-    def words(self, count):
+    def words(self, count: int) -> list[int]:
         """About `count` words that mostly show some registers and return."""
         last = [RETURN] if self.rng.random() < 0.95 else [self.one(count, count)]
         if self.rng.random() < 0.9 and self.pointers[9] >= self.code_length:
             last = self.show(count // 3) + last
-        made = []
+        made: list[int] = []
         end = count - len(last)
         while len(made) < end:
             left = end - len(made)
@@ -194,14 +195,14 @@ class ProgramMaker:
 
 # --- Texts -----------------------------------------------------------------
 
-def data_line(rng, size, code_length, start, length):
+def data_line(rng: random.Random, size: int, code_length: int, start: int, length: int) -> str:
     """An `at` line of random bytes, rarely outside of memory."""
     if rng.random() < 0.01:
         start = rng.choice([0, code_length - 1, size - 1, size, MASK32])
     return f"at {start:08x} {rng.randbytes(length).hex()}"
 
 
-def data_lines(rng, size, code_length):
+def data_lines(rng: random.Random, size: int, code_length: int) -> list[str]:
     """Some `at` lines, the first one often over much of memory."""
     lines = []
     if code_length < size and rng.random() < 0.8:
@@ -212,7 +213,7 @@ def data_lines(rng, size, code_length):
     return lines
 
 
-def well_formed(rng):
+def well_formed(rng: random.Random) -> list[str]:
     """The lines of an image text; a few have a fault by a range or a place."""
     version = rng.choice([None, None, None, 1, 2])
     size = 16 * rng.choice([1, 2, 4, 8, 16, 16, 16, 64, 128, 256])
@@ -241,12 +242,12 @@ def well_formed(rng):
     return lines
 
 
-def upper_case(line):
+def upper_case(line: str) -> str:
     """A code line with its ASCII letters after the keyword in upper case."""
     return "code " + line[5:].encode("latin-1").upper().decode("latin-1")
 
 
-def dressed(rng, lines):
+def dressed(rng: random.Random, lines: list[str]) -> bytes:
     """The bytes of a text, with some remarks, empty lines and upper case digits."""
     lines = list(lines)
     for _ in range(rng.choice([0, 0, 1, 3])):
@@ -273,7 +274,7 @@ NASTY_LINES = ["size 16", "size 0", "size 65536", "size 65552", "size 24", "epoc
                "size  16", "size 16 ", " size 16", "size 16 16"]
 
 
-def damaged(rng, lines):
+def damaged(rng: random.Random, lines: list[str]) -> bytes:
     """The bytes of a text with one to three places changed."""
     lines = list(lines)
     for _ in range(rng.randint(1, 3)):
@@ -285,7 +286,7 @@ def damaged(rng, lines):
     return bytes(data)
 
 
-def damage_line(rng, lines):
+def damage_line(rng: random.Random, lines: list[str]) -> None:
     place = rng.randrange(len(lines)) if lines else 0
     choice = rng.randrange(8) if lines else 1
     if choice == 0:
@@ -301,7 +302,7 @@ def damage_line(rng, lines):
         damage_word(rng, lines, place)
 
 
-def damage_word(rng, lines, place):
+def damage_word(rng: random.Random, lines: list[str], place: int) -> None:
     words = lines[place].split(" ")
     word = rng.randrange(len(words))
     choice = rng.randrange(5)
@@ -318,7 +319,7 @@ def damage_word(rng, lines, place):
     lines[place] = " ".join(words)
 
 
-def damage_byte(rng, data):
+def damage_byte(rng: random.Random, data: bytearray) -> None:
     place = rng.randint(0, len(data))
     choice = rng.randrange(4)
     byte = rng.choice(b"\n\n  #09afgzAFG\r\t\x00\x7f\x80\xff") if rng.random() < 0.8 else rng.getrandbits(8)
@@ -332,7 +333,7 @@ def damage_byte(rng, data):
         del data[place:]
 
 
-def case(seed, index):
+def case(seed: str, index: int) -> bytes:
     """The text of one case."""
     rng = random.Random(f"{seed}/{index}")
     lines = well_formed(rng)
@@ -344,12 +345,12 @@ def case(seed, index):
 
 # --- Comparing -------------------------------------------------------------
 
-def outcome_of(command, text):
+def outcome_of(command: list[str], text: bytes) -> Outcome:
     result = subprocess.run(command, input=text, capture_output=True, check=False)
     return result.stdout.decode("latin-1"), result.stderr.decode("latin-1"), result.returncode
 
 
-def kind(outcome):
+def kind(outcome: Outcome) -> str:
     """A short name of an outcome, for the summary."""
     out, err, _ = outcome
     if err:
@@ -358,7 +359,7 @@ def kind(outcome):
     return f"fault {words[3]}" if words[1] == "fault" else words[1]
 
 
-def arguments():
+def arguments() -> argparse.Namespace:
     parser = argparse.ArgumentParser(description="Compares a program with the reference model.")
     parser.add_argument("--seed", default="1")
     parser.add_argument("--count", type=int, default=1000)
@@ -369,11 +370,11 @@ def arguments():
     return parser.parse_args()
 
 
-def main():
+def main() -> int:
     given = arguments()
     command = given.command or [str(ROOT / "trace_cli"), "seq"]
     model = shlex.split(given.model) if given.model else None
-    kinds = {}
+    kinds: dict[str, int] = {}
     begun = time.monotonic()
     for index in range(given.count):
         if given.seconds and time.monotonic() - begun > given.seconds:

@@ -19,11 +19,17 @@ It is written to be read; it is slow.
 
 import os
 import sys
+from collections.abc import Callable
+from dataclasses import dataclass
+from typing import Protocol, TypeVar
 
 MASK32 = 0xFFFFFFFF
 END = 0xFFFFFFFC
 MAX_TEXT = 1_048_576
 LINE_BYTES = 16
+# Standard output, standard error and the exit status
+Outcome = tuple[str, str, int]
+Thing = TypeVar("Thing")
 
 
 # --- Instructions ----------------------------------------------------------
@@ -34,7 +40,7 @@ FUNCT7 = 0xFE00707F
 WHOLE = 0xFFFFFFFF
 
 # (name, format, mask, match): a word is the instruction where word & mask == match.
-TABLE = [
+TABLE: list[tuple[str, str, int, int]] = [
     ("lui", "U", OPCODE, 0x00000037),
     ("auipc", "U", OPCODE, 0x00000017),
     ("jal", "J", OPCODE, 0x0000006F),
@@ -87,18 +93,18 @@ STORE_OUTSIDE = 7
 INSTRUCTION_LIMIT = 8
 
 
-def signed(value, bits=32):
+def signed(value: int, bits: int = 32) -> int:
     """The number that the low `bits` bits of `value` are in two's complement."""
     value &= (1 << bits) - 1
     return value - (1 << bits) if value >> (bits - 1) else value
 
 
-def field(word, high, low):
+def field(word: int, high: int, low: int) -> int:
     """Bits high..low of the word, as in the manual's figures."""
     return (word >> low) & ((1 << (high - low + 1)) - 1)
 
 
-def immediate(form, word):
+def immediate(form: str, word: int) -> int:
     """The immediate of a word in this format, as a signed number."""
     if form == "I":
         return signed(field(word, 31, 20), 12)
@@ -120,7 +126,7 @@ def immediate(form, word):
 class Fault(Exception):
     """An epoch stops before the instruction at `pc`, which has no effect."""
 
-    def __init__(self, cause, pc):
+    def __init__(self, cause: int, pc: int) -> None:
         super().__init__(cause, pc)
         self.cause = cause
         self.pc = pc
@@ -129,7 +135,7 @@ class Fault(Exception):
 class Instruction:
     """A decoded word: name, register numbers and immediate."""
 
-    def __init__(self, name, form, word):
+    def __init__(self, name: str, form: str, word: int) -> None:
         self.name = name
         self.rd = field(word, 11, 7)
         self.rs1 = field(word, 19, 15)
@@ -137,10 +143,10 @@ class Instruction:
         self.imm = immediate(form, word)
 
 
-DECODED = {}
+DECODED: dict[int, Instruction | None] = {}
 
 
-def decode(word, pc):
+def decode(word: int, pc: int) -> Instruction:
     """The instruction of a word; Fault where it is refused."""
     if word not in DECODED:
         found = [(name, form) for name, form, mask, match in TABLE if word & mask == match]
@@ -155,7 +161,7 @@ def decode(word, pc):
 
 # Result of each operation on two register values or a register value and an
 # immediate, before it is cut to 32 bits.
-OPERATION = {
+OPERATION: dict[str, Callable[[int, int], int]] = {
     "add": lambda a, b: a + b,
     "sub": lambda a, b: a - b,
     "sll": lambda a, b: a << (b % 32),
@@ -173,7 +179,7 @@ OF_IMMEDIATE = {
     "andi": "and", "slli": "sll", "srli": "srl", "srai": "sra",
 }
 
-TAKEN = {
+TAKEN: dict[str, Callable[[int, int], bool]] = {
     "beq": lambda a, b: a == b,
     "bne": lambda a, b: a != b,
     "blt": lambda a, b: signed(a) < signed(b),
@@ -192,27 +198,27 @@ STORE = {"sb": 1, "sh": 2, "sw": 4}
 class Refused(Exception):
     """An image that is refused, at this line and for this reason."""
 
-    def __init__(self, line, name):
+    def __init__(self, line: int, name: str) -> None:
         super().__init__(line, name)
         self.line = line
         self.name = name
 
 
+@dataclass
 class Image:
     """Code, data and limits of one loop."""
 
-    def __init__(self):
-        self.version = None
-        self.exit = False
-        self.size = None
-        self.epochs = None
-        self.limit = None
-        self.code = None
-        self.registers = {}
-        self.memory = bytearray()
+    version: int
+    exit: bool
+    size: int
+    epochs: int
+    limit: int
+    code: int
+    registers: dict[int, int]
+    memory: bytearray
 
 
-def number(word):
+def number(word: bytes) -> int | None:
     """The number that a word spells, or None where it isn't spelled so."""
     if not 1 <= len(word) <= 10 or not all(c in b"0123456789" for c in word):
         return None
@@ -221,14 +227,14 @@ def number(word):
     return int(word)
 
 
-def hexadecimal(word):
+def hexadecimal(word: bytes) -> bytes | None:
     """The bytes that a word spells, two digits each, or None."""
     if len(word) % 2 or not all(c in b"0123456789abcdefABCDEF" for c in word):
         return None
     return bytes.fromhex(word.decode("ascii"))
 
 
-def word32(word):
+def word32(word: bytes) -> int | None:
     """The number of eight hexadecimal digits, or None."""
     spelled = hexadecimal(word)
     if len(word) != 8 or spelled is None:
@@ -236,7 +242,7 @@ def word32(word):
     return int.from_bytes(spelled, "big")
 
 
-ONCE = {b"size": "size", b"epochs": "epochs", b"limit": "limit", b"code": "code"}
+ONCE = (b"version", b"size", b"epochs", b"limit", b"code")
 # The least and the most bytes of memory, and what the size is a multiple of, by version.
 SIZES = {1: (16, 65_536, 16), 2: (32, 1_048_576, 32)}
 WORDS_IN_LINE = {b"version": 2, b"exit": 1, b"size": 2, b"epochs": 2, b"limit": 2, b"code": 2, b"reg": 3, b"at": 3}
@@ -246,15 +252,25 @@ NUMBER_IS_SECOND = (b"version", b"size", b"epochs", b"limit", b"reg")
 class Reader:
     """Reads image lines one by one; each check stands in its order."""
 
-    def __init__(self):
-        self.image = Image()
+    def __init__(self) -> None:
         self.line = 0
+        # What each line says that comes once and has a number; of `code` the number of bytes.
+        self.given: dict[bytes, int] = {}
+        self.exit = False
+        self.registers: dict[int, int] = {}
+        self.memory = bytearray()
 
-    def refuse(self, name, when=True):
+    def refuse(self, name: str, when: bool) -> None:
         if when:
             raise Refused(self.line, name)
 
-    def read(self, text):
+    def needed(self, name: str, value: Thing | None) -> Thing:
+        """What has to be there."""
+        if value is None:
+            raise Refused(self.line, name)
+        return value
+
+    def read(self, text: bytes) -> Image:
         lines = text.split(b"\n")
         if lines[-1] == b"":
             lines.pop()
@@ -262,74 +278,65 @@ class Reader:
             if line and not line.startswith(b"#"):
                 self.read_line(line.split(b" "))
         self.line = 0
-        image = self.image
-        self.refuse("MissingOrRepeated", None in (image.size, image.epochs, image.limit, image.code))
-        return image
+        once = (self.needed("MissingOrRepeated", self.given.get(word)) for word in ONCE)
+        version, size, epochs, limit, code = once
+        return Image(version, self.exit, size, epochs, limit, code, self.registers, self.memory)
 
-    def read_line(self, words):
+    def read_line(self, words: list[bytes]) -> None:
         keyword = words[0]
         self.refuse("Line", keyword not in WORDS_IN_LINE)
         self.refuse("Line", len(words) != WORDS_IN_LINE[keyword] or b"" in words)
-        value = number(words[1]) if keyword in NUMBER_IS_SECOND else None
-        self.refuse("Line", keyword in NUMBER_IS_SECOND and value is None)
+        value = self.needed("Line", number(words[1])) if keyword in NUMBER_IS_SECOND else 0
 
-        image = self.image
+        self.refuse("MissingOrRepeated", keyword in self.given)
         if keyword == b"version":
-            self.refuse("MissingOrRepeated", image.version is not None)
             self.refuse("Range", value not in SIZES)
-            image.version = value
+            self.given[keyword] = value
             return
-        if image.version is None:
-            image.version = 1
-        if keyword in ONCE:
-            self.refuse("MissingOrRepeated", getattr(image, ONCE[keyword]) is not None)
+        version = self.given.setdefault(b"version", 1)
         if keyword == b"code":
-            self.refuse("MissingOrRepeated", image.size is None)
+            self.refuse("MissingOrRepeated", b"size" not in self.given)
             self.read_code(words[1])
         elif keyword == b"at":
-            self.refuse("MissingOrRepeated", image.size is None or image.code is None)
+            self.refuse("MissingOrRepeated", b"size" not in self.given or b"code" not in self.given)
             self.read_at(words[1], words[2])
         elif keyword == b"reg":
-            self.refuse("MissingOrRepeated", value in image.registers)
+            self.refuse("MissingOrRepeated", value in self.registers)
             self.read_register(value, words[2])
         elif keyword == b"exit":
-            self.refuse("MissingOrRepeated", image.exit)
-            image.exit = True
+            self.refuse("MissingOrRepeated", self.exit)
+            self.exit = True
         elif keyword == b"size":
-            least, most, multiple = SIZES[image.version]
+            least, most, multiple = SIZES[version]
             self.refuse("Range", not least <= value <= most or value % multiple != 0)
-            image.size = value
-            image.memory = bytearray(value)
+            self.given[keyword] = value
+            self.memory = bytearray(value)
         elif keyword == b"epochs":
             self.refuse("Range", value > 65_535)
-            image.epochs = value
+            self.given[keyword] = value
         else:
             self.refuse("Range", not 1 <= value <= 1_000_000)
-            image.limit = value
+            self.given[keyword] = value
 
-    def read_code(self, word):
-        data = hexadecimal(word)
-        self.refuse("Hex", data is None)
-        self.refuse("Range", not 4 <= len(data) <= self.image.size or len(data) % 4 != 0)
-        self.image.code = len(data)
-        self.image.memory[:len(data)] = data
+    def read_code(self, word: bytes) -> None:
+        data = self.needed("Hex", hexadecimal(word))
+        self.refuse("Range", not 4 <= len(data) <= len(self.memory) or len(data) % 4 != 0)
+        self.given[b"code"] = len(data)
+        self.memory[:len(data)] = data
 
-    def read_register(self, register, word):
-        value = word32(word)
-        self.refuse("Hex", value is None)
+    def read_register(self, register: int, word: bytes) -> None:
+        value = self.needed("Hex", word32(word))
         self.refuse("Range", register > 31 or register in (0, 1, 10))
-        self.image.registers[register] = value
+        self.registers[register] = value
 
-    def read_at(self, address_word, data_word):
-        address = word32(address_word)
-        data = hexadecimal(data_word)
-        self.refuse("Hex", address is None or data is None)
-        image = self.image
-        self.refuse("Place", address < image.code or address + len(data) > image.size)
-        image.memory[address:address + len(data)] = data
+    def read_at(self, address_word: bytes, data_word: bytes) -> None:
+        address = self.needed("Hex", word32(address_word))
+        data = self.needed("Hex", hexadecimal(data_word))
+        self.refuse("Place", address < self.given[b"code"] or address + len(data) > len(self.memory))
+        self.memory[address:address + len(data)] = data
 
 
-def image_of(text):
+def image_of(text: bytes) -> Image:
     """The image of a text, or Refused at its first fault."""
     if len(text) > MAX_TEXT:
         raise Refused(0, "TooLong")
@@ -338,10 +345,23 @@ def image_of(text):
 
 # --- Running ---------------------------------------------------------------
 
+class Memory(Protocol):
+    """Bytes that loads and stores go to."""
+
+    def __len__(self) -> int:
+        ...
+
+    def __getitem__(self, at: slice, /) -> bytes:
+        ...
+
+    def __setitem__(self, at: slice, data: bytes, /) -> None:
+        ...
+
+
 class Hart:
     """One epoch on its way: registers, pc and the instructions done."""
 
-    def __init__(self, image, epoch):
+    def __init__(self, image: Image, epoch: int) -> None:
         self.x = [0] * 32
         for register, value in image.registers.items():
             self.x[register] = value
@@ -350,12 +370,12 @@ class Hart:
         self.pc = 0
         self.done = 0
 
-    def write(self, register, value):
+    def write(self, register: int, value: int) -> None:
         if register != 0:
             self.x[register] = value & MASK32
 
 
-def data_address(hart, ins, width):
+def data_address(hart: Hart, ins: Instruction, width: int) -> int:
     """The address of a load or store; misaligned ones fault."""
     address = (hart.x[ins.rs1] + ins.imm) & MASK32
     if address % width != 0:
@@ -363,7 +383,7 @@ def data_address(hart, ins, width):
     return address
 
 
-def load(hart, ins, memory):
+def load(hart: Hart, ins: Instruction, memory: Memory) -> None:
     width, extends = LOAD[ins.name]
     address = data_address(hart, ins, width)
     if address + width > len(memory):
@@ -372,7 +392,7 @@ def load(hart, ins, memory):
     hart.write(ins.rd, signed(value, 8 * width) if extends else value)
 
 
-def store(hart, ins, memory, code):
+def store(hart: Hart, ins: Instruction, memory: Memory, code: int) -> None:
     width = STORE[ins.name]
     address = data_address(hart, ins, width)
     if address < code or address + width > len(memory):
@@ -381,7 +401,7 @@ def store(hart, ins, memory, code):
     memory[address:address + width] = value.to_bytes(width, "little")
 
 
-def step(hart, ins, memory, code):
+def step(hart: Hart, ins: Instruction, memory: Memory, code: int) -> None:
     """Executes one instruction, or raises Fault and changes nothing."""
     name = ins.name
     following = (hart.pc + 4) & MASK32
@@ -412,7 +432,7 @@ def step(hart, ins, memory, code):
     hart.done += 1
 
 
-def run_epoch(image, epoch, memory):
+def run_epoch(image: Image, epoch: int, memory: Memory) -> bool:
     """Runs one epoch to its end, or raises Fault. True where it exits the loop."""
     hart = Hart(image, epoch)
     while hart.pc != END:
@@ -425,7 +445,7 @@ def run_epoch(image, epoch, memory):
     return image.exit and hart.x[10] != 0
 
 
-def run(image):
+def run(image: Image) -> tuple[str, bytearray, int]:
     """The line that tells the end, the memory at the end, and the status."""
     memory = bytearray(image.memory)
     for epoch in range(image.epochs):
@@ -437,7 +457,7 @@ def run(image):
     return f"end done {image.epochs}\n", memory, 0
 
 
-def report_of(image):
+def report_of(image: Image) -> tuple[str, int]:
     """The report of a run and its status."""
     text, memory, status = run(image)
     for address in range(0, image.size, LINE_BYTES):
@@ -449,7 +469,7 @@ def report_of(image):
 
 # --- The program -----------------------------------------------------------
 
-def read_input():
+def read_input() -> bytes:
     """All of standard input, or as much as shows that it is too long."""
     text = bytearray()
     while len(text) <= MAX_TEXT:
@@ -460,7 +480,7 @@ def read_input():
     return bytes(text)
 
 
-def write_all(descriptor, text):
+def write_all(descriptor: int, text: str) -> bool:
     """Writes a text whole; False where that fails."""
     rest = text.encode("ascii")
     try:
@@ -474,7 +494,7 @@ def write_all(descriptor, text):
     return True
 
 
-def outcome(text):
+def outcome(text: bytes) -> Outcome:
     """Standard output, standard error and status for an image text."""
     try:
         report, status = report_of(image_of(text))
@@ -483,7 +503,7 @@ def outcome(text):
     return report, "", status
 
 
-def main(words):
+def main(words: list[str]) -> int:
     if words != ["seq"]:
         write_all(2, "usage\n")
         return 2
