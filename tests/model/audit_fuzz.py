@@ -25,14 +25,16 @@ from pathlib import Path
 import flat_audit
 import fuzz
 import rv32_seq
+from flat_audit import Core, Entry, Event
 from fuzz import MATCH, RETURN, word_of_b, word_of_i, word_of_s
+from rv32_seq import Image, Outcome
 
 ROOT = Path(__file__).resolve().parent.parent.parent
 
 
 # --- Loops -----------------------------------------------------------------
 
-def conflicting(rng):
+def conflicting(rng: random.Random) -> list[int]:
     """The words of a small body whose epochs often touch the same bytes."""
     words = [word_of_i(MATCH["andi"], 5, 10, rng.choice([0, 1, 3])), MATCH["slli"] | 6 << 7 | 5 << 15 | 2 << 20]
     for _ in range(rng.randint(1, 6)):
@@ -59,8 +61,8 @@ def conflicting(rng):
     return words + [RETURN, RETURN]
 
 
-def loop(rng):
-    """The text of an image that is read."""
+def loop(rng: random.Random) -> list[str]:
+    """The lines of an image that is read."""
     code = b"".join(word.to_bytes(4, "little") for word in conflicting(rng)).hex()
     version = rng.choice([None, None, 1, 2])
     lines = ["size 256", f"epochs {rng.choice([0, 1, 2, 3, 4, 5, 6])}", f"limit {rng.choice([3, 8, 50, 50, 50])}",
@@ -77,28 +79,29 @@ def loop(rng):
 class Run:
     """A legal history in the making."""
 
-    def __init__(self, rng, image, cores):
+    def __init__(self, rng: random.Random, image: Image, cores: int) -> None:
         self.rng = rng
         self.flat = flat_audit.Flat(image, cores)
-        self.entries = []
+        self.entries: list[Entry] = []
 
-    def note(self, *entry):
-        refusal = self.flat.refusal(*entry)
+    def note(self, by: int, what: str, *numbers: int) -> None:
+        entry = Entry(by, what, numbers)
+        refusal = self.flat.refusal(entry)
         if refusal:
             raise AssertionError(f"{entry} is {refusal} after {self.entries}")
-        self.flat.apply(*entry)
+        self.flat.apply(entry)
         self.entries.append(entry)
 
-    def hurt_readers(self, by, what, *numbers):
+    def hurt_readers(self, by: int, what: str, *numbers: int) -> None:
         flat = self.flat
-        for other in flat.readers(by, flat.written(by, what, numbers)):
-            self.note(by, "hurt", flat.cores[other].epoch)
+        for other in flat.readers(by, flat.written(Entry(by, what, numbers))):
+            self.note(by, "hurt", flat.core(other).epoch)
         if self.rng.random() < 0.03:
-            later = [core.epoch for core in flat.cores if core and core.epoch > flat.cores[by].epoch and not core.hurt]
+            later = [core.epoch for core in flat.cores if core and core.epoch > flat.core(by).epoch and not core.hurt]
             if later:
                 self.note(by, "hurt", self.rng.choice(later))
 
-    def turn(self, by):
+    def turn(self, by: int) -> None:
         flat, core = self.flat, self.flat.cores[by]
         if core is None:
             if flat.next_epoch < flat.image.epochs:
@@ -108,7 +111,7 @@ class Run:
         else:
             self.act(by, core, flat.event(by))
 
-    def act(self, by, core, event):
+    def act(self, by: int, core: Core, event: Event) -> None:
         flat = self.flat
         if core.epoch == flat.homefree and not core.straight and self.rng.random() < 0.15:
             self.hurt_readers(by, "publish")
@@ -122,7 +125,7 @@ class Run:
         elif core.epoch == flat.homefree:
             self.end(by, event)
 
-    def end(self, by, event):
+    def end(self, by: int, event: Event) -> None:
         if event.kind == "fault":
             self.hurt_readers(by, "fault", event.cause, event.hart.pc)
             self.note(by, "fault", event.cause, event.hart.pc)
@@ -135,7 +138,7 @@ class Run:
         self.note(by, "commit")
 
 
-def history(rng, image, cores):
+def history(rng: random.Random, image: Image, cores: int) -> list[Entry]:
     run = Run(rng, image, cores)
     for _ in range(rng.choice([5, 30, 120, 120, 120])):
         if run.flat.over:
@@ -149,29 +152,30 @@ def history(rng, image, cores):
 WORDS_OF = {"load": "{:08x} {} {:08x}", "store": "{:08x} {} {:08x}", "fault": "{} {:08x}"}
 
 
-def line_of(entry):
-    by, what, *numbers = entry
+def line_of(entry: Entry) -> str:
+    by, what, numbers = entry
     form = WORDS_OF.get(what, "{}" if numbers else "")
     return " ".join([str(by), what] + ([form.format(*numbers)] if numbers else []))
 
 
-def random_entry(rng, cores):
+def random_entry(rng: random.Random, cores: int) -> Entry:
     what = rng.choice(["start", "load", "store", "hurt", "cancel", "restart", "publish", "commit", "fault"])
     numbers = {"load": [64, rng.choice([1, 2, 3, 4]), rng.choice([0, 1, 255])],
                "store": [64, rng.choice([1, 2, 4]), rng.choice([0, 1, 2])],
                "fault": [rng.choice([1, 2, 8, 99]), rng.choice([0, 4])]}.get(what)
     if numbers is None:
         numbers = [rng.randrange(6)] if what in ("start", "hurt", "cancel") else []
-    return (rng.randrange(cores + 1), what, *numbers)
+    return Entry(rng.randrange(cores + 1), what, tuple(numbers))
 
 
-def change_entries(rng, entries, cores):
+def change_entries(rng: random.Random, entries: list[Entry], cores: int) -> list[Entry]:
     """One change of a history."""
     entries = list(entries)
     place = rng.randrange(len(entries)) if entries else 0
     choice = rng.randrange(8) if entries else 0
     if choice in (6, 7):  # one that is seldom, and not seen to be missing at once
-        seldom = [i for i, entry in enumerate(entries) if entry[1] in (["hurt", "cancel"] if choice == 6 else ["load"])]
+        kinds = ["hurt", "cancel"] if choice == 6 else ["load"]
+        seldom = [i for i, entry in enumerate(entries) if entry.what in kinds]
         place = rng.choice(seldom or [place])
         choice = choice - 5 if choice == 6 else 4
     if choice == 0:
@@ -184,13 +188,13 @@ def change_entries(rng, entries, cores):
         other = rng.randrange(len(entries))
         entries[place], entries[other] = entries[other], entries[place]
     elif choice == 4:
-        by, what, *numbers = entries[place]
+        numbers = list(entries[place].numbers)
         if numbers:
             which = rng.choice([-1, rng.randrange(len(numbers))])
             numbers[which] = (numbers[which] + rng.choice([1, -1, 4, 256])) % (1 << 32)
-        entries[place] = (by, what, *numbers)
+        entries[place] = entries[place]._replace(numbers=tuple(numbers))
     else:
-        entries[place] = (rng.randrange(cores + 1), *entries[place][1:])
+        entries[place] = entries[place]._replace(by=rng.randrange(cores + 1))
     return entries
 
 
@@ -199,7 +203,7 @@ HEADS = ["trace", "trace ", "trace 0", "trace 9", "trace 17", "trace 16", "trace
          "# trace 2", "trace 4294967297"]
 
 
-def case(seed, index):
+def case(seed: str, index: int) -> bytes:
     """The input of one case."""
     rng = random.Random(f"{seed}/{index}")
     above = loop(rng)
@@ -221,14 +225,14 @@ def case(seed, index):
 
 # --- Comparing -------------------------------------------------------------
 
-def kind(outcome):
+def kind(outcome: Outcome) -> str:
     """A short name of an outcome, for the summary."""
     out, err, _ = outcome
     words = (out or err).split()
     return words[0] if words[0] == "legal" else f"{words[0]} {words[-1]}"
 
 
-def arguments():
+def arguments() -> argparse.Namespace:
     parser = argparse.ArgumentParser(description="Compares an audit with the reference model.")
     parser.add_argument("--seed", default="1")
     parser.add_argument("--count", type=int, default=1000)
@@ -238,10 +242,10 @@ def arguments():
     return parser.parse_args()
 
 
-def main():
+def main() -> int:
     given = arguments()
     command = (given.command or [str(ROOT / "trace_cli"), "seq"])[:-1] + ["audit"]
-    kinds = {}
+    kinds: dict[str, int] = {}
     begun = time.monotonic()
     for index in range(given.count):
         if given.seconds and time.monotonic() - begun > given.seconds:

@@ -18,50 +18,61 @@ written to be read; it is slow.
 
 import copy
 import sys
+from collections.abc import Callable
 from dataclasses import dataclass, field
+from typing import NamedTuple
 
 import rv32_seq
-from rv32_seq import Fault, Refused, number, word32
+from rv32_seq import Fault, Hart, Image, Outcome, Refused, number, word32
 
 MAX_INPUT = 33_554_432
-MOST_CORES = {None: 8, 1: 8, 2: 16}
+MOST_CORES = {1: 8, 2: 16}
 
 
 # --- The input -------------------------------------------------------------
 
+class Entry(NamedTuple):
+    """An entry: its core, its keyword, and the numbers behind that."""
+
+    by: int
+    what: str
+    numbers: tuple[int, ...]
+
+
 class BadTrace(Exception):
     """A trace that is refused, at this line and for this reason."""
 
-    def __init__(self, line, name):
+    def __init__(self, line: int, name: str) -> None:
         super().__init__(line, name)
         self.line = line
         self.name = name
 
 
-def small(word):
+def small(word: bytes) -> int | None:
     """A decimal number below 2^32, or None."""
     value = number(word)
     return value if value is not None and value < 1 << 32 else None
 
 
 # The words after the core: the keyword, and how each further word is read.
-FORMS = {
+FORMS: dict[bytes, list[Callable[[bytes], int | None]]] = {
     b"start": [small], b"hurt": [small], b"cancel": [small], b"restart": [], b"publish": [], b"commit": [],
     b"load": [word32, small, word32], b"store": [word32, small, word32], b"fault": [small, word32],
 }
 
 
-def entry_of(line):
-    """The entry of a line as (core, keyword, numbers..), or None."""
+def entry_of(line: bytes) -> Entry | None:
+    """The entry of a line, or None."""
     words = line.split(b" ")
     if len(words) < 2 or words[1] not in FORMS or len(words) - 2 != len(FORMS[words[1]]):
         return None
-    numbers = [read(word) for read, word in zip(FORMS[words[1]], words[2:])]
+    read = [form(word) for form, word in zip(FORMS[words[1]], words[2:])]
+    numbers = tuple(number for number in read if number is not None)
     by = small(words[0])
-    return None if by is None or None in numbers else (by, words[1].decode(), *numbers)
+    return None if by is None or len(numbers) < len(read) else Entry(by, words[1].decode(), numbers)
 
 
-def split_input(text):
+def split_input(text: bytes) -> tuple[bytes, list[tuple[int, bytes]]]:
     """The bytes of the image, and the lines with their numbers from the head of the trace on."""
     lines = text.split(b"\n")
     for place, line in enumerate(lines):
@@ -70,7 +81,7 @@ def split_input(text):
     return text, []
 
 
-def trace_of(lines, version):
+def trace_of(lines: list[tuple[int, bytes]], version: int) -> tuple[int, list[Entry]]:
     """How many cores, and the entries."""
     if not lines:
         raise BadTrace(0, "Head")
@@ -100,7 +111,7 @@ class Event:
     """The next access, end or fault of a hart, which stands there."""
 
     kind: str
-    hart: rv32_seq.Hart
+    hart: Hart
     address: int = 0
     width: int = 0
     value: int = 0
@@ -109,7 +120,7 @@ class Event:
     cause: int = 0
 
 
-def next_event(image, hart):
+def next_event(image: Image, hart: Hart) -> Event:
     hart = copy.deepcopy(hart)
     try:
         while hart.pc != rv32_seq.END:
@@ -130,13 +141,13 @@ def next_event(image, hart):
                 if address < image.code or address + width > image.size:
                     raise Fault(rv32_seq.STORE_OUTSIDE, hart.pc)
                 return Event("store", hart, address, width, hart.x[ins.rs2] % (1 << 8 * width))
-            rv32_seq.step(hart, ins, None, image.code)
+            rv32_seq.step(hart, ins, bytearray(), image.code)  # neither a load nor a store
     except Fault as fault:
         return Event("fault", hart, cause=fault.cause)
     return Event("end", hart)
 
 
-def after_access(event, value):
+def after_access(event: Event, value: int) -> Hart:
     """The hart after a load of this value, or after a store."""
     hart = copy.deepcopy(event.hart)
     if event.kind == "load":
@@ -149,48 +160,61 @@ def after_access(event, value):
 @dataclass
 class Core:
     epoch: int
-    hart: rv32_seq.Hart
-    own: dict = field(default_factory=dict)
-    outside: dict = field(default_factory=dict)
+    hart: Hart
+    own: dict[int, int] = field(default_factory=dict)
+    outside: dict[int, int] = field(default_factory=dict)
     straight: bool = False
     hurt: bool = False
 
 
+def stored_by(entry: Entry) -> dict[int, int]:
+    """The bytes of a store by their addresses."""
+    address, width, value = entry.numbers
+    return {address + i: b for i, b in enumerate(value.to_bytes(width, "little"))}
+
+
 class Flat:
-    def __init__(self, image, count):
+    def __init__(self, image: Image, count: int) -> None:
         self.image = image
         self.committed = bytearray(image.memory)
-        self.cores = [None] * count
+        self.cores: list[Core | None] = [None] * count
         self.homefree = 0
         self.next_epoch = 0
         self.over = image.epochs == 0
 
-    def running(self, by):
+    def core(self, by: int) -> Core:
+        """What a core runs that isn't idle."""
+        core = self.cores[by]
+        assert core is not None, f"core {by} is idle"
+        return core
+
+    def running(self, by: int) -> Core | None:
         """What a core runs that isn't hurt, or None."""
         core = self.cores[by] if by < len(self.cores) else None
         return core if core and not core.hurt else None
 
-    def at(self, epoch):
+    def at(self, epoch: int) -> Core | None:
         """The core that runs this epoch, or None."""
         return next((core for core in self.cores if core and core.epoch == epoch), None)
 
-    def event(self, by):
-        return next_event(self.image, self.cores[by].hart)
+    def event(self, by: int) -> Event:
+        return next_event(self.image, self.core(by).hart)
 
-    def exits(self, event):
+    def exits(self, event: Event) -> bool:
         return event.kind == "end" and self.image.exit and event.hart.x[10] != 0
 
-    def bytes_seen(self, core, address, width):
+    def bytes_seen(self, core: Core, address: int, width: int) -> bytes:
         return bytes(core.own.get(a, self.committed[a]) for a in range(address, address + width))
 
     # ---- the tests, in order
 
-    def is_there(self, by, what, numbers):
+    def is_there(self, entry: Entry) -> bool:
+        by, what, numbers = entry
         core = self.running(by)
         if what == "start":
             return by < len(self.cores) and self.cores[by] is None
         if what == "restart":
-            return by < len(self.cores) and self.cores[by] is not None and self.cores[by].hurt
+            return by < len(self.cores) and self.cores[by] is not None and self.core(by).hurt
         if core is None:
             return False
         if what in ("hurt", "cancel"):
@@ -200,7 +224,8 @@ class Flat:
             return what == "cancel" or not (other.straight or other.hurt)
         return not core.straight if what == "publish" else True
 
-    def is_next(self, by, what, numbers):
+    def is_next(self, entry: Entry) -> bool:
+        by, what, numbers = entry
         if what == "start":
             return numbers[0] == self.next_epoch < self.image.epochs
         if what in ("hurt", "restart", "publish"):
@@ -214,107 +239,112 @@ class Flat:
             return event.kind == "fault" and (event.cause, event.hart.pc) == numbers
         return self.exits(event) if what == "cancel" else event.kind == "end"
 
-    def is_homefree(self, by, what):
-        return what not in ("cancel", "publish", "commit", "fault") or self.cores[by].epoch == self.homefree
+    def is_homefree(self, entry: Entry) -> bool:
+        waits = entry.what in ("cancel", "publish", "commit", "fault")
+        return not waits or self.core(entry.by).epoch == self.homefree
 
-    def is_value(self, by, what, numbers):
-        if what != "load":
+    def is_value(self, entry: Entry) -> bool:
+        if entry.what != "load":
             return True
-        address, width, value = numbers
-        return int.from_bytes(self.bytes_seen(self.cores[by], address, width), "little") == value
+        address, width, value = entry.numbers
+        return int.from_bytes(self.bytes_seen(self.core(entry.by), address, width), "little") == value
 
-    def written(self, by, what, numbers):
+    def written(self, entry: Entry) -> dict[int, int]:
         """The bytes that an entry commits."""
-        core = self.cores[by] if by < len(self.cores) else None
-        if what in ("publish", "commit", "fault"):
-            return core.own
-        if what == "store" and core.straight:
-            address, width, value = numbers
-            return {address + i: b for i, b in enumerate(value.to_bytes(width, "little"))}
+        if entry.what in ("publish", "commit", "fault"):
+            return self.core(entry.by).own
+        if entry.what == "store" and self.core(entry.by).straight:
+            return stored_by(entry)
         return {}
 
-    def readers(self, by, written):
+    def readers(self, by: int, written: dict[int, int]) -> list[int]:
         """The other cores that have read a byte which would change, and aren't hurt."""
         changed = {a for a, b in written.items() if self.committed[a] != b}
         return [k for k in range(len(self.cores)) if k != by and self.running(k)
-                and changed & self.cores[k].outside.keys()]
+                and changed & self.core(k).outside.keys()]
 
-    def refusal(self, by, what, *numbers):
+    def refusal(self, entry: Entry) -> str | None:
+        """The name of the first test that an entry doesn't pass, or None."""
         if self.over:
             return "Over"
-        if not self.is_there(by, what, numbers):
+        if not self.is_there(entry):
             return "NotThere"
-        if not self.is_next(by, what, numbers):
+        if not self.is_next(entry):
             return "NotNext"
-        if not self.is_homefree(by, what):
+        if not self.is_homefree(entry):
             return "NotHomefree"
-        if not self.is_value(by, what, numbers):
+        if not self.is_value(entry):
             return "WrongValue"
-        if self.readers(by, self.written(by, what, numbers)):
+        if self.readers(entry.by, self.written(entry)):
             return "HurtMissing"
-        if (what == "commit" and self.exits(self.event(by))
-            and any(core for k, core in enumerate(self.cores) if k != by)):
+        if (entry.what == "commit" and self.exits(self.event(entry.by))
+            and any(core for k, core in enumerate(self.cores) if k != entry.by)):
             return "NotCancelled"
         return None
 
     # ---- what an entry does
 
-    def apply(self, by, what, *numbers):
-        core = self.cores[by]
+    def apply(self, entry: Entry) -> None:
+        by, what, numbers = entry
         if what in ("start", "restart"):
-            epoch = numbers[0] if numbers else core.epoch
-            self.cores[by] = Core(epoch, rv32_seq.Hart(self.image, epoch))
+            epoch = numbers[0] if numbers else self.core(by).epoch
+            self.cores[by] = Core(epoch, Hart(self.image, epoch))
             self.next_epoch += len(numbers)
-        elif what == "hurt":
-            self.at(numbers[0]).hurt = True
-        elif what == "cancel":
-            self.cores[self.cores.index(self.at(numbers[0]))] = None
+        elif what in ("hurt", "cancel"):
+            self.end_other(what, numbers[0])
         elif what == "load":
-            self.load(core, *numbers)
+            self.load(self.core(by), *numbers)
         else:
-            event = None if what == "publish" else self.event(by)
-            written = self.written(by, what, numbers)
-            if what == "store" and not core.straight:
-                address, width, value = numbers
-                core.own.update((address + i, b) for i, b in enumerate(value.to_bytes(width, "little")))
+            written = self.written(entry)
+            if what == "store" and not self.core(by).straight:
+                self.core(by).own.update(stored_by(entry))
             for address, byte in written.items():
                 self.committed[address] = byte
-            self.settle(by, what, event)
+            self.settle(by, what)
 
-    def load(self, core, address, width, value):
+    def end_other(self, what: str, epoch: int) -> None:
+        """Violates or cancels an epoch."""
+        place = [core.epoch if core else None for core in self.cores].index(epoch)
+        if what == "hurt":
+            self.core(place).hurt = True
+        else:
+            self.cores[place] = None
+
+    def load(self, core: Core, address: int, width: int, value: int) -> None:
         event = next_event(self.image, core.hart)
         if not core.straight:
             core.outside.update((a, self.committed[a]) for a in range(address, address + width) if a not in core.own)
         core.hart = after_access(event, value)
 
-    def settle(self, by, what, event):
-        core = self.cores[by]
+    def settle(self, by: int, what: str) -> None:
+        core = self.core(by)
         if what == "store":
-            core.hart = after_access(event, 0)
+            core.hart = after_access(self.event(by), 0)
         elif what == "publish":
             core.own, core.outside, core.straight = {}, {}, True
         elif what == "commit":
+            exits = self.exits(self.event(by))
             self.cores[by] = None
             self.homefree += 1
-            self.over = self.exits(event) or self.homefree == self.image.epochs
+            self.over = exits or self.homefree == self.image.epochs
         else:
             self.over = True
 
 
-def audit(image, count, entries):
+def audit(image: Image, count: int, entries: list[Entry]) -> tuple[int, str | None]:
     """The homefree epoch after a legal history, or the place of the first entry that is refused, and its refusal."""
     flat = Flat(image, count)
     for place, entry in enumerate(entries):
-        refusal = flat.refusal(*entry)
+        refusal = flat.refusal(entry)
         if refusal:
             return place, refusal
-        flat.apply(*entry)
+        flat.apply(entry)
     return flat.homefree, None
 
 
 # --- The program -----------------------------------------------------------
 
-def outcome(text):
+def outcome(text: bytes) -> Outcome:
     """Standard output, standard error and status for an input."""
     if len(text) > MAX_INPUT:
         return "", "trace 0 TooLong\n", 2
@@ -332,7 +362,7 @@ def outcome(text):
     return f"legal {len(entries)} {answer}\n", "", 0
 
 
-def main(words):
+def main(words: list[str]) -> int:
     if words != ["audit"]:
         sys.stderr.write("usage\n")
         return 2

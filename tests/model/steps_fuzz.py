@@ -21,6 +21,7 @@ import sys
 import time
 from concurrent.futures import ThreadPoolExecutor
 from pathlib import Path
+from typing import NamedTuple
 
 ROOT = Path(__file__).resolve().parent.parent.parent
 sys.path[:0] = [str(ROOT / "tests"), str(ROOT / "tests" / "model")]
@@ -30,17 +31,44 @@ import machines  # noqa: E402
 import rv32_seq  # noqa: E402
 import stress  # noqa: E402
 from common import left_out  # noqa: E402
+from flat_audit import Core, Flat  # noqa: E402
 from replay import program_of  # noqa: E402
+from rv32_seq import Image  # noqa: E402
 from steps_rows import NAMED, turns_of  # noqa: E402
 
 NOTHING = ["0000", "0000", "0" * 32]
+# A place, or the end of one, by its words; and what stands there
+Place = tuple[str, ...]
+Now = list[str]
+
+
+class Machine(NamedTuple):
+    """The bytes of a line, the sets, the ways of each, and the lines of a buffer."""
+
+    line: int
+    sets: int
+    ways: int
+    buffer: int
+
+
+class Case(NamedTuple):
+    """The text of an image, on how many cores it runs, over which store, and the turns."""
+
+    text: bytes
+    cores: int
+    store: str
+    schedule: list[int]
+
+    def given(self) -> bytes:
+        """The input of `replay`."""
+        return self.text + f"turns {' '.join(map(str, self.schedule))}\n".encode()
 
 
 class Differs(Exception):
     """What is told of a turn isn't so."""
 
 
-def expect(name, got, wanted):
+def expect(name: str, got: object, wanted: object) -> None:
     if got != wanted:
         raise Differs(f"{name}\n  expected {wanted}\n  got      {got}")
 
@@ -50,20 +78,20 @@ def expect(name, got, wanted):
 class Told:
     """What stands at each place by the lines so far."""
 
-    def __init__(self, image):
+    def __init__(self, image: Image) -> None:
         self.image = image
-        self.places = {}
+        self.places: dict[Place, Now] = {}
 
-    def first(self, place):
+    def first(self, place: Place) -> Now:
         """What stands at a place before the first turn."""
         if place[0] == "at":
             address = int(place[1], 16)
             return [self.image.memory[address:address + 16].hex()]
-        return {"kept": NOTHING, "orb": []}.get(place[0], ["-"])
+        return NOTHING if place[0] == "kept" else [] if place[0] == "orb" else ["-"]
 
-    def add(self, changes):
+    def add(self, changes: list[str]) -> None:
         """Adds the lines below a turn, which are in order and new."""
-        order = []
+        order: list[tuple[int, int, int, Place]] = []
         for line in changes:
             words = line.split()
             place, now = tuple(words[:NAMED[words[0]]]), words[NAMED[words[0]]:]
@@ -76,11 +104,11 @@ class Told:
                           place[2:] if kind == 2 else place[1:] if kind == 3 else ()))
         expect("the order of the lines", order, sorted(set(order)))
 
-    def of(self, word, core):
+    def of(self, word: str, core: int) -> dict[Place, Now]:
         """The places of a core of this kind, without their first two words."""
         return {place[2:]: now for place, now in self.places.items() if place[:2] == (word, str(core))}
 
-    def memory(self):
+    def memory(self) -> bytearray:
         """Committed memory."""
         bytes_now = bytearray(self.image.memory)
         for place, now in self.places.items():
@@ -91,15 +119,15 @@ class Told:
 
 # --- What has to stand -----------------------------------------------------
 
-def kept_by(core):
+def kept_by(core: Core | None) -> tuple[dict[int, int], dict[int, int]]:
     """The own bytes, and those read from outside, that a store keeps for a core: of a speculative one alone."""
     return (core.own, core.outside) if core and not (core.hurt or core.straight) else ({}, {})
 
 
-def check_plain(told, k, core):
+def check_plain(told: Told, k: int, core: Core | None) -> None:
     """A core of the plain store."""
     own, outside = kept_by(core)
-    rows = {}
+    rows: dict[Place, Now] = {}
     for row in sorted({a // 16 for a in [*own, *outside]}):
         read, stored = (sum(1 << i for i in range(16) if 16 * row + i in those) for those in (outside, own))
         rows[f"{16 * row:08x}",] = [f"{read:04x}", f"{stored:04x}",
@@ -107,11 +135,13 @@ def check_plain(told, k, core):
     expect(f"core {k} keeps", {place: now for place, now in told.of("kept", k).items() if now != NOTHING}, rows)
 
 
-def check_cache(told, k, core, committed, machine):
+def check_cache(told: Told, k: int, core: Core | None, committed: bytearray, machine: Machine) -> None:
     """A core with a cache of this machine."""
     size, sets, ways, buffer = machine
     own, outside = kept_by(core)
-    stored, loaded, shared = {}, set(), []
+    stored: dict[int, int] = {}
+    loaded: set[int] = set()
+    shared: list[str] = []
     for (cache_set, way), now in told.of("line", k).items():
         if now == ["-"]:
             continue
@@ -131,25 +161,27 @@ def check_cache(told, k, core, committed, machine):
     expect(f"the buffer of core {k}", sorted(told.of("orb", k).get((), [])), sorted(shared))
 
 
-def machine_of(store, version):
-    """Of the caches of a word the bytes of a line, the sets, the ways of each, and the lines of a buffer."""
-    chosen = ({"line": 32, "sets": 4, "ways": 2, "buffer": 8} if version == 2
-              else {"line": 16, "sets": 4, "ways": 2, "buffer": 4})
+def machine_of(store: str, version: int) -> Machine:
+    """The caches of a word: those of the version, but for what the word says."""
+    usual = Machine(32, 4, 2, 8) if version == 2 else Machine(16, 4, 2, 4)
     asked = [pair.split("=") for pair in store.partition(":")[2].split(",") if pair]
-    return list({**chosen, **{key: int(number) for key, number in asked}}.values())
+    return usual._replace(**{key: int(number) for key, number in asked})
 
 
-def attempt_of(core):
+def attempt_of(core: Core | None) -> Now:
     return [str(core.epoch), "straight" if core.straight else "speculative"] if core and not core.hurt else ["-"]
 
 
-def check_turn(told, flat, store, by, answer):
+def hart_of(core: Core) -> Now:
+    return [f"{core.hart.pc:08x}", str(core.hart.done)]
+
+
+def check_turn(told: Told, flat: Flat, store: str, by: int, answer: list[str]) -> None:
     """All that stands after a turn of this core."""
     if answer[:2] == ["over", "fault"]:
-        flat.cores[by].straight = True
+        flat.core(by).straight = True
     if answer[0] != "again":
-        core = flat.cores[by]
-        hart = [f"{core.hart.pc:08x}", str(core.hart.done)] if answer == ["go"] else ["-"]
+        hart = hart_of(flat.core(by)) if answer == ["go"] else ["-"]
         expect("the hart", told.of("hart", by).get((), ["-"]), hart)
     for k, core in enumerate(flat.cores):
         expect(f"core {k} runs", told.of("attempt", k).get((), ["-"]), attempt_of(core))
@@ -160,19 +192,21 @@ def check_turn(told, flat, store, by, answer):
     expect("committed memory", told.memory(), flat.committed)
 
 
-def check(image, cores, store, schedule, output):
+def check(image: Image, case: Case, output: str) -> int:
     """All turns of an output, and how many there are."""
-    told, flat = Told(image), flat_audit.Flat(image, cores)
+    told, flat = Told(image), Flat(image, case.cores)
     turns = turns_of(output)
     for number, (head, entries, changes) in enumerate(turns):
-        expect("turn", head[:2], [str(number), str(schedule[number])])
+        expect("turn", head[:2], [str(number), str(case.schedule[number])])
         for line in entries:
             entry = flat_audit.entry_of(line.encode())
-            expect(f"turn {number}, {line}", flat.refusal(*entry), None)
-            flat.apply(*entry)
+            if entry is None:
+                raise Differs(f"turn {number}: no entry: {line}")
+            expect(f"turn {number}, {line}", flat.refusal(entry), None)
+            flat.apply(entry)
         try:
             told.add(changes)
-            check_turn(told, flat, store, schedule[number], head[2:])
+            check_turn(told, flat, case.store, case.schedule[number], head[2:])
         except Differs as wrong:
             raise Differs(f"turn {number}: {wrong}") from None
     return len(turns)
@@ -180,31 +214,30 @@ def check(image, cores, store, schedule, output):
 
 # --- Schedules -------------------------------------------------------------
 
-def case(seed, index):
-    """An image, on how many cores it runs, over which store, and the turns."""
+def case_of(seed: str, index: int) -> Case:
+    """A schedule of a random loop."""
     rng = random.Random(f"steps/{seed}/{index}")
     text, cores = stress.loop_of(rng)
     chosen = [rng.random() ** 2 + 0.05 for _ in range(cores)]
     store = ("caches", "plain", machines.machine(random.Random(f"machine/{seed}/{index}"),
                                                  machines.size_of(text.decode("latin-1")), 4))[index % 3]
-    return text, cores, store, rng.choices(range(cores), chosen, k=rng.choice([5, 40, 150, 400]))
+    return Case(text, cores, store, rng.choices(range(cores), chosen, k=rng.choice([5, 40, 150, 400])))
 
 
-def wrong_of(program, seed, index):
+def wrong_of(program: str, case: Case) -> tuple[str | None, int]:
     """What is wrong with a schedule, or None; and how many turns it had."""
-    text, cores, store, schedule = case(seed, index)
-    given = text + f"turns {' '.join(map(str, schedule))}\n".encode()
-    expected = stress.outcome_of([program], [store, str(cores)], given, 60)
-    output, *others = stress.outcome_of([program], ["steps", store, str(cores)], given, 60)
-    below = output.partition("end\n")[2] if others[-1] < 2 else output
+    words = [case.store, str(case.cores)]
+    expected = stress.outcome_of([program], words, case.given(), 60)
+    output, errors, status = stress.outcome_of([program], ["steps", *words], case.given(), 60)
+    below = output.partition("end\n")[2] if status < 2 else output
     try:
-        expect("below the line `end`", (below, *others), expected)
-        return None, check(rv32_seq.image_of(text), cores, store, schedule, output) if others[-1] < 2 else 0
+        expect("below the line `end`", (below, errors, status), expected)
+        return None, check(rv32_seq.image_of(case.text), case, output) if status < 2 else 0
     except Differs as wrong:
-        return f"{store} {cores}: {wrong}", 0
+        return f"{' '.join(words)}: {wrong}", 0
 
 
-def arguments():
+def arguments() -> argparse.Namespace:
     parser = argparse.ArgumentParser(description="Random schedules of random loops, turn by turn.")
     parser.add_argument("--seed", default="1")
     parser.add_argument("--count", type=int, default=2_000)
@@ -214,7 +247,7 @@ def arguments():
     return parser.parse_args()
 
 
-def main():
+def main() -> int:
     given = arguments()
     program = program_of(given.command or [str(ROOT / "trace_cli"), "seq"])
     if not program or not program.is_file():
@@ -222,13 +255,12 @@ def main():
         return 0
     begun, turns = time.monotonic(), 0
     with ThreadPoolExecutor(given.jobs) as pool:
-        results = pool.map(lambda index: wrong_of(str(program), given.seed, index), range(given.count))
+        results = pool.map(lambda index: wrong_of(str(program), case_of(given.seed, index)), range(given.count))
         for index, (wrong, more) in enumerate(results):
             turns += more
             if wrong:
-                text, _, _, schedule = case(given.seed, index)
                 path = given.keep / f"steps-{given.seed}-{index}.turns"
-                path.write_bytes(text + f"turns {' '.join(map(str, schedule))}\n".encode())
+                path.write_bytes(case_of(given.seed, index).given())
                 print(f"DIFFERS at schedule {index}, kept as {path}\n  {wrong}")
                 pool.shutdown(cancel_futures=True)
                 return 1
