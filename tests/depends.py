@@ -30,18 +30,25 @@ from stress import loop_of  # noqa: E402
 
 STORES = ["caches", "plain"]
 COUNTER = image("83220004938212002320500467800000", epochs=4, limit=50)
-# Rows of one loop each: name, cores, stores, the lines that have to be printed, of which the line `turns` isn't
-# compared.
+
+
+class Known(NamedTuple):
+    """An example, on how many cores and over which stores it is looked at, and the lines that have to be printed, but
+    for those that begin with `dep` and `turns`."""
+    name: str
+    cores: str
+    stores: list[str]
+    lines: list[str]
+
+
 ROWS = [
-    ("own_counters", "5", ["plain"], ["from plain 5 epoch 4 load 00000014 by epoch 0 store 00000034"]),
-    ("own_counters", "4", ["plain"], ["never plain 4"]),
-    ("padded_counters", "4", [], ["never caches 4", "never plain 4"]),
-    ("past_exit", "2", ["plain", "caches"], ["never plain 2", "never caches 2"]),
-    ("past_exit", "3", ["caches"], ["from caches 3 epoch 2 load 00000014 by epoch 1 store 00000008"]),
-    ("shift_left", "1", [], ["never caches 1", "never plain 1"]),
+    Known("own_counters", "5", ["plain"], ["from plain 5 epoch 4 load 00000014 by epoch 0 store 00000034"]),
+    Known("own_counters", "4", ["plain"], ["never plain 4"]),
+    Known("padded_counters", "4", [], ["never caches 4", "never plain 4"]),
+    Known("past_exit", "2", ["plain", "caches"], ["never plain 2", "never caches 2"]),
+    Known("past_exit", "3", ["caches"], ["from caches 3 epoch 2 load 00000014 by epoch 1 store 00000008"]),
+    Known("shift_left", "1", [], ["never caches 1", "never plain 1"]),
 ]
-
-
 # The lines `dep`, and of each store its line and that of turns
 Told = tuple[list[str], dict[str, tuple[str, str | None]]]
 
@@ -98,7 +105,7 @@ def check_never(at: str, replay: list[str], text: str, store: str, cores: int, s
 
 def conflicting(loop: model.Loop, store: str, cores: int) -> set[tuple[int, int]]:
     """The pairs of epochs, the later one first, that conflict on so many cores by the model."""
-    pairs = {(later, earlier) for later, _, earlier, _ in model.MET[store](loop, cores)}
+    pairs = {(met.later, met.earlier) for met in model.MET[store](loop, cores)}
     return pairs | set(model.overflows(loop, cores) if store == "caches" else [])
 
 

@@ -19,7 +19,11 @@ from functools import partial
 
 from common import ROOT, Row, Script, beside, called, comparing, left_out
 from seq_rows import image, run
-from stress import MATCH, RETURN, loop_of, word_of_i, word_of_s
+from stress import loop_of
+
+sys.path.insert(0, str(ROOT / "tests" / "model"))
+
+from fuzz import MATCH, RETURN, word_of_i, word_of_s  # noqa: E402
 
 FIGURES = "steps useful lost dropped waiting idle restarts".split()
 CAUSES = "nothomefree noway orbfull orbbusy".split()
@@ -79,7 +83,7 @@ def check_examples(program: list[str]) -> Iterator[Row]:
 
 @comparing
 def check_words(program: list[str]) -> Iterator[Row]:
-    for words in ([], ["0"], ["17"], ["x"], ["2", "2"], ["-1"]):
+    for words in (list[str](), ["0"], ["17"], ["x"], ["2", "2"], ["-1"]):
         yield (f"words {words}", run(program, words, COUNTER), ("", "usage\n", 2))
     yield ("an image that is refused", run(program, ["2"], "size 1\n"), ("", "image 1 Range\n", 2))
     rows = lines_of(run(program, ["3"], COUNTER)[0])

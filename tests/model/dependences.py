@@ -12,14 +12,16 @@ The words are those of docs/depends.md. It is written to be read; it is slow.
 """
 
 import sys
+from collections.abc import Callable, Iterator
 from dataclasses import dataclass
+from typing import NamedTuple
 
 import rv32_seq
-from rv32_seq import Fault, Refused
+from rv32_seq import Fault, Hart, Image, Refused
 
-MOST_CORES = {None: 8, 1: 8, 2: 16}
-LINE_LENGTH = {None: 16, 1: 16, 2: 32}
-BUFFER_LINES = {None: 4, 1: 4, 2: 8}
+MOST_CORES = {1: 8, 2: 16}
+LINE_LENGTH = {1: 16, 2: 32}
+BUFFER_LINES = {1: 4, 2: 8}
 STORES = ("caches", "plain")
 
 
@@ -33,26 +35,27 @@ class Access:
     pc: int
     is_store: bool
     bytes: range
-    outside: list
+    outside: list[int]
 
 
 class Watched:
     """Memory under an epoch's own bytes, which notes each access."""
 
-    def __init__(self, memory):
-        self.memory, self.own, self.accesses = memory, {}, []
-        self.hart = None
+    def __init__(self, memory: bytes, hart: Hart) -> None:
+        self.memory, self.hart = memory, hart
+        self.own: dict[int, int] = {}
+        self.accesses: list[Access] = []
 
-    def __len__(self):
+    def __len__(self) -> int:
         return len(self.memory)
 
-    def __getitem__(self, at):
+    def __getitem__(self, at: slice) -> bytes:
         touched = range(at.start, at.stop)
         outside = [a for a in touched if a not in self.own]
         self.accesses.append(Access(self.hart.done, self.hart.pc, False, touched, outside))
         return bytes(self.own.get(a, self.memory[a]) for a in touched)
 
-    def __setitem__(self, at, data):
+    def __setitem__(self, at: slice, data: bytes) -> None:
         touched = range(at.start, at.stop)
         self.accesses.append(Access(self.hart.done, self.hart.pc, True, touched, []))
         self.own.update(zip(touched, data))
@@ -61,9 +64,9 @@ class Watched:
 class Path:
     """An epoch alone over a memory: its accesses, how many instructions it executes, and whether the loop goes on."""
 
-    def __init__(self, image, epoch, memory):
-        watched = Watched(memory)
-        hart = watched.hart = rv32_seq.Hart(image, epoch)
+    def __init__(self, image: Image, epoch: int, memory: bytes) -> None:
+        hart = Hart(image, epoch)
+        watched = Watched(memory, hart)
         self.goes_on = False
         try:
             while hart.pc != rv32_seq.END:
@@ -84,8 +87,10 @@ class Path:
 class Loop:
     """The run in order, and the memory that it leaves before each epoch."""
 
-    def __init__(self, image):
-        self.image, self.in_order, self.before = image, [], [bytes(image.memory)]
+    def __init__(self, image: Image) -> None:
+        self.image, self.before = image, [bytes(image.memory)]
+        self.in_order: list[Path] = []
+        self.paths: dict[tuple[int, int], Path] = {}
         for epoch in range(image.epochs):
             path = Path(image, epoch, self.before[-1])
             memory = bytearray(self.before[-1])
@@ -95,9 +100,8 @@ class Loop:
             if not path.goes_on:
                 break
             self.before.append(bytes(memory))
-        self.paths = {}
 
-    def path(self, epoch, cores):
+    def path(self, epoch: int, cores: int) -> Path | None:
         """The epoch's path on so many cores, or None where the first of its window isn't reached."""
         first = max(0, epoch - cores + 1)
         if first >= len(self.in_order):
@@ -106,12 +110,13 @@ class Loop:
             self.paths[epoch, first] = Path(self.image, epoch, self.before[first])
         return self.paths[epoch, first]
 
-    def beside(self, cores):
+    def beside(self, cores: int) -> Iterator[tuple[int, int, Path, Path]]:
         """The pairs of epochs that so many cores can run beside each other, with their paths."""
         for later in range(min(self.image.epochs, len(self.in_order) + cores)):
             for earlier in range(max(0, later - cores + 1), later):
-                if self.path(later, cores):
-                    yield earlier, later, self.path(earlier, cores), self.path(later, cores)
+                first, second = self.path(earlier, cores), self.path(later, cores)
+                if first and second:
+                    yield earlier, later, first, second
 
 
 # --- Dependences of the run in order ---------------------------------------
@@ -127,13 +132,13 @@ class Dependence:
     byte: int
 
     @property
-    def distance(self):
+    def distance(self) -> int:
         return self.later - self.earlier
 
 
-def dependences(loop):
+def dependences(loop: Loop) -> Iterator[Dependence]:
     """One of each load that depends on an earlier epoch, in order."""
-    last = {}
+    last: dict[int, tuple[int, Access]] = {}
     for later, path in enumerate(loop.in_order):
         for load in path.loads:
             found = [(last[byte][0], -byte) for byte in load.outside if byte in last]
@@ -144,9 +149,9 @@ def dependences(loop):
             last.update((byte, (later, store)) for byte in store.bytes)
 
 
-def dep_lines(loop):
+def dep_lines(loop: Loop) -> Iterator[str]:
     """A line for each pair of instructions, heaviest first, then by their pcs."""
-    pairs = {}
+    pairs: dict[tuple[int, int], list[Dependence]] = {}
     for one in dependences(loop):
         pairs.setdefault((one.store.pc, one.load.pc), []).append(one)
     for (store, load), all_of in sorted(pairs.items(), key=lambda pair: (-len(pair[1]), pair[0])):
@@ -159,27 +164,36 @@ def dep_lines(loop):
 
 # --- Conflicts ---------------------------------------------------------------
 
-def bytes_met(loop, cores):
-    """(later epoch, load, earlier epoch, store) of each conflict over bytes."""
+class Met(NamedTuple):
+    """A conflict: two epochs, and the pcs of the later one's load and of the earlier one's store."""
+
+    later: int
+    load: int
+    earlier: int
+    store: int
+
+
+def bytes_met(loop: Loop, cores: int) -> Iterator[Met]:
+    """Each conflict over bytes."""
     for earlier, later, causer, victim in loop.beside(cores):
         if earlier < len(loop.in_order):
             for load in victim.loads:
                 for store in causer.stores:
                     if set(load.outside) & set(store.bytes):
-                        yield later, load.pc, earlier, store.pc
+                        yield Met(later, load.pc, earlier, store.pc)
 
 
-def lines_met(loop, cores):
+def lines_met(loop: Loop, cores: int) -> Iterator[Met]:
     """The same over lines of the caches; the earlier epoch may be past the loop's end too."""
     length = LINE_LENGTH[loop.image.version]
     for earlier, later, causer, victim in loop.beside(cores):
         for load in victim.loads:
             for store in causer.stores:
                 if {a // length for a in load.outside} & {a // length for a in store.bytes}:
-                    yield later, load.pc, earlier, store.pc
+                    yield Met(later, load.pc, earlier, store.pc)
 
 
-def overflows(loop, cores):
+def overflows(loop: Loop, cores: int) -> Iterator[tuple[int, int]]:
     """(later epoch, earlier epoch) where the later one stores in a line that the earlier one touches, and in as many
     others as its buffer takes."""
     length, room = LINE_LENGTH[loop.image.version], BUFFER_LINES[loop.image.version]
@@ -190,15 +204,15 @@ def overflows(loop, cores):
             yield later, earlier
 
 
-MET = {"plain": bytes_met, "caches": lines_met}
+MET: dict[str, Callable[[Loop, int], Iterator[Met]]] = {"plain": bytes_met, "caches": lines_met}
 
 
-def least(loop, cores, found):
+def least(loop: Loop, cores: int, found: Callable[[Loop, int], Iterator[object]]) -> int | None:
     """The least number of cores up to so many on which something of a kind is found, or None."""
     return next((n for n in range(1, cores + 1) if next(found(loop, n), None)), None)
 
 
-def store_line(loop, store, cores):
+def store_line(loop: Loop, store: str, cores: int) -> str:
     """What is told of a store."""
     met = least(loop, cores, MET[store])
     full = least(loop, cores, overflows) if store == "caches" else None
@@ -208,18 +222,20 @@ def store_line(loop, store, cores):
 
 # --- The program -------------------------------------------------------------
 
-def asked(words):
+def asked(words: list[str]) -> tuple[int, list[str]] | None:
     """How many cores, and the stores, or None."""
     cores = rv32_seq.number(words[0].encode()) if words else None
-    right = cores is not None and 1 <= cores <= 16 and all(word in STORES for word in words[1:])
-    return (cores, words[1:] or list(STORES)) if right else None
+    if cores is None or not 1 <= cores <= 16 or any(word not in STORES for word in words[1:]):
+        return None
+    return cores, words[1:] or list(STORES)
 
 
-def main(words):
-    if asked(words) is None:
+def main(words: list[str]) -> int:
+    given = asked(words)
+    if given is None:
         sys.stderr.write("usage\n")
         return 2
-    cores, stores = asked(words)
+    cores, stores = given
     try:
         image = rv32_seq.image_of(sys.stdin.buffer.read())
     except Refused as refused:
