@@ -19,16 +19,20 @@ import tempfile
 from collections.abc import Callable, Iterable, Iterator
 from functools import partial
 from pathlib import Path
+from typing import NamedTuple
 
-from common import ROOT, Script, beside, called_bytes, left_out
+from common import ROOT, Check, Script, beside, called_bytes, left_out
 
 sys.path.insert(0, str(ROOT / "tools"))
 sys.dont_write_bytecode = True
 
-from loops import Programs, Stopped, Unreadable, iter_conflicts, iter_entries, iter_steps  # noqa: E402
+from loops import Programs, Stopped, Unreadable, Violation, iter_conflicts, iter_entries, iter_steps  # noqa: E402
 from loops.changes import Hand, OfHart  # noqa: E402
+from loops.views.data import PageData  # noqa: E402
 
-Checks = Iterator[tuple[str, str | None]]
+Checks = Iterator[Check]
+# An entry as JSON has it, or a part of one
+Fields = dict[str, int | str | None]
 # A trace of 33 MB may cost 500 MB, so one of 3 MB this; half of it is Python's own.
 MOST_BYTES = 45_000_000
 EPOCHS = 32_000
@@ -42,8 +46,17 @@ open(sys.argv[1], "w").write(str(resource.getrusage(resource.RUSAGE_CHILDREN).ru
 sys.exit(status)
 """
 RUN = '<script type="application/json" id="run">'
-NONE = {"epoch": None, "address": None, "width": None, "value": None, "cause": None, "pc": None}
-WORD = {"address": 64, "width": 4, "value": 0}
+NONE: Fields = {"epoch": None, "address": None, "width": None, "value": None, "cause": None, "pc": None}
+WORD: Fields = {"address": 64, "width": 4, "value": 0}
+
+
+class Measured(NamedTuple):
+    """What a tool prints, its error stream, its status, and the bytes that were most resident."""
+
+    out: str
+    errors: str
+    status: int
+    most: int
 
 
 def trace(epochs: int) -> str:
@@ -52,20 +65,22 @@ def trace(epochs: int) -> str:
                                  for epoch in range(epochs))
 
 
-def entries(epochs: int) -> list[dict[str, int | str | None]]:
+def entries(epochs: int) -> list[Fields]:
     """The same as JSON has it."""
-    acts = [[("start", {"epoch": epoch}), ("load", WORD), ("store", WORD), ("commit", {})] for epoch in range(epochs)]
-    return [{"place": place, "core": 0, "what": what} | NONE | said
+    acts: list[list[tuple[str, Fields]]] = [
+        [("start", {"epoch": epoch}), ("load", WORD), ("store", WORD), ("commit", {})] for epoch in range(epochs)]
+    return [{"place": place, "core": 0, "what": what, **NONE, **said}
             for place, (what, said) in enumerate(itertools.chain(*acts))]
 
 
-def measured(room: Path, name: str, source: Path, *words: str, **environment: str) -> tuple[str, str, int, int]:
-    """What a tool prints on a file, its error stream, its status, and the bytes that were most resident."""
+def measured(room: Path, name: str, source: Path, *words: str, **environment: str) -> Measured:
+    """What a tool makes of a file."""
     most = room / "most"
-    call = [sys.executable, "-c", MEASURED, most, sys.executable, ROOT / "tools" / name, *words]
+    call: list[str | Path] = [sys.executable, "-c", MEASURED, most, sys.executable, ROOT / "tools" / name, *words]
     with source.open("rb") as given:
         done = called_bytes(call, stdin=given, env={**os.environ, **environment})
-    return done.stdout.decode("utf-8"), done.stderr.decode("utf-8"), done.returncode, int(most.read_text()) * 1024
+    return Measured(done.stdout.decode("utf-8"), done.stderr.decode("utf-8"), done.returncode,
+                    int(most.read_text()) * 1024)
 
 
 def memory(most: int) -> str | None:
@@ -129,13 +144,13 @@ def iterators() -> Checks:
     yield "turns without end", None if steps == [(turn, turn, [OfHart(0, Hand(turn, 0))])
                                                  for turn in range(3)] else f"{steps}"
     lines = iter(["turn 0 0 over done 1", "end", "end done 1"])
-    steps = [one.answer for one in iter_steps(lines)]
+    answers = [one.answer for one in iter_steps(lines)]
     yield ("what is below turns is left",
-           None if (steps, list(lines)) == (["over done 1"], ["end done 1"]) else f"{steps}")
+           None if (answers, list(lines)) == (["over done 1"], ["end done 1"]) else f"{answers}")
     hurt = ("hurt {0} true epoch 1 try 1 core 1 lost 3 entered 2 since 2 by 0 core 0 cause 5 commit load 3 00000004 "
             "store 2 00000014 at 00000040 4")
     report = (line.format(place) for place in itertools.count(4) for line in (hurt, "moot {0}"))
-    found = [(one.place, one.moot) for one in itertools.islice(iter_conflicts(report), 2)]
+    found = [(one.place, one.moot) for one in itertools.islice(iter_conflicts(report), 2) if isinstance(one, Violation)]
     yield "violations without end", None if found == [(4, True), (5, True)] else f"{found}"
     yield "turns that have no end line", refused(lambda: iter_steps(["turn 0 0 go"]))
     yield "a line above the first turn", refused(lambda: iter_steps(["hart 0 -", "end"]))
@@ -149,10 +164,11 @@ def streams(room: Path, programs: Programs) -> Checks:
     lines = programs.step_lines(source, "caches")
     first = next(lines)
     lines.close()
+    left = None
     try:
         left = f"process {os.waitpid(-1, os.WNOHANG)} is left"
     except ChildProcessError:
-        left = None
+        pass
     yield "a program that is left", left if first == "turn 0 0 go" else first
     source.write_text("size 256\nspeed 3\n" + trace(1))
     try:
@@ -170,9 +186,10 @@ def streams(room: Path, programs: Programs) -> Checks:
 
 # --- Pages -----------------------------------------------------------------------
 
-def run_of(page: str) -> dict[str, object]:
+def run_of(page: str) -> PageData:
     """What a page has of its run."""
-    return json.loads(page.partition(RUN)[2].partition("</script>")[0])
+    run: PageData = json.loads(page.partition(RUN)[2].partition("</script>")[0])
+    return run
 
 
 def pages(room: Path, programs: Programs) -> Checks:
@@ -196,7 +213,8 @@ def pages(room: Path, programs: Programs) -> Checks:
         yield f"{name}: attempts", None if run["attempts"] == attempts else f"{run['attempts'][:3]}, not {attempts[:3]}"
         cut = (f"Turns {first:,} to {to:,} of {4 * EPOCHS:,} are on this page: --from and --to of tools/view choose "
                "others.")
-        yield f"{name}: what is left out", None if (run["cut"], run["all"]) == (cut, 4 * EPOCHS) else f"{run['cut']}"
+        told = run.get("cut")
+        yield f"{name}: what is left out", None if (told, run["all"]) == (cut, 4 * EPOCHS) else f"{told}"
 
 
 def line_ends(room: Path, programs: Programs) -> Checks:
@@ -206,8 +224,8 @@ def line_ends(room: Path, programs: Programs) -> Checks:
         source.write_text(f"# A loop.{mark}trace 1 of it.\n" + IMAGE.format(2) + trace(2), encoding="utf-8",
                           newline="\n")
         out, errors, status, _ = measured(room, "view", source, LOOPS_PROGRAMS=str(programs.folder))
-        run = run_of(out) if status == 0 else {}
-        yield f"{name} in a remark", None if (run.get("epochs"), errors) == (2, "") else f"{status}, {errors[-300:]!r}"
+        epochs = run_of(out)["epochs"] if status == 0 else None
+        yield f"{name} in a remark", None if (epochs, errors) == (2, "") else f"{status}, {errors[-300:]!r}"
 
 
 def main() -> int:

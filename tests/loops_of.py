@@ -21,10 +21,16 @@ import tempfile
 from collections.abc import Iterator
 from functools import partial
 from pathlib import Path
+from typing import NamedTuple
 
-from common import ROOT, Check, Script, beside, called, called_bytes, called_well, differs, left_out
+from common import ROOT, Check, Script, beside, called, called_bytes, called_well, differs, left_out, there
 
 sys.path.insert(0, str(ROOT / "tools"))
+
+from loops import Image  # noqa: E402
+from loops.loops_of.build import Kit  # noqa: E402
+from loops.loops_of.emulator import Entries, Run  # noqa: E402
+
 PROGRAMS = Path(__file__).with_suffix("")
 EXAMPLES = ROOT / "examples" / "programs"
 SOURCES = [*sorted(PROGRAMS.glob("*.c")), *sorted(PROGRAMS.glob("*.cpp")), *sorted(EXAMPLES.glob("*.c"))]
@@ -36,6 +42,30 @@ def loops_of(*words: object, seconds: int = 120) -> tuple[str, str, int]:
     """What the tool prints, what it says on standard error, and its status."""
     done = called([TOOL, *map(str, words)], seconds=seconds)
     return done.stdout, done.stderr, done.returncode
+
+
+class Call(NamedTuple):
+    """A program, its words and its standard input."""
+    source: Path
+    words: list[str]
+    given: bytes
+
+
+class Request(NamedTuple):
+    """Words of the tool; its status, what stands at the head of an image, and what standard error has to say."""
+    words: list[object]
+    status: int
+    head: str
+    told: str
+
+
+class Chunk(NamedTuple):
+    """A loop, its program, how many iterations an epoch has, with further words; what is told, and how many epochs."""
+    place: str
+    source: Path
+    words: list[object]
+    told: str
+    epochs: int
 
 
 # --- The listing -----------------------------------------------------------------
@@ -102,9 +132,9 @@ def natives(folder: Path) -> Iterator[Check]:
     if not shutil.which("cc"):
         left_out("output beside the native compiler", "there is no cc")
         return
-    for source, words, given in [*((source, [], b"") for source in SOURCES),
-                                 (PROGRAMS / "words.c", ["-n", "3"], b"one two\nthree\n\nfour"),
-                                 (PROGRAMS / "words.c", ["-n", "9"], b"one")]:
+    for source, words, given in [*(Call(source, [], b"") for source in SOURCES),
+                                 Call(PROGRAMS / "words.c", ["-n", "3"], b"one two\nthree\n\nfour"),
+                                 Call(PROGRAMS / "words.c", ["-n", "9"], b"one")]:
         yield (f"{source.name} {words} beside cc",
                differs(emulated(source, folder, words, given), native(source, folder, words, given)))
 
@@ -166,29 +196,31 @@ def requests(folder: Path) -> Iterator[Check]:
     """Entries, windows and places; what is no request."""
     forms, small, words = (PROGRAMS / name for name in ("forms.c", "small.c", "words.c"))
     for given, status, head, told in (
-            (["--loop", "forms.c:38", "--entry", 7, forms], 0, "entry 7 of 100, with 15 iterations",
-             "same: entry 7 of 100, 15 of 15 iterations"),
-            (["--loop", "small.c:13", "--first", 10, "--epochs", 5, small], 0, "its iterations from 10 on, 5 of them",
-             "same: entry 1 of 1, 5 of 64 iterations"),
-            (["--loop", "small.c:24", "--first", 15, small], 0, "its iterations from 15 on, 5 of them",
-             "same: entry 1 of 1, 5 of 20 iterations"),
-            (["--loop", "lines.c:8.2", PROGRAMS / "lines.c"], 0, "The loop at lines.c:8.2",
-             "same: entry 1 of 1, 6 of 6 iterations"),
-            (["--loop", "all", "--chunk", 0, "--out", folder, small], 2, "", "--chunk takes 1 to 65535"),
-            (["--chunk", 4, small], 2, "", "--chunk N goes with --loop"),
-            (["--loop", "frames.c:57", PROGRAMS / "frames.c"], 0, "The loop at frames.c:57",
-             ", 1 words with addresses of frames of the iterations' own differ"),
-            (["--loop", "words.c:9", "--args=-n 1", words], 0, "with 1 iterations", "same"),
-            (["--loop", "words.c:13", "--input", forms, words], 0, "with 999 iterations", "same"),
-            (["--loop", "small.c:14", small], 2, "",
-             "there is no loop at small.c:14; there are: small.c:11, small.c:13"),
-            (["--loop", "forms.c:38", "--entry", 101, forms], 1, "", "is entered 100 times, so there is no entry 101"),
-            (["--loop", "small.c:13", "--first", 64, small], 1, "",
-             "its entry 1 has 64 iterations, so none from 64 on"),
-            (["--loop", "small.c:13", "--version", 1, small], 1, "",
-             r"needs \d+ bytes of memory, and 65536 is the most"),
-            (["--loop", "all", small], 2, "", "--loop all needs --out FOLDER"),
-            (["--first", -1, small], 2, "", "--first takes 0 to"), ([folder / "none.c"], 2, "", "is not a file")):
+            Request(["--loop", "forms.c:38", "--entry", 7, forms], 0, "entry 7 of 100, with 15 iterations",
+                    "same: entry 7 of 100, 15 of 15 iterations"),
+            Request(["--loop", "small.c:13", "--first", 10, "--epochs", 5, small], 0,
+                    "its iterations from 10 on, 5 of them", "same: entry 1 of 1, 5 of 64 iterations"),
+            Request(["--loop", "small.c:24", "--first", 15, small], 0, "its iterations from 15 on, 5 of them",
+                    "same: entry 1 of 1, 5 of 20 iterations"),
+            Request(["--loop", "lines.c:8.2", PROGRAMS / "lines.c"], 0, "The loop at lines.c:8.2",
+                    "same: entry 1 of 1, 6 of 6 iterations"),
+            Request(["--loop", "all", "--chunk", 0, "--out", folder, small], 2, "", "--chunk takes 1 to 65535"),
+            Request(["--chunk", 4, small], 2, "", "--chunk N goes with --loop"),
+            Request(["--loop", "frames.c:57", PROGRAMS / "frames.c"], 0, "The loop at frames.c:57",
+                    ", 1 words with addresses of frames of the iterations' own differ"),
+            Request(["--loop", "words.c:9", "--args=-n 1", words], 0, "with 1 iterations", "same"),
+            Request(["--loop", "words.c:13", "--input", forms, words], 0, "with 999 iterations", "same"),
+            Request(["--loop", "small.c:14", small], 2, "",
+                    "there is no loop at small.c:14; there are: small.c:11, small.c:13"),
+            Request(["--loop", "forms.c:38", "--entry", 101, forms], 1, "",
+                    "is entered 100 times, so there is no entry 101"),
+            Request(["--loop", "small.c:13", "--first", 64, small], 1, "",
+                    "its entry 1 has 64 iterations, so none from 64 on"),
+            Request(["--loop", "small.c:13", "--version", 1, small], 1, "",
+                    r"needs \d+ bytes of memory, and 65536 is the most"),
+            Request(["--loop", "all", small], 2, "", "--loop all needs --out FOLDER"),
+            Request(["--first", -1, small], 2, "", "--first takes 0 to"),
+            Request([folder / "none.c"], 2, "", "is not a file")):
         out, errors, got = loops_of(*given)
         yield (f"asked: {' '.join(map(str, given[:-1]))}", None if got == status and head in out
                and bool(out) == bool(head) and re.search(told, errors) else f"{out[:300]}{errors}{got}")
@@ -201,14 +233,14 @@ def chunks() -> Iterator[Check]:
     from loops import read_image
     forms, small, sieve = (PROGRAMS / name for name in ("forms.c", "small.c", "sieve.c"))
     for place, source, words, told, epochs in (
-            ("small.c:13", small, [4], "64 of 64 iterations, 4 an epoch", 16),
-            ("small.c:19", small, [5], "64 of 64 iterations, 5 an epoch", 13),
-            ("small.c:19", small, [100], "64 of 64 iterations, 100 an epoch", 1),
-            ("small.c:31", small, [4], "19 of 19 iterations, 4 an epoch", 5 + 4),
-            ("small.c:31", small, [19], "19 of 19 iterations, 19 an epoch", 1 + 4),
-            ("small.c:24", small, [2, "--first", 10, "--epochs", 5], "5 of 20 iterations, 2 an epoch", 3),
-            ("forms.c:35", forms, [7, "--first", 3], "97 of 100 iterations, 7 an epoch", 14),
-            ("sieve.c:13", sieve, [1000], "200000 of 200000 iterations, 1000 an epoch", 200)):
+            Chunk("small.c:13", small, [4], "64 of 64 iterations, 4 an epoch", 16),
+            Chunk("small.c:19", small, [5], "64 of 64 iterations, 5 an epoch", 13),
+            Chunk("small.c:19", small, [100], "64 of 64 iterations, 100 an epoch", 1),
+            Chunk("small.c:31", small, [4], "19 of 19 iterations, 4 an epoch", 5 + 4),
+            Chunk("small.c:31", small, [19], "19 of 19 iterations, 19 an epoch", 1 + 4),
+            Chunk("small.c:24", small, [2, "--first", 10, "--epochs", 5], "5 of 20 iterations, 2 an epoch", 3),
+            Chunk("forms.c:35", forms, [7, "--first", 3], "97 of 100 iterations, 7 an epoch", 14),
+            Chunk("sieve.c:13", sieve, [1000], "200000 of 200000 iterations, 1000 an epoch", 200)):
         out, errors, status = loops_of("--loop", place, "--chunk", *words, source)
         got = (read_image(out).epochs, status)
         yield (f"{words[0]} iterations an epoch of {place}", differs(got, (epochs, 0))
@@ -228,7 +260,7 @@ def names() -> Iterator[Check]:
     yield "the lines of the code", None if {5, 19, 20} <= lines <= {5, 6, 18, 19, 20} else f"got {lines}"
 
 
-def words_at(image: object, name: str) -> list[int]:
+def words_at(image: Image, name: str) -> list[int]:
     """The words of a variable that an image's remarks name."""
     memory = bytearray(image.size)
     for part in image.data:
@@ -266,7 +298,7 @@ def gains() -> Iterator[Check]:
         if name:
             image, errors, _ = loops_of("--version", 1, "--heap", 0, "--stack", 4096, "--loop", f"plain.c:{number}",
                                       source)
-            by_hand, plain = ({run.store: run.gain for run in Programs().gain(text, 4).runs if run.cores == 4}
+            by_hand, plain = ({run.store: there(run.gain) for run in Programs().gain(text, 4).runs if run.cores == 4}
                               for text in ((ROOT / "examples" / f"{name}.image").read_text(), image))
             far = {store: (gain, by_hand[store]) for store, gain in plain.items()
                    if abs(gain - by_hand[store]) > 0.1 * by_hand[store]}
@@ -274,7 +306,7 @@ def gains() -> Iterator[Check]:
                    else f"got {far}, {errors}")
 
 
-def answer_of(source: Path, line: str, folder: Path, kit: object = None, **choice: int) -> str:
+def answer_of(source: Path, line: str, folder: Path, kit: Kit | None = None, **choice: int) -> str:
     """What is told of a loop, by this plug-in or by another; of its iterations from 2 on, or as chosen."""
     from loops.loops_of.build import Builder, Layout, kit_of
     from loops.loops_of.emulator import Given
@@ -328,7 +360,7 @@ def patched(where: object, name: str, other: object, source: str, line: str, fol
     was = getattr(where, name)
     setattr(where, name, other)
     try:
-        return answer_of(PROGRAMS / source, line, folder, **choice)
+        return answer_of(PROGRAMS / source, line, folder, None, **choice)
     finally:
         setattr(where, name, was)
 
@@ -339,6 +371,10 @@ def wrong_images(folder: Path) -> Iterator[Check]:
 
     def without(pattern: str) -> object:
         return lambda *given: re.sub(pattern, "", images.image_text(*given))
+
+    def all_compared(plain: Run, outlined: Entries) -> None:
+        plain.saved.clear()
+        check.check_program(plain, outlined)
 
     yield ("no mistake", None if (said := answer_of(PROGRAMS / "lines.c", "lines.c:18", folder)).startswith("same")
            else said)
@@ -354,9 +390,7 @@ def wrong_images(folder: Path) -> Iterator[Check]:
     yield "an image whose last epoch has too many iterations", None if said.startswith("DIFFERENT") else said
     said = patched(emulator.Window, "left", lambda _: None, "small.c", "small.c:13", folder)
     yield "an emulator that doesn't hear the end", None if said.startswith("the program ends within it") else said
-    said = patched(making, "check_program",
-                   lambda plain, other: (plain.saved.clear(), check.check_program(plain, other)), "forms.c",
-                   "forms.c:130", folder)
+    said = patched(making, "check_program", all_compared, "forms.c", "forms.c:130", folder)
     yield ("what setjmp saved, compared", None if said.startswith("WRONG other values at the program's end in back+")
            else said)
 

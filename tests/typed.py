@@ -17,7 +17,7 @@ from pathlib import Path
 from common import ROOT, Check, Script, called, left_out
 
 # Scripts of tests/ that have no types in places yet: most stand on others without, of tests/model, or on selenium.
-UNTYPED = {"long_inputs", "loops_of", "time_bounds", "view", "wrong_bodies"}
+UNTYPED = {"view"}
 # A function without types, and a field that isn't there: each has to be found.
 WRONG = "from loops import read_image\n\n\ndef size(text):\n    return read_image(text).length\n"
 

@@ -16,7 +16,7 @@ import re
 import shutil
 import sys
 import tempfile
-from collections.abc import Iterator, Sequence
+from collections.abc import Callable, Iterator, Sequence
 from functools import partial
 from pathlib import Path
 
@@ -26,7 +26,10 @@ TOP = Path(__file__).resolve().parent.parent
 sys.path.insert(0, str(TOP / "tests/wrong-bodies"))
 sys.dont_write_bytecode = True
 
-from checks import is_another  # noqa: E402
+import checks  # noqa: E402
+
+# Whether two terms are other values for sure. The scripts of tests/wrong-bodies have no types.
+is_another: Callable[[str, str], bool] = checks.is_another
 
 SOURCE = """\
 //! Numbers one after the other.

@@ -13,6 +13,8 @@ import statistics
 import subprocess
 import sys
 import tempfile
+from collections.abc import Callable
+from typing import NamedTuple
 
 ROOT = pathlib.Path(__file__).resolve().parents[2]
 AUDIT = ROOT / "crates" / "trace_cli" / "out" / "trace_cli"
@@ -24,68 +26,84 @@ RETURN = 0x00008067  # jalr x0, 0(x1)
 DATA = 0x80000
 
 
-def i_type(opcode, kind, rd, rs, value):
+class Form(NamedTuple):
+    """The text of an image, and a history of it: on how many cores, and its entries."""
+
+    image: str
+    cores: int
+    entries: list[str]
+
+
+class Run(NamedTuple):
+    """Of a run of a program its status, its processor seconds, and the most memory that it held, in kilobytes."""
+
+    status: int
+    seconds: float
+    most: int
+
+
+def i_type(opcode: int, kind: int, rd: int, rs: int, value: int) -> int:
     return (value & 0xFFF) << 20 | rs << 15 | kind << 12 | rd << 7 | opcode
 
 
-def lw(rd, rs, offset):
+def lw(rd: int, rs: int, offset: int) -> int:
     return i_type(0x03, 2, rd, rs, offset)
 
 
-def lb(rd, rs, offset):
+def lb(rd: int, rs: int, offset: int) -> int:
     return i_type(0x03, 0, rd, rs, offset)
 
 
-def addi(rd, rs, value):
+def addi(rd: int, rs: int, value: int) -> int:
     return i_type(0x13, 0, rd, rs, value)
 
 
-def slli(rd, rs, by):
+def slli(rd: int, rs: int, by: int) -> int:
     return i_type(0x13, 1, rd, rs, by)
 
 
-def lui(rd, value):
+def lui(rd: int, value: int) -> int:
     return value << 12 | rd << 7 | 0x37
 
 
-def s_type(kind, rs, value, offset):
+def s_type(kind: int, rs: int, value: int, offset: int) -> int:
     return (offset >> 5 & 0x7F) << 25 | value << 20 | rs << 15 | kind << 12 | (offset & 0x1F) << 7 | 0x23
 
 
-def sw(value, rs, offset):
+def sw(value: int, rs: int, offset: int) -> int:
     return s_type(2, rs, value, offset)
 
 
-def sb(value, rs, offset):
+def sb(value: int, rs: int, offset: int) -> int:
     return s_type(0, rs, value, offset)
 
 
-def bne(rs, other, offset):
+def bne(rs: int, other: int, offset: int) -> int:
     return ((offset >> 12 & 1) << 31 | (offset >> 5 & 0x3F) << 25 | other << 20 | rs << 15 | 1 << 12
             | (offset >> 1 & 0xF) << 8 | (offset >> 11 & 1) << 7 | 0x63)
 
 
-def jal(offset):
+def jal(offset: int) -> int:
     return ((offset >> 20 & 1) << 31 | (offset >> 1 & 0x3FF) << 21 | (offset >> 11 & 1) << 20
             | (offset >> 12 & 0xFF) << 12 | 0x6F)
 
 
-def image(words, epochs, count):
+def image(words: list[int], epochs: int, count: int) -> str:
     """The text of an image of this code, whose epochs may take so many instructions."""
     code = b"".join(word.to_bytes(4, "little") for word in words).hex()
     return f"version 2\nsize 1048576\nepochs {epochs}\nlimit {count}\ncode {code}\n"
 
 
-def stores(count):
+def stores(count: int) -> Form:
     """One long attempt, each of whose stores violates the epoch after it, by false sharing."""
     words = [bne(10, 0, 12), sw(0, 0, 0x7C0), jal(-4), lw(5, 0, 0x7C4), RETURN]
     entries = ["0 start 0", "1 start 1"]
     while len(entries) < count:
         entries += ["1 load 000007c4 4 00000000", "0 hurt 1", "0 store 000007c0 4 00000000", "1 restart"]
-    return image(words, 2, count), 2, entries[:count]
+    return Form(image(words, 2, count), 2, entries[:count])
 
 
-def both(count):
+def both(count: int) -> Form:
     """The same, but the attempt also stores to the other word at its end: each violation came true later."""
     words = [bne(10, 0, 24), addi(5, 5, 1), sw(0, 0, 0x7C0), bne(5, 6, -8), sw(0, 0, 0x7C4), RETURN, lw(5, 0, 0x7C4),
              RETURN]
@@ -94,10 +112,10 @@ def both(count):
     for _ in range(turns):
         entries += ["1 load 000007c4 4 00000000", "0 hurt 1", "0 store 000007c0 4 00000000", "1 restart"]
     text = image(words, 2, count) + f"reg 6 {turns:08x}\n"
-    return text, 2, [*entries, "0 store 000007c4 4 00000000"]
+    return Form(text, 2, [*entries, "0 store 000007c4 4 00000000"])
 
 
-def bytes_of(count):
+def bytes_of(count: int) -> Form:
     """One violation with many bytes: an epoch publishes bytes that the one after it had read one by one. The limit of
     an epoch bounds them."""
     words = [lui(5, DATA >> 12), addi(6, 0, 1), bne(10, 0, 16), sb(6, 5, 0), addi(5, 5, 1), jal(-8), lb(7, 5, 0),
@@ -105,10 +123,10 @@ def bytes_of(count):
     half = min((count - 4) // 2, 330_000)
     entries = ["0 start 0", "1 start 1", *(f"1 load {DATA + i:08x} 1 00000000" for i in range(half)),
                *(f"0 store {DATA + i:08x} 1 00000001" for i in range(half))]
-    return image(words, 2, 1_000_000), 2, [*entries, "0 hurt 1", "0 publish"]
+    return Form(image(words, 2, 1_000_000), 2, [*entries, "0 hurt 1", "0 publish"])
 
 
-def pairs(count):
+def pairs(count: int) -> Form:
     """Many pairs of instructions: each store of one attempt is another instruction, and violates fifteen epochs, each
     of which loads by an instruction of its own."""
     times = max(count // 46, 1)
@@ -121,51 +139,53 @@ def pairs(count):
         entries += [f"0 hurt {core}" for core in range(1, 16)]
         entries += ["0 store 000ffff0 4 00000000"]
         entries += [f"{core} restart" for core in range(1, 16)]
-    return image(words, 16, times + 100) + "reg 28 000ffff0\n", 16, entries
+    return Form(image(words, 16, times + 100) + "reg 28 000ffff0\n", 16, entries)
 
 
-def notices(count):
+def notices(count: int) -> Form:
     """Violations without a cause: nothing but one epoch that is violated and begun again."""
     entries = ["0 start 0", "1 start 1"]
     while len(entries) < count:
         entries += ["0 hurt 1", "1 restart"]
-    return image([RETURN], 2, 10), 2, entries[:count]
+    return Form(image([RETURN], 2, 10), 2, entries[:count])
 
 
-FORMS = {"stores": stores, "both": both, "bytes": bytes_of, "pairs": pairs, "notices": notices}
+FORMS: dict[str, Callable[[int], Form]] = {
+    "stores": stores, "both": both, "bytes": bytes_of, "pairs": pairs, "notices": notices,
+}
 
 
-def text_of(form, count):
-    head, cores, entries = FORMS[form](count)
-    return f"{head}trace {cores}\n" + "\n".join(entries) + "\n"
+def text_of(name: str, count: int) -> str:
+    form = FORMS[name](count)
+    return f"{form.image}trace {form.cores}\n" + "\n".join(form.entries) + "\n"
 
 
-def measured(file, *command):
-    """The status of a program, its processor seconds, and the most memory that it held, in kilobytes."""
+def measured(file: pathlib.Path, *command: str | pathlib.Path) -> Run:
+    """A run of a program on a file."""
     with open(file, "rb") as stdin:
         done = subprocess.run(["/usr/bin/time", "-f", "%U %S %M", *command], stdin=stdin, stdout=subprocess.DEVNULL,
                               stderr=subprocess.PIPE, text=True, check=False)
     user, system, most = done.stderr.split("\n")[-2].split()
-    return done.returncode, float(user) + float(system), int(most)
+    return Run(done.returncode, float(user) + float(system), int(most))
 
 
-def measure(form, count, folder):
+def measure(form: str, count: int, folder: str) -> bool:
     """A row of the table, and whether it may be so."""
     file = pathlib.Path(folder, "trace")
     text = text_of(form, count)
     file.write_text(text)
     entries = text.partition("\ntrace ")[2].count("\n") - 1
     runs = [(measured(file, AUDIT, "audit"), measured(file, WHY)) for _ in range(ROUNDS)]
-    audited, told = (statistics.median(seconds for _, seconds, _ in one) for one in zip(*runs))
-    audit_most, why_most = (max(most for *_, most in one) for one in zip(*runs))
-    sound = all(status == 0 for both_runs in runs for status, *_ in both_runs)
+    audited, told = (statistics.median(run.seconds for run in one) for one in zip(*runs))
+    audit_most, why_most = (max(run.most for run in one) for one in zip(*runs))
+    sound = all(run.status == 0 for both_runs in runs for run in both_runs)
     size = file.stat().st_size / 1e6
     print(f"{form:8}{entries:10,}{size:7.1f}{audited:10.2f}{told:9.2f}{told / max(audited, 0.01):9.1f}"
           f"{audit_most / 1024:12.1f}{why_most / 1024:10.1f}", flush=True)
     return sound and told <= MOST * max(audited, 0.01)
 
 
-def main(words):
+def main(words: list[str]) -> int:
     if len(words) == 2 and words[1].isdigit():
         sys.stdout.write(text_of(words[0], int(words[1])))
         return 0

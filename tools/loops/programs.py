@@ -4,7 +4,7 @@ import argparse
 import os
 import subprocess
 import tempfile
-from collections.abc import Iterator, Sequence
+from collections.abc import Generator, Iterator, Sequence
 from dataclasses import dataclass, field
 from functools import cache
 from pathlib import Path
@@ -99,7 +99,8 @@ def call(program: str | Path, words: list[str], text: str, right: tuple[int, ...
     return done.stdout.decode("ascii")
 
 
-def iter_call(program: str | Path, words: list[str], source: Path, right: tuple[int, ...] = ENDED) -> Iterator[str]:
+def iter_call(program: str | Path, words: list[str], source: Path,
+              right: tuple[int, ...] = ENDED) -> Generator[str, None, None]:
     """The lines that a program prints on a file, one after another, without their line feeds. After the last one
     Stopped as `call` has it."""
     with tempfile.TemporaryFile() as errors, source.open("rb") as given:
@@ -174,7 +175,7 @@ class Programs:
         trace below it."""
         return read_steps(call(self.folder / "replay", steps_words(store, cores), text))
 
-    def step_lines(self, source: Path, store: str, cores: int | None = None) -> Iterator[str]:
+    def step_lines(self, source: Path, store: str, cores: int | None = None) -> Generator[str, None, None]:
         """The lines of the same, of an input that stands in a file; `iter_steps` reads the turns from them."""
         return iter_call(self.folder / "replay", steps_words(store, cores), source)
 
