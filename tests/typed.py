@@ -16,8 +16,6 @@ from pathlib import Path
 
 from common import ROOT, Check, Script, called, left_out
 
-# Scripts of tests/ that have no types in places yet: most stand on others without, of tests/model, or on selenium.
-UNTYPED = {"view"}
 # A function without types, and a field that isn't there: each has to be found.
 WRONG = "from loops import read_image\n\n\ndef size(text):\n    return read_image(text).length\n"
 
@@ -61,7 +59,7 @@ def tools(checker: Checker) -> Iterator[Check]:
 
 def scripts(checker: Checker) -> Iterator[Check]:
     """The scripts of tests/."""
-    found = [str(path) for path in sorted((ROOT / "tests").glob("*.py")) if path.stem not in UNTYPED]
+    found = [str(path) for path in sorted((ROOT / "tests").glob("*.py"))]
     yield "the scripts of tests/", checker.says("--follow-imports", "silent", *found)
 
 

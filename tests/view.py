@@ -15,23 +15,49 @@ import re
 import shutil
 import sys
 import tempfile
-from collections.abc import Callable, Iterator
+from collections.abc import Callable, Iterable, Iterator
 from functools import partial
+from itertools import islice
 from pathlib import Path
-from typing import Any
+from typing import Any, NamedTuple, TypedDict
 
-from common import ROOT, Script, beside, called_bytes, left_out
+from common import ROOT, Check, Script, beside, called_bytes, left_out, there
 
 DEBIANS = "/usr/bin/python3"
 # So long may a script take in the browser, and so many keys are pressed by one.
 SECONDS, AT_ONCE = 100, 20
-# What a check shows, and what is wrong or None.
-Result = tuple[str, Any]
 sys.path.insert(0, str(ROOT / "tools"))
 sys.dont_write_bytecode = True
 
-from loops import Programs, Unreadable, read_steps                  # noqa: E402
+from loops import Programs, Step, Steps, Unreadable, read_steps     # noqa: E402
 from loops.instructions import spelled                              # noqa: E402
+
+# A browser, and a part of a page, of selenium, which is taken to have no types.
+Browser = Any
+Element = Any
+
+
+class PlaceShown(TypedDict):
+    """What the page shows at a place, as the script below reads it; `stored` and `framed` are masks of bytes."""
+    address: str
+    state: str
+    mark: str
+    mask: str
+    bytes: str
+    none: str
+    text: str
+    word: str
+    stored: int
+    framed: int
+    marked: bool
+
+
+class Shown(TypedDict):
+    """What the page shows: the turn, each place by its name, and the text of each core."""
+    turn: int
+    places: dict[str, PlaceShown]
+    cores: list[str]
+
 
 # Each of two epochs loads from, or stores to, five lines in turn: on two cores the buffer of the second one is full, or
 # that of the first one is when the second asks.
@@ -96,9 +122,9 @@ def spelled_by_as(text: str, word: int, pc: int) -> str:
     return re.sub(r"\.([+-]\d+)$", lambda found: f"{(pc + int(found[1])) & 0xFFFFFFFF:08x}", f"{name} {rest}".strip())
 
 
-def disassembly() -> Iterator[Result]:
+def disassembly() -> Iterator[Check]:
     """Each instruction of the vectors, and words that are none."""
-    pc, seen = 0x1000, set()
+    pc, seen = 0x1000, set[str]()
     for path in sorted((ROOT / "tests" / "vectors").glob("*.txt")):
         rows = [line.split(" | ")[:2] for line in path.read_text().splitlines() if not line.startswith("#")]
         wanted = {int(word, 16): f".word 0x{word}" if path.stem == "illegal" else spelled_by_as(text, int(word, 16), pc)
@@ -109,7 +135,7 @@ def disassembly() -> Iterator[Result]:
     yield "all instructions", None if len(seen - {".word"}) == 40 else f"{len(seen)}: {sorted(seen)}"
 
 
-def forms() -> Iterator[Result]:
+def forms() -> Iterator[Check]:
     """What isn't of the form is refused, and what is can be written again."""
     text = ("turn 0 1 go\nentry 1 load 00000040 4 00000000\nattempt 1 0 speculative\nhart 1 00000004 1\norb 1 "
             "00000040\norb 1\nat 00000040 00\n"
@@ -132,7 +158,7 @@ def find_selenium() -> None:
         os.execv(DEBIANS, [DEBIANS, *sys.argv])
 
 
-def driver() -> Any:
+def driver() -> Browser | None:
     """A browser, or None where one isn't installed."""
     try:
         from selenium import webdriver
@@ -154,23 +180,24 @@ def driver() -> Any:
 class Page:
     """A page in the browser: what a person does to it, and what it shows."""
 
-    def __init__(self, browser: Any, path: Path, link: str = "") -> None:
+    def __init__(self, browser: Browser, path: Path, link: str = "") -> None:
         from selenium.webdriver.common.by import By
         from selenium.webdriver.common.keys import Keys
         self.browser, self.by, self.keys = browser, By, Keys
         browser.get("about:blank")
         browser.get(f"file://{path}{link}")
 
-    def element(self, name: str) -> Any:
+    def element(self, name: str) -> Element:
         return self.browser.find_element(self.by.ID, name)
 
     def text(self, name: str) -> str:
         return " ".join(self.element(name).text.split())
 
-    def shown(self) -> dict[str, Any]:
-        return self.browser.execute_script(SCRIPT + "return shown()")
+    def shown(self) -> Shown:
+        shown: Shown = self.browser.execute_script(SCRIPT + "return shown()")
+        return shown
 
-    def walked(self, key: str, times: int) -> list[dict[str, Any]]:
+    def walked(self, key: str, times: int) -> list[Shown]:
         """What is shown before each press of a key, so many times, and at the end; some presses a call, so that none
         takes long on a busy machine."""
         all_shown = [self.shown()]
@@ -205,7 +232,12 @@ class Page:
 
 # --- What a page has to show of a place ---------------------------------------------
 
-def of_line(text: str, got: dict[str, Any]) -> bool:
+def first_of(wrong: Iterable[str]) -> str | None:
+    """The first of what is wrong, or None."""
+    return "; ".join(islice(wrong, 3)) or None
+
+
+def of_line(text: str, got: PlaceShown) -> bool:
     if text == "-":
         return got["none"] == "empty"
     address, state, loaded, mask, data = text.split(" ")
@@ -213,36 +245,38 @@ def of_line(text: str, got: dict[str, Any]) -> bool:
         address, state, "loaded" if loaded == "loaded" else "", int(mask, 16), int(mask, 16), data)
 
 
-def of_buffer(text: str, got: dict[str, Any]) -> bool:
+def of_buffer(text: str, got: PlaceShown) -> bool:
     lines = re.findall(r"\b[0-9a-f]{8}\b", got["text"])
     return lines == text.split() and got["text"].startswith(f"buffer, {len(lines)} of ")
 
 
-def of_kept(text: str, got: dict[str, Any]) -> bool:
+def of_kept(text: str, got: PlaceShown) -> bool:
     read, own, data = text.split(" ")
     stored = "".join(data[2 * at:2 * at + 2] if int(own, 16) >> at & 1 else "--" for at in range(16))
     return [got["mark"], got["mask"], got["stored"], got["bytes"]] == [read, own, int(own, 16), stored]
 
 
-def of_hart(text: str, got: dict[str, Any]) -> bool:
+def of_hart(text: str, got: PlaceShown) -> bool:
     pc, _, done = text.partition(" ")
     return got["text"] == "nothing in hand" if pc == "-" else got["text"].startswith(f"{done} executed; next {pc} ")
 
 
-def of_attempt(text: str, got: dict[str, Any]) -> bool:
+def of_attempt(text: str, got: PlaceShown) -> bool:
     epoch, _, mode = text.partition(" ")
     if epoch == "-":
         return got["text"].endswith(("no epoch", "was rolled back", "was cancelled"))
     return f": epoch {epoch}, attempt " in got["text"] and got["text"].endswith(f", {mode}")
 
 
-def printed(steps: Any) -> list[dict[str, str]]:
+def printed(steps: Steps) -> list[dict[str, str]]:
     """After each turn what stands at each place, as `replay steps` prints it."""
     return [{place: change.said for place, change in state.items()} for state in steps.states()]
 
 
-OF_PLACE = {"line": of_line, "orb": of_buffer, "kept": of_kept, "hart": of_hart, "attempt": of_attempt,
-            "at": lambda text, got: got["bytes"] == text}
+OF_PLACE: dict[str, Callable[[str, PlaceShown], bool]] = {
+    "line": of_line, "orb": of_buffer, "kept": of_kept, "hart": of_hart, "attempt": of_attempt,
+    "at": lambda text, got: got["bytes"] == text,
+}
 
 
 def framed(place: str, old: str, new: str) -> int:
@@ -262,7 +296,7 @@ def is_left_out(kind: str, text: str) -> bool:
                                and int(text.split(" ")[3], 16) == 0)
 
 
-def differences(shown: dict[str, Any], state: dict[str, str], step: Any, before: dict[str, str]) -> Iterator[str]:
+def differences(shown: Shown, state: dict[str, str], step: Step, before: dict[str, str]) -> Iterator[str]:
     """Where the page shows something else than the state after a turn, or doesn't say what changed from the state
     before."""
     places, waits = shown["places"], step.answer.split(" ")[1] if step.answer.startswith("again ") else ""
@@ -285,30 +319,29 @@ def differences(shown: dict[str, Any], state: dict[str, str], step: Any, before:
         yield f"turn {shown['turn']}, and not {step.turn} {step.answer}: {shown['cores'][step.core][:100]}"
 
 
-def whole_run(page: Page, steps: Any) -> Iterator[Result]:
+def whole_run(page: Page, steps: Steps) -> Iterator[Check]:
     """(what it shows, what is wrong or None) of all turns, by the keys."""
     states, count = printed(steps), len(steps.steps)
     for number in range(3):
-        wrong = list(differences(page.shown(), states[number], steps.steps[number],
-                                 states[number - 1] if number else {}))
-        yield f"turn {number}", wrong[:3] or None
+        yield f"turn {number}", first_of(differences(page.shown(), states[number], steps.steps[number],
+                                                     states[number - 1] if number else {}))
         page.press(page.keys.ARROW_RIGHT)
     page.press(page.keys.HOME)
     for key, numbers in (("ArrowRight", range(count)), ("ArrowLeft", range(count - 1, -1, -1))):
         all_shown = page.walked(key, count - 1)
-        wrong = [f"turn {number}: {one}" for number, shown in zip(numbers, all_shown)
-                 for one in differences(shown, states[number], steps.steps[number],
-                                        states[number - 1] if number else {})]
-        yield f"all turns by {key}", wrong[:3] or None
+        yield (f"all turns by {key}",
+               first_of(f"turn {number}: {one}" for number, shown in zip(numbers, all_shown)
+                        for one in differences(shown, states[number], steps.steps[number],
+                                               states[number - 1] if number else {})))
     page.press(page.keys.END, page.keys.ARROW_RIGHT)
     yield "no turn beyond the last", None if page.turn() == steps.steps[-1].turn else f"{page.turn()}"
 
 
-def moves(page: Page, steps: Any) -> Iterator[Result]:
+def moves(page: Page, steps: Steps) -> Iterator[Check]:
     """(what it shows, what is wrong or None) of buttons, keys, links and the lanes."""
     hurts = [step.turn for step in steps.steps if any(entry.what == "hurt" for entry in step.entries)]
     page.click("first")
-    seen = []
+    seen: list[tuple[int, bool]] = []
     for _ in hurts:
         page.click("rollback-on")
         seen.append((page.turn(), "is rolled back: epoch" in page.text("said")))
@@ -364,7 +397,7 @@ NAMED = {"button", "spinbutton", "image", "table", "navigation", "region", "head
 SIZES = [("400 pixels", 400, 1), ("200 % of 1280 pixels", 640, 2), ("400 % of 1280 pixels", 320, 4)]
 
 
-def emulate(browser: Any, width: int, scale: int = 1, scheme: str = "light") -> None:
+def emulate(browser: Browser, width: int, scale: int = 1, scheme: str = "light") -> None:
     """A window so many CSS pixels wide, each of so many of the screen's in a row, in light or dark."""
     browser.execute_cdp_cmd("Emulation.setDeviceMetricsOverride",
                             {"width": width, "height": 1000, "deviceScaleFactor": scale, "mobile": False})
@@ -374,7 +407,7 @@ def emulate(browser: Any, width: int, scale: int = 1, scheme: str = "light") -> 
                                  "end()))")
 
 
-def accessible(browser: Any) -> list[tuple[str, str]]:
+def accessible(browser: Browser) -> list[tuple[str, str]]:
     """Role and name of what the browser tells a screen reader of the page."""
     nodes = browser.execute_cdp_cmd("Accessibility.getFullAXTree", {})["nodes"]
     return [(node["role"]["value"], node.get("name", {}).get("value", "")) for node in nodes if not node["ignored"]]
@@ -388,7 +421,7 @@ def lanes_as_text(page: Page) -> list[str]:
     return [row.text for row in page.browser.find_elements(page.by.CSS_SELECTOR, "#attempts tr")]
 
 
-def named_parts(page: Page) -> Iterator[Result]:
+def named_parts(page: Page) -> Iterator[Check]:
     """Names of buttons, lanes and sets, as a screen reader has them."""
     parts = accessible(page.browser)
     buttons = [name for role, name in parts if role == "button"]
@@ -414,13 +447,13 @@ def named_parts(page: Page) -> Iterator[Result]:
                                                           "SpE"} and "no other core holds the line" in states["SpE"]
            and not wrong else f"{states}, {said!r}")
     rows = lanes_as_text(page)
-    wanted = ["core epoch attempt from turn to turn and then", 22, "core 0 3 1 14 19 is rolled back"]
-    yield "its lanes as text", None if [rows[0], len(rows) - 1,
-                                        next((row for row in rows if row.startswith("core 0 3 1 ")),
-                                             "")] == wanted else f"{rows}"
+    lane = next((row for row in rows if row.startswith("core 0 3 1 ")), "")
+    head = "core epoch attempt from turn to turn and then"
+    yield ("its lanes as text",
+           None if (rows[0], len(rows) - 1, lane) == (head, 22, "core 0 3 1 14 19 is rolled back") else f"{rows}")
 
 
-def keyboard(page: Page, steps: Any) -> Iterator[Result]:
+def keyboard(page: Page, steps: Steps) -> Iterator[Check]:
     """All by the keyboard, wherever the focus is."""
     from selenium.webdriver import ActionChains
     keys = page.keys
@@ -435,7 +468,7 @@ def keyboard(page: Page, steps: Any) -> Iterator[Result]:
         return pressed(*words)
 
     def focused() -> str:
-        return page.browser.execute_script("return document.activeElement.id")
+        return str(page.browser.execute_script("return document.activeElement.id"))
 
     turns = [step.turn for step in steps.steps]
     of_one = [step.turn for step in steps.steps if step.core == 1]
@@ -457,11 +490,12 @@ def keyboard(page: Page, steps: Any) -> Iterator[Result]:
     told = [typed("20", keys.ARROW_RIGHT), pressed(keys.END), pressed(keys.HOME)]
     wanted = [turns[21], turns[-1], turns[0]]
     yield "keys right after a number", None if told == wanted else f"{told}, and not {wanted}"
-    told = [typed(keys.BACKSPACE, keys.ENTER), typed("5", keys.ESCAPE), focused()]
-    yield "no number, and one that is taken back", None if told == [turns[0], turns[0], ""] else f"{told}"
+    told, focus = [typed(keys.BACKSPACE, keys.ENTER), typed("5", keys.ESCAPE)], focused()
+    yield ("no number, and one that is taken back",
+           None if (told, focus) == ([turns[0], turns[0]], "") else f"{told}, {focus!r}")
 
 
-def sizes(page: Page) -> Iterator[Result]:
+def sizes(page: Page) -> Iterator[Check]:
     """Nothing scrolls sideways, in both colours, and all texts can be read."""
     for name, width, scale in SIZES:
         emulate(page.browser, width, scale)
@@ -487,7 +521,7 @@ def sizes(page: Page) -> Iterator[Result]:
     page.browser.execute_cdp_cmd("Emulation.clearDeviceMetricsOverride", {})
 
 
-def without_script(browser: Any, path: Path) -> Iterator[Result]:
+def without_script(browser: Browser, path: Path) -> Iterator[Check]:
     """What stands there without JavaScript."""
     browser.execute_cdp_cmd("Emulation.setScriptExecutionDisabled", {"value": True})
     page = Page(browser, path)
@@ -500,7 +534,7 @@ def without_script(browser: Any, path: Path) -> Iterator[Result]:
            else told)
 
 
-def for_everyone(views: "Views") -> Iterator[Result]:
+def for_everyone(views: "Views") -> Iterator[Check]:
     """The page of a trace, as it is read in all these ways; and one with the lines of its source."""
     traced = (ROOT / "examples" / "traces" / "histogram.trace").read_text()
     steps = views.programs.steps(traced, "caches", None)
@@ -509,7 +543,7 @@ def for_everyone(views: "Views") -> Iterator[Result]:
     yield from keyboard(page, steps)
     page.browser.execute_script("toTurn(18)")
     yield from sizes(page)
-    yield "for everyone: no errors in the browser", page.errors() or None
+    yield "for everyone: no errors in the browser", first_of(page.errors())
     yield from without_script(views.browser, views.folder / f"{views.made}.html")
     page, _ = views.page(views.evenly(example("own_counters"), "caches", 4), "--cores", "4")
     told = [row.text for row in page.browser.find_elements(page.by.CSS_SELECTOR, "#code tr")]
@@ -535,7 +569,7 @@ def for_everyone(views: "Views") -> Iterator[Result]:
 class Views:
     """Makes pages of inputs, by the programs of a folder."""
 
-    def __init__(self, browser: Any, folder: str, programs: Programs) -> None:
+    def __init__(self, browser: Browser, folder: str, programs: Programs) -> None:
         self.browser, self.folder, self.programs, self.made = browser, Path(folder), programs, 0
 
     def view(self, text: str, *words: str) -> tuple[str, str, int]:
@@ -556,16 +590,38 @@ class Views:
 
     def evenly(self, text: str, store: str, cores: int) -> str:
         """An image with the turns at even speed."""
-        return text + " ".join(["turns", *map(str, self.programs.even(text, store, cores).turns)]) + "\n"
+        return text + " ".join(["turns", *map(str, there(self.programs.even(text, store, cores).turns))]) + "\n"
 
 
-def runs(views: Views) -> Iterator[Result]:
+class Whole(NamedTuple):
+    """A run that is looked at whole: its name, its text, over which store and on how many cores, where the text doesn't
+    say it; and whether buttons, keys and lanes are tried."""
+    name: str
+    text: str
+    store: str
+    cores: int | None
+    is_moved: bool
+
+
+class Sought(NamedTuple):
+    """Something to be found: its name, the text and on how many cores, the key by which it is found, the words that the
+    page has for it, and whether a turn is it."""
+    name: str
+    text: str
+    cores: int
+    key: str | None
+    words: str
+    holds: Callable[[Step], bool]
+
+
+def runs(views: Views) -> Iterator[Check]:
     """Whole runs: a trace, and turns over both stores."""
     traced = (ROOT / "examples" / "traces" / "histogram.trace").read_text()
-    inputs = [("a histogram's trace", traced, "caches", None, True),
-              ("wide lines", views.evenly(example("wide_lines"), "caches", 3), "caches", 3, False),
-              ("a histogram over the plain store", views.evenly(example("histogram"), "plain", 2), "plain", 2, False)]
-    inputs += [(f"a histogram over {word}", views.evenly(example("histogram"), word, 3), word, 3, False)
+    inputs = [Whole("a histogram's trace", traced, "caches", None, True),
+              Whole("wide lines", views.evenly(example("wide_lines"), "caches", 3), "caches", 3, False),
+              Whole("a histogram over the plain store", views.evenly(example("histogram"), "plain", 2), "plain", 2,
+                    False)]
+    inputs += [Whole(f"a histogram over {word}", views.evenly(example("histogram"), word, 3), word, 3, False)
                for word in ("caches:line=64,sets=1,ways=3,buffer=1", "caches:sets=64,ways=4,buffer=16")]
     for name, text, store, cores, is_moved in inputs:
         steps = views.programs.steps(text, store, cores)
@@ -574,7 +630,7 @@ def runs(views: Views) -> Iterator[Result]:
                                                       out) else "names something outside"
         for shows, wrong in [*whole_run(page, steps), *(moves(page, steps) if is_moved else ())]:
             yield f"{name}: {shows}", wrong
-        yield f"{name}: no errors in the browser", page.errors() or None
+        yield f"{name}: no errors in the browser", first_of(page.errors())
         lines = len(page.browser.find_elements(page.by.CSS_SELECTOR, "#core-0 .cache td"))
         yield (f"{name}: all lines of small caches",
                None if lines == {"caches": 8, "plain": 0}.get(store, 3) or "sets=64" in store and lines < 20
@@ -584,23 +640,23 @@ def runs(views: Views) -> Iterator[Result]:
                else page.text("of"))
 
 
-def first_turn(steps: Any, holds: Callable[[Any], bool]) -> int | None:
+def first_turn(steps: Steps, holds: Callable[[Step], bool]) -> int | None:
     return next((step.turn for step in steps.steps if holds(step)), None)
 
 
-def found(views: Views) -> Iterator[Result]:
+def found(views: Views) -> Iterator[Check]:
     """What a person looks for, found by keys; `replay steps` says where it is."""
-    inputs = [("a full set", views.evenly(example("queens"), "caches", 2), 2, "w", "all ways of the set hold lines",
-               lambda step: step.answer == "again NoWay"),
-              ("a full buffer", image(LOADS_FIRST) + f"turns {FIVE_LINES}\n", 2, "w", "its buffer, which is full",
-               lambda step: step.answer == "again OrbFull"),
-              ("a full buffer of another core", image(STORES_FIRST) + f"turns {FIVE_LINES}\n", 2, "w",
-               "whose buffer has no place", lambda step: step.answer == "again OrbBusy"),
-              ("false sharing", views.evenly(example("own_counters"), "caches", 4), 4, "r", "false sharing",
-               lambda step: any(entry.what == "hurt" for entry in step.entries)),
-              ("an exit with a cancel", views.evenly(example("first_match"), "caches", 4), 4, None,
-               "is cancelled; its exit ends the loop",
-               lambda step: any(entry.what == "cancel" for entry in step.entries))]
+    inputs = [Sought("a full set", views.evenly(example("queens"), "caches", 2), 2, "w",
+                     "all ways of the set hold lines", lambda step: step.answer == "again NoWay"),
+              Sought("a full buffer", image(LOADS_FIRST) + f"turns {FIVE_LINES}\n", 2, "w",
+                     "its buffer, which is full", lambda step: step.answer == "again OrbFull"),
+              Sought("a full buffer of another core", image(STORES_FIRST) + f"turns {FIVE_LINES}\n", 2, "w",
+                     "whose buffer has no place", lambda step: step.answer == "again OrbBusy"),
+              Sought("false sharing", views.evenly(example("own_counters"), "caches", 4), 4, "r", "false sharing",
+                     lambda step: any(entry.what == "hurt" for entry in step.entries)),
+              Sought("an exit with a cancel", views.evenly(example("first_match"), "caches", 4), 4, None,
+                     "is cancelled; its exit ends the loop",
+                     lambda step: any(entry.what == "cancel" for entry in step.entries))]
     for name, text, cores, key, words, holds in inputs:
         steps = views.programs.steps(text, "caches", cores)
         page, _ = views.page(text, "--cores", str(cores))
@@ -612,10 +668,10 @@ def found(views: Views) -> Iterator[Result]:
             told = page.text(f"core-{core}")
             yield (f"{name}: its lines",
                    None if "buffer, 4 of 4 lines: 00000040; 00000050; 00000060; 00000070" in told else told)
-        yield f"{name}: no errors in the browser", page.errors() or None
+        yield f"{name}: no errors in the browser", first_of(page.errors())
 
 
-def windows(views: Views) -> Iterator[Result]:
+def windows(views: Views) -> Iterator[Check]:
     """Parts of runs, and what is refused."""
     text = views.evenly(example("histogram"), "caches", 2)
     steps = views.programs.steps(text, "caches", 2)
@@ -625,7 +681,7 @@ def windows(views: Views) -> Iterator[Result]:
     yield "a window", None if told == [25,
                                        f"Turns 20 to 39 of {len(states)} are on this page: --from and --to of "
                                        "tools/view choose others."] else f"{told}"
-    yield "a window's state", [*differences(page.shown(), states[25], steps.steps[25], states[24])][:3] or None
+    yield "a window's state", first_of(differences(page.shown(), states[25], steps.steps[25], states[24]))
     page.press(page.keys.HOME)
     yield "a window's first turn", None if page.turn() == 20 else f"{page.turn()}"
     page.press(page.keys.END)
@@ -638,14 +694,14 @@ def windows(views: Views) -> Iterator[Result]:
            and told == [9999,
                         f"Turns 0 to 9,999 of {count:,} are on this page: --from and --to of tools/view choose others."]
            else f"{told}, {count}")
-    yield "windows: no errors in the browser", page.errors() or None
+    yield "windows: no errors in the browser", first_of(page.errors())
     for name, wrong, words, answer in (("an image", "size 7\n", ["--cores", "2"], ("", "image 1 Range\n", 2)),
-                                       ("no cores", text, [], ("", "usage\n", 2))):
+                                       ("no cores", text, list[str](), ("", "usage\n", 2))):
         got = views.view(wrong, *words)
         yield f"refused: {name}", None if got == answer else f"{got}"
 
 
-def in_browser(folder: str, command: list[str]) -> Iterator[Result]:
+def in_browser(folder: str, command: list[str]) -> Iterator[Check]:
     """The checks that need programs and a browser."""
     found_there = {name: beside(command, name) for name in ("why", "replay")}
     programs = {name: path for name, path in found_there.items() if path and path.is_file()}
