@@ -18,6 +18,7 @@ import tempfile
 from pathlib import Path
 
 import rv32_seq
+from rv32_seq import Image
 
 DRIVER_AT = 0x100000
 CPU = ("rv32,m=false,a=false,f=false,d=false,c=false,Zicsr=false,Zifencei=false,"
@@ -83,22 +84,25 @@ stack: .fill 65536, 1, 0
 """
 
 
-def built_driver(directory):
+def built_driver(directory: str) -> tuple[bytes, int]:
     """The driver's bytes and the place of its parameters in them."""
     source, made = Path(directory, "d.s"), Path(directory, "d.o")
     linked, raw = Path(directory, "d.elf"), Path(directory, "d.bin")
     loads = "\n".join(f" lw x{i}, {4 * i}(x31)" for i in range(1, 31))
     source.write_text(DRIVER.replace("{loads}", loads))
-    for words in (["as", "-march=rv32i", "-mabi=ilp32", "-o", made, source],
-                  ["ld", "-m", "elf32lriscv", f"-Ttext={DRIVER_AT:#x}", "-o", linked, made],
-                  ["objcopy", "-O", "binary", "-j", ".text", linked, raw]):
-        subprocess.run(["riscv64-unknown-elf-" + words[0], *map(str, words[1:])], check=True)
+    calls: dict[str, list[str | Path]] = {
+        "as": ["-march=rv32i", "-mabi=ilp32", "-o", made, source],
+        "ld": ["-m", "elf32lriscv", f"-Ttext={DRIVER_AT:#x}", "-o", linked, made],
+        "objcopy": ["-O", "binary", "-j", ".text", linked, raw],
+    }
+    for tool, words in calls.items():
+        subprocess.run([f"riscv64-unknown-elf-{tool}", *words], check=True)
     names = subprocess.run(["riscv64-unknown-elf-nm", str(linked)], check=True, capture_output=True, text=True)
     symbols = {line.split()[2]: int(line.split()[0], 16) for line in names.stdout.splitlines()}
     return raw.read_bytes(), symbols["epochs"] - DRIVER_AT
 
 
-def program_of(image, driver, parameters):
+def program_of(image: Image, driver: bytes, parameters: int) -> bytes:
     """An ELF file with the image's memory at 0 and the driver above it."""
     registers = [0] * 32
     for register, value in image.registers.items():
@@ -124,11 +128,11 @@ def program_of(image, driver, parameters):
 class Qemu:
     """Runs images on qemu."""
 
-    def __init__(self):
+    def __init__(self) -> None:
         self.directory = tempfile.TemporaryDirectory()
         self.driver = built_driver(self.directory.name)
 
-    def report(self, image):
+    def report(self, image: Image) -> str | None:
         """The report, or None where an epoch didn't end."""
         path = Path(self.directory.name, "program")
         path.write_bytes(program_of(image, *self.driver))
@@ -144,7 +148,7 @@ class Qemu:
         return text
 
 
-def main(names):
+def main(names: list[str]) -> int:
     qemu = Qemu()
     for name in names:
         report = qemu.report(rv32_seq.image_of(Path(name).read_bytes()))

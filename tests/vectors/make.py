@@ -17,7 +17,9 @@ import re
 import subprocess
 import sys
 import tempfile
+from collections.abc import Callable, Iterable, Iterator, Sequence
 from pathlib import Path
+from typing import NamedTuple
 
 HERE = Path(__file__).resolve().parent
 DECODER_ROWS = HERE.parent.parent / "crates" / "machine_tests" / "src" / "decoding" / "rows.rt"
@@ -39,16 +41,37 @@ LEAST, LARGEST = 0x80000000, 0x7FFFFFFF
 MIXED, OTHER = 0x12345678, 0x9ABCDEF0
 
 
+# A row of a file: texts as they stand there, and numbers
+Row = tuple[str | int, ...]
+# The text of an instruction, and what registers have before it: a number, or an address by a label
+Prepared = tuple[str, list[tuple[int, str]]]
+
+
+class Case(NamedTuple):
+    """An instruction: its text, its name and its fields."""
+
+    text: str
+    name: str
+    fields: dict[str, int]
+
+
 # --- Running programs on the outside tools ---------------------------------
 
-def tool(*words):
+def tool(*words: str) -> None:
     subprocess.run(words, check=True)
+
+
+class State(NamedTuple):
+    """The pc and the registers before an instruction."""
+
+    pc: int
+    registers: list[int]
 
 
 class Program:
     """Assembly text, assembled, linked and run; what qemu saw of each case."""
 
-    def __init__(self, body):
+    def __init__(self, body: str) -> None:
         self.directory = tempfile.TemporaryDirectory()
         self.path = Path(self.directory.name)
         source = f""".option norelax
@@ -67,43 +90,44 @@ _start:
         (self.path / "p.s").write_text(source)
         self.assemble()
 
-    def file(self, name):
+    def file(self, name: str) -> str:
         return str(self.path / name)
 
-    def assemble(self):
+    def assemble(self) -> None:
         tool(AS, "-march=rv32i", "-mabi=ilp32", "-mno-relax", "-o", self.file("p.o"), self.file("p.s"))
         tool(LD, "-m", "elf32lriscv", "--section-start=.low=0", f"-Ttext={TEXT:#x}",
              "-o", self.file("p.elf"), self.file("p.o"))
         tool(OBJCOPY, "-O", "binary", "-j", ".text", self.file("p.elf"), self.file("p.bin"))
         listing = subprocess.run([NM, self.file("p.elf")], check=True, capture_output=True, text=True)
-        self.symbols = {name: int(value, 16) for value, _, name in map(str.split, listing.stdout.splitlines())}
+        lines = [line.split() for line in listing.stdout.splitlines()]
+        self.symbols = {name: int(value, 16) for value, _, name in lines}
         self.text = (self.path / "p.bin").read_bytes()
 
-    def word(self, label):
+    def word(self, label: str) -> int:
         """The word that the assembler made at a label."""
         place = self.symbols[label] - TEXT
         return int.from_bytes(self.text[place:place + 4], "little")
 
-    def run(self):
-        """The list of (pc, registers) before each instruction, and the status."""
+    def run(self) -> tuple[list[State], int]:
+        """The state before each instruction, and the status."""
         done = subprocess.run(QEMU + ["-d", "nochain,cpu", "-D", self.file("log"), self.file("p.elf")],
                               check=False, capture_output=True)
-        states = []
+        states: list[State] = []
         for part in (self.path / "log").read_text().split(" pc ")[1:]:
             registers = [0] * 32
             for register, value in re.findall(r"x(\d+)/\S+\s+([0-9a-f]{8})", part):
                 registers[int(register)] = int(value, 16)
-            states.append((int(part.split()[0], 16), registers))
+            states.append(State(int(part.split()[0], 16), registers))
         return states, done.returncode
 
-    def around(self):
+    def around(self) -> dict[int, tuple[State, State]]:
         """For each pc that was reached, the states before and after its first run."""
         states, status = self.run()
         if status != 0:
             sys.exit(f"qemu ended with {status}")
-        pairs = {}
+        pairs: dict[int, tuple[State, State]] = {}
         for before, after in zip(states, states[1:]):
-            pairs.setdefault(before[0], (before, after))
+            pairs.setdefault(before.pc, (before, after))
         return pairs
 
 
@@ -125,13 +149,13 @@ IMMEDIATE = {name: IMMEDIATES for name in ("addi", "slti", "sltiu", "xori", "ori
 IMMEDIATE.update({name: SMALL_SHIFTS for name in ("slli", "srli", "srai")})
 
 
-def alu_rows(cases):
+def alu_rows(cases: list[tuple[str, int, int]]) -> list[Row]:
     """Rows (text, word, rs1 value, rs2 value, result) of (text, rs1 value, rs2 value)."""
     body = "".join(f" li x6, {a:#x}\n li x7, {b:#x}\n li x5, 0x5a5a5a5a\nc{i}: {text}\n"
                    for i, (text, a, b) in enumerate(cases))
     program = Program(body)
     seen = program.around()
-    rows = []
+    rows: list[Row] = []
     for i, (text, a, b) in enumerate(cases):
         (pc, before), (following, after) = seen[program.symbols[f"c{i}"]]
         assert following == pc + 4 and before[6] == a and before[7] == b
@@ -139,19 +163,19 @@ def alu_rows(cases):
     return rows
 
 
-def upper_cases():
+def upper_cases() -> Iterator[str]:
     """LUI, and AUIPC whose result is counted from its own pc."""
     for name in ("lui", "auipc"):
         for immediate in (0, 1, 0x7FFFF, 0x80000, 0xFFFFF, 0x12345):
-            yield f"{name} x5,{immediate:#x}", 0, 0
+            yield f"{name} x5,{immediate:#x}"
 
 
-def upper_rows():
+def upper_rows() -> list[Row]:
     cases = list(upper_cases())
-    program = Program("".join(f" li x5, 0x5a5a5a5a\nc{i}: {text}\n" for i, (text, _, _) in enumerate(cases)))
+    program = Program("".join(f" li x5, 0x5a5a5a5a\nc{i}: {text}\n" for i, text in enumerate(cases)))
     seen = program.around()
-    rows = []
-    for i, (text, _, _) in enumerate(cases):
+    rows: list[Row] = []
+    for i, text in enumerate(cases):
         (pc, _), (_, after) = seen[program.symbols[f"c{i}"]]
         result = after[5] - pc if text.startswith("auipc") else after[5]
         rows.append((text, program.word(f"c{i}"), result & MASK32))
@@ -159,7 +183,7 @@ def upper_rows():
 
 
 # (text, {register: value}, register looked at)
-MIXED_REGISTERS = [
+MIXED_REGISTERS: list[tuple[str, dict[int, int], int]] = [
     ("add x0,x6,x7", {6: 5, 7: 7}, 0),
     ("addi x0,x6,1", {6: 5}, 0),
     ("lui x0,0xfffff", {}, 0),
@@ -189,7 +213,7 @@ MIXED_REGISTERS = [
 ]
 
 
-def register_rows():
+def register_rows() -> list[Row]:
     """Rows (text, word, first register, value, second register, value, target, result)."""
     body = ""
     for i, (text, values, target) in enumerate(MIXED_REGISTERS):
@@ -199,7 +223,7 @@ def register_rows():
         body += f"c{i}: {text}\n"
     program = Program(body)
     seen = program.around()
-    rows = []
+    rows: list[Row] = []
     for i, (text, values, target) in enumerate(MIXED_REGISTERS):
         _, (_, after) = seen[program.symbols[f"c{i}"]]
         (first, a), (second, b) = (list(values.items()) + [(6, 0), (7, 0)] if not values
@@ -218,19 +242,19 @@ STORES = {"sb": [0, 1, 2, 3, 7, 15], "sh": [0, 2, 6, 14], "sw": [0, 4, 12]}
 STORED = [0x89ABCDEF, 0x7654FE01]
 
 
-def addressed(offset, place):
+def addressed(offset: int, place: int) -> tuple[int, int]:
     """(base, immediate) that meet at DATA + offset, by turns in three ways."""
     address = DATA + offset
     return [(address, 0), (address - 2047, 2047), (address + 2048, -2048), (address + 1, -1)][place % 4]
 
 
-def fill_pattern():
+def fill_pattern() -> str:
     """Writes PATTERN at DATA, by words, with x28 as scratch."""
     words = [int.from_bytes(bytes.fromhex(PATTERN[i:i + 8]), "little") for i in range(0, 32, 8)]
     return "".join(f" li x28, {word:#x}\n sw x28, {DATA + 4 * i}(x0)\n" for i, word in enumerate(words))
 
 
-def load_rows():
+def load_rows() -> list[Row]:
     """Rows (text, word, base in x6, result in x5); memory at DATA is PATTERN."""
     cases = [(name, *addressed(offset, i)) for name, offsets in LOADS.items()
              for i, offset in enumerate(offsets)]
@@ -240,11 +264,11 @@ def load_rows():
     program = Program(body)
     seen = program.around()
     return [(f"{name} x5,{immediate}(x6)", program.word(f"c{i}"), base & MASK32,
-             seen[program.symbols[f"c{i}"]][1][1][5])
+             seen[program.symbols[f"c{i}"]][1].registers[5])
             for i, (name, base, immediate) in enumerate(cases)]
 
 
-def store_rows():
+def store_rows() -> list[Row]:
     """Rows (text, word, base in x6, value of x7, the 16 bytes at DATA afterwards)."""
     cases = [(name, *addressed(offset, i), STORED[i % 2]) for name, offsets in STORES.items()
              for i, offset in enumerate(offsets)]
@@ -255,7 +279,7 @@ def store_rows():
         body += "".join(f" lw x{20 + k}, {DATA + 4 * k}(x0)\n" for k in range(4)) + f"r{i}: nop\n"
     program = Program(body)
     seen = program.around()
-    rows = []
+    rows: list[Row] = []
     for i, (name, base, immediate, value) in enumerate(cases):
         (_, registers), _ = seen[program.symbols[f"r{i}"]]
         data = b"".join(registers[20 + k].to_bytes(4, "little") for k in range(4)).hex()
@@ -272,7 +296,7 @@ OFFSETS = [8, -8, 4094 - 2, -4096, 16, -4, 2048, -2048, 4, 1024]
 BRANCHES = ("beq", "bne", "blt", "bge", "bltu", "bgeu")
 
 
-def branch_program(cases):
+def branch_program(cases: list[Prepared]) -> Program:
     """Each case in the middle of words that lead on to the next case."""
     body = ""
     for i, (text, values) in enumerate(cases):
@@ -285,7 +309,7 @@ def branch_program(cases):
     return Program(body)
 
 
-def branch_rows():
+def branch_rows() -> list[Row]:
     """Rows (text, word, x6, x7, offset of the next pc)."""
     cases = []
     for name in BRANCHES:
@@ -293,7 +317,7 @@ def branch_rows():
             cases.append((f"{name} x6,x7,.{offset:+}", [(6, hex(a)), (7, hex(b))], a, b))
     program = branch_program([(text, values) for text, values, _, _ in cases])
     seen = program.around()
-    rows = []
+    rows: list[Row] = []
     for i, (text, _, a, b) in enumerate(cases):
         (pc, _), (following, _) = seen[program.symbols[f"c{i}"]]
         rows.append((text, program.word(f"c{i}"), a, b, (following - pc) & MASK32))
@@ -303,12 +327,12 @@ def branch_rows():
 JALS = [("x5", 4), ("x5", 8), ("x5", -8), ("x5", -16), ("x5", 2048), ("x5", -2048), ("x0", 12), ("x31", 4092)]
 
 
-def jal_rows():
+def jal_rows() -> list[Row]:
     """Rows (text, word, link counted from the own pc, offset of the next pc)."""
     cases = [(f"jal {target},.{offset:+}", [(int(target[1:]), "0x5a5a5a5a")]) for target, offset in JALS]
     program = branch_program(cases)
     seen = program.around()
-    rows = []
+    rows: list[Row] = []
     for i, (text, ((register, _),)) in enumerate(cases):
         (pc, _), (following, after) = seen[program.symbols[f"c{i}"]]
         link = (after[register] - pc) & MASK32 if register else after[0]
@@ -322,7 +346,7 @@ JALRS = [("x5", "x6", 0, 16), ("x5", "x6", 0, 17), ("x5", "x6", 1, 32), ("x5", "
          ("x0", "x6", 0, 20), ("x5", "x5", 0, 24), ("x6", "x6", -8, 9), ("x31", "x30", 8, 2048)]
 
 
-def jalr_rows():
+def jalr_rows() -> list[Row]:
     """Rows (text, word, source minus pc, link minus pc, next pc minus pc)."""
     cases = []
     for i, (target, source, immediate, place) in enumerate(JALRS):
@@ -331,17 +355,17 @@ def jalr_rows():
                       values + [(int(source[1:]), f"c{i}+{place - immediate}")]))
     program = Program(jalr_body(cases))
     seen = program.around()
-    rows = []
+    rows: list[Row] = []
     for i, (text, values) in enumerate(cases):
-        source, target = values[-1][0], int(JALRS[i][0][1:])
+        base, linked = values[-1][0], int(JALRS[i][0][1:])
         (pc, before), (following, after) = seen[program.symbols[f"c{i}"]]
-        link = (after[target] - pc) & MASK32 if target else after[0]
-        rows.append((text, program.word(f"c{i}"), (before[source] - pc) & MASK32, link,
+        link = (after[linked] - pc) & MASK32 if linked else after[0]
+        rows.append((text, program.word(f"c{i}"), (before[base] - pc) & MASK32, link,
                      (following - pc) & MASK32))
     return rows
 
 
-def jalr_body(cases):
+def jalr_body(cases: list[Prepared]) -> str:
     body = ""
     for i, (text, values) in enumerate(cases):
         for register, value in values:
@@ -438,11 +462,11 @@ NEAR_MISSES = [
 ]
 
 
-def fence_rows():
+def fence_rows() -> list[Row]:
     """Rows (text, word); qemu goes to the next word and changes no register."""
     program = Program("".join(f"c{i}: {text}\n" for i, text in enumerate(FENCES)))
     seen = program.around()
-    rows = []
+    rows: list[Row] = []
     for i, text in enumerate(FENCES):
         (pc, before), (following, after) = seen[program.symbols[f"c{i}"]]
         assert following == pc + 4 and before == after
@@ -450,9 +474,9 @@ def fence_rows():
     return rows
 
 
-def refused_words():
+def refused_words() -> list[tuple[str, int, str]]:
     """Rows (text, word, remark) of words outside the table."""
-    rows = []
+    rows: list[tuple[str, int, str]] = []
     with tempfile.TemporaryDirectory() as directory:
         for text, remark in NEAR_MISSES:
             source, target = Path(directory, "w.s"), Path(directory, "w.o")
@@ -467,11 +491,11 @@ def refused_words():
     return rows
 
 
-def refused_by_qemu(word):
+def refused_by_qemu(word: int) -> bool:
     """Whether qemu stops with an illegal instruction at this word."""
     program = Program(f"c0: .word {word:#010x}\n.word 0\n")
     states, status = program.run()
-    return status == -4 and states[-1][0] == program.symbols["c0"]
+    return status == -4 and states[-1].pc == program.symbols["c0"]
 
 
 # --- Words and their fields ------------------------------------------------
@@ -484,43 +508,43 @@ FARTHER = [(0, 1048574), (1, -1048576), (31, 2048), (5, -2), (16, 4096), (8, 204
 UPPER = [(5, 0x80000), (31, 0x7FFFF), (0, 1), (16, 0xFFFFF)]
 
 
-def fields_of_registers():
+def fields_of_registers() -> Iterator[Case]:
     for name in REGISTER:
         for rd, rs1, rs2 in REGISTER_TRIPLES:
-            yield f"{name} x{rd},x{rs1},x{rs2}", name, {"rd": rd, "rs1": rs1, "rs2": rs2}
+            yield Case(f"{name} x{rd},x{rs1},x{rs2}", name, {"rd": rd, "rs1": rs1, "rs2": rs2})
 
 
-def fields_of_immediates():
+def fields_of_immediates() -> Iterator[Case]:
     for name in IMMEDIATE:
         shifts = name in ("slli", "srli", "srai")
         for (rd, rs1, imm), amount in zip(SMALL, (0, 31, 16, 1)):
             value = {"amount": amount} if shifts else {"imm": imm & MASK32}
-            yield f"{name} x{rd},x{rs1},{amount if shifts else imm}", name, {"rd": rd, "rs1": rs1, **value}
+            yield Case(f"{name} x{rd},x{rs1},{amount if shifts else imm}", name, {"rd": rd, "rs1": rs1, **value})
 
 
-def fields_of_memory():
+def fields_of_memory() -> Iterator[Case]:
     for name in LOADS:
         for rd, rs1, imm in SMALL:
-            yield f"{name} x{rd},{imm}(x{rs1})", name, {"rd": rd, "rs1": rs1, "imm": imm & MASK32}
+            yield Case(f"{name} x{rd},{imm}(x{rs1})", name, {"rd": rd, "rs1": rs1, "imm": imm & MASK32})
     for name in STORES:
         for rs1, rs2, imm in SPLIT:
-            yield f"{name} x{rs2},{imm}(x{rs1})", name, {"rs1": rs1, "rs2": rs2, "imm": imm & MASK32}
+            yield Case(f"{name} x{rs2},{imm}(x{rs1})", name, {"rs1": rs1, "rs2": rs2, "imm": imm & MASK32})
 
 
-def fields_of_jumps():
+def fields_of_jumps() -> Iterator[Case]:
     for name in BRANCHES:
         for rs1, rs2, offset in FAR:
-            yield f"{name} x{rs1},x{rs2},.{offset:+}", name, {"rs1": rs1, "rs2": rs2, "offset": offset & MASK32}
+            yield Case(f"{name} x{rs1},x{rs2},.{offset:+}", name, {"rs1": rs1, "rs2": rs2, "offset": offset & MASK32})
     for rd, offset in FARTHER:
-        yield f"jal x{rd},.{offset:+}", "jal", {"rd": rd, "offset": offset & MASK32}
+        yield Case(f"jal x{rd},.{offset:+}", "jal", {"rd": rd, "offset": offset & MASK32})
     for rd, rs1, imm in SMALL:
-        yield f"jalr x{rd},{imm}(x{rs1})", "jalr", {"rd": rd, "rs1": rs1, "imm": imm & MASK32}
+        yield Case(f"jalr x{rd},{imm}(x{rs1})", "jalr", {"rd": rd, "rs1": rs1, "imm": imm & MASK32})
     for name in ("lui", "auipc"):
         for rd, imm in UPPER:
-            yield f"{name} x{rd},{imm:#x}", name, {"rd": rd, "imm": imm << 12}
+            yield Case(f"{name} x{rd},{imm:#x}", name, {"rd": rd, "imm": imm << 12})
 
 
-def word_alone(text):
+def word_alone(text: str) -> int:
     """The word of one instruction, assembled by itself."""
     with tempfile.TemporaryDirectory() as directory:
         source, made, raw = (Path(directory, name) for name in ("w.s", "w.o", "w.bin"))
@@ -530,25 +554,25 @@ def word_alone(text):
         return int.from_bytes(raw.read_bytes()[0x200000:0x200004], "little")
 
 
-def field_rows(cases):
-    """Rows (text, word, name, fields)."""
-    return [(text, word_alone(text), name, fields) for text, name, fields in cases]
+def field_rows(cases: Iterable[Case]) -> list[tuple[int, Case]]:
+    """The words of these."""
+    return [(word_alone(case.text), case) for case in cases]
 
 
-FIELD_GROUPS = {
+FIELD_GROUPS: dict[str, Callable[[], Iterator[Case]]] = {
     "registers": fields_of_registers, "immediates": fields_of_immediates,
     "loads_and_stores": fields_of_memory, "jumps_and_upper_immediates": fields_of_jumps,
 }
 
 
-def decoder_rows(name, table):
+def decoder_rows(name: str, table: list[tuple[int, Case]]) -> str:
     """A table as source: a line of a word, the instruction's name, and its fields in order."""
-    rows = "".join(f"{word:08x} {mnemonic} " + " ".join(f"{value:x}" for value in fields.values()) + "\n"
-                   for _, word, mnemonic, fields in table)
+    rows = "".join(f"{word:08x} {case.name} " + " ".join(f"{value:x}" for value in case.fields.values()) + "\n"
+                   for word, case in table)
     return f'pub const {name.upper()}: &str = "\n{rows}";\n'
 
 
-def write_fields():
+def write_fields() -> None:
     """`fields.txt`, and the rows of the decoder's tests."""
     lines = ["# Words and their fields: text, word, name, fields."]
     rust = ["//! Words and their fields in hexadecimal, made by `tests/vectors/make.py`: the word, the instruction's "
@@ -556,8 +580,8 @@ def write_fields():
             "//! order.\n"]
     for name, cases in FIELD_GROUPS.items():
         table = field_rows(cases())
-        lines += [f"{text} | {word:08x} | {mnemonic} | " + " ".join(f"{key}={value:x}" for key, value in fields.items())
-                  for text, word, mnemonic, fields in table]
+        lines += [f"{case.text} | {word:08x} | {case.name} | "
+                  + " ".join(f"{key}={value:x}" for key, value in case.fields.items()) for word, case in table]
         rust.append(decoder_rows(name, table))
     (HERE / "fields.txt").write_text("\n".join(lines) + "\n")
     DECODER_ROWS.write_text("\n".join(rust))
@@ -566,20 +590,21 @@ def write_fields():
 
 # --- Writing ---------------------------------------------------------------
 
-def spelled(value):
+def spelled(value: str | int) -> str:
     return value if isinstance(value, str) else f"{value:08x}"
 
 
-def write_text(name, heading, rows):
+def write_text(name: str, heading: str, rows: Sequence[Row]) -> None:
     lines = [f"# {line}" for line in heading.splitlines()]
     lines += [" | ".join(spelled(value) for value in row) for row in rows]
     (HERE / f"{name}.txt").write_text("\n".join(lines) + "\n")
 
 
-def main():
+def main() -> int:
     register = alu_rows([(f"{name} x5,x6,x7", a, b) for name, pairs in REGISTER.items() for a, b in pairs])
     immediate = alu_rows([(f"{name} x5,x6,{i}", a, 0) for name, pairs in IMMEDIATE.items() for a, i in pairs])
-    tables = [
+    illegal = refused_words()
+    tables: list[tuple[str, str, Sequence[Row]]] = [
         ("register", "Register-register instructions: text, word, x6, x7, result in x5.", register),
         ("immediate", "Register-immediate instructions: text, word, x6, x7 (not read), result in x5.", immediate),
         ("upper", "LUI and AUIPC: text, word, result in x5; AUIPC's as if it stood at pc 0.", upper_rows()),
@@ -596,18 +621,18 @@ def main():
         ("fence", "FENCE: text, word. Nothing changes but the pc.", fence_rows()),
         ("system", "ECALL and EBREAK: text, word.",
          [("ecall", word_of("ecall")), ("ebreak", word_of("ebreak"))]),
-        ("illegal", "Words outside the table: text, word, remark.", refused_words()),
+        ("illegal", "Words outside the table: text, word, remark.", illegal),
     ]
     for name, heading, rows in tables:
         write_text(name, heading, rows)
         print(f"{name:10} {len(rows):4} rows")
     write_fields()
-    accepted = [(text, f"{word:08x}") for text, word, _ in tables[-1][-1] if not refused_by_qemu(word)]
+    accepted = [(text, f"{word:08x}") for text, word, _ in illegal if not refused_by_qemu(word)]
     print("outside the table, but taken by qemu:", accepted)
     return 0
 
 
-def word_of(text):
+def word_of(text: str) -> int:
     return Program(f" jal x0, over\nc0: {text}\nover: nop\n").word("c0")
 
 
