@@ -1,7 +1,7 @@
 #!/usr/bin/env python3
 """Runs every row of the instruction vectors as an image.
 
-Usage: tests/vectors/check.py [COMMAND ..]
+Usage: tests/vectors/check.py [--only WORD] [COMMAND ..]
 
 COMMAND reads an image on standard input and ends with the word `seq`; without
 it `./trace_cli seq` of this repository is tested. Each row becomes an image of
@@ -10,12 +10,16 @@ runs under a limit that it just uses up. Exits with 1 where a report differs
 from the row.
 """
 
-import subprocess
 import sys
+from collections.abc import Callable, Iterator, Mapping, Sequence
+from functools import wraps
 from pathlib import Path
+from typing import NamedTuple
 
 HERE = Path(__file__).resolve().parent
-ROOT = HERE.parent.parent
+sys.path.insert(0, str(HERE.parent))
+
+from common import Check, Part, Script, called, differs  # noqa: E402
 
 RETURN = 0x00008067
 ECALL = 0x00000073
@@ -30,84 +34,93 @@ MIDDLE = 8192
 LINK_PLACE = 4 * FIELD_WORDS
 
 
-def rows(name):
+class Case(NamedTuple):
+    """A row: its text, its image, and the report of that."""
+
+    text: str
+    image: str
+    report: str
+
+
+def rows(name: str) -> Iterator[list[str]]:
     """The rows of a file, with hexadecimal columns as they are spelled."""
     for line in (HERE / f"{name}.txt").read_text().splitlines():
         if not line.startswith("#"):
             yield line.split(" | ")
 
 
-def store_word(register, place, base=0):
+def store_word(register: int, place: int, base: int = 0) -> int:
     """The word of SW register, place(base)."""
     return (place >> 5) << 25 | register << 20 | base << 15 | 2 << 12 | (place & 31) << 7 | 0x23
 
 
-def jump_word(offset):
+def jump_word(offset: int) -> int:
     """The word of JAL x0 by a positive offset."""
     bits = (offset >> 20 & 1) << 31 | (offset >> 1 & 0x3FF) << 21 | (offset >> 11 & 1) << 20
     return bits | (offset >> 12 & 0xFF) << 12 | 0x6F
 
 
-def number(word):
+def number(word: str) -> int:
     return int(word, 16)
 
 
-def image(words, registers=(), data=(), size=256, limit=100):
+def image(words: Sequence[int], registers: Mapping[int, int] | None = None, data: Sequence[tuple[int, str]] = (),
+          size: int = 256, limit: int = 100) -> str:
     """An image text of one epoch; x5 starts with a value that no row expects."""
     code = b"".join(word.to_bytes(4, "little") for word in words).hex()
-    registers = {5: 0x5A5A5A5A, **dict(registers)}
     lines = [f"size {size}", "epochs 1", f"limit {limit}", f"code {code}"]
-    lines += [f"reg {register} {value:08x}" for register, value in registers.items() if register]
+    lines += [f"reg {register} {value:08x}" for register, value in {5: 0x5A5A5A5A, **(registers or {})}.items()
+              if register]
     lines += [f"at {place:08x} {digits}" for place, digits in data]
     return "\n".join(lines) + "\n"
 
 
-def little(value):
+def little(value: int) -> str:
     return value.to_bytes(4, "little").hex()
 
 
-def shown(value, place=0x40):
+def shown(value: int, place: int = 0x40) -> str:
     """The report line of a word stored over the mark at the start of a row."""
     return f"at {place:08x} {little(value)}{MARK * 3}\n"
 
 
-def result_image(word, target, registers):
+def result_image(word: int, target: int, registers: Mapping[int, int]) -> str:
     """Runs the word and stores the target register at 0x40."""
     return image([word, store_word(target, 0x40), RETURN], registers, [(0x40, MARK * 4)])
 
 
-def alu(name):
-    for text, word, first, second, result in rows(name):
+def arithmetic() -> Iterator[Case]:
+    for text, word, first, second, result in [*rows("register"), *rows("immediate")]:
         registers = {6: number(first), 7: number(second)}
-        yield text, result_image(number(word), 5, registers), "end done 1\n" + shown(number(result))
+        yield Case(text, result_image(number(word), 5, registers), "end done 1\n" + shown(number(result)))
 
 
-def upper():
+def upper() -> Iterator[Case]:
     for text, word, result in rows("upper"):
-        yield text, result_image(number(word), 5, {}), "end done 1\n" + shown(number(result))
+        yield Case(text, result_image(number(word), 5, {}), "end done 1\n" + shown(number(result)))
 
 
-def other_registers():
+def other_registers() -> Iterator[Case]:
     for text, word, *numbers in rows("registers"):
         first, a, second, b, target, result = map(number, numbers)
-        yield (text, result_image(number(word), target, {target: 0x5A5A5A5A, first: a, second: b}),
-               "end done 1\n" + shown(result))
+        yield Case(text, result_image(number(word), target, {target: 0x5A5A5A5A, first: a, second: b}),
+                   "end done 1\n" + shown(result))
 
 
-def loads():
+def loads() -> Iterator[Case]:
     for text, word, base, result in rows("load"):
         made = image([number(word), store_word(5, 0x50), RETURN], {6: number(base)},
                      [(0x40, PATTERN), (0x50, MARK * 4)])
-        yield text, made, "end done 1\n" + shown(number(result), 0x50)
+        yield Case(text, made, "end done 1\n" + shown(number(result), 0x50))
 
 
-def stores():
+def stores() -> Iterator[Case]:
     for text, word, base, value, result in rows("store"):
         made = image([number(word), RETURN], {6: number(base), 7: number(value)}, [(0x40, PATTERN)])
-        yield text, made, f"end done 1\nat 00000040 {result}\n"
+        yield Case(text, made, f"end done 1\nat 00000040 {result}\n")
 
 
-def field(word, at_target=None):
+def field(word: int, at_target: tuple[int, int] | None = None) -> list[int]:
     """The ECALL field with a word in the middle and (place, word) at a target."""
     words = [ECALL] * FIELD_WORDS
     words[0] = jump_word(MIDDLE)
@@ -117,25 +130,24 @@ def field(word, at_target=None):
     return words
 
 
-def branches():
+def branches() -> Iterator[Case]:
     for text, word, first, second, offset in rows("branch"):
         made = image(field(number(word)), {6: number(first), 7: number(second)}, size=LINK_PLACE + 16)
-        yield text, made, f"end fault 0 2 {MIDDLE + number(offset) & MASK32:08x}\n"
+        yield Case(text, made, f"end fault 0 2 {MIDDLE + number(offset) & MASK32:08x}\n")
 
 
-def jump(text, word, registers, link, offset):
+def jump(text: str, word: str, registers: Mapping[int, int], link: str, offset: str) -> Case:
     """A jump whose link is stored at its target; the word after it faults."""
     target_register = number(word) >> 7 & 31
     target = MIDDLE + number(offset) & MASK32
     base = 9
-    registers = {**registers, base: LINK_PLACE}
-    made = image(field(number(word), (target, store_word(target_register, 0, base))), registers,
+    made = image(field(number(word), (target, store_word(target_register, 0, base))), {**registers, base: LINK_PLACE},
                  [(LINK_PLACE, MARK * 4)], size=LINK_PLACE + 16)
     linked = MIDDLE + number(link) if target_register else 0
-    return text, made, f"end fault 0 2 {target + 4:08x}\n" + shown(linked, LINK_PLACE)
+    return Case(text, made, f"end fault 0 2 {target + 4:08x}\n" + shown(linked, LINK_PLACE))
 
 
-def jumps():
+def jumps() -> Iterator[Case]:
     for text, word, link, offset in rows("jal"):
         yield jump(text, word, {}, link, offset)
     for text, word, source, link, offset in rows("jalr"):
@@ -143,18 +155,18 @@ def jumps():
         yield jump(text, word, {register: MIDDLE + number(source) & MASK32}, link, offset)
 
 
-def stops():
+def stops() -> Iterator[Case]:
     for text, word in rows("fence"):
-        yield text, image([number(word), RETURN]), "end done 1\n"
+        yield Case(text, image([number(word), RETURN]), "end done 1\n")
     for text, word in rows("system"):
-        yield text, image([number(word), RETURN]), "end fault 0 2 00000000\n"
+        yield Case(text, image([number(word), RETURN]), "end fault 0 2 00000000\n")
     for text, word, _ in rows("illegal"):
-        yield text, image([number(word), RETURN]), "end fault 0 1 00000000\n"
+        yield Case(text, image([number(word), RETURN]), "end fault 0 1 00000000\n")
 
 
-def of_each_instruction(name):
+def of_each_instruction(name: str) -> Iterator[list[str]]:
     """The first row of each instruction in a file."""
-    seen = set()
+    seen: set[str] = set()
     for row in rows(name):
         instruction = row[0].split()[0]
         if instruction not in seen:
@@ -162,43 +174,45 @@ def of_each_instruction(name):
             yield row
 
 
-def counted():
+def counted() -> Iterator[Case]:
     """One instruction of each kind under a limit after which the next one faults."""
     for name in ("register", "immediate", "upper", "fence"):
         for text, word, *_ in of_each_instruction(name):
-            yield f"{text}, counted", image([number(word), RETURN], limit=1), "end fault 0 8 00000004\n"
+            yield Case(f"{text}, counted", image([number(word), RETURN], limit=1), "end fault 0 8 00000004\n")
     for name in ("load", "store"):
         for text, word, base, *_ in of_each_instruction(name):
             made = image([number(word), RETURN], {6: number(base), 7: 0xA5A5A5A5}, [(0x40, MARK * 4)], limit=1)
-            yield f"{text}, counted", made, "end fault 0 8 00000004\n"
+            yield Case(f"{text}, counted", made, "end fault 0 8 00000004\n")
     for text, word, first, second, offset in of_each_instruction("branch"):
         made = image(field(number(word)), {6: number(first), 7: number(second)}, size=LINK_PLACE, limit=2)
-        yield f"{text}, counted", made, f"end fault 0 8 {MIDDLE + number(offset) & MASK32:08x}\n"
+        yield Case(f"{text}, counted", made, f"end fault 0 8 {MIDDLE + number(offset) & MASK32:08x}\n")
     for text, word, _, offset in of_each_instruction("jal"):
         made = image(field(number(word)), size=LINK_PLACE, limit=2)
-        yield f"{text}, counted", made, f"end fault 0 8 {MIDDLE + number(offset) & MASK32:08x}\n"
+        yield Case(f"{text}, counted", made, f"end fault 0 8 {MIDDLE + number(offset) & MASK32:08x}\n")
     for text, word, source, _, offset in of_each_instruction("jalr"):
         registers = {number(word) >> 15 & 31: MIDDLE + number(source) & MASK32}
         made = image(field(number(word)), registers, size=LINK_PLACE, limit=2)
-        yield f"{text}, counted", made, f"end fault 0 8 {MIDDLE + number(offset) & MASK32:08x}\n"
+        yield Case(f"{text}, counted", made, f"end fault 0 8 {MIDDLE + number(offset) & MASK32:08x}\n")
 
 
-def main():
-    command = sys.argv[1:] or [str(ROOT / "trace_cli"), "seq"]
-    passed = failed = 0
-    for cases in (alu("register"), alu("immediate"), upper(), other_registers(), loads(), stores(),
-                  branches(), jumps(), stops(), counted()):
-        for text, made, expected in cases:
-            result = subprocess.run(command, input=made.encode(), capture_output=True, check=False)
-            got = result.stdout.decode() + result.stderr.decode()
-            status = 0 if expected.startswith("end done") else 1
-            if got == expected and result.returncode == status:
-                passed += 1
-            else:
-                failed += 1
-                print(f"FAILED {text}\n  expected {expected!r}\n  got      {got!r}")
-    print(f"{passed} rows passed, {failed} failed")
-    return 1 if failed else 0
+def part_of(cases: Callable[[], Iterator[Case]], command: list[str]) -> Part:
+    """The part of a script that runs these images."""
+    @wraps(cases)
+    def part() -> Iterator[Check]:
+        for text, made, report in cases():
+            done = called(command, made)
+            wanted = report, "", 0 if report.startswith("end done") else 1
+            yield text, differs((done.stdout, done.stderr, done.returncode), wanted)
+    return part
+
+
+GROUPS = (arithmetic, upper, other_registers, loads, stores, branches, jumps, stops, counted)
+
+
+def main() -> int:
+    script = Script()
+    script.run(*(part_of(cases, script.command()) for cases in GROUPS))
+    return script.ended("rows")
 
 
 if __name__ == "__main__":
