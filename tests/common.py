@@ -86,6 +86,22 @@ def left_out(what: str, why: str) -> None:
     print(f"left out: {what}, since {why}", flush=True)
 
 
+def kept(folder: Path, name: str, given: bytes, wrong: str) -> str:
+    """What is wrong with a drawn input, which is kept as a file of this name."""
+    folder.mkdir(parents=True, exist_ok=True)
+    path = folder / name
+    path.write_bytes(given)
+    return f"{wrong}\n  kept as {path}"
+
+
+def to_first_failure(checks: Iterable[Check]) -> Iterator[Check]:
+    """The checks up to the first one that fails."""
+    for check, wrong in checks:
+        yield check, wrong
+        if wrong is not None:
+            return
+
+
 def differs(got: object, wanted: object) -> str | None:
     """How something differs from what it has to be, or None."""
     return None if got == wanted else f"got {got!r}\n  wanted {wanted!r}"

@@ -1,7 +1,7 @@
 #!/usr/bin/env python3
 """Runs random loops on threads, many times: no difference from `seq`, no trace that the audit refuses, no hang.
 
-Usage: tests/stress.py [--seed S] [--count N] [--limit SECONDS] [--jobs J] [--keep DIR] [COMMAND ..]
+Usage: tests/stress.py [--only WORD] [--seed S] [--count N] [--limit SECONDS] [--jobs J] [--keep DIR] [COMMAND ..]
 
 COMMAND reads its standard input and ends with the word `seq`, in whose place
 `run --cores N --trace` and `audit` are put; without it `./trace_cli seq` of
@@ -17,18 +17,23 @@ written to DIR as stress-S-I.image, and ends the test with status 1.
 
 import argparse
 import random
-import subprocess
 import sys
 import time
+from collections import Counter
+from collections.abc import Iterator
 from concurrent.futures import ThreadPoolExecutor
+from functools import partial
 from pathlib import Path
+from typing import NamedTuple
 
-ROOT = Path(__file__).resolve().parent.parent
+from common import ROOT, TOO_LONG, Check, Script, called_bytes, kept, to_first_failure
+
 sys.path.insert(0, str(ROOT / "tests" / "model"))
 
 import audit_fuzz  # noqa: E402
 import fuzz  # noqa: E402
 from fuzz import MATCH, RETURN, word_of_b, word_of_i, word_of_s  # noqa: E402
+from rv32_seq import Outcome  # noqa: E402
 
 COUNTED = ("load", "store", "restart", "commit")
 
@@ -81,34 +86,43 @@ def loop_of(rng: random.Random) -> tuple[bytes, int]:
 
 # --- Comparing -------------------------------------------------------------
 
-def outcome_of(program: list[str], words: list[str], text: bytes, limit: float) -> tuple[str, str, int]:
-    result = subprocess.run(program + words, input=text, capture_output=True, timeout=limit, check=False)
+class Ran(NamedTuple):
+    """What is wrong with a run, or None; and how many entries and restarts it had."""
+
+    wrong: str | None
+    entries: int = 0
+    restarts: int = 0
+
+
+# How many entries and restarts there were.
+seen: Counter[str] = Counter()
+
+
+def outcome_of(program: list[str], words: list[str], text: bytes, limit: float) -> Outcome:
+    result = called_bytes(program + words, text, limit)
     return result.stdout.decode("latin-1"), result.stderr.decode("latin-1"), result.returncode
 
 
-def wrong_of(program: list[str], text: bytes, cores: int, limit: float) -> tuple[str | None, int, int]:
-    """What is wrong with a run of this loop, and how many entries and restarts it had."""
+def ran(program: list[str], text: bytes, cores: int, limit: float) -> Ran:
+    """A run of this loop."""
     expected = outcome_of(program, ["seq"], text, limit)
-    try:
-        output, errors, status = outcome_of(program, ["run", "--cores", str(cores), "--trace"], text, limit)
-    except subprocess.TimeoutExpired:
-        return f"no end within {limit} seconds", 0, 0
+    output, errors, status = outcome_of(program, ["run", "--cores", str(cores), "--trace"], text, limit)
     report, below = output[:len(expected[0])], output[len(expected[0]):]
-    if (report, errors, status) != expected:
-        return f"run {(report, errors, status)}, seq {expected}", 0, 0
+    if TOO_LONG in (status, expected[2]) or (report, errors, status) != expected:
+        return Ran(f"run {(report, errors, status)}, seq {expected}")
     if status > 1:
-        return (f"below a refusal: {below!r}" if below else None), 0, 0
+        return Ran(f"below a refusal: {below!r}" if below else None)
     counts, _, trace = below.partition("\n")
     entries = [line.split()[1] for line in trace.splitlines()[1:]]
     wanted = " ".join(["counts"] + [str(entries.count(word)) for word in COUNTED])
     if counts != wanted:
-        return f"{counts!r}, and its trace gives {wanted!r}", 0, 0
+        return Ran(f"{counts!r}, and its trace gives {wanted!r}")
     verdict = outcome_of(program, ["audit"], text + b"\n" + trace.encode("latin-1"), limit)
     words = expected[0].split("\n", 1)[0].split()
     homefree = int(words[2]) + (1 if words[1] == "exit" else 0)
     if verdict != (f"legal {len(entries)} {homefree}\n", "", 0):
-        return f"the audit of its trace says {verdict}", 0, 0
-    return None, len(entries), entries.count("restart")
+        return Ran(f"the audit of its trace says {verdict}")
+    return Ran(None, len(entries), entries.count("restart"))
 
 
 def case(seed: str, index: int) -> tuple[bytes, int]:
@@ -116,7 +130,25 @@ def case(seed: str, index: int) -> tuple[bytes, int]:
     return loop_of(random.Random(f"stress/{seed}/{index}"))
 
 
-def arguments() -> argparse.Namespace:
+def loops(given: argparse.Namespace, program: list[str]) -> Iterator[Check]:
+    """Runs of the loops of a seed."""
+    with ThreadPoolExecutor(given.jobs) as pool:
+        runs = pool.map(lambda index: ran(program, *case(given.seed, index), given.limit), range(given.count))
+        try:
+            for index, (wrong, entries, restarts) in enumerate(runs):
+                seen.update(entries=entries, restarts=restarts)
+                name, (text, cores) = f"stress-{given.seed}-{index}", case(given.seed, index)
+                yield f"{name} on {cores} cores", wrong and kept(given.keep, f"{name}.image", text, wrong)
+        finally:
+            pool.shutdown(cancel_futures=True)
+
+
+def stressed(given: argparse.Namespace, program: list[str]) -> Iterator[Check]:
+    """The same up to the first that differs."""
+    return to_first_failure(loops(given, program))
+
+
+def arguments(words: list[str]) -> argparse.Namespace:
     parser = argparse.ArgumentParser(description="Runs random loops on threads, many times.")
     parser.add_argument("--seed", default="1")
     parser.add_argument("--count", type=int, default=10_000)
@@ -124,29 +156,17 @@ def arguments() -> argparse.Namespace:
     parser.add_argument("--jobs", type=int, default=4, help="how many loops run at a time")
     parser.add_argument("--keep", type=Path, default=Path("."))
     parser.add_argument("command", nargs=argparse.REMAINDER)
-    return parser.parse_args()
+    return parser.parse_args(words)
 
 
 def main() -> int:
-    given = arguments()
-    program = (given.command or [str(ROOT / "trace_cli"), "seq"])[:-1]
+    script = Script()
+    given = arguments(script.words)
     begun = time.monotonic()
-    entries = restarts = 0
-    with ThreadPoolExecutor(given.jobs) as pool:
-        results = pool.map(lambda index: wrong_of(program, *case(given.seed, index), given.limit), range(given.count))
-        for index, (wrong, more_entries, more_restarts) in enumerate(results):
-            entries, restarts = entries + more_entries, restarts + more_restarts
-            if wrong:
-                text, cores = case(given.seed, index)
-                given.keep.mkdir(parents=True, exist_ok=True)
-                path = given.keep / f"stress-{given.seed}-{index}.image"
-                path.write_bytes(text)
-                print(f"DIFFERS at loop {index} on {cores} cores, kept as {path}\n  {wrong}")
-                pool.shutdown(cancel_futures=True)
-                return 1
-    print(f"{given.count} runs equal, seed {given.seed}: {entries} entries, {restarts} restarts, "
+    script.run(partial(stressed, given, (given.command or [str(ROOT / "trace_cli"), "seq"])[:-1]))
+    print(f"seed {given.seed}: {seen['entries']} entries, {seen['restarts']} restarts, "
           f"{time.monotonic() - begun:.0f} seconds")
-    return 0
+    return script.ended("runs")
 
 
 if __name__ == "__main__":

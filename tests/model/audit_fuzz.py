@@ -1,7 +1,7 @@
 #!/usr/bin/env python3
 """Compares `trace_cli audit` with the reference model on random traces.
 
-Usage: tests/model/audit_fuzz.py [--seed S] [--count N] [--seconds T] [--keep DIR] [COMMAND ..]
+Usage: tests/model/audit_fuzz.py [--only WORD] [--seed S] [--count N] [--seconds T] [--keep DIR] [COMMAND ..]
 
 COMMAND reads its standard input and ends with the word `seq`, in whose place
 `audit` is put; without it `./trace_cli seq` of this repository is tested. Case
@@ -16,10 +16,8 @@ changed: entries are dropped, repeated, exchanged or made anew, words and bytes
 are damaged, so that most refusals of entries, lines, heads and images come.
 """
 
-import argparse
 import random
 import sys
-import time
 from pathlib import Path
 
 import flat_audit
@@ -29,7 +27,9 @@ from flat_audit import Core, Entry, Event
 from fuzz import MATCH, RETURN, word_of_b, word_of_i, word_of_s
 from rv32_seq import Image, Outcome
 
-ROOT = Path(__file__).resolve().parent.parent.parent
+sys.path.insert(0, str(Path(__file__).resolve().parent.parent))
+
+from common import ROOT, Script  # noqa: E402
 
 
 # --- Loops -----------------------------------------------------------------
@@ -232,37 +232,12 @@ def kind(outcome: Outcome) -> str:
     return words[0] if words[0] == "legal" else f"{words[0]} {words[-1]}"
 
 
-def arguments() -> argparse.Namespace:
-    parser = argparse.ArgumentParser(description="Compares an audit with the reference model.")
-    parser.add_argument("--seed", default="1")
-    parser.add_argument("--count", type=int, default=1000)
-    parser.add_argument("--seconds", type=float, help="stop after this time, whatever the count")
-    parser.add_argument("--keep", type=Path, default=Path("."))
-    parser.add_argument("command", nargs=argparse.REMAINDER)
-    return parser.parse_args()
-
-
 def main() -> int:
-    given = arguments()
-    command = (given.command or [str(ROOT / "trace_cli"), "seq"])[:-1] + ["audit"]
-    kinds: dict[str, int] = {}
-    begun = time.monotonic()
-    for index in range(given.count):
-        if given.seconds and time.monotonic() - begun > given.seconds:
-            break
-        text = case(given.seed, index)
-        expected = flat_audit.outcome(text)
-        got = fuzz.outcome_of(command, text)
-        kinds[kind(expected)] = kinds.get(kind(expected), 0) + 1
-        if got != expected:
-            given.keep.mkdir(parents=True, exist_ok=True)
-            path = given.keep / f"audit-{given.seed}-{index}.trace"
-            path.write_bytes(text)
-            print(f"DIFFERS at case {index}, kept as {path}\n  model   {expected}\n  program {got}")
-            return 1
-    print(f"{sum(kinds.values())} cases equal, seed {given.seed}")
-    print(", ".join(f"{name} {number}" for name, number in sorted(kinds.items())))
-    return 0
+    script = Script()
+    given = fuzz.parser_of("Compares an audit with the reference model.").parse_args(script.words)
+    command = [*(given.command or [str(ROOT / "trace_cli"), "seq"])[:-1], "audit"]
+    compared = fuzz.Compared("audit", "trace", case, flat_audit.outcome, kind)
+    return fuzz.compare(script, compared, given, command)
 
 
 if __name__ == "__main__":

@@ -1,7 +1,7 @@
 #!/usr/bin/env python3
 """Compares `trace_cli seq` with the reference model on random image texts.
 
-Usage: tests/model/fuzz.py [--seed S] [--count N] [--seconds T] [--keep DIR] [COMMAND ..]
+Usage: tests/model/fuzz.py [--only WORD] [--seed S] [--count N] [--seconds T] [--keep DIR] [COMMAND ..]
 
 COMMAND reads an image on standard input and ends with the word `seq`; without
 it `./trace_cli seq` of this repository is tested. Case number I of seed S is
@@ -17,15 +17,21 @@ others are well-formed texts that were damaged in one to three places.
 import argparse
 import random
 import shlex
-import subprocess
 import sys
 import time
+from collections import Counter
+from collections.abc import Callable, Iterator
+from functools import partial
 from pathlib import Path
+from typing import NamedTuple
 
 import rv32_seq
 from rv32_seq import Outcome
 
-ROOT = Path(__file__).resolve().parent.parent.parent
+sys.path.insert(0, str(Path(__file__).resolve().parent.parent))
+
+from common import ROOT, Check, Script, called_bytes, differs, kept, to_first_failure  # noqa: E402
+
 MASK32 = 0xFFFFFFFF
 RETURN = 0x00008067
 
@@ -346,7 +352,7 @@ def case(seed: str, index: int) -> bytes:
 # --- Comparing -------------------------------------------------------------
 
 def outcome_of(command: list[str], text: bytes) -> Outcome:
-    result = subprocess.run(command, input=text, capture_output=True, check=False)
+    result = called_bytes(command, text)
     return result.stdout.decode("latin-1"), result.stderr.decode("latin-1"), result.returncode
 
 
@@ -359,40 +365,66 @@ def kind(outcome: Outcome) -> str:
     return f"fault {words[3]}" if words[1] == "fault" else words[1]
 
 
-def arguments() -> argparse.Namespace:
-    parser = argparse.ArgumentParser(description="Compares a program with the reference model.")
-    parser.add_argument("--seed", default="1")
-    parser.add_argument("--count", type=int, default=1000)
-    parser.add_argument("--seconds", type=float, help="stop after this time, whatever the count")
-    parser.add_argument("--keep", type=Path, default=Path("."))
-    parser.add_argument("--model", help="a command to compare with instead of the reference model")
-    parser.add_argument("command", nargs=argparse.REMAINDER)
-    return parser.parse_args()
+class Compared(NamedTuple):
+    """What a program is compared with on drawn inputs: the name and the ending of one that is kept, how one is drawn
+    from a seed, what has to come of it, and a short name of that."""
+
+    name: str
+    ending: str
+    case: Callable[[str, int], bytes]
+    model: Callable[[bytes], Outcome]
+    kind: Callable[[Outcome], str]
 
 
-def main() -> int:
-    given = arguments()
-    command = given.command or [str(ROOT / "trace_cli"), "seq"]
-    model = shlex.split(given.model) if given.model else None
-    kinds: dict[str, int] = {}
+# How often each kind of outcome came.
+kinds: Counter[str] = Counter()
+
+
+def cases(compared: Compared, given: argparse.Namespace, command: list[str]) -> Iterator[Check]:
+    """Each input of a seed, until the time is up."""
     begun = time.monotonic()
     for index in range(given.count):
         if given.seconds and time.monotonic() - begun > given.seconds:
             break
-        text = case(given.seed, index)
-        expected = outcome_of(model, text) if model else rv32_seq.outcome(text)
-        got = outcome_of(command, text)
-        kinds[kind(expected)] = kinds.get(kind(expected), 0) + 1
-        if got != expected:
-            given.keep.mkdir(parents=True, exist_ok=True)
-            path = given.keep / f"fuzz-{given.seed}-{index}.image"
-            path.write_bytes(text)
-            print(f"DIFFERS at case {index}, kept as {path}\n  model   {expected}\n  program {got}")
-            return 1
-    total = sum(kinds.values())
-    print(f"{total} cases equal, seed {given.seed}")
-    print(", ".join(f"{name} {number}" for name, number in sorted(kinds.items())))
-    return 0
+        text = compared.case(given.seed, index)
+        expected = compared.model(text)
+        wrong = differs(outcome_of(command, text), expected)
+        kinds[compared.kind(expected)] += 1
+        name = f"{compared.name}-{given.seed}-{index}"
+        yield name, wrong and kept(given.keep, f"{name}.{compared.ending}", text, wrong)
+
+
+def parser_of(description: str) -> argparse.ArgumentParser:
+    """The words that a comparison takes."""
+    parser = argparse.ArgumentParser(description=description)
+    parser.add_argument("--seed", default="1")
+    parser.add_argument("--count", type=int, default=1000)
+    parser.add_argument("--seconds", type=float, help="stop after this time, whatever the count")
+    parser.add_argument("--keep", type=Path, default=Path("."))
+    parser.add_argument("command", nargs=argparse.REMAINDER)
+    return parser
+
+
+def compare(script: Script, compared: Compared, given: argparse.Namespace, command: list[str]) -> int:
+    """Compares up to the first input that differs, and tells which kinds there were; the status of the script."""
+    def drawn() -> Iterator[Check]:
+        return to_first_failure(cases(compared, given, command))
+
+    script.run(drawn)
+    print(f"seed {given.seed}:", ", ".join(f"{count} {kind}" for kind, count in sorted(kinds.items())))
+    return script.ended("cases")
+
+
+def main() -> int:
+    script = Script()
+    parser = parser_of("Compares a program with the reference model.")
+    parser.add_argument("--model", help="a command to compare with instead of the reference model")
+    given = parser.parse_args(script.words)
+    model: Callable[[bytes], Outcome] = rv32_seq.outcome
+    if given.model:
+        model = partial(outcome_of, shlex.split(given.model))
+    command = given.command or [str(ROOT / "trace_cli"), "seq"]
+    return compare(script, Compared("fuzz", "image", case, model, kind), given, command)
 
 
 if __name__ == "__main__":

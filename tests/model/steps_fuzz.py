@@ -2,7 +2,7 @@
 """Random schedules of random loops, turn by turn: what `replay steps` says of each turn, summed up, beside the flat
 machine of flat_audit.py.
 
-Usage: tests/model/steps_fuzz.py [--seed S] [--count N] [--jobs J] [--keep DIR] [COMMAND ..]
+Usage: tests/model/steps_fuzz.py [--only WORD] [--seed S] [--count N] [--jobs J] [--keep DIR] [COMMAND ..]
 
 COMMAND is a command of `trace_cli` that ends with the word `seq`; `replay` is the program that was built beside it.
 Without it ./replay of this repository is tested. Schedule number I of seed S is always the same, over the version's
@@ -19,24 +19,28 @@ import argparse
 import random
 import sys
 import time
+from collections import Counter
+from collections.abc import Iterator
 from concurrent.futures import ThreadPoolExecutor
+from functools import partial
 from pathlib import Path
 from typing import NamedTuple
 
-ROOT = Path(__file__).resolve().parent.parent.parent
-sys.path[:0] = [str(ROOT / "tests"), str(ROOT / "tests" / "model")]
+sys.path.insert(0, str(Path(__file__).resolve().parent.parent))
 
 import flat_audit  # noqa: E402
 import machines  # noqa: E402
 import rv32_seq  # noqa: E402
 import stress  # noqa: E402
-from common import left_out  # noqa: E402
+from common import ROOT, TOO_LONG, Check, Script, kept, left_out, to_first_failure  # noqa: E402
 from flat_audit import Core, Flat  # noqa: E402
 from replay import program_of  # noqa: E402
 from rv32_seq import Image  # noqa: E402
 from steps_rows import NAMED, turns_of  # noqa: E402
 
 NOTHING = ["0000", "0000", "0" * 32]
+# How many turns there were.
+seen: Counter[str] = Counter()
 # A place, or the end of one, by its words; and what stands there
 Place = tuple[str, ...]
 Now = list[str]
@@ -231,41 +235,52 @@ def wrong_of(program: str, case: Case) -> tuple[str | None, int]:
     output, errors, status = stress.outcome_of([program], ["steps", *words], case.given(), 60)
     below = output.partition("end\n")[2] if status < 2 else output
     try:
+        expect("without end", TOO_LONG in (status, expected[2]), False)
         expect("below the line `end`", (below, errors, status), expected)
         return None, check(rv32_seq.image_of(case.text), case, output) if status < 2 else 0
     except Differs as wrong:
         return f"{' '.join(words)}: {wrong}", 0
 
 
-def arguments() -> argparse.Namespace:
+def schedules(given: argparse.Namespace, program: str) -> Iterator[Check]:
+    """The schedules of a seed."""
+    with ThreadPoolExecutor(given.jobs) as pool:
+        results = pool.map(lambda index: wrong_of(program, case_of(given.seed, index)), range(given.count))
+        try:
+            for index, (wrong, turns) in enumerate(results):
+                seen.update(turns=turns)
+                name = f"steps-{given.seed}-{index}"
+                yield name, wrong and kept(given.keep, f"{name}.turns", case_of(given.seed, index).given(), wrong)
+        finally:
+            pool.shutdown(cancel_futures=True)
+
+
+def driven(given: argparse.Namespace, program: str) -> Iterator[Check]:
+    """The same up to the first that differs."""
+    return to_first_failure(schedules(given, program))
+
+
+def arguments(words: list[str]) -> argparse.Namespace:
     parser = argparse.ArgumentParser(description="Random schedules of random loops, turn by turn.")
     parser.add_argument("--seed", default="1")
     parser.add_argument("--count", type=int, default=2_000)
     parser.add_argument("--jobs", type=int, default=4, help="how many schedules are driven at a time")
     parser.add_argument("--keep", type=Path, default=Path("."))
     parser.add_argument("command", nargs=argparse.REMAINDER)
-    return parser.parse_args()
+    return parser.parse_args(words)
 
 
 def main() -> int:
-    given = arguments()
+    script = Script()
+    given = arguments(script.words)
     program = program_of(given.command or [str(ROOT / "trace_cli"), "seq"])
     if not program or not program.is_file():
         left_out("the steps of replay", "no such program was built beside the one that is tested")
         return 0
-    begun, turns = time.monotonic(), 0
-    with ThreadPoolExecutor(given.jobs) as pool:
-        results = pool.map(lambda index: wrong_of(str(program), case_of(given.seed, index)), range(given.count))
-        for index, (wrong, more) in enumerate(results):
-            turns += more
-            if wrong:
-                path = given.keep / f"steps-{given.seed}-{index}.turns"
-                path.write_bytes(case_of(given.seed, index).given())
-                print(f"DIFFERS at schedule {index}, kept as {path}\n  {wrong}")
-                pool.shutdown(cancel_futures=True)
-                return 1
-    print(f"{given.count} schedules equal, seed {given.seed}: {turns} turns, {time.monotonic() - begun:.0f} seconds")
-    return 0
+    begun = time.monotonic()
+    script.run(partial(driven, given, str(program)))
+    print(f"seed {given.seed}: {seen['turns']} turns, {time.monotonic() - begun:.0f} seconds")
+    return script.ended("schedules")
 
 
 if __name__ == "__main__":
