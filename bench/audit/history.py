@@ -11,6 +11,8 @@ An entry is written as five numbers of four bytes, least significant byte first:
 import random
 import struct
 import sys
+from collections.abc import Iterator
+from typing import NamedTuple
 
 CORES = 4
 EPOCHS = 65_535
@@ -18,7 +20,17 @@ TABLE = 1024
 START, LOAD, STORE, HURT, RESTART, PUBLISH, COMMIT = range(7)
 
 
-def words_of(epoch):
+class Entry(NamedTuple):
+    """An entry: its core, its kind, and three numbers, of which those that it hasn't are 0."""
+
+    by: int
+    kind: int
+    first: int = 0
+    second: int = 0
+    third: int = 0
+
+
+def words_of(epoch: int) -> Iterator[int]:
     """The addresses that an epoch counts, in order: eight steps of xorshift from its number and 1 on."""
     x = epoch + 1
     for _ in range(8):
@@ -29,44 +41,42 @@ def words_of(epoch):
 
 
 class Core:
-    def __init__(self, epoch):
+    def __init__(self, epoch: int) -> None:
         self.epoch = epoch
         self.words = list(words_of(epoch))
         self.begin()
 
-    def begin(self):
+    def begin(self) -> None:
         self.turn = 0  # of 16: a load, then a store of each word
-        self.own = {}
-        self.read = set()
+        self.own: dict[int, int] = {}
+        self.read: set[int] = set()
         self.straight = self.hurt = False
 
 
 class Machine:
-    def __init__(self, seed):
+    def __init__(self, seed: str) -> None:
         self.draw = random.Random(seed)
-        self.cores = [None] * CORES
-        self.memory = {}
+        self.cores: list[Core | None] = [None] * CORES
+        self.memory: dict[int, int] = {}
         self.next_epoch = self.homefree = 0
-        self.entries = []
+        self.entries: list[Entry] = []
 
-    def note(self, by, kind, *numbers):
-        self.entries.append((by, kind, *numbers, *[0] * (3 - len(numbers))))
+    def note(self, by: int, kind: int, *numbers: int) -> None:
+        self.entries.append(Entry(by, kind, *numbers))
 
-    def violate(self, by, words):
+    def violate(self, by: int, core: Core, words: set[int]) -> None:
         """Hurts each later epoch that has read one of these words."""
         for other in self.cores:
-            if other and other.epoch > self.cores[by].epoch and not other.hurt and not other.read.isdisjoint(words):
+            if other and other.epoch > core.epoch and not other.hurt and not other.read.isdisjoint(words):
                 other.hurt = True
                 self.note(by, HURT, other.epoch)
 
-    def publish(self, by, kind):
-        core = self.cores[by]
-        self.violate(by, {word for word, value in core.own.items() if self.memory.get(word, 0) != value})
+    def publish(self, by: int, core: Core, kind: int) -> None:
+        self.violate(by, core, {word for word, value in core.own.items() if self.memory.get(word, 0) != value})
         self.memory.update(core.own)
         self.note(by, kind)
 
-    def access(self, by):
-        core = self.cores[by]
+    def access(self, by: int, core: Core) -> None:
         word = core.words[core.turn // 2]
         value = core.own.get(word, self.memory.get(word, 0))
         if core.turn % 2 == 0:
@@ -74,12 +84,12 @@ class Machine:
                 core.read.add(word)
             self.note(by, LOAD, word, 4, value)
         else:
-            self.violate(by, {word})
+            self.violate(by, core, {word})
             (self.memory if core.straight else core.own)[word] = value + 1
             self.note(by, STORE, word, 4, value + 1)
         core.turn += 1
 
-    def turn(self):
+    def turn(self) -> None:
         by = self.draw.randrange(CORES)
         core = self.cores[by]
         if core is None:
@@ -91,26 +101,26 @@ class Machine:
             core.begin()
             self.note(by, RESTART)
         elif core.epoch == self.homefree and not core.straight and self.draw.random() < 0.05:
-            self.publish(by, PUBLISH)
+            self.publish(by, core, PUBLISH)
             core.own, core.read, core.straight = {}, set(), True
         elif core.turn < 2 * len(core.words):
-            self.access(by)
+            self.access(by, core)
         elif core.epoch == self.homefree:
-            self.publish(by, COMMIT)
+            self.publish(by, core, COMMIT)
             self.cores[by] = None
             self.homefree += 1
 
 
-def history(count, seed):
+def history(count: int, seed: str) -> tuple[list[Entry], int]:
     """So many entries, and the homefree epoch after them."""
     machine = Machine(seed)
     while len(machine.entries) < count:
         machine.turn()
     entries = machine.entries[:count]
-    return entries, sum(entry[1] == COMMIT for entry in entries)
+    return entries, sum(entry.kind == COMMIT for entry in entries)
 
 
-def encoded(entries):
+def encoded(entries: list[Entry]) -> bytes:
     return b"".join(struct.pack("<5I", *entry) for entry in entries)
 
 

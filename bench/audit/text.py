@@ -13,16 +13,15 @@ import re
 import statistics
 import subprocess
 import tempfile
+from typing import NamedTuple
 
-from history import HURT, encoded, history
+from history import HURT, Entry, encoded, history
 
 ROOT = pathlib.Path(__file__).resolve().parents[2]
 BUILD = ROOT / "bench" / "build"
 BENCH = ROOT / "out" / "bench" / "audit_bench"
 PROGRAM = ROOT / "crates" / "trace_cli" / "out" / "trace_cli"
 WHY = ROOT / "crates" / "why" / "out" / "why"
-IMAGE = re.search(r'const IMAGE: &str =\s*"(.*?)";', (ROOT / "bench/audit/program/src/main.rt.txt").read_text(),
-                  re.S).group(1).replace("\\n", "\n")
 SEED = "histogram"
 ROUNDS = 9
 # entries, and how often a run prints and reads them
@@ -31,13 +30,31 @@ LINES = ["{} start {}", "{} load {:08x} {} {:08x}", "{} store {:08x} {} {:08x}",
          "{} publish", "{} commit"]
 
 
-def trace_of(entries):
+class Cost(NamedTuple):
+    """The processor seconds of a program, and the most memory that it held, in kilobytes."""
+
+    seconds: float
+    most: int
+
+
+def image_of() -> str:
+    """The image whose histories `audit_bench` reads, as its source has it."""
+    found = re.search(r'const IMAGE: &str =\s*"(.*?)";', (ROOT / "bench/audit/program/src/main.rt.txt").read_text(),
+                      re.S)
+    assert found, "main.rt.txt has no image"
+    return found[1].replace("\\n", "\n")
+
+
+IMAGE = image_of()
+
+
+def trace_of(entries: list[Entry]) -> str:
     """The image and the trace below it."""
     lines = "".join(LINES[kind].format(by, *numbers) + "\n" for by, kind, *numbers in entries)
     return f"{IMAGE}trace 4\n{lines}"
 
 
-def text_rates(file, count, size, times):
+def text_rates(file: pathlib.Path, count: int, size: int, times: int) -> list[float]:
     """Megabytes per second of printing and of reading."""
     with open(file, "rb") as stdin:
         done = subprocess.run([BENCH, str(times), "text"], stdin=stdin, capture_output=True, text=True)
@@ -45,33 +62,33 @@ def text_rates(file, count, size, times):
     return [size * times / int(taken) * 1e3 for taken in re.findall(r"(\d+) ns", done.stderr)]
 
 
-def measured(file, *command):
-    """What a program prints, its processor seconds, and the most memory that it held, in kilobytes."""
+def measured(file: pathlib.Path, *command: str | pathlib.Path) -> tuple[str, Cost]:
+    """What a program prints, and what it costs."""
     with open(file, "rb") as stdin:
         done = subprocess.run(["/usr/bin/time", "-f", "%U %S %M", *command], stdin=stdin, capture_output=True,
                               text=True)
     assert done.returncode == 0, (done.stdout, done.stderr)
     user, system, most = done.stderr.split()
-    return done.stdout, float(user) + float(system), int(most)
+    return done.stdout, Cost(float(user) + float(system), int(most))
 
 
-def audit(file, count, homefree):
-    """The seconds and the kilobytes of an audit."""
-    printed, seconds, most = measured(file, PROGRAM, "audit")
+def audit(file: pathlib.Path, count: int, homefree: int) -> Cost:
+    """What an audit costs."""
+    printed, cost = measured(file, PROGRAM, "audit")
     assert printed == f"legal {count} {homefree}\n", printed
-    return seconds, most
+    return cost
 
 
-def explain(file, violations, homefree):
-    """The seconds and the kilobytes of a report."""
-    printed, seconds, most = measured(file, WHY)
+def explain(file: pathlib.Path, violations: int, homefree: int) -> Cost:
+    """What a report costs."""
+    printed, cost = measured(file, WHY)
     told = sum(line.startswith("hurt ") for line in printed.splitlines())
     total = re.search(r"^total epochs \d+ committed (\d+) useful \d+ rollbacks (\d+) ", printed, re.M)
     assert total and (told, *map(int, total.groups())) == (violations, homefree, violations), (told, total)
-    return seconds, most
+    return cost
 
 
-def main():
+def main() -> None:
     subprocess.run([BUILD, "audit"], check=True)
     print("  entries     MB    MB/s printed    MB/s read    audit, s    audit, MB    why, s    why, MB    audit to why")
     with tempfile.TemporaryDirectory() as folder:
@@ -83,11 +100,12 @@ def main():
             records.write_bytes(encoded(entries))
             traced.write_text(text)
             rates = [text_rates(records, count, size, times) for _ in range(ROUNDS)]
-            violations = sum(kind == HURT for _, kind, *_ in entries)
+            violations = sum(entry.kind == HURT for entry in entries)
             both = [(audit(traced, count, homefree), explain(traced, violations, homefree)) for _ in range(ROUNDS)]
             printed, read = (statistics.median(column) for column in zip(*rates))
-            (seconds, most), (longer, more) = ((statistics.median(a for a, _ in runs), max(b for _, b in runs))
-                                               for runs in zip(*both))
+            (seconds, most), (longer, more) = (
+                (statistics.median(cost.seconds for cost in runs), max(cost.most for cost in runs))
+                for runs in zip(*both))
             print(f"{count:9,}{size / 1e6:7.1f}{printed:16.0f}{read:13.0f}{seconds:12.3f}{most / 1024:13.1f}", end="")
             print(f"{longer:10.3f}{more / 1024:11.1f}{f'{seconds / longer:.2f}' if seconds >= 0.1 else '-':>16}")
 
