@@ -1,5 +1,5 @@
 #!/usr/bin/env python3
-"""Tests that the types of the Python in tools/ and of the scripts in tests/ hold, by mypy, as pyproject.toml says.
+"""Tests that the types of the Python in tools/, tests/ and bench/ hold, by mypy, as pyproject.toml says.
 
 Usage: tests/typed.py
 
@@ -16,6 +16,8 @@ from pathlib import Path
 
 from common import ROOT, Check, Script, called, left_out
 
+# The folder whose scripts have no types: a refusal of a wrong body is kept under their text.
+WITHOUT = ROOT / "tests" / "wrong-bodies"
 # A function without types, and a field that isn't there: each has to be found.
 WRONG = "from loops import read_image\n\n\ndef size(text):\n    return read_image(text).length\n"
 
@@ -39,17 +41,22 @@ def packages() -> list[str]:
     return [name for name in told if "." not in name]
 
 
-def programs() -> list[Path]:
-    """The programs of tools/ that are Python, and the modules beside them."""
-    files = sorted(path for path in (ROOT / "tools").rglob("*") if path.is_file() and not path.suffix)
-    found = [path for path in files if b"python3" in path.read_bytes().partition(b"\n")[0]]
-    return [*sorted((ROOT / "tools").glob("*.py")), *found]
+def programs(folder: str) -> list[Path]:
+    """The programs below a folder that are Python and have no suffix."""
+    files = sorted(path for path in (ROOT / folder).rglob("*") if path.is_file() and not path.suffix)
+    return [path for path in files
+            if WITHOUT not in path.parents and b"python3" in path.read_bytes().partition(b"\n")[0]]
+
+
+def modules(folder: str) -> list[Path]:
+    """The modules and scripts below a folder."""
+    return [path for path in sorted((ROOT / folder).rglob("*.py")) if WITHOUT not in path.parents]
 
 
 def tools(checker: Checker) -> Iterator[Check]:
-    """The package, each program, and one that is wrong."""
+    """The package, each program and module beside it, and one that is wrong."""
     yield "packages", checker.says(*(word for name in packages() for word in ("-p", name)))
-    for path in programs():
+    for path in [*sorted((ROOT / "tools").glob("*.py")), *programs("tools")]:
         yield path.name, checker.says(str(path))
     wrong = checker.room / "wrong.py"
     wrong.write_text(WRONG, encoding="utf-8")
@@ -58,9 +65,11 @@ def tools(checker: Checker) -> Iterator[Check]:
 
 
 def scripts(checker: Checker) -> Iterator[Check]:
-    """The scripts of tests/."""
-    found = [str(path) for path in sorted((ROOT / "tests").glob("*.py"))]
-    yield "the scripts of tests/", checker.says("--follow-imports", "silent", *found)
+    """The modules of tests/ and bench/ in one, and each program, whose names are often the same."""
+    for folder in ("tests", "bench"):
+        yield f"the modules of {folder}/", checker.says("--follow-imports", "silent", *map(str, modules(folder)))
+        for path in programs(folder):
+            yield str(path.relative_to(ROOT)), checker.says("--follow-imports", "silent", str(path))
 
 
 def main() -> int:
