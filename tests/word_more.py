@@ -1,5 +1,5 @@
 #!/usr/bin/env python3
-"""Shows that a word more on a line that is printed is proved at once: tests/word_more.py [CRATE ..]
+"""Shows that a word more on a line that is printed is proved at once: tests/word_more.py [--only WORD] [CRATE ..]
 
 For each kind of lines of `why`, of `replay steps` and of `gain` in turn it adds ` x N` to the definition of the line
 and to the function that writes it, two places in all, and checks the whole crate, over what the check of the crate as
@@ -12,14 +12,21 @@ import shutil
 import subprocess
 import sys
 import tempfile
+from collections.abc import Iterator
 from dataclasses import dataclass
+from functools import partial
 from pathlib import Path
+from typing import NamedTuple
 
-TOP = Path(__file__).resolve().parent.parent
-sys.path.insert(0, str(TOP / "tools"))
+from common import ROOT, Check, Script, called
+
+sys.path.insert(0, str(ROOT / "tools"))
 sys.dont_write_bytecode = True
 
 from crates import CannotCheck, Crates, Kit  # noqa: E402
+
+# A check of a crate takes at most so many seconds.
+LONGEST = 3600
 
 
 @dataclass(frozen=True)
@@ -110,17 +117,23 @@ def changed(crate: Path, line: Line) -> None:
         path.write_text(with_word(path.read_text(encoding="utf-8"), begins, end, word), encoding="utf-8")
 
 
+class Checked(NamedTuple):
+    """Why a crate isn't proved, or None; and the seconds of one processor."""
+
+    wrong: str | None
+    seconds: float
+
+
 class Checks:
     """Checks of one crate in a folder of their own, which keep what earlier ones checked."""
 
-    def __init__(self, kit: Kit, crates: Crates, name: str, folder: Path):
+    def __init__(self, kit: Kit, crates: Crates, name: str, folder: Path) -> None:
         self.folder, self.own = folder, Path(crates.folder(name))
         self.words = [kit.checker, "check", *crates.words(name, kit), kit.logic(), "--jobs=1",
                       f"--incremental={folder / 'kept'}"]
 
-    def check(self, line: Line | None = None) -> tuple[bool, float, list[str]]:
-        """Whether the crate is proved with a word more on a line, the seconds of one processor, and what the checker
-        said."""
+    def check(self, line: Line | None = None) -> Checked:
+        """Checks the crate as it is, or with a word more on a line."""
         crate = self.folder / "crate"
         shutil.rmtree(crate, ignore_errors=True)
         for part in ("src", "specs", "proofs"):
@@ -128,38 +141,40 @@ class Checks:
         if line:
             changed(crate, line)
         before = resource.getrusage(resource.RUSAGE_CHILDREN)
-        ran = subprocess.run(self.words, cwd=crate, stdin=subprocess.DEVNULL, capture_output=True, text=True,
-                             errors="replace", check=False)
+        ran = called(self.words, seconds=LONGEST, cwd=crate, stdin=subprocess.DEVNULL, errors="replace")
         used = resource.getrusage(resource.RUSAGE_CHILDREN)
-        return (ran.returncode == 0, used.ru_utime + used.ru_stime - before.ru_utime - before.ru_stime,
-                ran.stdout.splitlines())
+        return Checked(refusal_of(ran.stdout.splitlines(), ran.returncode),
+                       used.ru_utime + used.ru_stime - before.ru_utime - before.ru_stime)
 
 
-def rows(names: list[str]) -> int:
-    """Checks each line of these crates; how many are not proved."""
-    kit, crates, failed = Kit(), Crates(str(TOP), "out/rlib"), 0
-    for name in names:
-        with tempfile.TemporaryDirectory(prefix="word-more-") as folder:
-            checks = Checks(kit, crates, name, Path(folder))
-            proved, seconds, said = checks.check()
-            print(f"{name}: as it is: {'proved' if proved else said[-3:]}, {seconds:.0f} s", flush=True)
-            for line in LINES[name]:
-                proved, seconds, said = checks.check(line)
-                failed += not proved
-                told = "proved" if proved else next((it for it in said if "not proved" in it or "no proof" in it
-                                                     or "error" in it), "".join(said[-1:]))
-                print(f"{name}: {line.name}: {told}, {seconds:.0f} s", flush=True)
-    return failed
+def refusal_of(said: list[str], status: int) -> str | None:
+    """What a checker that ended with this status said of what isn't proved, or None."""
+    if status == 0:
+        return None
+    return next((it for it in said if "not proved" in it or "no proof" in it or "error" in it),
+                "".join(said[-1:]) or f"status {status}")
+
+
+def of_crate(kit: Kit, crates: Crates, name: str) -> Iterator[Check]:
+    """A crate as it is, and with a word more on each of its lines; how long each check takes is told."""
+    with tempfile.TemporaryDirectory(prefix="word-more-") as folder:
+        checks = Checks(kit, crates, name, Path(folder))
+        for line in (None, *LINES[name]):
+            check = f"{name}: {line.name if line else 'as it is'}"
+            wrong, seconds = checks.check(line)
+            print(f"{check}: {wrong or 'proved'}, {seconds:.0f} s", flush=True)
+            yield check, wrong
 
 
 def main() -> int:
-    names = sys.argv[1:] or [*LINES]
+    script = Script()
     try:
-        failed = rows(names)
+        kit, crates = Kit(), Crates(str(ROOT), "out/rlib")
+        script.run(*(partial(of_crate, kit, crates, name) for name in script.words or LINES))
     except (CannotCheck, NotThere, KeyError) as error:
         print(f"tests/word_more.py: {error}", file=sys.stderr)
         return 2
-    return 1 if failed else 0
+    return script.ended("lines")
 
 
 if __name__ == "__main__":
