@@ -15,9 +15,10 @@ of the caches stand heaviest first. Exits with 1 where a check failed.
 
 import sys
 from collections.abc import Iterator, Sequence
+from dataclasses import dataclass
 from functools import partial
 from pathlib import Path
-from typing import Any
+from typing import NamedTuple
 
 from common import ROOT, Check, Script, beside, called, differs, left_out
 from seq_rows import MOST_SECONDS, Outcome
@@ -41,6 +42,26 @@ REFUSED = [
 ]
 
 
+@dataclass
+class Attempt:
+    """What a core runs: the epoch, the number of the attempt, and whether it isn't violated."""
+    epoch: str
+    number: int = 1
+    goes_on: bool = True
+
+
+class Met(NamedTuple):
+    """What the line of a violation, and those that belong to it, say of its pair of instructions."""
+    kind: str
+    lost: int
+    stale: bool
+    vain: bool
+    later: bool
+    distance: int
+    first: int
+    length: int
+
+
 def outcome(command: Sequence[str | Path], text: str) -> Outcome:
     done = called(command, text, MOST_SECONDS)
     return done.stdout, done.stderr, done.returncode
@@ -53,53 +74,52 @@ def value_of(words: list[str], name: str) -> int:
 def unended(entries: list[str]) -> tuple[list[str], list[str]]:
     """The cancellations of a trace, by their places, and the attempts that go on after it: each as `epoch E try T core
     C`. A violated attempt is none of them."""
-    attempts: dict[str, list[Any]] = {}
+    attempts: dict[str, Attempt] = {}
     cancelled: list[str] = []
     for place, (core, what, *rest) in enumerate(entry.split() for entry in entries):
         if what == "start":
-            attempts[core] = [rest[0], 1, True]
+            attempts[core] = Attempt(rest[0])
         elif what == "restart":
-            attempts[core] = [attempts[core][0], attempts[core][1] + 1, True]
+            attempts[core] = Attempt(attempts[core].epoch, attempts[core].number + 1)
         elif what == "hurt":
-            next(attempt for attempt in attempts.values() if attempt[0] == rest[0])[2] = False
+            next(attempt for attempt in attempts.values() if attempt.epoch == rest[0]).goes_on = False
         elif what == "cancel":
-            victim = next(one for one, attempt in attempts.items() if attempt[0] == rest[0])
-            epoch, number, goes_on = attempts.pop(victim)
-            if goes_on:
-                cancelled.append(f"{place} epoch {epoch} try {number} core {victim}")
+            victim = next(one for one, attempt in attempts.items() if attempt.epoch == rest[0])
+            ended = attempts.pop(victim)
+            if ended.goes_on:
+                cancelled.append(f"{place} epoch {ended.epoch} try {ended.number} core {victim}")
         elif what in ("commit", "fault"):
             del attempts[core]
-    return cancelled, [f"epoch {epoch} try {number} core {core}"
-                       for core, (epoch, number, goes_on) in sorted(attempts.items(), key=lambda one: int(one[0]))
-                       if goes_on]
+    return cancelled, [f"epoch {attempt.epoch} try {attempt.number} core {core}"
+                       for core, attempt in sorted(attempts.items(), key=lambda one: int(one[0])) if attempt.goes_on]
 
 
 def pair_lines(lines: list[list[str]]) -> list[str]:
     """The lines of pairs that the lines of violations give, heaviest first."""
     marked = {word: {int(words[1]) for words in lines if words[0] == word} for word in ("vain", "later")}
-    pairs: dict[tuple[str, str], list[dict[str, Any]]] = {}
+    pairs: dict[tuple[str, str], list[Met]] = {}
     for words in (words for words in lines if words[0] == "hurt"):
         names = ("asked", "held") if words[2] == "buffer" else ("store", "load")
         (store, stored), (load, loaded) = [words[len(words) - words[::-1].index(name):][:2] for name in names]
         if "-" not in (stored, loaded):
-            pairs.setdefault((stored, loaded), []).append({
-                "kind": words[2], "lost": value_of(words, "lost"),
-                "stale": names[0] == "store" and int(store) < int(load),
-                "vain": int(words[1]) in marked["vain"], "later": int(words[1]) in marked["later"],
-                "distance": value_of(words, "epoch") - value_of(words, "by"),
-                "first": int(words[words.index("at") + 1], 16), "length": int(words[words.index("at") + 2])})
+            pairs.setdefault((stored, loaded), []).append(Met(
+                kind=words[2], lost=value_of(words, "lost"), stale=names[0] == "store" and int(store) < int(load),
+                vain=int(words[1]) in marked["vain"], later=int(words[1]) in marked["later"],
+                distance=value_of(words, "epoch") - value_of(words, "by"),
+                first=int(words[words.index("at") + 1], 16), length=int(words[words.index("at") + 2])))
     told = []
     for (store, load), those in pairs.items():
-        lost, first = sum(one["lost"] for one in those), min(one["first"] for one in those)
-        kinds = [f"{kind} {sum(one['kind'] == kind for one in those)}"
+        lost, first = sum(one.lost for one in those), min(one.first for one in those)
+        kinds = [f"{kind} {sum(one.kind == kind for one in those)}"
                  for kind in ("true", "silent", "false", "buffer")]
-        fates = [f"{fate} {sum(one[fate] for one in those)}" for fate in ("stale", "vain", "later")]
-        distances = [one["distance"] for one in those]
-        head = f"pair asked {store} held {load}" if any(one["kind"] == "buffer"
-                                                        for one in those) else f"pair store {store} load {load}"
+        fates = [f"stale {sum(one.stale for one in those)}", f"vain {sum(one.vain for one in those)}",
+                 f"later {sum(one.later for one in those)}"]
+        distances = [one.distance for one in those]
+        head = (f"pair asked {store} held {load}" if any(one.kind == "buffer" for one in those)
+                else f"pair store {store} load {load}")
         text = " ".join([head, f"rollbacks {len(those)} lost {lost}", *kinds, *fates,
                          f"distance {min(distances)} {max(distances)}",
-                         f"at {first:08x} {max(one['first'] + one['length'] for one in those) - first}"])
+                         f"at {first:08x} {max(one.first + one.length for one in those) - first}"])
         told.append((-lost, -len(those), store, load, text))
     return [text for *_, text in sorted(told)]
 
