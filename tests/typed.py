@@ -16,8 +16,6 @@ from pathlib import Path
 
 from common import ROOT, Check, Script, called, left_out
 
-# The folder whose scripts have no types: a refusal of a wrong body is kept under their text.
-WITHOUT = ROOT / "tests" / "wrong-bodies"
 # A function without types, and a field that isn't there: each has to be found.
 WRONG = "from loops import read_image\n\n\ndef size(text):\n    return read_image(text).length\n"
 
@@ -44,13 +42,12 @@ def packages() -> list[str]:
 def programs(folder: str) -> list[Path]:
     """The programs below a folder that are Python and have no suffix."""
     files = sorted(path for path in (ROOT / folder).rglob("*") if path.is_file() and not path.suffix)
-    return [path for path in files
-            if WITHOUT not in path.parents and b"python3" in path.read_bytes().partition(b"\n")[0]]
+    return [path for path in files if b"python3" in path.read_bytes().partition(b"\n")[0]]
 
 
 def modules(folder: str) -> list[Path]:
     """The modules and scripts below a folder."""
-    return [path for path in sorted((ROOT / folder).rglob("*.py")) if WITHOUT not in path.parents]
+    return sorted((ROOT / folder).rglob("*.py"))
 
 
 def tools(checker: Checker) -> Iterator[Check]:

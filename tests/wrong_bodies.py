@@ -16,20 +16,17 @@ import re
 import shutil
 import sys
 import tempfile
-from collections.abc import Callable, Iterator, Sequence
+from collections.abc import Iterator, Sequence
 from functools import partial
 from pathlib import Path
 
 from common import Check, Script, called, called_well, differs, left_out
 
 TOP = Path(__file__).resolve().parent.parent
-sys.path.insert(0, str(TOP / "tests/wrong-bodies"))
+sys.path[:0] = [str(TOP / "tests/wrong-bodies"), str(TOP / "tools")]
 sys.dont_write_bytecode = True
 
-import checks  # noqa: E402
-
-# Whether two terms are other values for sure. The scripts of tests/wrong-bodies have no types.
-is_another: Callable[[str, str], bool] = checks.is_another
+from checks import is_another  # noqa: E402
 
 SOURCE = """\
 //! Numbers one after the other.

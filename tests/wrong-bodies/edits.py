@@ -1,10 +1,14 @@
 """Wrong bodies of a crate: what each edit changes, in which functions, and which of them can be tried together."""
 import os
 import re
+from collections.abc import Iterator, Sequence
 from dataclasses import dataclass, replace
+from typing import NamedTuple
 
-from sources import functions_of, module_of, types_of
+from sources import Function, functions_of, module_of, types_of
 
+# The texts of files by their paths in the crate.
+Texts = dict[str, str]
 IMPORTS = ("use ", "ghost use ")
 CLAUSE = re.compile(r"(?m)^ *(?:requires|ensures)\b")
 MUCH = 8  # lines
@@ -27,8 +31,9 @@ class Change:
 
 @dataclass(frozen=True)
 class Twin:
-    """A copy of a function with an edit's body and another name: its text, the path of the function below which it stands, and how
-    many lines of the body it leaves out. That of a function of a trait stands below its impl, as a function of the type itself."""
+    """A copy of a function with an edit's body and another name: its text, the path of the function below which it
+    stands, and how many lines of the body it leaves out. That of a function of a trait stands below its impl, as a
+    function of the type itself."""
 
     text: str
     of: str
@@ -37,52 +42,60 @@ class Twin:
 
 @dataclass(frozen=True)
 class Edit:
-    """A wrong body: its name, what it changes, the paths of the functions that it changes, whether it changes nothing but their
-    bodies, so that no other function can tell, and whether it is tried without their answers. Where the wrong body stands in a twin,
-    the function itself stays right."""
+    """A wrong body: its name, what it changes, the paths of the functions that it changes, whether it changes nothing
+    but their bodies, so that no other function can tell, and whether it is tried without their answers. Where the wrong
+    body stands in a twin, the function itself stays right."""
 
     name: str
-    changes: tuple
-    functions: frozenset
+    changes: tuple[Change, ...]
+    functions: frozenset[str]
     in_bodies: bool
     bare: bool
-    twin: Twin = None
+    twin: Twin | None = None
+
+
+class Parts(NamedTuple):
+    """The text of a function to the line with the brace of its body, and the lines of its body after that."""
+
+    head: str
+    body: list[str]
 
 
 class Sources:
     """The source files of a crate, the functions in them, and the files of its proofs."""
 
-    def __init__(self, folder):
+    def __init__(self, folder: str) -> None:
         self.folder, self.texts, self.proofs = folder, texts_in(folder, "src"), texts_in(folder, "proofs")
         self.homes = {name: module_of(path) for path, text in self.texts.items() for name in types_of(text)}
         self.holders = {name for text in self.texts.values() for name in types_of(text, "struct|enum")}
 
-    def path_of(self, file, function):
+    def path_of(self, file: str, function: Function) -> str:
         """What the checker calls a function, below the crate: a method stands in the module of its type."""
         module = self.homes.get(function.holder, module_of(file))
         return "::".join(filter(None, [module, function.holder, function.name]))
 
-    def functions(self, file, text):
+    def functions(self, file: str, text: str) -> dict[str, Function]:
         """The functions of a file with this text, by what the checker calls them."""
         return {self.path_of(file, it): it for it in functions_of(text)}
 
-    def with_bodies(self):
+    def with_bodies(self) -> set[str]:
         """The functions of the crate that have a body."""
-        return {path for file, text in self.texts.items() for path, it in self.functions(file, text).items() if has_body(it, text)}
+        return {path for file, text in self.texts.items()
+                for path, it in self.functions(file, text).items() if has_body(it, text)}
 
-    def text_of(self, file):
+    def text_of(self, file: str) -> str | None:
         """The text of a file, or None."""
         return self.texts.get(file, self.proofs.get(file))
 
-    def is_in_cycle(self, path):
+    def is_in_cycle(self, path: str) -> bool:
         """Whether a function calls itself, or others that call it: it has a proof of its cycle."""
         above, _, own = path.replace("::", "/").rpartition("/")
         return os.path.isdir(f"{self.folder}/proofs/{above}/+{own}")
 
 
-def texts_in(folder, part):
-    """The texts of the files in a part of a crate, by their paths in the crate."""
-    texts = {}
+def texts_in(folder: str, part: str) -> Texts:
+    """The texts of the files in a part of a crate."""
+    texts: Texts = {}
     for at, _, names in os.walk(f"{folder}/{part}"):
         for name in names:
             with open(f"{at}/{name}", encoding="utf-8") as it:
@@ -90,14 +103,17 @@ def texts_in(folder, part):
     return texts
 
 
-def has_body(function, text):
+def has_body(function: Function, text: str) -> bool:
     """Whether a function has a body: one of a trait may have none."""
     return text.split("\n")[function.last - 1].rstrip().endswith("}")
 
 
-def changes_of(text):
-    """The pairs of an edit's text: lines `file: PATH`, `old: TEXT`, `new: TEXT`. A line `without answers` may stand beside them."""
-    file, old, found = None, None, []
+def changes_of(text: str) -> tuple[Change, ...]:
+    """The pairs of an edit's text: lines `file: PATH`, `old: TEXT`, `new: TEXT`. A line `without answers` may stand
+    beside them."""
+    file: str | None = None
+    old: str | None = None
+    found: list[Change] = []
     for line in text.split("\n"):
         if line.startswith("file: "):
             file = line.removeprefix("file: ").strip()
@@ -113,20 +129,20 @@ def changes_of(text):
     return tuple(found)
 
 
-def changed(sources, changes, texts=None):
+def changed(sources: Sources, changes: Sequence[Change], texts: Texts | None = None) -> Texts:
     """The texts of the files that these changes make of the sources, or of `texts` where that has the file."""
-    texts = dict(texts or {})
+    made = dict(texts or {})
     for it in changes:
-        text = texts.get(it.file, sources.text_of(it.file))
+        text = made.get(it.file, sources.text_of(it.file))
         if text is None:
             raise BadEdit(f"there is no file {it.file}")
         if text.count(it.old) != 1:
             raise BadEdit(f"a text of it stands in {it.file} {text.count(it.old)} times, and not once")
-        texts[it.file] = text.replace(it.old, it.new)
-    return texts
+        made[it.file] = text.replace(it.old, it.new)
+    return made
 
 
-def applied(sources, edit, texts):
+def applied(sources: Sources, edit: Edit, texts: Texts) -> Texts:
     """The texts of the files with an edit, each from `texts` where that has it."""
     if not edit.twin:
         return changed(sources, edit.changes, texts)
@@ -138,9 +154,10 @@ def applied(sources, edit, texts):
     return {**texts, file: "\n".join([*lines[:below], "", edit.twin.text, *lines[below:]])}
 
 
-def in_twin(edit, sources, number):
-    """The edit with its wrong body in a twin of its function, or None where that can't be: the edit changes more than the body of
-    one function, and that is in a cycle of calls, or one of a trait whose contract stands with the trait."""
+def in_twin(edit: Edit, sources: Sources, number: int) -> Edit | None:
+    """The edit with its wrong body in a twin of its function, or None where that can't be: the edit changes more than
+    the body of one function, and that is in a cycle of calls, or one of a trait whose contract stands with the
+    trait."""
     if not edit.in_bodies or len(edit.functions) != 1 or len({it.file for it in edit.changes}) != 1:
         return None
     file, (path,) = edit.changes[0].file, edit.functions
@@ -151,7 +168,7 @@ def in_twin(edit, sources, number):
         return None
     twin = replace(function, name=f"{function.name}_twin{number}")
     text = re.sub(rf"\bfn {function.name}\b", f"fn {twin.name}", head, count=1)
-    kept = one_arm(function, head, parts_of(was, right)[1], body) or body
+    kept = one_arm(function, head, parts_of(was, right).body, body) or body
     text, saved = "\n".join([text, *kept]), len(body) - len(kept)
     if function.holder and function.holder not in sources.holders:
         if function.type not in sources.holders or not CLAUSE.search(head):
@@ -160,39 +177,41 @@ def in_twin(edit, sources, number):
     return replace(edit, functions=frozenset({sources.path_of(file, twin)}), twin=Twin(text, path, saved))
 
 
-def one_arm(function, head, right, wrong):
-    """The lines of a body that is wrong in one arm of the match that it is, that of a variant: this arm alone, and a call of the
-    function for any other value, since what it promises there is what its twin has to. None of any other body."""
+def one_arm(function: Function, head: str, right: Sequence[str], wrong: Sequence[str]) -> list[str] | None:
+    """The lines of a body that is wrong in one arm of the match that it is, that of a variant: this arm alone, and a
+    call of the function for any other value, since what it promises there is what its twin has to. None of any other
+    body."""
     called = re.search(rf"(?m)^(?:pub(?:\(crate\))? )?fn {function.name}\(([^()]*)\)", head)
     arms = [it for it in wrong if re.match(r" {8}[^ }]", it)]
+    variants = [it[1] for it in map(ARM.match, arms) if it]
     other = [it for was, it in zip(right, wrong) if was != it]
-    is_match = wrong[-2:] == ["    }", "}"] and wrong[0].startswith("    match ") and all(map(ARM.match, arms))
+    is_match = wrong[-2:] == ["    }", "}"] and wrong[0].startswith("    match ") and len(variants) == len(arms)
     is_one_line = len(wrong) == len(right) and len(other) == 1 and other[0].count("{") == other[0].count("}")
     if not (called and is_match and is_one_line and other[0] in arms):
         return None
-    variants = [ARM.match(it)[1] for it in arms]
-    if variants.count(ARM.match(other[0])[1]) != 1:
+    if variants.count(variants[arms.index(other[0])]) != 1:
         return None
     given = ", ".join(re.findall(r"(\w+): ", called[1]))
     return [wrong[0], other[0], f"        _ => {function.name}({given}),", *wrong[-2:]]
 
 
-def parts_of(text, function):
-    """The text of a function to the line with the brace of its body, and the lines of its body after that."""
+def parts_of(text: str, function: Function) -> Parts:
+    """The parts of a function of this source text."""
     lines = text.split("\n")
-    return "\n".join(lines[function.first - 1 : function.body]), lines[function.body : function.last]
+    return Parts("\n".join(lines[function.first - 1 : function.body]), lines[function.body : function.last])
 
 
-def lines_outside(text, function):
+def lines_outside(text: str, function: Function) -> list[str]:
     """The lines of a source text but for those of a function."""
     lines = text.split("\n")
     return [*lines[: function.first - 1], *lines[function.last :]]
 
 
-def read_edit(name, text, sources):
-    """The edit with this name and text. It changes at least one function; what it changes outside of functions comes along."""
-    changes = changes_of(text)
-    texts, in_bodies = {}, True
+def read_edit(name: str, text: str, sources: Sources) -> Edit:
+    """The edit with this name and text. It changes at least one function; what it changes outside of functions comes
+    along."""
+    changes, in_bodies = changes_of(text), True
+    texts: Texts = {}
     for it in changes:
         before = texts.get(it.file, sources.texts.get(it.file, ""))
         texts = changed(sources, [it], texts)
@@ -201,7 +220,8 @@ def read_edit(name, text, sources):
         line = before[: before.find(it.old)].count("\n") + 1
         found = [of for of in functions_of(before) if of.first <= line <= of.last]
         in_bodies = in_bodies and (it.old.startswith(IMPORTS) or any(stays_inside(it, line, of) for of in found))
-    functions = {it for file, text in texts.items() if file in sources.texts for it in changed_functions(sources, file, text)}
+    in_sources = [it for it in texts if it in sources.texts]
+    functions = {path for it in in_sources for path in changed_functions(sources, it, texts[it])}
     if texts == {file: sources.text_of(file) for file in texts}:
         raise BadEdit("it changes nothing")
     if not functions:
@@ -211,35 +231,41 @@ def read_edit(name, text, sources):
     return Edit(name, changes, frozenset(functions), in_bodies, WITHOUT_ANSWERS in text.split("\n"))
 
 
-def changed_functions(sources, file, text):
+def changed_functions(sources: Sources, file: str, text: str) -> set[str]:
     """The paths of the functions of a file that have other lines in this text than in the sources."""
     was, now = (lines_by_function(sources, file, it) for it in (sources.texts[file], text))
     return {it for it in now if now[it] != was.get(it)}
 
 
-def is_own_proof(file, function):
+def is_own_proof(file: str, function: str) -> bool:
     """Whether a file of proofs/ is one of this function, or of its cycle."""
     *above, own = function.split("::")
     return os.path.dirname(file) in ("/".join(["proofs", *above, it]) for it in (own, f"+{own}"))
 
 
-def lines_by_function(sources, file, text):
+def lines_by_function(sources: Sources, file: str, text: str) -> dict[str, list[str]]:
     lines = text.split("\n")
     return {path: lines[it.first - 1 : it.last] for path, it in sources.functions(file, text).items()}
 
 
-def stays_inside(change, line, function):
-    """Whether a change at a line is one of the function's body alone: below its opening brace, or behind it on the same line."""
-    return line > function.body or line == function.body and change.old.endswith("{") and change.new.startswith(change.old)
+def stays_inside(change: Change, line: int, function: Function) -> bool:
+    """Whether a change at a line is one of the function's body alone: below its opening brace, or behind it on the same
+    line."""
+    is_behind = change.old.endswith("{") and change.new.startswith(change.old)
+    return line > function.body or line == function.body and is_behind
 
 
-def batches_of(edits, sources):
-    """The edits in as few lists as one pass finds: in a list each function is changed once, and each text stands once; what can't
-    stand so stands in a twin of its function. What changes more than bodies and imports has a list of its own."""
+def batches_of(edits: Sequence[Edit], sources: Sources) -> Iterator[list[Edit]]:
+    """The edits in as few lists as one pass finds: in a list each function is changed once, and each text stands once;
+    what can't stand so stands in a twin of its function. What changes more than bodies and imports has a list of its
+    own."""
     yield from ([it] for it in edits if not it.in_bodies)
     left = [it for it in edits if it.in_bodies]
     while left:
-        batch, later, used, texts = [], [], set(), {}
+        batch: list[Edit] = []
+        later: list[Edit] = []
+        used: set[str] = set()
+        texts: Texts = {}
         for edit in left:
             placed, made = beside(edit, sources, texts, used, len(batch))
             if placed:
@@ -252,11 +278,12 @@ def batches_of(edits, sources):
         left = later
 
 
-def beside(edit, sources, texts, used, number):
-    """The edit in its function's place or in a twin, beside others that changed the functions `used`, with the texts that they make
-    together; or None, where it can't stand beside them. A twin that is much shorter than the function comes first."""
+def beside(edit: Edit, sources: Sources, texts: Texts, used: set[str], number: int) -> tuple[Edit | None, Texts]:
+    """The edit in its function's place or in a twin, beside others that changed the functions `used`, with the texts
+    that they make together; or None, where it can't stand beside them. A twin that is much shorter than the function
+    comes first."""
     twin = in_twin(edit, sources, number)
-    if not used & edit.functions and not (twin and twin.twin.saved >= MUCH):
+    if not used & edit.functions and not (twin and twin.twin and twin.twin.saved >= MUCH):
         try:
             return edit, applied(sources, edit, texts)
         except BadEdit:
