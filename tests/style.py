@@ -11,7 +11,6 @@ import shutil
 import sys
 import tomllib
 from collections.abc import Iterator
-from fnmatch import fnmatch
 from functools import partial
 from pathlib import Path
 from typing import Any
@@ -41,13 +40,10 @@ def too_long(path: Path, most: int) -> list[int]:
 
 
 def columns(settings: dict[str, Any]) -> Iterator[Check]:
-    """The lines of each file, but of those that may have longer ones; and the check finds one here, of few columns."""
-    free = [name for name, rules in settings["lint"]["per-file-ignores"].items() if "E501" in rules]
+    """The lines of each file; and the check finds one here, of few columns."""
     for path in files():
-        name = str(path.relative_to(ROOT))
-        if not any(fnmatch(name, one) for one in free):
-            found = too_long(path, settings["line-length"])
-            yield f"the lines of {name}", f"too long: {found}" if found else None
+        found = too_long(path, settings["line-length"])
+        yield f"the lines of {path.relative_to(ROOT)}", f"too long: {found}" if found else None
     yield "a line that is too long", None if too_long(Path(__file__), 100) else "isn't found"
 
 

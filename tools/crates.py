@@ -40,8 +40,8 @@ class Kit:
 
 
 class Crates:
-    """The crates that a repository's crates.txt names, and what each stands on. `built` is the folder below a crate's own in
-    which its built library lies."""
+    """The crates that a repository's crates.txt names, and what each stands on. `built` is the folder below a crate's
+    own in which its built library lies."""
 
     def __init__(self, top: str, built: str) -> None:
         self.top, self.built = top, built
