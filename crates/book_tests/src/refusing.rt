@@ -5,7 +5,7 @@ use rv32_exec::{Image, NoMemory};
 use std::alloc::{AllocError, Global};
 use violations::{CoreSet, EpochStore, Step};
 
-/// A store that makes room twice, and is refused memory from then on.
+/// A store that makes room twice, and says from then on that memory was refused.
 #[derive(Drop)]
 pub struct Refusing<S: EpochStore> {
     /// The store that does all other calls.
@@ -41,11 +41,12 @@ impl<S: EpochStore> EpochStore for Refusing<S> {
     }
 
     fn reserve(&mut self) -> Result<(), NoMemory> {
+        self.store.reserve()?;
         if self.grants == 0 {
             return Err(NoMemory);
         }
         self.grants -= 1;
-        self.store.reserve()
+        Ok(())
     }
 
     fn begin(&mut self, core: u32, epoch: u32) {

@@ -32,7 +32,7 @@ use Rattle.bus_states.proofs.Accesses.{invalid-unmarked}
 use Rattle.spec_bus.specs.declared.bus_core.Core.{Core}
 use Rattle.spec_bus.specs.Cached.{CachedView, bus, room}
 use Rattle.spec_bus.specs.Parts.{room_in, state_or_none, line_or_none, victim_or_none}
-use Rattle.violations.specs.Calls.{Call, Reserve, Begin, Load, Store, Publish, StraightLoad, StraightStore, Leave, Cancel, IsFixed, FixWaits}
+use Rattle.violations.specs.Calls.{Call, Reserve, Begin, Load, Store, Publish, StraightLoad, StraightStore, Leave, Cancel, IsFixed, FixWaits, RoomsJoin}
 use Rattle.violations.specs.View.{StoreView}
 use Rattle.violations.specs.Rule.{IsSameView}
 use Rattle.bus_states.specs.Views.{view_of}
@@ -328,6 +328,9 @@ pub fixed : IsFixed Makes HoldTheSame
 fixed v w v' w' call same one two =
     two.bus_is ∙ (ap (λ (b : Bus). after_call call b (room v')) same
     ∙ (sym (same_call call (bus v) (room v) (room v') (rooms_for call v v' one.placed two.placed (sym same))) ∙ sym one.bus_is))
+
+pub joined : RoomsJoin Makes
+joined u v w one two = record { placed = one.placed; bus_is = two.bus_is ∙ one.bus_is }
 
 pub views : (v w : CachedView) → HoldTheSame v w → IsSameView (store_view v) (store_view w)
 views v w same = subst (λ (b : Bus). IsSameView (store_view v) (view_of b)) (sym same) (no_change (store_view v))

@@ -5,7 +5,7 @@ use Rattle.memory_bytes.specs.Maps.{over, stored}
 use Rattle.rv32_image.specs.Image.{LoadedImage}
 use Rattle.violations.specs.View.{StoreView, never_waits, attempt_of, epoch_of, IsClear, IsSettled, Runs, is_accessed}
 use Rattle.violations.specs.Rule.{IsSameCore, IsSameView, IsSpared, HurtsLater, Guards, Begins, Ends}
-use Rattle.violations.specs.Calls.{Call, Reserve, Begin, Load, Store, Publish, StraightLoad, StraightStore, Leave, Cancel, IsFixed, FixWaits}
+use Rattle.violations.specs.Calls.{Call, Reserve, Begin, Load, Store, Publish, StraightLoad, StraightStore, Leave, Cancel, IsFixed, FixWaits, RoomsJoin}
 use Rattle.violations.specs.Plain.{PlainView, store_view, ViolatesReaders, MakesLoad, MakesStore, MakesPublish, MakesStraightLoad, MakesStraightStore, made_of, Makes, AreAlike, Starts}
 
 -- ---- one core of both, after a call of each
@@ -248,6 +248,23 @@ fixed p q p' q' call alike one other =
     by_call (StraightStore core address width value) x y = stores_straight_same (store_view p) (store_view q) (store_view p') (store_view q') core address width value pair x y
     by_call (Leave core) x y = ends_same (store_view p) (store_view q) (store_view p') (store_view q') core pair x y
     by_call (Cancel core) x y = ends_same (store_view p) (store_view q) (store_view p') (store_view q') core pair x y
+
+pub joined : RoomsJoin Makes
+joined p q r one two = record {
+  before = one.before;
+  after = two.after;
+  made = record {
+    shape = two.made.shape ∙ one.made.shape;
+    cached = refl;
+    committed = λ a. two.made.committed a ∙ one.made.committed a;
+    cores = λ k. record {
+      attempt = (two.made.cores k).attempt ∙ (one.made.cores k).attempt;
+      own = λ a. (two.made.cores k).own a ∙ (one.made.cores k).own a;
+      guarded = λ a. (two.made.cores k).guarded a ∙ (one.made.cores k).guarded a;
+      sees = λ a. (two.made.cores k).sees a ∙ (one.made.cores k).sees a;
+    };
+  };
+}
 
 -- ---- stores as they are made
 

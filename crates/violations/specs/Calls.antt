@@ -19,6 +19,10 @@ abbrev pub Leads : {S : Type 0} → (S → Call → S → Type 0) → List Call 
 Leads makes [] s t = t ≡ s
 Leads {S} makes (call ∷ calls) s t = (u : S) × makes s call u × Leads makes calls u t
 
+-- making room twice makes what making room once makes
+abbrev pub RoomsJoin : {S : Type 0} → (S → Call → S → Type 0) → Type 0
+RoomsJoin {S} makes = (s t u : S) → makes s Reserve t → makes t Reserve u → makes s Reserve u
+
 -- from alike stores the same call leads to alike ones
 abbrev pub IsFixed : {S : Type 0} → (S → Call → S → Type 0) → (S → S → Type 0) → Type 0
 IsFixed {S} makes alike = (s t s' t' : S) (call : Call) → alike s s' → makes s call t → makes s' call t' → alike t t'

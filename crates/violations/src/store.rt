@@ -4,7 +4,7 @@ ghost use Rattle.violations.specs.View as view_spec;
 ghost use Rattle.violations.specs.Rule as rule;
 ghost use Rattle.violations.specs.CoreSet.{is_in};
 ghost use Rattle.violations.specs.Answers.{MatchStep, wait_of};
-ghost use Rattle.violations.specs.Calls.{Call, IsFixed, FixWaits};
+ghost use Rattle.violations.specs.Calls.{Call, IsFixed, FixWaits, RoomsJoin};
 ghost use Rattle.violations.specs.Calls as call;
 ghost use Rattle.rv32_image.specs.Image.{LoadedImage};
 
@@ -51,7 +51,8 @@ pub trait EpochStore: Drop + Send {
         ensures starts { (image : LoadedImage) (cores : ℕ) (s t : Self) → starts image cores s → starts image cores t → alike s t }
         ensures fixed { IsFixed makes alike }
         ensures views { (s t : Self) → alike s t → rule.IsSameView (view s) (view t) }
-        ensures waits { FixWaits makes alike waits };
+        ensures waits { FixWaits makes alike waits }
+        ensures rooms { RoomsJoin makes };
 
     /// What every store keeps: this call does nothing, and its contract is the law.
     fn look(&self)
@@ -59,11 +60,11 @@ pub trait EpochStore: Drop + Send {
 
     /// Makes room for four changing calls.
     ///
-    /// `NoMemory`: there was no memory. The view is as it was, and the same accesses wait.
+    /// `NoMemory`: there was no memory. Also then the view is as it was, and the same accesses wait.
     fn reserve(&mut self) -> Result<(), NoMemory>
         ensures view { rule.IsSameView (view self.old) (view self.new) }
         ensures waits { waits self.new ≡ waits self.old }
-        ensures makes { OnOk result (makes self.old call.Reserve self.new) }
+        ensures makes { makes self.old call.Reserve self.new }
         ensures budget { OnOk result (4 ≤ budget self.new) };
 
     /// The core begins an attempt of the epoch.

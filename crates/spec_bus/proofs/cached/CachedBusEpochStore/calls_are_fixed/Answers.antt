@@ -1,5 +1,5 @@
 use Rattle.std.proofs.Common.{sym, ◌∙◌}
-use Rattle.spec_bus.proofs.SameRooms.{fixed, views, waiting}
+use Rattle.spec_bus.proofs.SameRooms.{fixed, joined, views, waiting}
 use Rattle.spec_bus.proofs.cached.CachedBusEpochStore.calls_are_fixed.Goals as goal
 
 pub returns-clause-starts : goal.returns-clause-starts
@@ -13,3 +13,6 @@ returns-clause-views c = views
 
 pub returns-clause-waits : goal.returns-clause-waits
 returns-clause-waits c = waiting
+
+pub returns-clause-rooms : goal.returns-clause-rooms
+returns-clause-rooms c = joined

@@ -1,4 +1,4 @@
-use Rattle.violations.proofs.Fixed.{fixed, started, views, waiting}
+use Rattle.violations.proofs.Fixed.{fixed, joined, started, views, waiting}
 use Rattle.violations.proofs.plain.PlainStoreEpochStore.calls_are_fixed.Goals as goal
 
 pub returns-clause-starts : goal.returns-clause-starts
@@ -12,3 +12,6 @@ returns-clause-views c = views
 
 pub returns-clause-waits : goal.returns-clause-waits
 returns-clause-waits c = waiting
+
+pub returns-clause-rooms : goal.returns-clause-rooms
+returns-clause-rooms c = joined
