@@ -4,3 +4,4 @@ pub mod Cases
 pub mod Violations
 pub mod Books
 pub mod Fixed
+pub mod Retracing

@@ -1,5 +1,5 @@
 -- The calls of the store that a turn makes, in their order.
-use Rattle.std.specs.Prelude.{◌≡◌, ℕ, zero, suc, ◌==◌, ◌&&◌, not, Bool, true, false, List, [], ◌∷◌, ◌++◌, Option, Some, None, is_some, nat_lt, option_map, if◌then◌else◌}
+use Rattle.std.specs.Prelude.{◌≡◌, ◌≢◌, ℕ, zero, suc, ◌==◌, ◌&&◌, not, Bool, true, false, List, [], ◌∷◌, ◌++◌, Option, Some, None, IsSome, is_some, nat_lt, option_map, if◌then◌else◌}
 use Rattle.rv32_image.specs.Image.{LoadedImage}
 use Rattle.rv32_exec.specs.declared.stop.Stop.{Stop}
 use Rattle.rv32_exec.specs.declared.stop.Stop.TheVariants as stop
@@ -11,7 +11,7 @@ use Rattle.violations.specs.View.{StoreView, Waits}
 use Rattle.violations.specs.Calls.{Call, Reserve, Begin, Load, Store, Publish, StraightLoad, StraightStore, Leave, Cancel, Leads}
 use Rattle.homefree.specs.declared.register.Running.{Running}
 use Rattle.homefree.specs.Kept.{kept_of}
-use Rattle.homefree.specs.Turned.{Turn, IsStale, IsHandedIn}
+use Rattle.homefree.specs.Turned.{Turn, IsStale, IsHandedIn, wait_at}
 
 -- ---- a core that runs an epoch, and hands in its next event
 
@@ -56,6 +56,12 @@ pub record Moves {S : Type 0} (makes : S → Call → S → Type 0) (view : S �
   pub mid : S
   pub leads : Leads makes first s mid
   pub rest : Leads makes (exit_calls exits count core (view mid)) mid t
+
+-- the core speculates past the homefree epoch, and the store makes its access wait
+pub record HasToWait (waits : Waits) (homefree core : ℕ) (r : Running) (at : Stop) : Type 0 where
+  pub speculates : r.straight ≡ false
+  pub later : r.epoch ≢ homefree
+  pub waits_there : IsSome (wait_at waits core at)
 
 -- ---- a turn
 

@@ -17,6 +17,7 @@ ghost use Rattle.homefree.specs.Again.{IfAgain, IsWhy, RunsHomefree};
 ghost use Rattle.homefree.specs.Acted.{IfArrived};
 ghost use Rattle.homefree.specs.Came as spec;
 ghost use Rattle.homefree.specs.Counted.{IsNoMore};
+ghost use Rattle.homefree.specs.Retraced.{IsRetraced, IsStill};
 
 use crate::answer::{Answer, Came, Cause, StopCause};
 use crate::fault::TurnFault;
@@ -55,13 +56,15 @@ pub(crate) struct Inside<S: EpochStore> {
 impl<S: EpochStore> Model for Book<S> {
     ghost use Rattle.std.specs.Prelude.{length};
     ghost use Rattle.homefree.specs.BookView.{BookView};
-    ghost use Rattle.homefree.specs.BookInside.{IsBook};
+    ghost use Rattle.homefree.specs.BookInside.{IsBook, book_of};
+    ghost use Rattle.homefree.specs.Retraced.{IsRetraced};
 
     ghost Value = { BookView S };
 
     ghost view = { λ b. record { image = b.inside.value.parts.register.image; cores = length b.inside.value.parts.register.running.items; room = b.inside.value.room; history = b.inside.value.parts.register.history.items; totals = b.inside.value.parts.register.totals; store = b.inside.value.parts.store; stopped = b.inside.value.stopped } };
 
-    ghost invariant = { λ b. IsBook S.view b.inside.value.parts.register b.inside.value.parts.store b.inside.value.room b.inside.value.stopped };
+    ghost invariant = { λ b. IsBook S.view b.inside.value.parts.register b.inside.value.parts.store b.inside.value.room b.inside.value.stopped
+        × IsRetraced S.starts S.makes S.view S.waits (book_of b.inside.value.parts.register b.inside.value.parts.store b.inside.value.room b.inside.value.stopped) };
 }
 
 /// What stays as it was while turns are taken. No value of it is made.
@@ -139,6 +142,14 @@ impl<S: EpochStore> Book<S> {
     /// What holds of every book: this call does nothing, and its contract is the law.
     pub fn look(&self)
         ensures { InStep S.view self.now }
+    {
+        let _ = &self.inside;
+    }
+
+    /// What holds of the history of every book: the turns that it shows, over a fresh store, make it again. This call does nothing, and its
+    /// contract is the law.
+    pub fn look_back(&self)
+        ensures { IsRetraced S.starts S.makes S.view S.waits self.now }
     {
         let _ = &self.inside;
     }
@@ -222,10 +233,12 @@ fn turn_within<S: EpochStore>(
     shares: &mut Shares,
 ) -> Result<Answer, TurnFault>
     requires book { IsBook S.view parts.old.register parts.old.store room stopped }
+    requires retraced { IsRetraced S.starts S.makes S.view S.waits (book_of parts.old.register parts.old.store room stopped) }
     requires core { core < length parts.old.register.running.items }
     requires next { IfArrived parts.old.register.image (option_copied next) }
     requires shares { IsNoMore shares.old parts.old.register.totals }
     ensures book { IsBook S.view parts.new.register parts.new.store room stopped }
+    ensures retraced { IsRetraced S.starts S.makes S.view S.waits (book_of parts.new.register parts.new.store room stopped) }
     ensures turned { (s : FlatState) → ReplaysTo (book_of parts.old.register parts.old.store room stopped) s
         → Turned S.view S.waits (book_of parts.old.register parts.old.store room stopped) s shares.old core (option_copied next.entry) result
         (book_of parts.new.register parts.new.store room stopped) shares.new }
@@ -234,6 +247,7 @@ fn turn_within<S: EpochStore>(
         → StoreMoves S.makes S.view S.waits (standing_of (turn_at S.waits (book_of parts.old.register parts.old.store room stopped) s core (option_copied next.entry))) parts.old.store parts.new.store }
     ensures most { length parts.new.register.history.items < length parts.old.register.history.items + (limits_of parts.old.register.image.version).free_entries }
 {
+    S::calls_are_fixed();
     if let Some(end) = parts.register.end {
         return Ok(Answer::Over(end));
     }
@@ -280,6 +294,7 @@ fn make_room<S: EpochStore>(parts: &mut Parts<S>, entries: u32) -> Result<(), No
     ensures register { IsAsBefore parts.old.register parts.new.register }
     ensures store { IsSameView (S.view parts.old.store) (S.view parts.new.store) }
     ensures waits { S.waits parts.new.store ≡ S.waits parts.old.store }
+    ensures still { IsStill S.makes S.view S.waits parts.old.store parts.new.store }
     ensures makes { OnOk result (S.makes parts.old.store call.Reserve parts.new.store) }
     ensures room { OnOk result (vec_len parts.new.register.history + entries ≤ vec_capacity parts.new.register.history) }
     ensures budget { OnOk result (4 ≤ S.budget parts.new.store) }

@@ -1,10 +1,11 @@
 //! The book's register and store, which may be out of step within a turn: one method for each case of a turn.
-ghost use Rattle.std.specs.Prelude.{◌≡◌, ◌∷◌, [], ◌<◌, ◌≤◌, ℕ, length, None, Some, true, option_copied};
+ghost use Rattle.std.specs.Prelude.{◌≡◌, ◌∷◌, [], ◌<◌, ◌≤◌, ℕ, length, None, Some, true, false, option_copied};
 ghost use Rattle.homefree.specs.Came.{answer_of};
+ghost use Rattle.rv32_exec.specs.NextEvent.{next_event};
 ghost use Rattle.homefree.specs.Acted.{Acted, MayNote, IfArrived};
 ghost use Rattle.homefree.specs.Arms.{Arrives, running_by};
 ghost use Rattle.homefree.specs.Kept.{Fits, running_at};
-ghost use Rattle.homefree.specs.Moves.{Moves, TurnMoves, stop_calls, is_exit, start_calls};
+ghost use Rattle.homefree.specs.Moves.{HasToWait, Moves, TurnMoves, stop_calls, is_exit, start_calls};
 ghost use Rattle.homefree.specs.Standing.{standing};
 ghost use Rattle.violations.specs.Calls.{Leads};
 ghost use Rattle.violations.specs.Calls as call;
@@ -35,6 +36,8 @@ impl<S: EpochStore> Parts<S> {
         requires next { IfArrived self.old.register.image (option_copied next) }
         ensures acted { Acted self.old.register self.new.register (S.waits self.old.store) (S.view self.old.store) (S.view self.new.store) shares.old shares.new core (option_copied next.entry) (answer_of self.new.register.running.items core result) }
         ensures moves { TurnMoves S.makes S.view (standing self.old.register (S.waits self.old.store) core (option_copied next.entry)) self.old.store self.new.store }
+        ensures still { (now : Running) → running_at self.old.register.running.items core ≡ Some now → now.hurt ≡ false
+            → HasToWait (S.waits self.old.store) self.old.register.homefree core now (next_event self.old.register.image now.hart).at → self.new.store ≡ self.old.store }
     {
         match &self.register.running[core as usize] {
             None => self.start(shares, core, next),
@@ -66,6 +69,7 @@ impl<S: EpochStore> Parts<S> {
         ensures acted { Acted self.old.register self.new.register (S.waits self.old.store) (S.view self.old.store) (S.view self.new.store) shares.old shares.new core (Some arrived.entry.now) (answer_of self.new.register.running.items core result) }
         ensures moves { Moves S.makes S.view (stop_calls self.old.register.image (S.waits self.old.store) self.old.register.homefree core (running_by now arrived.entry.now.base) arrived.entry.now.now arrived.entry.now.at)
             (is_exit self.old.register.image self.old.register.homefree (running_by now arrived.entry.now.base) arrived.entry.now.now arrived.entry.now.at) (length self.old.register.running.items) core self.old.store self.new.store }
+        ensures still { HasToWait (S.waits self.old.store) self.old.register.homefree core (running_by now arrived.entry.now.base) arrived.entry.now.at → self.new.store ≡ self.old.store }
     {
         let at = arrived.at();
         match at {

@@ -1,5 +1,5 @@
 //! Accesses of a core that isn't straight.
-ghost use Rattle.std.specs.Prelude.{◌≡◌, ◌==◌, ◌&&◌, ◌≤◌, ℕ, Bool, false, is_some, Some};
+ghost use Rattle.std.specs.Prelude.{◌≡◌, ◌≢◌, ◌==◌, ◌&&◌, ◌≤◌, ℕ, Bool, false, is_some, Some, IsSome};
 ghost use Rattle.homefree.specs.Came.{answer_of};
 ghost use Rattle.homefree.specs.Acted.{Acted};
 ghost use Rattle.homefree.specs.Arms.{Arrives, running_by};
@@ -30,6 +30,7 @@ impl<S: EpochStore> Parts<S> {
         requires speculates { now.straight ≡ false }
         requires load { (signed : Bool) × (rd : ℕ) × (arrived.now.at ≡ Stop.Load addr width signed rd) }
         ensures acted { Acted self.old.register self.new.register (S.waits self.old.store) (S.view self.old.store) (S.view self.new.store) shares.old shares.new core (Some arrived.entry.now) (answer_of self.new.register.running.items core result) }
+        ensures still { now.epoch ≢ self.old.register.homefree → IsSome ((S.waits self.old.store).load core addr width) → self.new.store ≡ self.old.store }
         ensures moves { Leads S.makes (access_calls false (is_some ((S.waits self.old.store).load core addr width) && (now.epoch == self.old.register.homefree)) core (call.Load core addr width) (call.StraightLoad core addr width)) self.old.store self.new.store }
     {
         match self.store.load(core, addr, width) {
@@ -64,6 +65,7 @@ impl<S: EpochStore> Parts<S> {
         requires speculates { now.straight ≡ false }
         requires store { arrived.now.at ≡ Stop.Store addr width value }
         ensures acted { Acted self.old.register self.new.register (S.waits self.old.store) (S.view self.old.store) (S.view self.new.store) shares.old shares.new core (Some arrived.entry.now) (answer_of self.new.register.running.items core result) }
+        ensures still { now.epoch ≢ self.old.register.homefree → IsSome ((S.waits self.old.store).store core addr width) → self.new.store ≡ self.old.store }
         ensures moves { Leads S.makes (access_calls false (is_some ((S.waits self.old.store).store core addr width) && (now.epoch == self.old.register.homefree)) core (call.Store core addr width value) (call.StraightStore core addr width value)) self.old.store self.new.store }
     {
         match self.store.store(core, addr, width, value) {

@@ -1,5 +1,5 @@
 -- The entries of a turn: what each violation was about is known, and over caches nobody is passed over.
-use Rattle.std.proofs.Common.{◌≡◌, ◌≢◌, ℕ, zero, suc, ◌+◌, ◌%◌, ◌<◌, ◌≤◌, ◌&&◌, Bool, true, false, is_some, List, [], ◌++◌, Option, Some, None, if◌then◌else◌, refl, sym, ap, subst, ◌∙◌, inl, inr, arith}
+use Rattle.std.proofs.Common.{◌≡◌, ◌≢◌, ℕ, zero, suc, ◌+◌, ◌<◌, ◌≤◌, ◌&&◌, Bool, true, false, is_some, List, [], ◌++◌, Option, Some, None, if◌then◌else◌, refl, sym, ap, subst, ◌∙◌, inl, inr, arith}
 use Rattle.std.proofs.lemmas.Bool.{eq-eqb}
 use Rattle.std.proofs.lemmas.List.{append_assoc}
 use Rattle.memory_bytes.specs.Bytes.{IsWidth}
@@ -25,7 +25,6 @@ use Rattle.homefree.specs.Hurts.{entry, entry_for_each, cancels, epoch_on, is_ot
 use Rattle.homefree.specs.Turned as turn
 use Rattle.homefree.specs.Turned.{Acts, Follows, Outcome, Turn, entry_of, hurts_of}
 use Rattle.homefree.proofs.Violations.Knowing.{next_what, PassedHere, AllKnown}
-use Rattle.homefree.proofs.Violations.Sharing.{line_length}
 use Rattle.homefree.proofs.Violations.Notices.{writes_none, all_known}
 use Rattle.homefree.proofs.Violations.Victims.{loads_known, stores_known, straight_known, store_passes, commit_passes, straight_passes, first_batch, second_batch, publishing, commit_batch, then_access}
 

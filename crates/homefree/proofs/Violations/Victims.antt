@@ -1,5 +1,5 @@
 -- The cores that a call violates, and those that it passes over: which they are in each state of a turn, and what is known of them.
-use Rattle.std.proofs.Common.{◌≡◌, ◌≢◌, ◌⊎◌, ℕ, suc, ◌+◌, ◌*◌, ◌/◌, ◌%◌, ◌<◌, ◌==◌, ◌||◌, Bool, true, false, is_some, List, [], ◌++◌, Option, Some, None, option_map, option_and_then, if◌then◌else◌, refl, sym, ap, subst, ◌∙◌, inl, inr, true≢false, arith}
+use Rattle.std.proofs.Common.{◌≡◌, ◌≢◌, ◌⊎◌, ℕ, suc, ◌+◌, ◌*◌, ◌%◌, ◌<◌, ◌==◌, ◌||◌, Bool, true, false, is_some, List, [], ◌++◌, Option, Some, None, option_map, option_and_then, if◌then◌else◌, refl, sym, ap, subst, ◌∙◌, inl, inr, true≢false, arith}
 use Rattle.std.proofs.lemmas.Bool.{cases_eq, cases_Bool, eq-eqb, and_parts}
 use Rattle.std.proofs.lemmas.List.{append_assoc}
 use Rattle.std.proofs.lemmas.Option.{same_Some}
@@ -30,7 +30,7 @@ use Rattle.homefree.specs.Missed.{IsMissed, IsFurtherStore}
 use Rattle.homefree.specs.Turned.{publishes_unless}
 use Rattle.homefree.proofs.Violations.Knowing.{next_what, IsExplained, PassedHere, AllKnown}
 use Rattle.homefree.proofs.State.Others.{spared_core}
-use Rattle.homefree.proofs.Violations.Sharing.{line_length, is_met, is_shared_byte, load_crowded, store_crowded}
+use Rattle.homefree.proofs.Violations.Sharing.{is_met, is_shared_byte, load_crowded, store_crowded}
 use Rattle.homefree.proofs.Violations.Notices.{writes_none, Bytes, bytes_of, Keeps, hurt_keeps, after, was_there, IsNoLess, IsHurtIn, hurt_here, hurt_still, unhurt_was, hurt_effect, all_known}
 
 -- ---- a core that a call violates

@@ -1,6 +1,8 @@
-use Rattle.std.proofs.Common.{option_copied}
-use Rattle.homefree.proofs.Books.Turns.{fits_same, book_same, turned_refused, turned_acts, may_note, book_acts, acts_most, same_most, has_free, has_room}
+use Rattle.std.proofs.Common.{length, option_copied, refl, ap}
+use Rattle.homefree.specs.BookInside.{book_of}
+use Rattle.homefree.proofs.Books.Turns.{fits_same, in_step, book_same, turned_refused, turned_acts, may_note, book_acts, acts_most, same_most, has_free, has_room}
 use Rattle.homefree.proofs.Cases.Moving.{turn_takes}
+use Rattle.homefree.proofs.Retracing.Books.{reached_hart, retraced_same, retraced_turn, waits_still}
 use Rattle.homefree.proofs.book.turn_within.Goals as goal
 
 pub returns-in_default-make_room-clause-book : goal.returns-in_default-make_room-clause-book
@@ -68,3 +70,27 @@ returns-clause-moves g c = λ s answer replays may is.
     let q = c.make_room.new.parts in
     turn_takes g.S.EpochStore.makes g.S.EpochStore.view g.S.EpochStore.waits p.register q.register p.store q.store c.turn-came.new.self.store c.args.room c.args.core c.args.stopped
     (option_copied c.args.next) c.requires.book.fits c.make_room.ensures.register c.make_room.ensures.waits c.in-Ok.ensures.makes c.turn-came.ensures.moves s replays
+
+pub returns-in_default-make_room-clause-retraced : goal.returns-in_default-make_room-clause-retraced
+returns-in_default-make_room-clause-retraced g c =
+    let p = c.args.parts.now in
+    let q = c.make_room.new.parts in
+    let same = c.make_room.ensures.register in
+    retraced_same g.S.EpochStore.starts g.S.EpochStore.makes g.S.EpochStore.view g.S.EpochStore.waits c.calls_are_fixed.ensures.rooms (book_of p.register p.store c.args.room c.args.stopped)
+    (book_of q.register q.store c.args.room c.args.stopped) same.image (ap (λ v. length v.items) same.running) refl same.history same.totals c.make_room.ensures.still c.requires.retraced
+
+pub returns-clause-retraced : goal.returns-clause-retraced
+returns-clause-retraced g c =
+    let p = c.args.parts.now in
+    let q = c.make_room.new.parts in
+    let n = c.turn-came.new.self in
+    let s = c.requires.book.fits.state in
+    let leads = c.requires.book.fits.replays in
+    retraced_turn g.S.EpochStore.starts g.S.EpochStore.makes g.S.EpochStore.view g.S.EpochStore.waits c.calls_are_fixed.ensures.rooms (book_of p.register p.store c.args.room c.args.stopped)
+    (book_of n.register n.store c.args.room c.args.stopped) s c.args.shares.now c.turn-came.new.shares c.args.core (option_copied c.args.next) c.answer_of.result
+    (in_step g.S.EpochStore.view p.register p.store c.args.room c.args.stopped c.requires.book) c.requires.retraced leads c.requires.core
+    (λ may. returns-clause-moves g c s c.answer_of.result leads may refl)
+    (waits_still g.S.EpochStore.makes g.S.EpochStore.view g.S.EpochStore.waits p.register q.register p.store q.store n.store s c.args.core c.requires.book.fits leads c.make_room.ensures.register
+    c.make_room.ensures.still c.turn-came.ensures.still)
+    (reached_hart n.register (g.S.EpochStore.view n.store) n.store c.args.room c.args.core c.args.stopped c.turn-came.result c.answer_of.result c.turn-came.ensures.acted.fits c.answer_of.ensures)
+    (returns-clause-turned g c s leads)

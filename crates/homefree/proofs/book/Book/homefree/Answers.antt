@@ -9,4 +9,4 @@ returns-clause-homefree g c = search rules
 pub returns-clause-step : goal.returns-clause-step
 returns-clause-step g c =
     let i = c.self.inside.inside.value in
-    subst (InStep g.S.EpochStore.view) c.self.view_is (in_step g.S.EpochStore.view i.parts.register i.parts.store i.room i.stopped c.self.invariant)
+    subst (InStep g.S.EpochStore.view) c.self.view_is (in_step g.S.EpochStore.view i.parts.register i.parts.store i.room i.stopped c.self.invariant.0)

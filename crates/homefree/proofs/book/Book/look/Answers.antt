@@ -6,4 +6,4 @@ use Rattle.homefree.proofs.book.Book.look.Goals as goal
 pub returns : goal.returns
 returns g c =
     let i = c.self.inside.inside.value in
-    subst (InStep g.S.EpochStore.view) c.self.view_is (in_step g.S.EpochStore.view i.parts.register i.parts.store i.room i.stopped c.self.invariant)
+    subst (InStep g.S.EpochStore.view) c.self.view_is (in_step g.S.EpochStore.view i.parts.register i.parts.store i.room i.stopped c.self.invariant.0)
