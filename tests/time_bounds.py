@@ -100,6 +100,9 @@ def bounds() -> list[Bound]:
         text = hard.text_of(form, ENTRIES)
         rows.append(Bound(f"why to audit, {form}", MOST_OF_WHY, Call("why", (), text),
                           Call("trace_cli", ("audit",), text)))
+    for form in ("stores", "notices"):
+        twice = [Call("why", ("--attempts",), hard.text_of(form, count)) for count in (200_000, 100_000)]
+        rows.append(Bound(f"why --attempts, {form}, twice the entries", MOST_OF_TWICE, *twice))
     even = [Call("replay", ("even", "plain", "2"), loads(count)) for count in (MANY, FEW)]
     rows.append(Bound("even plain, 60,000 epochs to 10,000", MOST_OF_MANY, *even))
     audits = [Call("trace_cli", ("audit",), loads(count) + trace_of_loads(count)) for count in (MANY, FEW)]

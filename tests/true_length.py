@@ -110,6 +110,14 @@ def report(times: int) -> str:
     return lines + "\n".join(sums) + "\n"
 
 
+def attempts(times: int) -> str:
+    """The lines of its attempts: epoch 0 executes its branch, its store and its return beside the rest of its loop."""
+    form = "attempt {} epoch 1 try {} core 1 done 3 violated {} by 0 core 0\n"
+    again = "".join(form.format(4 * number - 3, number, 4 * number - 1) for number in range(1, times + 1))
+    return (f"attempt 0 epoch 0 try 1 core 0 done {3 * times + 2} committed {4 * times + 2} by 0 core 0\n{again}"
+            f"attempt {4 * times + 1} epoch 1 try {times + 1} core 1 done 3 committed {4 * times + 4} by 1 core 1\n")
+
+
 def traces(program: str, why: str | None) -> Results:
     in_order, meeting = loads_in_order(), beside_each_other(TIMES)
     yield "audit: 1,048,560 loads", differs(run([program], ["audit"], in_order),
@@ -122,6 +130,9 @@ def traces(program: str, why: str | None) -> Results:
              "dropped 0 open 0 unsettled 0\n")
     yield "why: 1,048,560 loads", differs(run([why], [], in_order), (total, "", 0))
     yield "why: 262,138 violations", differs(run([why], [], meeting), (report(TIMES), "", 0))
+    above, _, below = report(TIMES).partition("\nepoch ")
+    yield "why: 262,140 attempts", differs(run([why], ["--attempts"], meeting),
+                                           (f"{above}\n{attempts(TIMES)}epoch {below}", "", 0))
 
 
 # --- Runs ----------------------------------------------------------------------

@@ -10,7 +10,8 @@ program is beside it the test is left out, and a line says so. Of each run: one 
 their places; no violation is unexplained; the lines of further runs stand below their violation's and share no byte
 with another of its runs; one line for each cancellation of an attempt that was not violated, and for each attempt that
 goes on; the sums of the kinds, of the pairs of instructions, and the total, are those of the lines, and pairs and lines
-of the caches stand heaviest first. Exits with 1 where a check failed.
+of the caches stand heaviest first. With the word `--attempts` there is a line more for each attempt, in the order of
+their starts and restarts, and its instructions are those of the other lines. Exits with 1 where a check failed.
 """
 
 import sys
@@ -28,6 +29,12 @@ LOOPS = ["byte_search", "counter", "first_match", "hash_insert", "histogram", "l
 CORES = [2, 4, 8]
 WAITS = "size 256\nepochs 2\nlimit 50\ncode 6308050083220004e38e02fe67800000930210002320500467800000\n"
 # (what it shows, input, standard output, standard error, status)
+# Epoch 1 waits for a word, which epoch 0 stores; it is violated when epoch 0 commits, and goes on.
+GOES_ON = WAITS + ("trace 2\n0 start 0\n1 start 1\n1 load 00000040 4 00000000\n0 store 00000040 4 00000001\n0 hurt 1\n"
+                   "0 commit\n1 restart\n")
+ATTEMPTS = ("attempt 0 epoch 0 try 1 core 0 done 4 committed 5 by 0 core 0\n"
+            "attempt 1 epoch 1 try 1 core 1 done 3 violated 4 by 0 core 0\n"
+            "attempt 6 epoch 1 try 2 core 1 done 1 open\n")
 REFUSED = [
     ("an image without its code", "size 256\ntrace 2\n", "", "image 0 MissingOrRepeated\n", 2),
     ("a trace without its head", WAITS, "", "trace 0 Head\n", 2),
@@ -69,6 +76,50 @@ def outcome(command: Sequence[str | Path], text: str) -> Outcome:
 
 def value_of(words: list[str], name: str) -> int:
     return int(words[words.index(name) + 1])
+
+
+FATES = {"hurt": "violated", "cancel": "cancelled", "commit": "committed", "fault": "faulted"}
+
+
+def attempts(entries: list[str]) -> list[tuple[str, str]]:
+    """Of each attempt of a trace, by its first entry: `ENTRY epoch E try T core C`, and how it ended."""
+    told: list[tuple[str, str]] = []
+    runs: dict[str, tuple[str, int, int | None]] = {}           # epoch, try, and which in `told` where it goes on
+    for place, (core, what, *rest) in enumerate(entry.split() for entry in entries):
+        if what in ("start", "restart"):
+            epoch, number = (rest[0], 1) if what == "start" else (runs[core][0], runs[core][1] + 1)
+            runs[core] = epoch, number, len(told)
+            told.append((f"{place} epoch {epoch} try {number} core {core}", "open"))
+        if what in FATES:
+            one = next(core for core, run in runs.items() if run[0] == rest[0]) if what in ("hurt", "cancel") else core
+            epoch, number, at = runs[one]
+            if at is not None:
+                told[at] = (told[at][0], f"{FATES[what]} {place} by {runs[core][0]} core {core}")
+            runs[one] = epoch, number, None
+            if what in ("cancel", "commit"):
+                del runs[one]
+    return told
+
+
+def attempts_wrong(report: str, plain: str, trace: str) -> str | None:
+    """What is wrong with the lines of attempts in a report that has them, or None: which they are, and what they
+    executed by the other lines."""
+    lines = report.splitlines(True)
+    if "".join(line for line in lines if not line.startswith("attempt ")) != plain:
+        return "the other lines are not those without the word"
+    told = [line.split() for line in lines if line.startswith("attempt ")]
+    wanted = attempts(trace.splitlines()[1:])
+    if [(" ".join(words[1:8]), " ".join(words[10:])) for words in told] != wanted:
+        return f"the attempts are {told}, but the trace has {wanted}"
+    others = [line.split() for line in plain.splitlines()]
+    done = {words[11]: int(words[9]) for words in told if words[10] in ("violated", "cancelled")}
+    if done != {words[1]: value_of(words, "lost") for words in others if words[0] in ("hurt", "cancel")}:
+        return f"the attempts that did not commit executed {done}"
+    sums = [sum(int(words[9]) for words in told if words[10] in fates)
+            for fates in (("committed", "faulted"), ("open",))]
+    if sums != [value_of(others[-1], "useful"), value_of(others[-1], "unsettled")]:
+        return f"those that committed or go on executed {sums}"
+    return None
 
 
 def unended(entries: list[str]) -> tuple[list[str], list[str]]:
@@ -190,6 +241,10 @@ def real(command: list[str], why: Path) -> Iterator[Check]:
             yield (f"{name} on {cores} cores",
                    f"{errors!r}, status {status}" if (errors, status) != ("", 0) else differences(report, trace)
                    or runs_wrong(report))
+            told, errors, status = outcome([why, "--attempts"], image + trace)
+            yield (f"the attempts of {name} on {cores} cores",
+                   f"{errors!r}, status {status}" if (errors, status) != ("", 0)
+                   else attempts_wrong(told, report, trace))
 
 
 def refused(why: Path) -> Iterator[Check]:
@@ -197,6 +252,13 @@ def refused(why: Path) -> Iterator[Check]:
         yield name, differs(outcome([why], text), (output, errors, status))
     for name, word in ("a word", "seq"), ("a word that is no UTF-8", "\udcff"):
         yield name, differs(outcome([why, word], WAITS), ("", "usage\n", 2))
+    for words in (["--attempts", "plain"], ["--attempts", "--attempts"], ["plain", "attempts"], ["--attempts="],
+                  ["plain", "--attempts", "--attempts"]):
+        yield f"the words {' '.join(words)}", differs(outcome([why, *words], WAITS), ("", "usage\n", 2))
+    for words in (["--attempts"], ["plain", "--attempts"], ["caches:sets=4", "--attempts"]):
+        told = outcome([why, *words], GOES_ON)[0].splitlines(True)
+        yield (f"the words {' '.join(words)}",
+               differs("".join(line for line in told if line.startswith("attempt ")), ATTEMPTS))
 
 
 def main() -> int:

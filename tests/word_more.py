@@ -71,6 +71,8 @@ LINES = {
         Line(LABELLED, "specs/Lines.antt", "moot_by", "src/lines.rt", "push_moot", "place", "found.place as u128"),
         Line(LABELLED, "specs/Ends.antt", "cancel_line", "src/ends.rt", "push_cancelled", "e.done", "e.done as u128"),
         Line(LABELLED, "specs/Ends.antt", "open_line", "src/ends.rt", "push_open", "o.done", "running.done as u128"),
+        Line(LABELLED, "specs/AllAttempts.antt", "attempt_line", "src/attempts.rt", "push_attempt", "a.done",
+             "a.done as u128"),
         Line(LABELLED, "specs/Report.antt", "epoch_line", "src/sums.rt", "push_epoch", "e.0", "epoch as u128"),
         Line(LABELLED, "specs/Report.antt", "pair_line", "src/parts.rt", "push_pair", "p.sum.count",
              "sum.sum.count as u128"),

@@ -1,7 +1,8 @@
 -- Definitions to believe: the further runs of bytes at which two epochs met.
 pub mod Runs
--- Which attempts of a history ended, how, and which go on; how many they are, and what they executed.
+-- Which attempts of a history ended, how, and which go on; all of them, from where they began; how many they are, and what they executed.
 pub mod Ends
+pub mod AllAttempts
 pub mod Tallies
 -- What is found of a violation; what of it is summed, what parts there are, and their sums.
 pub mod Findings

@@ -2,6 +2,7 @@
 //! and what it had executed then; and what violations cost, summed over those that have something in common.
 #![tactic(auto)]
 
+mod attempts;
 mod bytes;
 pub mod end_laws;
 mod ended;
@@ -28,6 +29,7 @@ mod sums;
 mod tally;
 mod violated;
 
+pub use attempts::{Attempt, AttemptEnd, Fate, attempts_in_order};
 pub use ended::{Ended, Ending, Ends, Running};
 pub use ending::ended_by;
 pub use finding::{Access, Finding, FurtherRun, finding_of};

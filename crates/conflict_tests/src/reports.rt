@@ -447,6 +447,83 @@ fn takes_no_words(rt: HostRuntime) {
     }
 }
 
+/// With a line for each attempt; one of epoch 1 is cancelled.
+const EXITS_ATTEMPTS: &str =
+    "hurt 5 true epoch 2 try 1 core 2 lost 2 entered 1 since 2 by 1 core 1 cause 6 store load 3 00000000 store 6 00000008 at 00000040 4
+vain 5 hurt
+moot 5
+hurt 8 true epoch 1 try 1 core 1 lost 5 entered 3 since 5 by 0 core 0 cause 9 store load 4 00000000 store 9 00000008 at 00000040 4
+cancel 12 epoch 1 try 2 core 1 lost 2 by 0 core 0
+attempt 0 epoch 0 try 1 core 0 done 5 committed 14 by 0 core 0
+attempt 1 epoch 1 try 1 core 1 done 5 violated 8 by 0 core 0
+attempt 2 epoch 2 try 1 core 2 done 2 violated 5 by 1 core 1
+attempt 10 epoch 1 try 2 core 1 done 2 cancelled 12 by 0 core 0
+epoch 1 rollbacks 1 lost 5
+epoch 2 rollbacks 1 lost 2
+pair store 00000008 load 00000000 rollbacks 2 lost 7 true 2 silent 0 false 0 buffer 0 stale 0 vain 1 later 0 distance 1 1 at 00000040 4
+line 00000040 rollbacks 2 lost 7 true 2 silent 0 false 0 buffer 0
+pc 00000000 victim 2 7 causer 0 0
+pc 00000008 victim 0 0 causer 2 7
+kind true rollbacks 2 lost 7
+total epochs 3 committed 1 useful 5 rollbacks 2 lost 7 cancelled 1 dropped 2 open 0 unsettled 0
+";
+
+/// The same of a history after which one goes on.
+const FOR_NOTHING_ATTEMPTS: &str =
+    "hurt 2 other epoch 1 try 1 core 1 lost 0 entered 0 since - by 0 core 0 cause - - load - - store - - at - -
+open epoch 1 try 2 core 1 done 0
+attempt 0 epoch 0 try 1 core 0 done 3 committed 6 by 0 core 0
+attempt 1 epoch 1 try 1 core 1 done 0 violated 2 by 0 core 0
+attempt 3 epoch 1 try 2 core 1 done 0 open
+epoch 1 rollbacks 1 lost 0
+kind other rollbacks 1 lost 0
+total epochs 2 committed 1 useful 3 rollbacks 1 lost 0 cancelled 0 dropped 0 open 1 unsettled 0
+";
+
+/// The same of one in which epoch 0 faults.
+const FAULTS_ATTEMPTS: &str =
+    "hurt 5 true epoch 1 try 1 core 1 lost 2 entered 1 since 2 by 0 core 0 cause 6 fault load 2 00000000 store 4 00000008 at 00000040 4
+attempt 0 epoch 0 try 1 core 0 done 3 faulted 6 by 0 core 0
+attempt 1 epoch 1 try 1 core 1 done 2 violated 5 by 0 core 0
+epoch 1 rollbacks 1 lost 2
+pair store 00000008 load 00000000 rollbacks 1 lost 2 true 1 silent 0 false 0 buffer 0 stale 0 vain 0 later 0 distance 1 1 at 00000040 4
+line 00000040 rollbacks 1 lost 2 true 1 silent 0 false 0 buffer 0
+pc 00000000 victim 1 2 causer 0 0
+pc 00000008 victim 0 0 causer 1 2
+kind true rollbacks 1 lost 2
+total epochs 2 committed 0 useful 3 rollbacks 1 lost 2 cancelled 0 dropped 0 open 0 unsettled 0
+";
+
+/// Histories, and what is printed of each with its attempts.
+const ATTEMPTS: [(&str, &str); 3] = [
+    (EXITS, EXITS_ATTEMPTS),
+    (FOR_NOTHING, FOR_NOTHING_ATTEMPTS),
+    (FAULTS, FAULTS_ATTEMPTS),
+];
+
+#[test]
+fn tells_each_attempt(rt: HostRuntime) {
+    let alloc = rt.alloc();
+    for (input, told) in ATTEMPTS {
+        let ran = run_on(alloc, &["why", "--attempts"], input);
+        assert!(rt; ran.is(0, told.as_bytes(), ""), "{input}");
+        let ran = run_on(alloc, &["why", "plain", "--attempts"], input);
+        assert!(rt; ran.is(0, told.as_bytes(), ""), "{input}");
+    }
+}
+
+#[test]
+fn takes_the_word_last(rt: HostRuntime) {
+    for words in [
+        ["why", "--attempts", "plain"],
+        ["why", "--attempts", "--attempts"],
+        ["why", "plain", "attempts"],
+    ] {
+        let ran = run_on(rt.alloc(), &words, WAITS);
+        assert!(rt; ran.is(2, b"", "usage\n"));
+    }
+}
+
 /// What is printed of the fifth line, where lines have 32 bytes: the five are in three of those.
 const FULL_BY_32_TOLD: &str =
     "hurt 11 buffer epoch 1 try 1 core 1 lost 7 entered 6 since - by 0 core 0 cause 12 load held 6 00000014 asked 12 0000002c at 00000080 32

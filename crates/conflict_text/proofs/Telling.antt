@@ -21,10 +21,10 @@ use Rattle.conflict_findings.specs.Rollbacks.{rollback_at}
 use Rattle.conflict_findings.specs.Sums.{sum_in}
 use Rattle.conflict_findings.specs.Tallies.{count_in, done_by, done_in, is_ended, is_same, tally_of_running}
 use Rattle.conflict_text.specs.declared.report.Totals.{Totals}
-use Rattle.conflict_text.specs.Ends.{attempt_lines, ended_line, is_told, line_by, rest_text, tally_text}
+use Rattle.conflict_text.specs.Ends.{attempt_lines, ended_line, is_kept, is_told, line_by, rest_text, tally_text}
 use Rattle.conflict_text.specs.Report.{kind_lines, total_text}
 use Rattle.conflict_text.specs.Totals.{AreTotals, last_lines}
-use Rattle.conflict_text.specs.Why.{AreCounted, AreFound}
+use Rattle.conflict_text.specs.Why.{AreCounted, AreFound, AreToldBelow}
 
 -- ---- sums
 
@@ -110,39 +110,65 @@ told_totals image homefree rs es os sums are = record {
   last_are = are.last_are ∙ told_last image homefree rs es os;
 }
 
+-- ---- where all are told
+
+all_kept : (es : List Ended) → filter (is_kept true) es ≡ es
+all_kept [] = refl
+all_kept (e ∷ es) = ap (λ (xs : List Ended). e ∷ xs) (all_kept es)
+
+kept_totals : (all : Bool) (image : LoadedImage) (homefree : ℕ) (rs : List Rollback) (es : List Ended) (os : List Running) (sums : Totals)
+    → AreTotals image homefree rs (filter (is_kept all) es) os sums → AreTotals image homefree rs es os sums
+kept_totals true image homefree rs es os sums are = subst (λ (xs : List Ended). AreTotals image homefree rs xs os sums) (all_kept es) are
+kept_totals false image homefree rs es os sums are = told_totals image homefree rs es os sums are
+
+kept_attempts : (all : Bool) (es : List Ended) (os : List Running) → attempt_lines (filter (is_kept all) es) os ≡ attempt_lines es os
+kept_attempts true es os = ap (λ (xs : List Ended). attempt_lines xs os) (all_kept es)
+kept_attempts false es os = told_attempts es os
+
+kept_below : (all : Bool) (history : List Entry) (es : List Ended) (os : List Running) (old new : List ℕ)
+    → AreToldBelow all history (filter (is_kept all) es) os old new → AreToldBelow all history es os old new
+kept_below true history es os old new below = subst (λ (xs : List Ended). AreToldBelow true history xs os old new) (all_kept es) below
+kept_below false history es os old new below = record { told = below.told; are = below.are; printed = below.printed }
+
 -- ---- all of a history
 
-counted_in : (image : LoadedImage) (cores : ℕ) (history : List Entry) (sites : List (Option Site)) (homefree : ℕ) (lines attempts : List ℕ) (sums : Sums) (es : List Ended) (os : List Running) (totals : Totals)
-    → AreFound image cores history sites (length history) lines sums → es ≡ filter is_told (ended_before image cores history (length history)) → os ≡ running_after image cores history
-    → attempts ≡ attempt_lines es os → ((rs : List Rollback) → AreAllSums rs sums → AreTotals image homefree rs es os totals)
-    → AreCounted image cores history sites homefree lines attempts totals
-counted_in image cores history sites homefree lines attempts sums es os totals found ended running told summed =
-    let all = ended_before image cores history (length history) in
+counted_in : (wanted : Bool) (image : LoadedImage) (cores : ℕ) (history : List Entry) (sites : List (Option Site)) (homefree : ℕ) (lines some attempts : List ℕ) (sums : Sums) (es : List Ended) (os : List Running) (totals : Totals)
+    → AreFound image cores history sites (length history) lines sums → es ≡ filter (is_kept wanted) (ended_before image cores history (length history)) → os ≡ running_after image cores history
+    → some ≡ attempt_lines es os → AreToldBelow wanted history es os some attempts → ((rs : List Rollback) → AreAllSums rs sums → AreTotals image homefree rs es os totals)
+    → AreCounted wanted image cores history sites homefree lines attempts totals
+counted_in wanted image cores history sites homefree lines some attempts sums es os totals found ended running told below summed =
+    let every = ended_before image cores history (length history) in
     let after = running_after image cores history in
+    let under = kept_below wanted history every after some attempts
+    (subst (λ (xs : List Ended). AreToldBelow wanted history xs after some attempts) ended
+    (subst (λ (xs : List Running). AreToldBelow wanted history es xs some attempts) running below)) in
     let rs = map (rollback_at image history sites) found.found in record {
       found = found.found;
       are = found.are;
       told = found.told;
-      counted = told_totals image homefree rs all after totals
+      counted = kept_totals wanted image homefree rs every after totals
           (subst (λ (xs : List Ended). AreTotals image homefree rs xs after totals) ended
           (subst (λ (xs : List Running). AreTotals image homefree rs es xs totals) running (summed rs found.summed)));
-      printed = told ∙ (ap₂ attempt_lines ended running ∙ told_attempts all after);
+      all = under.told;
+      all_are = under.are;
+      printed = under.printed ∙ ap (λ t. t ++ under.told) (told ∙ (ap₂ attempt_lines ended running ∙ kept_attempts wanted every after));
     }
 
 -- the slices are the lists that own them
-pub counted_of : (image : LoadedImage) (cores : ℕ) (part history : List Entry) (given sites : List (Option Site)) (homefree : ℕ) (lines attempts : List ℕ) (sums : Sums) (es : List Ended) (os : List Running) (totals : Totals)
+pub counted_of : (wanted : Bool) (image : LoadedImage) (cores : ℕ) (part history : List Entry) (given sites : List (Option Site)) (homefree : ℕ) (lines some attempts : List ℕ) (sums : Sums) (es : List Ended) (os : List Running) (totals : Totals)
     → part ≡ history → given ≡ sites
-    → AreFound image cores part given (length part) lines sums → es ≡ filter is_told (ended_before image cores part (length part)) → os ≡ running_after image cores part
-    → attempts ≡ attempt_lines es os → ((rs : List Rollback) → AreAllSums rs sums → AreTotals image homefree rs es os totals)
-    → AreCounted image cores history sites homefree lines attempts totals
-counted_of image cores part history given sites homefree lines attempts sums es os totals same stood found ended running told summed =
-    subst (λ (xs : List (Option Site)). AreCounted image cores history xs homefree lines attempts totals) stood
-    (subst (λ (xs : List Entry). AreCounted image cores xs given homefree lines attempts totals) same
-    (counted_in image cores part given homefree lines attempts sums es os totals found ended running told summed))
+    → AreFound image cores part given (length part) lines sums → es ≡ filter (is_kept wanted) (ended_before image cores part (length part)) → os ≡ running_after image cores part
+    → some ≡ attempt_lines es os → AreToldBelow wanted part es os some attempts → ((rs : List Rollback) → AreAllSums rs sums → AreTotals image homefree rs es os totals)
+    → AreCounted wanted image cores history sites homefree lines attempts totals
+counted_of wanted image cores part history given sites homefree lines some attempts sums es os totals same stood found ended running told below summed =
+    subst (λ (xs : List (Option Site)). AreCounted wanted image cores history xs homefree lines attempts totals) stood
+    (subst (λ (xs : List Entry). AreCounted wanted image cores xs given homefree lines attempts totals) same
+    (counted_in wanted image cores part given homefree lines some attempts sums es os totals found ended running told below summed))
 
 -- ---- one more
 
-pub told_more : (found : Option Ended) (before after : List Ended) (old new : List Ended) → before ++ option_to_list found ≡ after
-    → old ≡ filter is_told before → new ≡ old ++ filter is_told (option_to_list found) → new ≡ filter is_told after
-told_more found before after old new is was grown =
-    grown ∙ (ap (λ xs. xs ++ filter is_told (option_to_list found)) was ∙ (sym (filter-append is_told before (option_to_list found)) ∙ ap (filter is_told) is))
+pub kept_more : (all : Bool) (found : Option Ended) (before after : List Ended) (old new : List Ended) → before ++ option_to_list found ≡ after
+    → old ≡ filter (is_kept all) before → new ≡ old ++ filter (is_kept all) (option_to_list found) → new ≡ filter (is_kept all) after
+kept_more all found before after old new is was grown =
+    grown ∙ (ap (λ xs. xs ++ filter (is_kept all) (option_to_list found)) was
+    ∙ (sym (filter-append (is_kept all) before (option_to_list found)) ∙ ap (filter (is_kept all)) is))

@@ -1,6 +1,6 @@
 -- The lines of attempts that were cancelled and of those that go on, and what the total says of attempts.
 -- Source: this project.
-use Rattle.std.specs.Prelude.{ℕ, Bool, not, List, [], ◌++◌, codes}
+use Rattle.std.specs.Prelude.{ℕ, Bool, not, ◌||◌, List, [], ◌++◌, codes}
 use Rattle.std.specs.List.{flat_map}
 use Rattle.conflicts.specs.declared.explanation.Runner.{Runner}
 use Rattle.conflict_findings.specs.declared.ended.Ended.{Ended}
@@ -36,6 +36,10 @@ open_line o = runner_text (codes "open epoch ") o.runner o.attempt ++ named (cod
 -- of an attempt that was violated its violation tells
 abbrev pub is_told : Ended → Bool
 is_told e = not (is_ended Violated e)
+
+-- where all attempts are told, each is kept
+abbrev pub is_kept : Bool → Ended → Bool
+is_kept all e = all || is_told e
 
 -- the lines of both, in order
 abbrev pub attempt_lines : List Ended → List Running → List ℕ

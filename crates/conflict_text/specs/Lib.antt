@@ -1,6 +1,7 @@
 -- Definitions to believe: the lines that tell of one violation, those of attempts, and the report.
 pub mod Lines
 pub mod Ends
+pub mod AllAttempts
 pub mod Report
 -- Definitions to believe: what the report of a history is.
 pub mod Explaining

@@ -147,8 +147,9 @@ pub record IsSummary (image : LoadedImage) (homefree : ℕ) (rollbacks : List Ro
   pub printed : text ≡ flat_map epoch_line epochs.entries ++ flat_map pair_line pairs ++ flat_map (line_line image rollbacks) ordered_lines
       ++ flat_map (pc_line rollbacks) instructions.entries ++ kind_lines rollbacks ++ total_line image homefree rollbacks ended running
 
--- the violations in order, each with its further runs, the attempts that were cancelled and those that go on, and the sums
-pub record IsPrinted (image : LoadedImage) (homefree : ℕ) (found : List (Finding × List FurtherRun)) (ended : List Ended) (running : List Running) (text : List ℕ) : Type 0 where
+-- the violations in order, each with its further runs, the attempts that were cancelled and those that go on, the lines that are wanted of all
+-- attempts, and the sums
+pub record IsPrinted (image : LoadedImage) (homefree : ℕ) (found : List (Finding × List FurtherRun)) (ended : List Ended) (running : List Running) (all text : List ℕ) : Type 0 where
   pub sums : List ℕ
   pub summed : IsSummary image homefree (map (λ (v : Finding × List FurtherRun). rollback_of v.0) found) ended running sums
-  pub printed : text ≡ told_lines found ++ attempt_lines ended running ++ sums
+  pub printed : text ≡ told_lines found ++ attempt_lines ended running ++ all ++ sums

@@ -13,15 +13,25 @@ use trace_commands::{
     write_whole,
 };
 
+/// What `why` is asked for.
+#[derive(Clone, Copy, Debug, PartialEq, Eq)]
+pub struct WhyAsked {
+    /// The machine of the run.
+    pub machine: MachineAsked,
+    /// Each attempt of the history has a line.
+    pub attempts: bool,
+}
+
 /// `why`: replays the trace that the reader gives below its image on the flat machine, and writes the report of which conflicts
-/// rolled back, on the machine that is asked for; where the trace is illegal, the line of an audit.
+/// rolled back, on the machine that is asked for, and with a line for each attempt, where that is; where the trace is illegal, the line of an
+/// audit.
 ///
 /// The status is 0 where the trace is legal, 4 where it is illegal, 2 where the image or the trace can't be read or the machine is
 /// refused, and 3 where memory ran out or a write failed. In the last two cases one line on the error stream says which. Where anything
 /// is refused, or memory ran out, nothing was written; after a failed write a prefix of the report or of that line was.
 pub fn do_why<R: Read, W: Write, E: Write>(
     alloc: Global,
-    asked: MachineAsked,
+    asked: WhyAsked,
     reader: &mut R,
     writer: &mut W,
     errors: &mut E,
@@ -36,7 +46,7 @@ pub fn do_why<R: Read, W: Write, E: Write>(
 /// Runs `why`, all but its line on the error stream.
 fn run_why<R: Read, W: Write>(
     alloc: Global,
-    asked: MachineAsked,
+    asked: WhyAsked,
     reader: &mut R,
     writer: &mut W,
 ) -> Outcome
@@ -50,12 +60,7 @@ fn run_why<R: Read, W: Write>(
 }
 
 /// Explains a trace on the machine that is asked for.
-fn explain_on<W: Write>(
-    alloc: Global,
-    asked: MachineAsked,
-    traced: Traced,
-    writer: &mut W,
-) -> Outcome
+fn explain_on<W: Write>(alloc: Global, asked: WhyAsked, traced: Traced, writer: &mut W) -> Outcome
     ensures { spec.IsOutcomeOn asked traced.image traced.cores traced.entries.items (W.contents writer.old) (W.contents writer.new) result }
 {
     let Traced {
@@ -63,7 +68,7 @@ fn explain_on<W: Write>(
         cores,
         entries,
     } = traced;
-    let Some(image) = asked.on(image) else {
+    let Some(image) = asked.machine.on(image) else {
         return Outcome::Usage;
     };
     let traced = Traced {
@@ -71,14 +76,15 @@ fn explain_on<W: Write>(
         cores,
         entries,
     };
-    explain_traced(alloc, traced, writer)
+    explain_traced(alloc, asked.attempts, traced, writer)
 }
 
-fn explain_traced<W: Write>(alloc: Global, traced: Traced, writer: &mut W) -> Outcome
-    ensures { spec.IsTracedOutcome traced.image traced.cores traced.entries.items (W.contents writer.old) (W.contents writer.new) result }
+/// Explains a trace on the machine of its image, with a line for each attempt where that is wanted.
+fn explain_traced<W: Write>(alloc: Global, wanted: bool, traced: Traced, writer: &mut W) -> Outcome
+    ensures { spec.IsTracedOutcome wanted traced.image traced.cores traced.entries.items (W.contents writer.old) (W.contents writer.new) result }
 {
     let entries = traced.entries.len();
-    match report_of(alloc, traced) {
+    match report_of(alloc, wanted, traced) {
         Ok(report) => {
             let verdict = Verdict::Legal {
                 entries,

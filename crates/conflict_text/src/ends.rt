@@ -11,7 +11,7 @@ use std::alloc::{AllocError, Global};
 
 /// Whose attempt it is, and which run of its epoch.
 #[tactic(auto, using(crate::proofs::Joining::joined), unfolding(crate::specs::Ends::runner_text))]
-fn push_runner(
+pub(crate) fn push_runner(
     text: &mut Vec<u8>,
     label: &[u8],
     runner: Runner,

@@ -13,10 +13,11 @@ ghost use Rattle.conflict_findings.specs.AllSums.{AreAllSums};
 ghost use Rattle.conflict_findings.specs.Ends.{ended_before, running_after};
 ghost use Rattle.conflict_findings.specs.Followed.{IsFollowed, IsFollowedTo};
 ghost use Rattle.conflict_findings.specs.Rollbacks.{rollback_at};
-ghost use Rattle.conflict_text.specs.Ends.{is_told};
+ghost use Rattle.conflict_text.specs.Ends.{is_kept};
 ghost use Rattle.conflict_text.specs.Explaining.{IsReport};
 ghost use Rattle.conflict_text.specs.Why as spec;
 
+use crate::attempts::push_wanted;
 use crate::ends::attempt_lines;
 use crate::lines::push_violation;
 use crate::report::{Totals, push_totals, totals_of};
@@ -56,19 +57,23 @@ struct Findings {
 struct Gathered {
     /// What is found of its violations.
     findings: Findings,
-    /// How its attempts ended, but for those that were violated.
+    /// How its attempts ended; but for those that were violated, unless all are told.
     ends: Ends,
     /// The homefree epoch after it.
     homefree: u32,
 }
 
-/// The report of the history of a trace.
+/// The report of the history of a trace, with a line for each attempt where that is wanted.
 ///
 /// An Err is that of an audit: the place, counted from 0, of the first entry that is refused, and its refusal. `NoMemory` has
 /// the place at which memory was refused, and the number of entries where there was none for the machine itself or for the
 /// report.
-pub(crate) fn report_of(alloc: Global, traced: Traced) -> Result<Report, (usize, Illegal)>
-    ensures report { IfOk result (λ told. IsReport traced.image traced.cores traced.entries.items told.homefree (told.violations.items ++ told.rest.items)) }
+pub(crate) fn report_of(
+    alloc: Global,
+    wanted: bool,
+    traced: Traced,
+) -> Result<Report, (usize, Illegal)>
+    ensures report { IfOk result (λ told. IsReport wanted traced.image traced.cores traced.entries.items told.homefree (told.violations.items ++ told.rest.items)) }
     ensures verdict { MatchResult result (λ told. IsVerdict traced.image traced.cores traced.entries.items (Legal (length traced.entries.items) told.homefree))
         (λ fault. IsAuditFault traced.image traced.cores traced.entries.items fault.0 fault.1) }
 {
@@ -79,19 +84,24 @@ pub(crate) fn report_of(alloc: Global, traced: Traced) -> Result<Report, (usize,
         traced.cores,
         traced.entries.as_slice(),
     )?;
-    match print(alloc, traced, sites) {
+    match print(alloc, wanted, traced, sites) {
         Ok(told) => Ok(told),
         Err(_) => Err((length, Illegal::NoMemory)),
     }
 }
 
 /// The same of a history with these sites.
-fn print(alloc: Global, traced: Traced, sites: Vec<Option<Site>>) -> Result<Report, AllocError>
+fn print(
+    alloc: Global,
+    wanted: bool,
+    traced: Traced,
+    sites: Vec<Option<Site>>,
+) -> Result<Report, AllocError>
     requires { sites.items ≡ sites_before traced.image traced.cores traced.entries.items (length traced.entries.items) }
-    ensures report { IfOk result (λ told. IsReport traced.image traced.cores traced.entries.items told.homefree (told.violations.items ++ told.rest.items)) }
+    ensures report { IfOk result (λ told. IsReport wanted traced.image traced.cores traced.entries.items told.homefree (told.violations.items ++ told.rest.items)) }
     ensures verdict { IfOk result (λ told. IsVerdict traced.image traced.cores traced.entries.items (Legal (length traced.entries.items) told.homefree)) }
 {
-    let (mut report, totals, image) = before_sums(alloc, traced, sites)?;
+    let (mut report, totals, image) = before_sums(alloc, wanted, traced, sites)?;
     push_totals(&mut report.rest, &image, totals)?;
     Ok(report)
 }
@@ -99,10 +109,11 @@ fn print(alloc: Global, traced: Traced, sites: Vec<Option<Site>>) -> Result<Repo
 /// The report but for the lines of its sums, the sums, and the image. The history and its sites are given back, which nothing else needs.
 fn before_sums(
     alloc: Global,
+    wanted: bool,
     traced: Traced,
     sites: Vec<Option<Site>>,
 ) -> Result<(Report, Totals, Image), AllocError>
-    ensures counted { IfOk result (λ told. spec.AreCounted traced.image traced.cores traced.entries.items sites.items
+    ensures counted { IfOk result (λ told. spec.AreCounted wanted traced.image traced.cores traced.entries.items sites.items
         told.0.homefree told.0.violations.items told.0.rest.items told.1) }
     ensures image { IfOk result (λ told. told.2 ≡ traced.image) }
     ensures verdict { IfOk result (λ told. IsVerdict traced.image traced.cores traced.entries.items (Legal (length traced.entries.items) told.0.homefree)) }
@@ -117,28 +128,30 @@ fn before_sums(
         findings,
         ends,
         homefree,
-    } = gather(alloc, &image, cores, entries, sites.as_slice())?;
+    } = gather(alloc, wanted, &image, cores, entries, sites.as_slice())?;
     let Findings { lines, sums, .. } = findings;
-    let attempts = attempt_lines(alloc, &ends)?;
+    let mut rest = attempt_lines(alloc, &ends)?;
+    push_wanted(alloc, &mut rest, wanted, entries, &ends)?;
     let totals = totals_of(alloc, &image, homefree, sums, &ends)?;
     let report = Report {
         violations: lines,
-        rest: attempts,
+        rest,
         homefree,
     };
     Ok((report, totals, image))
 }
 
-/// What is gathered of a history, in one replay.
+/// What is gathered of a history, in one replay. Of attempts that were violated only where all are told.
 fn gather(
     alloc: Global,
+    all: bool,
     image: &Image,
     cores: u32,
     entries: &[Entry],
     sites: &[Option<Site>],
 ) -> Result<Gathered, AllocError>
     ensures found { IfOk result (λ all. spec.AreFound image.now cores entries.now sites.now (length entries.now) all.findings.lines.items all.findings.sums) }
-    ensures ended { IfOk result (λ all. all.ends.ended.items ≡ filter is_told (ended_before image.now cores entries.now (length entries.now))) }
+    ensures ended { IfOk result (λ gathered. gathered.ends.ended.items ≡ filter (is_kept all) (ended_before image.now cores entries.now (length entries.now))) }
     ensures running { IfOk result (λ all. all.ends.running.items ≡ running_after image.now cores entries.now) }
     ensures verdict { IfOk result (λ all. IsVerdict image.now cores entries.now (Legal (length entries.now) all.homefree)) }
 {
@@ -161,7 +174,7 @@ fn gather(
         )?;
         let followed = &findings.followed;
         let found = ended_by(&flat, cores, entries, followed, place, *entry);
-        keep_ended(&mut ended, found)?;
+        keep_ended(&mut ended, all, found)?;
         findings.followed.note(entries)?;
         let Ok(_) = flat.apply(*entry) else {
             return Err(AllocError);
@@ -223,16 +236,16 @@ impl Findings {
     }
 }
 
-/// The list with an attempt at its end, if there is one. One that was violated is not kept: its violation tells of it.
-fn keep_ended(ended: &mut Vec<Ended>, found: Option<Ended>) -> Result<(), AllocError>
-    ensures { OnOk result (ended.new.items ≡ ended.old.items ++ filter is_told (option_to_list found)) }
+/// The list with an attempt at its end, if there is one. One that was violated is kept where all are: else its violation tells of it.
+fn keep_ended(ended: &mut Vec<Ended>, all: bool, found: Option<Ended>) -> Result<(), AllocError>
+    ensures { OnOk result (ended.new.items ≡ ended.old.items ++ filter (is_kept all) (option_to_list found)) }
 {
     let Some(attempt) = found else {
         return Ok(());
     };
     match attempt.ending {
-        Ending::Violated => {}
-        Ending::Committed | Ending::Cancelled => ended.push(attempt)?,
+        Ending::Violated if !all => {}
+        Ending::Violated | Ending::Committed | Ending::Cancelled => ended.push(attempt)?,
     }
     Ok(())
 }

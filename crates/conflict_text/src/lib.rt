@@ -2,6 +2,7 @@
 #![tactic(auto)]
 
 mod accesses;
+mod attempts;
 mod command;
 mod ends;
 mod finding;
@@ -13,5 +14,5 @@ mod report;
 mod sums;
 mod words;
 
-pub use command::do_why;
+pub use command::{WhyAsked, do_why};
 pub use program::work;

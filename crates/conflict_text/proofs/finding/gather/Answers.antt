@@ -11,10 +11,10 @@ use Rattle.conflict_findings.specs.Rollbacks.{rollback_at}
 use Rattle.conflict_findings.specs.Violated.{AreMarked}
 use Rattle.conflict_findings.proofs.Growing.{ended_more, none_ended}
 use Rattle.conflict_findings.proofs.Marking.{marked_first, marked_in}
-use Rattle.conflict_text.specs.Ends.{is_told}
+use Rattle.conflict_text.specs.Ends.{is_kept}
 use Rattle.conflict_text.specs.Why.{AreFound}
 use Rattle.conflict_text.proofs.Gathering.{more_found, none_found}
-use Rattle.conflict_text.proofs.Telling.{told_more}
+use Rattle.conflict_text.proofs.Telling.{kept_more}
 use Rattle.conflict_text.proofs.finding.gather.Goals as goal
 
 pub loop-place-init : goal.loop-place-init
@@ -27,7 +27,7 @@ loop-place-init c =
       replays = rw c.in-Ok.ensures.state (no_entries image cores);
       marked = subst (λ (s : FlatState). AreMarked entries 0 s.cores) (sym c.in-Ok.ensures.state) (marked_first image entries 0);
       found = none_found image cores entries c.args.sites.now _ _ c.new-findings.ensures.lines c.new-findings.ensures.sums;
-      ended = c.new-ended.ensures.items ∙ ap (filter is_told) (none_ended image cores entries);
+      ended = c.new-ended.ensures.items ∙ ap (filter (is_kept c.args.all)) (none_ended image cores entries);
       known = c.new-known.ensures image.size entries;
       followed = c.new-findings.ensures.followed entries;
     }
@@ -56,7 +56,7 @@ loop-place-preserved c =
       marked = marked_in flat c.apply.new.self entries place _ there applied was.marked;
       found = more_found image cores (state_in flat) entries c.args.sites.now place c.in_ok-explained.explained _ _ _ _ was.replays shown found.explained was.found
           c.in_ok-keep.ensures.told c.in_ok-keep.ensures.summed;
-      ended = told_more c.ended_by-found.result (ended_before image cores entries place) _ c.loop-place.ended.items _
+      ended = kept_more c.args.all c.ended_by-found.result (ended_before image cores entries place) _ c.loop-place.ended.items _
           (ended_more image flat.image cores entries place (state_in flat) _ _ _ _ was.image was.replays there c.ended_by-found.ensures refl refl) was.ended c.in_ok-keep_ended.ensures;
       known = found.known;
       followed = record {
@@ -83,7 +83,7 @@ returns c =
     let whole : take place entries ≡ entries = take_all place entries (omega (arith, last)) in
     let replays = sym (ap (replay image cores) whole) ∙ was.replays in record {
       found = subst (λ n. AreFound image cores entries c.args.sites.now n c.loop-place.findings.lines.items c.loop-place.findings.sums) last was.found;
-      ended = was.ended ∙ ap (λ n. filter is_told (ended_before image cores entries n)) last;
+      ended = was.ended ∙ ap (λ n. filter (is_kept c.args.all) (ended_before image cores entries n)) last;
       running = c.in_ok-running.ensures ∙ (ap (λ i. running_below i entries (state_in flat) cores) was.image ∙ sym (ap (running_from image cores entries) replays));
       verdict = (state_in flat, replays, c.homefree.ensures, refl);
     }

@@ -5,7 +5,7 @@ use Rattle.conflicts.specs.Behind.{IsKnown}
 use Rattle.conflict_findings.specs.Ends.{ended_before}
 use Rattle.conflict_findings.specs.Followed.{IsFollowedTo}
 use Rattle.conflict_findings.specs.Violated.{AreMarked}
-use Rattle.conflict_text.specs.Ends.{is_told}
+use Rattle.conflict_text.specs.Ends.{is_kept}
 use Rattle.conflict_text.specs.Why.{AreFound}
 use Rattle.conflict_text.proofs.finding.gather.Given as goal
 
@@ -17,7 +17,7 @@ invariant-loop-place l = record {
   replays : replay l.image l.cores (take l.place l.entries) ≡ Some (state_in l.flat);
   marked : AreMarked l.entries l.place (state_in l.flat).cores;
   found : AreFound l.image l.cores l.entries l.sites l.place l.findings.lines.items l.findings.sums;
-  ended : l.ended.items ≡ filter is_told (ended_before l.image l.cores l.entries l.place);
+  ended : l.ended.items ≡ filter (is_kept l.all) (ended_before l.image l.cores l.entries l.place);
   known : IsKnown l.image.size l.entries l.known;
   followed : IsFollowedTo l.entries l.place l.findings.followed;
 }

@@ -20,4 +20,4 @@ returns-clause-report c =
     let totals = subst (λ (i : LoadedImage). AreTotals i homefree rollbacks ended running c.in_ok-report.totals) (sym same) counted.counted in
     let printed = subst (λ (i : LoadedImage). IsSummed i homefree rollbacks ended running c.in_ok-report.report.rest.items c.push_totals.new.text.items) same
     (c.in_ok-push_totals.ensures homefree rollbacks ended running totals) in
-    is_report image cores entries c.args.sites.items homefree _ _ _ _ c.requires counted printed
+    is_report c.args.wanted image cores entries c.args.sites.items homefree _ _ _ _ c.requires counted printed
