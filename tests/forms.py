@@ -27,6 +27,7 @@ sys.path.insert(0, str(ROOT / "tools"))
 
 from loops import Programs, Stopped, pieces, read_conflicts, read_image, with_trace  # noqa: E402
 from loops.changes import Copy, Hand, OfAttempt, OfBuffer, OfHart, OfKept, OfMemory, OfWay, Running  # noqa: E402
+from loops.conflicts import End  # noqa: E402
 from loops.documents import FORMS, SCHEMA, content_of, document, form_of, from_json, to_json  # noqa: E402
 from loops.gains import Limit, read_gains  # noqa: E402
 from loops.programs import call  # noqa: E402
@@ -68,6 +69,9 @@ CHANGES = [
 DEPENDS = ("dep store 00000034 load 00000014 times 12 distance 4 4 at 00000040 13 first 0 4 stored 25 of 27 loaded 5 "
            "of 27\n"
            "from caches 2 epoch 1 load 00000014 by epoch 0 store 00000034\nturns 0 1 1 0 0\nnever plain 4\n")
+ATTEMPTS = ("attempt 0 epoch 0 try 1 core 0 done 3 faulted 6 by 0 core 0\n"
+            "attempt 1 epoch 1 try 1 core 1 done 2 violated 5 by 0 core 0\n"
+            "attempt 2 epoch 2 try 1 core 2 done 0 open\n")
 # (form, a text of that form)
 TEXTS = [
     ("image",
@@ -99,6 +103,8 @@ TEXTS = [
                   "distance 1 1 at 00000040 16\nline 00000040 rollbacks 1 lost 3 true 0 silent 0 false 0 buffer 1\npc "
                   "00000004 victim 1 3 causer 0 0\n"
                   "kind buffer rollbacks 1 lost 3\n" + TOTAL),
+    ("conflicts", HURT + "open epoch 2 try 1 core 2 done 0\n" + ATTEMPTS + "epoch 1 rollbacks 1 lost 2\n" + TOTAL),
+    ("conflicts", ATTEMPTS + TOTAL),
     ("gains", GAIN + "store caches cores 1 full\n" + GAIN.replace("gain 4.00", "gain -")),
     ("gains", GAIN + LIMITS),
     ("gains", "".join(GAIN.replace("plain", word)
@@ -120,7 +126,9 @@ REFUSED = [
     ("image", "size 64\nspeed 3\n"), ("image", "size x\n"), ("traced", "size 64\n"),
     ("traced", "size 64\ntrace 2\n0 begin 0\n"), ("output", "end soon 3\n"),
     ("conflicts", "hurt 4 true epoch 1\n"), ("conflicts", "vain 4 hurt\n"),
-    ("conflicts", HURT.replace("vain 4", "vain 5")), ("gains", "store caches cores 2 fast\n"),
+    ("conflicts", HURT.replace("vain 4", "vain 5")),
+    ("conflicts", ATTEMPTS.replace("faulted 6", "open 6") + TOTAL),
+    ("conflicts", ATTEMPTS.replace(" open", " open 9 by 0 core 0") + TOTAL), ("gains", "store caches cores 2 fast\n"),
     ("gains", GAIN + LIMITS.replace("forward 3", "forward -")), ("gains", GAIN + LIMITS + GAIN),
     *(("gains", GAIN.replace("plain", word))
       for word in ("plane", "caches:", "caches:sets=3", "caches:sets=4,sets=4", "plain:ways=2")),
@@ -261,6 +269,12 @@ def by_hand() -> Iterator[Check]:
     said_of_violation = (violation.cause_what, there(violation.victims).pc, violation.also[0].kind,
                          there(violation.later).entry, violation.vain, violation.moot)
     yield "what a violation says", differs(said_of_violation, ("commit", 4, "silent", 7, True, True))
+    faulted, _, goes_on = read_conflicts(ATTEMPTS + TOTAL).attempts
+    said_of_attempts = (faulted.began, faulted.done, faulted.fate, faulted.end, goes_on.fate, goes_on.end)
+    yield "what attempts say", differs(said_of_attempts, (0, 3, "faulted", End(6, 0, 0), "open", None))
+    before = json.loads(to_json(HURT + TOTAL))
+    del before["content"]["attempts"]
+    yield "conflicts of before there were attempts", differs(from_json(json.dumps(before)), HURT + TOTAL)
     steps = FORMS["steps"][1](STEPS)
     said_of_steps = (len(steps.steps), steps.steps[1].answer, steps.steps[2].entries[1].place, steps.steps[1].cause,
                      steps.steps[2].end, steps.output.counts.stores)

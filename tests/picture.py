@@ -20,6 +20,7 @@ from pathlib import Path
 from typing import Any
 
 from common import ROOT, Check, Script, called
+from why import attempts
 
 SVG = "{http://www.w3.org/2000/svg}"
 # Epoch 1 loads the word at 40 before epoch 0 stores it; epoch 0 publishes by its commit.
@@ -78,7 +79,8 @@ def stub(folder: str | Path, name: str, output: str, error: str = "", status: in
 
 def picture(folder: str, report: str, *words: str, text: str = IMAGE + TRACE,
             **more: Any) -> subprocess.CompletedProcess[str]:
-    why = stub(folder, "why", report, **more)
+    lines = [f"attempt {head} done 0 {end}\n" for head, end in attempts(text[text.index("trace "):].splitlines()[1:])]
+    why = stub(folder, "why", report + "".join(lines), **more)
     return called([ROOT / "tools" / "picture", "--why", why, *words], text)
 
 

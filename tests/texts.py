@@ -23,6 +23,9 @@ from common import ROOT, Check, Script, called_bytes, left_out
 Results = Iterator[Check]
 WHY = ("hurt 4 true epoch 1 try 1 core 1 lost 3 entered 2 since 2 by 0 core 0 cause 5 commit load 3 00000004 store 2 "
        "00000014 at 00000040 4\n"
+       "attempt 0 epoch 0 try 1 core 0 done 4 committed 5 by 0 core 0\n"
+       "attempt 1 epoch 1 try 1 core 1 done 3 violated 4 by 0 core 0\n"
+       "attempt 6 epoch 1 try 2 core 1 done 4 committed 8 by 1 core 1\n"
        "epoch 1 rollbacks 1 lost 3\npair store 00000014 load 00000004 rollbacks 1 lost 3 true 1 silent 0 false 0 "
        "buffer "
        "0 stale 1 vain 0 later 0 distance 1 1 at 00000040 4\n"

@@ -132,6 +132,33 @@ class Open:
         return f"open epoch {self.epoch} try {self.attempt} core {self.core} done {self.done}\n"
 
 
+@dataclass(slots=True)
+class End:
+    """The entry that ended an attempt, and the epoch and the core whose entry it is."""
+    place: int
+    by_epoch: int
+    by_core: int
+
+    def text(self) -> str:
+        return f"{self.place} by {self.by_epoch} core {self.by_core}"
+
+
+@dataclass(slots=True)
+class Attempt:
+    """An attempt, where the report has a line for each."""
+    began: int                          # the entry that began it
+    epoch: int
+    attempt: int
+    core: int
+    done: int
+    fate: str                           # committed, faulted, violated or cancelled; open where it goes on
+    end: End | None
+
+    def text(self) -> str:
+        return (f"attempt {self.began} epoch {self.epoch} try {self.attempt} core {self.core} done {self.done} "
+                f"{self.fate}{f' {self.end.text()}' if self.end else ''}\n")
+
+
 @dataclass
 class ByKind:
     """How many violations are of each kind."""
@@ -242,6 +269,7 @@ class Conflicts:
     violations: list[Violation] = field(default_factory=list)
     cancelled: list[Cancelled] = field(default_factory=list)
     open: list[Open] = field(default_factory=list)
+    attempts: list[Attempt] = field(default_factory=list)       # all, where `why --attempts` printed it
     epochs: list[OfEpoch] = field(default_factory=list)
     pairs: list[OfPair] = field(default_factory=list)
     lines: list[OfLine] = field(default_factory=list)
@@ -251,8 +279,8 @@ class Conflicts:
 
     def parts(self) -> Iterator[str]:
         """The text, in parts."""
-        lists: tuple[Iterable[Part], ...] = (self.violations, self.cancelled, self.open, self.epochs, self.pairs,
-                                             self.lines, self.instructions, self.kinds)
+        lists: tuple[Iterable[Part], ...] = (self.violations, self.cancelled, self.open, self.attempts,
+                                             self.epochs, self.pairs, self.lines, self.instructions, self.kinds)
         yield from (part.text() for part in chain.from_iterable(lists))
         if self.total:
             yield self.total.text()
@@ -264,10 +292,10 @@ class Conflicts:
 # --- Reading -----------------------------------------------------------------
 
 # What a line of the report says, and the field of the report that has it.
-Part = Violation | Cancelled | Open | OfEpoch | OfPair | OfLine | OfInstruction | OfKind | Total
+Part = Violation | Cancelled | Open | Attempt | OfEpoch | OfPair | OfLine | OfInstruction | OfKind | Total
 FIELDS: dict[type, str] = {
-    Violation: "violations", Cancelled: "cancelled", Open: "open", OfEpoch: "epochs", OfPair: "pairs", OfLine: "lines",
-    OfInstruction: "instructions", OfKind: "kinds", Total: "total",
+    Violation: "violations", Cancelled: "cancelled", Open: "open", Attempt: "attempts", OfEpoch: "epochs",
+    OfPair: "pairs", OfLine: "lines", OfInstruction: "instructions", OfKind: "kinds", Total: "total",
 }
 # Lines of numbers alone.
 COUNTED: dict[str, Callable[..., Part]] = {"cancel": Cancelled, "open": Open, "epoch": OfEpoch, "total": Total}
@@ -295,6 +323,8 @@ FORMS = {
     "moot": form("moot N"),
     "cancel": form("cancel N epoch N try N core N lost N by N core N"),
     "open": form("open epoch N try N core N done N"),
+    "attempt": form("attempt N epoch N try N core N done N (?:(open)|(committed|faulted|violated|cancelled) N by N "
+                    "core N)"),
     "epoch": form("epoch N rollbacks N lost N"),
     "pair": form(rf"pair (store|asked) PC (?:load|held) PC rollbacks N lost N {SUMS} stale N vain N later N distance N "
                  rf"N {WHERE}"),
@@ -328,6 +358,12 @@ def violation_of(words: tuple[str, ...]) -> Violation:
                      int(words[9]), number(words[10]), words[11], pair_of(words[12:]))
 
 
+def attempt_of(words: tuple[str, ...]) -> Attempt:
+    began, epoch, attempt, core, done = map(int, words[:5])
+    goes_on, fate, *end = words[5:]
+    return Attempt(began, epoch, attempt, core, done, goes_on or fate, None if goes_on else End(*map(int, end)))
+
+
 def belongs(violation: Violation, what: str, words: tuple[str, ...]) -> None:
     """Takes in a line that stands below its violation."""
     if int(words[0]) != violation.place:
@@ -346,6 +382,8 @@ def part_of(what: str, words: tuple[str, ...]) -> Part:
     """What a line says that belongs to no other."""
     if what == "hurt":
         return violation_of(words)
+    if what == "attempt":
+        return attempt_of(words)
     if what == "pair":
         rollbacks, lost, true, silent, false, buffer, stale, vain, later, least, most = map(int, words[3:14])
         return OfPair(words[0] == "asked", int(words[1], 16), int(words[2], 16), rollbacks, lost,

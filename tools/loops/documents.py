@@ -24,7 +24,7 @@ from .stores import is_store
 
 VERSION = 1
 # The fields that documents of before may lack
-LATER = {"limits"}
+LATER = {"limits", "attempts"}
 SCHEMA = Path(__file__).with_name("schema.json")
 FORMS: dict[str, tuple[type, Callable[[str], Any]]] = {
     "image": (Image, read_image), "traced": (Traced, read_traced), "output": (Output, read_output),
@@ -37,7 +37,7 @@ BEGINNINGS = {
     "end": "output", "open": "output", "turns": "output", "schedules": "survey", "legal": "verdict",
     "illegal": "verdict", "store": "gains",
     "turn": "steps", "dep": "dependences", "never": "dependences", "from": "dependences", "hurt": "conflicts",
-    "cancel": "conflicts", "epoch": "conflicts", "total": "conflicts",
+    "cancel": "conflicts", "attempt": "conflicts", "epoch": "conflicts", "total": "conflicts",
 }
 
 

@@ -140,14 +140,14 @@ class Programs:
         """Whether a trace is legal."""
         return read_verdict(call(self.folder / "trace_cli", ["audit"], text_of(traced), (0, ILLEGAL)))
 
-    def why(self, traced: Traced | str, store: str | None = None) -> Conflicts:
-        """Which conflicts rolled back. The store is that of the run: without it the caches are those of the image's
-        version."""
-        return read_conflicts(self.why_text(text_of(traced), store))
+    def why(self, traced: Traced | str, store: str | None = None, attempts: bool = False) -> Conflicts:
+        """Which conflicts rolled back; with `attempts` also all attempts. The store is that of the run: without it the
+        caches are those of the image's version."""
+        return read_conflicts(self.why_text(text_of(traced), store, attempts))
 
-    def why_text(self, text: str, store: str | None = None) -> str:
+    def why_text(self, text: str, store: str | None = None, attempts: bool = False) -> str:
         """The same as it is printed."""
-        return call(self.why_command or self.folder / "why", why_words(store), text, (0,))
+        return call(self.why_command or self.folder / "why", why_words(store, attempts), text, (0,))
 
     def replay(self, image: Image | str, store: str, cores: int, turns: list[int]) -> Output:
         """The loop by a schedule, the cores whose turns are taken one after another."""
@@ -179,9 +179,10 @@ class Programs:
         """The lines of the same, of an input that stands in a file; `iter_steps` reads the turns from them."""
         return iter_call(self.folder / "replay", steps_words(store, cores), source)
 
-    def iter_why(self, source: Path, store: str | None = None) -> Iterator[Part]:
+    def iter_why(self, source: Path, store: str | None = None, attempts: bool = False) -> Iterator[Part]:
         """What `why` says of a trace that stands in a file, line by line."""
-        return iter_conflicts(iter_call(self.why_command or self.folder / "why", why_words(store), source, (0,)))
+        words = why_words(store, attempts)
+        return iter_conflicts(iter_call(self.why_command or self.folder / "why", words, source, (0,)))
 
     def gain(self, image: Image | str, cores: int, *stores: str, limits: bool = False) -> Gains:
         """What the loop gains on up to so many cores over these stores; without any over `caches` and `plain`. With
@@ -202,9 +203,9 @@ class Programs:
         return read_survey(call(self.folder / "replay", ["all", store, str(cores), str(turns)], text_of(image), (0,)))
 
 
-def why_words(store: str | None) -> list[str]:
+def why_words(store: str | None, attempts: bool = False) -> list[str]:
     """The words of `why`: where a store's word has no keys, it explains as without."""
-    return [] if store is None or store in USUAL else [store]
+    return ([] if store is None or store in USUAL else [store]) + ["--attempts"] * attempts
 
 
 def steps_words(store: str, cores: int | None) -> list[str]:

@@ -22,8 +22,8 @@ from .texts import iter_lines, iter_split, text_in, text_out
 Lines = Callable[[], Iterator[str]]
 # The fields of a report of `why` that are lists, and the first words of their lines.
 WORDS = {
-    "violations": ("hurt", *BELOW), "cancelled": ("cancel",), "open": ("open",), "epochs": ("epoch",), "pairs": ("pair",
-    ), "lines": ("line",), "instructions": ("pc",), "kinds": ("kind",),
+    "violations": ("hurt", *BELOW), "cancelled": ("cancel",), "open": ("open",), "attempts": ("attempt",),
+    "epochs": ("epoch",), "pairs": ("pair",), "lines": ("line",), "instructions": ("pc",), "kinds": ("kind",),
 }
 # Where the long lists stand in the content of each form.
 OUTPUT = {"trace": {"entries": LIST}, "turns": LIST}

@@ -93,7 +93,7 @@ def named(run: Run, report: Conflicts, say: bool) -> Iterator[str]:
     image = run.image
     for violation in report.violations:
         yield from violation_lines(run, violation, say)
-    yield from plain([*report.cancelled, *report.open, *report.epochs])
+    yield from plain([*report.cancelled, *report.open, *report.attempts, *report.epochs])
     for pair in report.pairs:
         yield with_name(pair.text(), pair_names(image, report.violations, pair))
     yield from plain(report.lines)
@@ -128,7 +128,7 @@ def lines_of(text: str, given: argparse.Namespace) -> Iterator[str]:
     traced = read_traced(text)
     if given.store:
         yield f"# store {given.store}"
-    yield from named(Run(traced, report.violations, store_of(given.store, traced.image.version)), report, given.say)
+    yield from named(Run(traced, report, store_of(given.store, traced.image.version)), report, given.say)
 
 
 @tool

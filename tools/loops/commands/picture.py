@@ -49,12 +49,12 @@ def main() -> int:
     gc.disable()        # nothing that is made here goes before the end
     text = read_input()
     try:
-        conflicts = Programs(why_command=given.why).why(text, given.store)
+        conflicts = Programs(why_command=given.why).why(text, given.store, attempts=True)
     except Stopped as stopped:
         sys.stderr.write(stopped.line)
         return stopped.status
     traced = read_traced(text)
-    run = Run(traced, conflicts.violations, store_of(given.store, traced.image.version))
+    run = Run(traced, conflicts, store_of(given.store, traced.image.version))
     form = overview if given.overview or len(run.entries) > MOST_ENTRIES else lanes
     sys.stdout.write(perfetto.draw(run, given.turns) if given.perfetto else form.draw(run))
     return 0

@@ -19,6 +19,7 @@ from pathlib import Path
 
 from loops.endings import tool
 from loops import Entry, Programs, Stopped, Violation, iter_steps, read_image
+from loops.conflicts import Attempt
 from loops.programs import add_build, ended
 from loops.runs import cores_of, entry_of
 from loops.stores import Store, add_store
@@ -26,6 +27,7 @@ from loops.texts import iter_lines, keep_input, text_out
 from loops.version import add_version
 from loops.views import page
 from loops.views.data import Told, Turns, page_data
+from loops.views.lanes import Lanes
 
 MOST_TURNS = 10_000
 
@@ -63,11 +65,16 @@ def shown(programs: Programs, given: argparse.Namespace, room: Path) -> str:
     turns.end()
     cores = keep_trace(traced, image, lines)
     hurts = {entry.place for one in turns.shown for entry in one.step.entries if entry.what == "hurt"}
-    violations = {one.place: one for one in programs.iter_why(traced, given.store)
-                  if isinstance(one, Violation) and one.place in hurts}
+    violations: dict[int, Violation] = {}
+    lanes = Lanes(turns.moments, *turns.bounds)
+    for one in programs.iter_why(traced, given.store, attempts=True):
+        if isinstance(one, Violation) and one.place in hurts:
+            violations[one.place] = one
+        elif isinstance(one, Attempt):
+            lanes.take(one)
     told = read_image(image)
     run = Told(told, Store.of_word(given.store, told.version), named_entries(traced, violations.values()))
-    return page(page_data(run, turns, cores, violations))
+    return page(page_data(run, turns, lanes, cores, violations))
 
 
 @tool

@@ -3,7 +3,7 @@
 from dataclasses import dataclass, field
 from typing import NamedTuple
 
-from loops import Entry, Traced, Violation
+from loops import Conflicts, Entry, Traced, Violation, conflicts
 from loops.images import there
 from loops.stores import Machine, Store
 
@@ -32,6 +32,8 @@ class Blamed(NamedTuple):
     full: bool
 
 
+# The fates of the report that pictures call otherwise
+FATES = {"faulted": "fault"}
 Pairs = list[tuple[Blamed, list[Violation]]]
 
 
@@ -46,73 +48,51 @@ def pairs_of(violations: list[Violation]) -> Pairs:
 
 
 class Run:
-    """The attempts of a trace. A turn is what one core did while it had the lock: violations and cancellations first,
-    then its act."""
+    """The attempts that the report has of a trace. A turn is what one core did while it had the lock: violations and
+    cancellations first, then its act."""
 
-    def __init__(self, traced: Traced, violations: list[Violation], store: Store | None = None):
+    def __init__(self, traced: Traced, report: Conflicts, store: Store | None = None):
         self.image, self.cores, self.entries = traced.image, traced.trace.cores, traced.trace.entries
         self.store = store                                              # where it was said what the run is over
-        self.violations = violations
-        self.attempts: list[Attempt] = []
+        self.violations = report.violations
         self.turns = 0
         self.turn_of: list[int] = []                                    # of each entry
-        self._told = {violation.place: violation for violation in violations}
-        self._now: list[Attempt | None] = [None] * self.cores           # what each core runs
-        self._tries: dict[int, int] = {}                                # of each epoch
         for entry in self.entries:
             self.turn_of.append(self.turns)
-            getattr(self, "_" + entry.what)(entry)
             if entry.what not in ("hurt", "cancel", "publish"):
                 self.turns += 1
+        told = {violation.place: violation for violation in self.violations}
+        begun = {attempt.began: self._drawn(attempt, told) for attempt in report.attempts}
+        self.attempts = list(begun.values())
+        if begun:
+            self._fill(begun)
 
-    def _begin(self, core: int, epoch: int) -> None:
-        self._tries[epoch] = self._tries.get(epoch, 0) + 1
-        begun = self._now[core] = Attempt(core, epoch, self._tries[epoch], self.turns)
-        self.attempts.append(begun)
+    def _drawn(self, attempt: conflicts.Attempt, told: dict[int, Violation]) -> Attempt:
+        """An attempt of the report, in turns."""
+        drawn = Attempt(attempt.core, attempt.epoch, attempt.attempt, self.turn_of[attempt.began],
+                        fate=FATES.get(attempt.fate, attempt.fate))
+        if attempt.end:
+            turn = self.turn_of[attempt.end.place]
+            drawn.last = None if drawn.fate == "violated" else turn
+            drawn.undone = turn if drawn.fate in ("violated", "cancelled") else None
+            drawn.violation = told.get(attempt.end.place)
+        return drawn
 
-    def _on(self, core: int) -> Attempt:
-        return there(self._now[core])
-
-    def _running(self, epoch: int | None) -> Attempt:
-        return there(next((attempt for attempt in self._now if attempt and attempt.epoch == epoch), None))
-
-    def _start(self, entry: Entry) -> None:
-        self._begin(entry.core, there(entry.epoch))
-
-    def _restart(self, entry: Entry) -> None:
-        before = self._on(entry.core)
-        before.last = self.turns
-        self._begin(entry.core, before.epoch)
-
-    def _load(self, entry: Entry) -> None:
-        self._on(entry.core).accesses.append((self.turns, entry))
-
-    _store = _load
-
-    def _hurt(self, entry: Entry) -> None:
-        victim = self._running(entry.epoch)
-        victim.fate, victim.undone, victim.violation = "violated", self.turns, self._told[entry.place]
-
-    def _cancel(self, entry: Entry) -> None:
-        victim = self._running(entry.epoch)
-        victim.last = self.turns
-        if victim.fate == "open":
-            victim.fate, victim.undone = "cancelled", self.turns
-        self._now[victim.core] = None
-
-    def _publish(self, entry: Entry) -> None:
-        self._on(entry.core).straight = self.turns
-
-    def _commit(self, entry: Entry) -> None:
-        self._leave(entry.core, "committed")
-        self._now[entry.core] = None
-
-    def _fault(self, entry: Entry) -> None:
-        self._leave(entry.core, "fault")
-
-    def _leave(self, core: int, fate: str) -> None:
-        left = self._on(core)
-        left.fate, left.last = fate, self.turns
+    def _fill(self, begun: dict[int, Attempt]) -> None:
+        """What else the entries say of the attempts that began at these: accesses, where one was straight from, and
+        where a core left one that was violated."""
+        now: dict[int, Attempt] = {}                                    # what each core runs
+        for turn, entry in zip(self.turn_of, self.entries):
+            if entry.what in ("start", "restart"):
+                if entry.what == "restart":
+                    now[entry.core].last = turn
+                now[entry.core] = begun[entry.place]
+            elif entry.what in ("load", "store"):
+                now[entry.core].accesses.append((turn, entry))
+            elif entry.what == "publish":
+                now[entry.core].straight = turn
+            elif entry.what == "cancel":
+                next(attempt for attempt in now.values() if attempt.epoch == entry.epoch).last = turn
 
     def span(self, attempt: Attempt) -> tuple[int, float]:
         """The turns in which an attempt ran: of a violated one until it was violated."""

@@ -11,7 +11,7 @@ from loops.images import there
 from loops.instructions import spelled
 from loops.stores import Machine, Store
 
-from .lanes import Lanes
+from .lanes import Lanes, Moments
 from .words import CAUSES, moves_told, turn_told
 
 ROW = 16
@@ -44,7 +44,7 @@ class Turns:
         self.waits_before: dict[int, str] = {}  # and what each core waits for
         self.shown: list[Shown] = []
         self.rows: set[int] = set()             # the rows of memory that a turn touches
-        self.lanes = Lanes()
+        self.moments = Moments()
         self._state: dict[str, Change] = {}
         self._waits: dict[int, str] = {}
         self._epochs: dict[int, int] = {}
@@ -58,10 +58,8 @@ class Turns:
         self.rows.update(change.address for change in step.changes if isinstance(change, OfMemory))
         if self.high is None or self.low is None:
             self._follow(step)
-        self.lanes.take(self.count, step.entries)
+        self.moments.take(self.count, step.entries)
         self.count += 1
-        if self.low is None:
-            self.lanes.drop_before(self.count)
 
     def end(self) -> None:
         """No turn follows."""
@@ -69,7 +67,7 @@ class Turns:
         self.high = max(self.low, self.count if self.high is None else self.high)
         if self.low == self.count:
             self.before, self.waits_before = self._state, self._waits
-        self.lanes.end(self.count)
+        self.moments.end(self.count)
 
     @property
     def bounds(self) -> tuple[int, int]:
@@ -83,7 +81,6 @@ class Turns:
         if self.high is None and (self.last is not None and turn > self.last or self.low is not None
                                   and self.count >= self.low + self.most):
             self.high = self.count
-        self.lanes.closed = self.low is not None and self.high is not None
 
     def _follow(self, step: Step) -> None:
         """What a turn changes; and the turn, where it is shown."""
@@ -220,7 +217,7 @@ class PageData(Cut):
     steps: list[list[object]]
 
 
-def page_data(run: Told, turns: Turns, cores: int, violations: Mapping[int, Violation]) -> PageData:
+def page_data(run: Told, turns: Turns, lanes: Lanes, cores: int, violations: Mapping[int, Violation]) -> PageData:
     """All that the page shows."""
     image, left_out = run.image, cut(turns)
     words = [(pc, int.from_bytes(image.code[pc:pc + 4], "little")) for pc in range(0, len(image.code), 4)]
@@ -230,7 +227,7 @@ def page_data(run: Told, turns: Turns, cores: int, violations: Mapping[int, Viol
         "epochs": image.epochs, "all": turns.count,
         "variables": [[one.name, one.address, one.length] for one in image.variables],
         "code": [spelled(word, pc) for pc, word in words], "sources": image.sources, "causes": CAUSES,
-        "start": first_values(image, turns), "attempts": turns.lanes.between(*turns.bounds),
+        "start": first_values(image, turns), "attempts": lanes.shown(),
         "rollbacks": rollbacks(turns, violations),
         "steps": [[one.step.turn, one.step.core, [entry.text().rstrip() for entry in one.step.entries], changed(one),
                    turn_told(run, one.step, one.epoch, one.pc, violations), one.moved,

@@ -1,11 +1,16 @@
 """The attempts that the lanes of the page show."""
 
+from array import array
 from dataclasses import dataclass
 
 from loops import Entry
+from loops.conflicts import Attempt
 from loops.images import there
 
 from .words import OF_OTHERS
+
+# The fates of the report that the page calls otherwise
+FATES = {"faulted": "fault"}
 
 
 @dataclass(slots=True)
@@ -16,20 +21,18 @@ class Lane:
     epoch: int
     number: int
     first: int
-    end: int | None = None
-    fate: str = "open"
+    end: int
+    fate: str
     undone: int | None = None
 
 
-class Lanes:
-    """The attempts of a run whose turns are taken one after another. Of those that have ended, only the ones that are
-    shown need be kept."""
+class Moments:
+    """The turns of the entries of a run whose turns are taken one after another."""
 
     def __init__(self) -> None:
-        self.closed = False                             # no attempt that begins from here on is shown
-        self._kept: list[Lane] = []
-        self._running: dict[int, Lane] = {}             # by core
-        self._tries: dict[int, int] = {}                # by epoch, of those that haven't committed
+        self.count = 0                                  # turns of the run, where no turn follows
+        self.cancels: dict[int, int] = {}               # the turn of each cancellation, by its epoch
+        self._turns = array("L")                        # of each entry
         self._waiting: list[Entry] = []                 # done to others, before the act with which they are one turn
 
     def take(self, number: int, entries: list[Entry]) -> None:
@@ -41,55 +44,57 @@ class Lanes:
 
     def end(self, count: int) -> None:
         """No turn follows."""
+        self.count = count
         self._settle(count)
-        for lane in self._running.values():
-            lane.end = count if lane.end is None else lane.end
 
-    def drop_before(self, number: int) -> None:
-        """Attempts that ended before a turn are not kept."""
-        if len(self._kept) > 2 * len(self._running):
-            running = {id(lane) for lane in self._running.values()}
-            self._kept = [lane for lane in self._kept if id(lane) in running or lane.end is None or lane.end >= number]
-
-    def between(self, low: int, high: int) -> list[list[int | str | None]]:
-        """Those that a page from one turn to another shows, by the place of a turn on it."""
-        return [[lane.core, lane.epoch, lane.number, lane.first - low, there(lane.end) - low, lane.fate,
-                 None if lane.undone is None else lane.undone - low]
-                for lane in self._kept if lane.first < high and there(lane.end) >= low]
+    def __getitem__(self, place: int) -> int:
+        """The turn of an entry."""
+        return self._turns[place]
 
     def _settle(self, number: int) -> None:
         for entry in self._waiting:
-            self._act(entry, number)
+            self._turns.append(number)
+            if entry.what == "cancel":
+                self.cancels[there(entry.epoch)] = number
         self._waiting.clear()
 
-    def _act(self, entry: Entry, number: int) -> None:
-        if entry.what == "start":
-            self._begin(entry.core, there(entry.epoch), number)
-        elif entry.what == "restart":
-            before = self._running[entry.core]
-            before.end = number
-            self._begin(entry.core, before.epoch, number)
-        elif entry.what in ("hurt", "cancel"):
-            self._undo(entry, number)
-        elif entry.what in ("commit", "fault"):
-            lane = self._running[entry.core]
-            lane.fate, lane.end = "committed" if entry.what == "commit" else "fault", number + 1
-            if entry.what == "commit":
-                del self._running[entry.core]
-                self._tries.pop(lane.epoch, None)
 
-    def _begin(self, core: int, epoch: int, number: int) -> None:
-        self._tries[epoch] = self._tries.get(epoch, 0) + 1
-        lane = self._running[core] = Lane(core, epoch, self._tries[epoch], number)
-        if not self.closed:
+class Lanes:
+    """The attempts of a run from one turn to another, which are taken in the order in which they began."""
+
+    def __init__(self, moments: Moments, low: int, high: int) -> None:
+        self.moments, self.low, self.high = moments, low, high
+        self._kept: list[Lane] = []
+        self._violated: dict[int, Lane] = {}            # by core, where it has not begun again
+
+    def take(self, attempt: Attempt) -> None:
+        """Takes the next attempt."""
+        lane = self._lane(attempt)
+        before = self._violated.pop(lane.core, None)
+        if before and before.epoch == lane.epoch:
+            before.end = lane.first
+            if before.end < self.low:
+                self._kept.remove(before)
+        if lane.fate == "violated":
+            self._violated[lane.core] = lane
+        if lane.first < self.high and lane.end >= self.low:
             self._kept.append(lane)
 
-    def _undo(self, entry: Entry, number: int) -> None:
-        victim = next(self._running[core] for core in sorted(self._running) if self._running[core].epoch == entry.epoch)
-        if entry.what == "hurt":
-            victim.fate, victim.undone = "violated", number
-            return
-        victim.end = number
-        if victim.fate == "open":
-            victim.fate, victim.undone = "cancelled", number
-        del self._running[victim.core]
+    def _lane(self, attempt: Attempt) -> Lane:
+        """An attempt in turns. One that was violated ends where its epoch is cancelled, if nothing else ends it."""
+        turn = self.moments.count if attempt.end is None else self.moments[attempt.end.place]
+        lane = Lane(attempt.core, attempt.epoch, attempt.attempt, self.moments[attempt.began], turn,
+                    FATES.get(attempt.fate, attempt.fate))
+        if lane.fate in ("committed", "fault"):
+            lane.end = turn + 1
+        if lane.fate in ("violated", "cancelled"):
+            lane.undone = turn
+        if lane.fate == "violated":
+            lane.end = self.moments.cancels.get(lane.epoch, self.moments.count)
+        return lane
+
+    def shown(self) -> list[list[int | str | None]]:
+        """Those that the page shows, by the place of a turn on it."""
+        return [[lane.core, lane.epoch, lane.number, lane.first - self.low, lane.end - self.low, lane.fate,
+                 None if lane.undone is None else lane.undone - self.low]
+                for lane in self._kept]
