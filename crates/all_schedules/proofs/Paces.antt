@@ -18,16 +18,16 @@ use Rattle.all_schedules.specs.Settings.{loop_with}
 use Rattle.all_schedules.specs.Paced.{IsPacedOf, IsPacedOutcome}
 use Rattle.all_schedules.specs.declared.paced.Pace.{Pace}
 
-module _ {S : Type 0} (starts : LoadedImage → ℕ → S → Type 0) (makes : S → Call → S → Type 0) (view : S → StoreView) (waits : S → Waits) (pace : Pace) (cores : ℕ) (settings : Settings) (text : List ℕ) where
+module _ {S : Type 0} (starts : LoadedImage → ℕ → S → Type 0) (makes : S → Call → S → Type 0) (view : S → StoreView) (waits : S → Waits) (addresses : List ℕ) (pace : Pace) (cores : ℕ) (settings : Settings) (text : List ℕ) where
   pub paced_of_image : (image : LoadedImage) (old new : Option (List ℕ)) → image_text text ≡ Ok image → (outcome : Outcome)
-      → IsPacedOf starts makes view waits pace (loop_with image cores settings) old new outcome → IsPacedOutcome starts makes view waits pace cores settings text old new outcome
+      → IsPacedOf starts makes view waits addresses pace (loop_with image cores settings) old new outcome → IsPacedOutcome starts makes view waits addresses pace cores settings text old new outcome
   paced_of_image image old new said (BadImage fault) is = absurd is
   paced_of_image image old new said (Stopped cause.NoMemory) is = is.1
   paced_of_image image old new said outcome is =
-      subst (λ (r : Result LoadedImage ImageFault). MatchResult r (λ i. IsPacedOf starts makes view waits pace (loop_with i cores settings) old new outcome) (λ fault. ⊥)) (sym said) is
+      subst (λ (r : Result LoadedImage ImageFault). MatchResult r (λ i. IsPacedOf starts makes view waits addresses pace (loop_with i cores settings) old new outcome) (λ fault. ⊥)) (sym said) is
 
   -- the image is refused
   pub paced_refused : (output : Option (List ℕ)) (line : ℕ) (kind : ImageFaultKind) → IsReadFaultOf kind (record { line = line; kind = kind }) (image_text text)
-      → IsPacedOutcome starts makes view waits pace cores settings text output output (outcome_of_fault kind (record { line = line; kind = kind }))
+      → IsPacedOutcome starts makes view waits addresses pace cores settings text output output (outcome_of_fault kind (record { line = line; kind = kind }))
   paced_refused output line kind.NoMemory is = keeps_itself output
   paced_refused output line other is = (is, keeps_itself output)

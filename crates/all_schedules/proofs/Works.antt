@@ -1,5 +1,5 @@
 -- What the program answers, from what its parts do.
-use Rattle.std.proofs.Common.{◌≡◌, ℕ, List, Option, Some, None, refl, subst}
+use Rattle.std.proofs.Common.{◌≡◌, ℕ, List, [], Option, Some, None, refl, subst}
 use Rattle.rv32_image.specs.Reading.{ForText}
 use Rattle.trace_commands.specs.declared.outcome.Outcome.TheVariants.{Usage}
 use Rattle.trace_commands.specs.Outcome.{AppendsPrefix, error_line, status_of}
@@ -11,7 +11,7 @@ use Rattle.all_schedules.specs.Work.{RequestAnswers, StoreAnswers, WorkAnswers}
 
 -- a request was answered
 pub request_answers : (words : List (List ℕ)) (request : Request) (room : ℕ) (text : List ℕ) (input output errors : Stream) (status : ℕ) → Some request ≡ request_in words
-    → StoreAnswers request.store room request.turns text input output errors status → WorkAnswers words room text input output errors status
+    → StoreAnswers request.store [] room request.turns text input output errors status → WorkAnswers words room text input output errors status
 request_answers words request room text input output errors status asked so =
     subst (λ (r : Option Request). RequestAnswers r room text input output errors status) asked so
 

@@ -48,8 +48,8 @@ pub record IsOneRun {A : Type 0} (result result' : Result (Option A) TurnFault) 
 -- so do the runs at even speed each time, where they aren't stopped
 abbrev pub EvenHistoryIsFixed : {S : Type 0} → (LoadedImage → ℕ → S → Type 0) → (S → Call → S → Type 0) → (S → StoreView) → (S → Waits) → Type 0
 EvenHistoryIsFixed starts makes view waits =
-    (l : Loop) (schedule schedule' : List ℕ) (result result' : Result (Option Ran) TurnFault) (history history' : List Entry) → IsDone result → IsDone result'
-    → MakesEvenly starts makes view waits l schedule result history → MakesEvenly starts makes view waits l schedule' result' history'
+    (addresses : List ℕ) (l : Loop) (schedule schedule' : List ℕ) (result result' : Result (Option Ran) TurnFault) (history history' : List Entry) → IsDone result → IsDone result'
+    → MakesEvenly starts makes view waits addresses l schedule result history → MakesEvenly starts makes view waits addresses l schedule' result' history'
     → IsOneRun result result' schedule schedule' history history'
 
 -- and the runs that a seed draws, unless memory runs out

@@ -27,48 +27,48 @@ use Rattle.all_schedules.specs.declared.paced.Pace.{Pace}
 use Rattle.all_schedules.specs.declared.paced.Pace.TheVariants.{Even, Seeded}
 use Rattle.all_schedules.specs.Shown.{IsShown}
 
--- the schedule is that of the pace, and makes this history; at even speed up to the end of the loop
-abbrev pub MakesAt : {S : Type 0} → (LoadedImage → ℕ → S → Type 0) → (S → Call → S → Type 0) → (S → StoreView) → (S → Waits) → Pace → Loop → List ℕ → List Entry → Type 0
-MakesAt starts makes view waits Even l schedule history = (ran : Ran) × MakesEvenly starts makes view waits l schedule (Ok (Some ran)) history
-MakesAt starts makes view waits (Seeded seed) l schedule history = (end : Option End) × MakesDrawn starts makes view waits l seed schedule (Ok end) history
+-- the schedule is that of the pace, and makes this history; at even speed, where loads at these addresses wait, up to the end of the loop
+abbrev pub MakesAt : {S : Type 0} → (LoadedImage → ℕ → S → Type 0) → (S → Call → S → Type 0) → (S → StoreView) → (S → Waits) → List ℕ → Pace → Loop → List ℕ → List Entry → Type 0
+MakesAt starts makes view waits addresses Even l schedule history = (ran : Ran) × MakesEvenly starts makes view waits addresses l schedule (Ok (Some ran)) history
+MakesAt starts makes view waits addresses (Seeded seed) l schedule history = (end : Option End) × MakesDrawn starts makes view waits l seed schedule (Ok end) history
 
 -- the run may end in this fault
-abbrev pub IsFaultAt : {S : Type 0} → (LoadedImage → ℕ → S → Type 0) → (S → Call → S → Type 0) → (S → StoreView) → (S → Waits) → Pace → Loop → TurnFault → Type 0
-IsFaultAt starts makes view waits Even l fault = IsEvenFault starts makes view waits l fault
-IsFaultAt starts makes view waits (Seeded seed) l fault = IsDrawnFault starts makes view waits l seed fault
+abbrev pub IsFaultAt : {S : Type 0} → (LoadedImage → ℕ → S → Type 0) → (S → Call → S → Type 0) → (S → StoreView) → (S → Waits) → List ℕ → Pace → Loop → TurnFault → Type 0
+IsFaultAt starts makes view waits addresses Even l fault = IsEvenFault starts makes view waits addresses l fault
+IsFaultAt starts makes view waits addresses (Seeded seed) l fault = IsDrawnFault starts makes view waits l seed fault
 
 -- the line of turns of the run, and below it what shows the history that it makes
-pub record IsPacedText {S : Type 0} (starts : LoadedImage → ℕ → S → Type 0) (calls : S → Call → S → Type 0) (view : S → StoreView) (waits : S → Waits) (pace : Pace) (l : Loop) (outcome : Outcome) (text : List ℕ) : Type 0 where
+pub record IsPacedText {S : Type 0} (starts : LoadedImage → ℕ → S → Type 0) (calls : S → Call → S → Type 0) (view : S → StoreView) (waits : S → Waits) (addresses : List ℕ) (pace : Pace) (l : Loop) (outcome : Outcome) (text : List ℕ) : Type 0 where
   pub schedule : List ℕ
   pub history : List Entry
-  pub makes : MakesAt starts calls view waits pace l schedule history
+  pub makes : MakesAt starts calls view waits addresses pace l schedule history
   pub below : List ℕ
   pub shown : IsShown l.image l.cores history outcome below
   pub text_is : text ≡ turns_line schedule ++ below
 
 -- the run may stop so
-abbrev pub IsPacedStop : {S : Type 0} → (LoadedImage → ℕ → S → Type 0) → (S → Call → S → Type 0) → (S → StoreView) → (S → Waits) → Pace → Loop → CommandStop → Type 0
-IsPacedStop starts makes view waits pace l HistoryFull = IsFaultAt starts makes view waits pace l fault.HistoryFull
-IsPacedStop starts makes view waits pace l NoMemory = Unit {0}
-IsPacedStop starts makes view waits pace l other = ⊥
+abbrev pub IsPacedStop : {S : Type 0} → (LoadedImage → ℕ → S → Type 0) → (S → Call → S → Type 0) → (S → StoreView) → (S → Waits) → List ℕ → Pace → Loop → CommandStop → Type 0
+IsPacedStop starts makes view waits addresses pace l HistoryFull = IsFaultAt starts makes view waits addresses pace l fault.HistoryFull
+IsPacedStop starts makes view waits addresses pace l NoMemory = Unit {0}
+IsPacedStop starts makes view waits addresses pace l other = ⊥
 
 -- it was written
-abbrev pub IsPacedWritten : {S : Type 0} → (LoadedImage → ℕ → S → Type 0) → (S → Call → S → Type 0) → (S → StoreView) → (S → Waits) → Pace → Loop → Option (List ℕ) → Option (List ℕ) → Outcome → Type 0
-IsPacedWritten starts makes view waits pace l old new outcome = IsRunnable l.image l.cores × (text : List ℕ) × IsPacedText starts makes view waits pace l outcome text × Appends old new text
+abbrev pub IsPacedWritten : {S : Type 0} → (LoadedImage → ℕ → S → Type 0) → (S → Call → S → Type 0) → (S → StoreView) → (S → Waits) → List ℕ → Pace → Loop → Option (List ℕ) → Option (List ℕ) → Outcome → Type 0
+IsPacedWritten starts makes view waits addresses pace l old new outcome = IsRunnable l.image l.cores × (text : List ℕ) × IsPacedText starts makes view waits addresses pace l outcome text × Appends old new text
 
 -- what the run of an image came to is right, and this was written
-abbrev pub IsPacedOf : {S : Type 0} → (LoadedImage → ℕ → S → Type 0) → (S → Call → S → Type 0) → (S → StoreView) → (S → Waits) → Pace → Loop → Option (List ℕ) → Option (List ℕ) → Outcome → Type 0
-IsPacedOf starts makes view waits pace l old new (Reported end) = IsPacedWritten starts makes view waits pace l old new (Reported end)
-IsPacedOf starts makes view waits pace l old new (Open homefree) = IsPacedWritten starts makes view waits pace l old new (Open homefree)
-IsPacedOf starts makes view waits pace l old new (Stopped Write) =
-    IsRunnable l.image l.cores × (outcome : Outcome) × (text : List ℕ) × IsPacedText starts makes view waits pace l outcome text × AppendsPrefix old new text
-IsPacedOf starts makes view waits pace l old new (Stopped cause) = IsPacedStop starts makes view waits pace l cause × Keeps old new
-IsPacedOf starts makes view waits pace l old new Usage = (IsRunnable l.image l.cores → ⊥) × Keeps old new
-IsPacedOf starts makes view waits pace l old new outcome = ⊥
+abbrev pub IsPacedOf : {S : Type 0} → (LoadedImage → ℕ → S → Type 0) → (S → Call → S → Type 0) → (S → StoreView) → (S → Waits) → List ℕ → Pace → Loop → Option (List ℕ) → Option (List ℕ) → Outcome → Type 0
+IsPacedOf starts makes view waits addresses pace l old new (Reported end) = IsPacedWritten starts makes view waits addresses pace l old new (Reported end)
+IsPacedOf starts makes view waits addresses pace l old new (Open homefree) = IsPacedWritten starts makes view waits addresses pace l old new (Open homefree)
+IsPacedOf starts makes view waits addresses pace l old new (Stopped Write) =
+    IsRunnable l.image l.cores × (outcome : Outcome) × (text : List ℕ) × IsPacedText starts makes view waits addresses pace l outcome text × AppendsPrefix old new text
+IsPacedOf starts makes view waits addresses pace l old new (Stopped cause) = IsPacedStop starts makes view waits addresses pace l cause × Keeps old new
+IsPacedOf starts makes view waits addresses pace l old new Usage = (IsRunnable l.image l.cores → ⊥) × Keeps old new
+IsPacedOf starts makes view waits addresses pace l old new outcome = ⊥
 
 -- and so of a text
-abbrev pub IsPacedOutcome : {S : Type 0} → (LoadedImage → ℕ → S → Type 0) → (S → Call → S → Type 0) → (S → StoreView) → (S → Waits) → Pace → ℕ → Settings → List ℕ → Option (List ℕ) → Option (List ℕ) → Outcome → Type 0
-IsPacedOutcome starts makes view waits pace cores settings text old new (BadImage fault) = IsRefusal fault.kind fault (image_text text) × Keeps old new
-IsPacedOutcome starts makes view waits pace cores settings text old new (Stopped NoMemory) = Keeps old new
-IsPacedOutcome starts makes view waits pace cores settings text old new outcome =
-    MatchResult (image_text text) (λ image. IsPacedOf starts makes view waits pace (loop_with image cores settings) old new outcome) (λ fault. ⊥)
+abbrev pub IsPacedOutcome : {S : Type 0} → (LoadedImage → ℕ → S → Type 0) → (S → Call → S → Type 0) → (S → StoreView) → (S → Waits) → List ℕ → Pace → ℕ → Settings → List ℕ → Option (List ℕ) → Option (List ℕ) → Outcome → Type 0
+IsPacedOutcome starts makes view waits addresses pace cores settings text old new (BadImage fault) = IsRefusal fault.kind fault (image_text text) × Keeps old new
+IsPacedOutcome starts makes view waits addresses pace cores settings text old new (Stopped NoMemory) = Keeps old new
+IsPacedOutcome starts makes view waits addresses pace cores settings text old new outcome =
+    MatchResult (image_text text) (λ image. IsPacedOf starts makes view waits addresses pace (loop_with image cores settings) old new outcome) (λ fault. ⊥)

@@ -48,6 +48,7 @@ pub fn work<S: AsStr, G: Gate, T: Threads + Wait + Sync, R: Read, W: Write, E: W
                 answer::<CachedBus, G, T, R, W, E>(
                     rt,
                     alloc,
+                    &[],
                     request.turns,
                     settings,
                     gate,
@@ -62,6 +63,7 @@ pub fn work<S: AsStr, G: Gate, T: Threads + Wait + Sync, R: Read, W: Write, E: W
                 answer::<PlainStore, G, T, R, W, E>(
                     rt,
                     alloc,
+                    &[],
                     request.turns,
                     settings,
                     gate,
@@ -79,6 +81,7 @@ pub fn work<S: AsStr, G: Gate, T: Threads + Wait + Sync, R: Read, W: Write, E: W
 fn answer<S: ShownStore, G: Gate, T: Threads + Wait + Sync, R: Read, W: Write, E: Write>(
     rt: &T,
     alloc: Global,
+    addresses: &[u32],
     turns: Turns,
     settings: Settings,
     gate: &G,
@@ -89,7 +92,7 @@ fn answer<S: ShownStore, G: Gate, T: Threads + Wait + Sync, R: Read, W: Write, E
     requires turns { spec.AreTurns turns }
     requires least { 16 ≤ settings.room }
     requires most { settings.room ≤ 1048576 }
-    ensures { ForText (R.remaining reader.old) (λ text. spec.TurnsAnswer S.starts S.makes S.view S.waits S.changes settings turns text
+    ensures { ForText (R.remaining reader.old) (λ text. spec.TurnsAnswer S.starts S.makes S.view S.waits S.changes addresses.now settings turns text
         (record { old = R.remaining reader.old; new = R.remaining reader.new })
         (record { old = W.contents writer.old; new = W.contents writer.new })
         (record { old = E.contents errors.old; new = E.contents errors.new }) result) }
@@ -102,7 +105,9 @@ fn answer<S: ShownStore, G: Gate, T: Threads + Wait + Sync, R: Read, W: Write, E
             do_all::<S, R, W, E>(alloc, cores, settings, turns, reader, writer, errors)
         }
         Turns::Paced { pace, cores } => {
-            do_paced::<S, R, W, E>(alloc, pace, cores, settings, reader, writer, errors)
+            do_paced::<S, R, W, E>(
+                alloc, addresses, pace, cores, settings, reader, writer, errors,
+            )
         }
         Turns::Threaded { cores } => {
             let asked = settings.asked;

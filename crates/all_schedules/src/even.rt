@@ -23,7 +23,8 @@ pub struct EvenRun<S: EpochStore> {
     pub ran: Ran,
 }
 
-/// Runs a loop at even speed from an empty history on, over a fresh store, up to its end. The cores are at least 1, and the room is 16
+/// Runs a loop at even speed from an empty history on, over a fresh store, up to its end. A core waits at a load at one of these addresses
+/// of code until its epoch is the homefree one. The cores are at least 1, and the room is 16
 /// to `homefree::MOST_ROOM` entries.
 ///
 /// `HistoryFull`: a turn found too few free entries. `NoMemory`: memory ran out.
@@ -32,19 +33,28 @@ pub fn run_evenly<S: EpochStore>(
     image: &Image,
     cores: u32,
     room: u32,
+    addresses: &[u32],
 ) -> Result<EvenRun<S>, TurnFault>
     requires cores { IsCoreCount image.now cores }
     requires least { 16 ≤ room }
     requires most { room ≤ most_room }
-    ensures made { IfOk result (λ run. spec.IsEvenRun S.starts S.makes S.view S.waits (loop_on image.now cores room) run.schedule.items run.ran run.book) }
-    ensures fault { IfErr result (spec.IsEvenFault S.starts S.makes S.view S.waits (loop_on image.now cores room)) }
+    ensures made { IfOk result (λ run. spec.IsEvenRun S.starts S.makes S.view S.waits addresses.now (loop_on image.now cores room) run.schedule.items run.ran run.book) }
+    ensures fault { IfErr result (spec.IsEvenFault S.starts S.makes S.view S.waits addresses.now (loop_on image.now cores room)) }
 {
     let made: Result<(Book<S>, Shares), _> = Book::new(alloc, image, cores, room);
     let Ok((mut book, mut shares)) = made else {
         return Err(TurnFault::NoMemory);
     };
     let mut schedule = Vec::new(alloc);
-    let driven = drive_evenly(alloc, &mut book, image, cores, &mut schedule, &mut shares);
+    let driven = drive_evenly(
+        alloc,
+        &mut book,
+        image,
+        cores,
+        addresses,
+        &mut schedule,
+        &mut shares,
+    );
     book.look();
     match driven {
         Ok(Some(ran)) => Ok(EvenRun {

@@ -33,7 +33,7 @@ pub enum Pace {
     Seeded(u64),
 }
 
-/// Runs the image that the reader gives by this pace over a fresh store, and writes the line of its turns, and below it what
+/// Runs the image that the reader gives by this pace, at even speed with loads at these addresses of code that wait, over a fresh store, and writes the line of its turns, and below it what
 /// `do_replay` writes of them. The cores are at least 1, and the room is 16 to 1,048,576 entries.
 ///
 /// The status is 0 where the loop is done or exited, or the most turns were drawn before; 1 where an epoch faulted; 2 where the image,
@@ -41,6 +41,7 @@ pub enum Pace {
 /// stream says which. All that is written was made before the first byte: after a failed write a prefix of it was written.
 pub fn do_paced<S: EpochStore, R: Read, W: Write, E: Write>(
     alloc: Global,
+    addresses: &[u32],
     pace: Pace,
     cores: u32,
     settings: Settings,
@@ -52,15 +53,16 @@ pub fn do_paced<S: EpochStore, R: Read, W: Write, E: Write>(
     requires least { 16 ≤ settings.room }
     requires most { settings.room ≤ 1048576 }
     ensures outcome { ForText (R.remaining reader.old) (λ text.
-        Conclusion (spec.IsPacedOutcome S.starts S.makes S.view S.waits pace cores settings text (W.contents writer.old) (W.contents writer.new)) (E.contents errors.old) (E.contents errors.new) result) }
+        Conclusion (spec.IsPacedOutcome S.starts S.makes S.view S.waits addresses.now pace cores settings text (W.contents writer.old) (W.contents writer.new)) (E.contents errors.old) (E.contents errors.new) result) }
     ensures taken { TakesAtMost (R.remaining reader.old) (R.remaining reader.new) (longest_image_text + 1) }
 {
-    paced_input::<S, R, W>(alloc, pace, cores, settings, reader, writer).conclude(errors)
+    paced_input::<S, R, W>(alloc, addresses, pace, cores, settings, reader, writer).conclude(errors)
 }
 
 /// Runs an input, all but its line on the error stream.
 fn paced_input<S: EpochStore, R: Read, W: Write>(
     alloc: Global,
+    addresses: &[u32],
     pace: Pace,
     cores: u32,
     settings: Settings,
@@ -71,17 +73,18 @@ fn paced_input<S: EpochStore, R: Read, W: Write>(
     requires least { 16 ≤ settings.room }
     requires most { settings.room ≤ 1048576 }
     ensures outcome { ForText (R.remaining reader.old) (λ text.
-        spec.IsPacedOutcome S.starts S.makes S.view S.waits pace cores settings text (W.contents writer.old) (W.contents writer.new) result) }
+        spec.IsPacedOutcome S.starts S.makes S.view S.waits addresses.now pace cores settings text (W.contents writer.old) (W.contents writer.new) result) }
     ensures taken { TakesAtMost (R.remaining reader.old) (R.remaining reader.new) (longest_image_text + 1) }
 {
     match read_image(alloc, reader) {
-        Ok(image) => paced_image::<S, W>(alloc, pace, image, cores, settings, writer),
+        Ok(image) => paced_image::<S, W>(alloc, addresses, pace, image, cores, settings, writer),
         Err(fault) => Outcome::of_fault(fault),
     }
 }
 
 fn paced_image<S: EpochStore, W: Write>(
     alloc: Global,
+    addresses: &[u32],
     pace: Pace,
     image: Image,
     cores: u32,
@@ -91,12 +94,19 @@ fn paced_image<S: EpochStore, W: Write>(
     requires cores { 1 ≤ cores }
     requires least { 16 ≤ settings.room }
     requires most { settings.room ≤ 1048576 }
-    ensures { spec.IsPacedOf S.starts S.makes S.view S.waits pace (loop_with image cores settings) (W.contents writer.old) (W.contents writer.new) result }
+    ensures { spec.IsPacedOf S.starts S.makes S.view S.waits addresses.now pace (loop_with image cores settings) (W.contents writer.old) (W.contents writer.new) result }
 {
     let Some(image) = runnable(image, settings.asked, cores) else {
         return Outcome::Usage;
     };
-    let (outcome, printed) = match show_paced::<S>(alloc, pace, &image, cores, settings.room) {
+    let (outcome, printed) = match show_paced::<S>(
+        alloc,
+        addresses,
+        pace,
+        &image,
+        cores,
+        settings.room,
+    ) {
         Ok(shown) => shown,
         Err(cause) => return Outcome::Stopped(cause),
     };
@@ -110,6 +120,7 @@ fn paced_image<S: EpochStore, W: Write>(
 /// Runs by this pace, and shows what the turns made.
 fn show_paced<S: EpochStore>(
     alloc: Global,
+    addresses: &[u32],
     pace: Pace,
     image: &Image,
     cores: u32,
@@ -118,11 +129,11 @@ fn show_paced<S: EpochStore>(
     requires cores { IsCoreCount image.now cores }
     requires least { 16 ≤ room }
     requires most { room ≤ 1048576 }
-    ensures { MatchResult result (λ shown. spec.IsPacedText S.starts S.makes S.view S.waits pace (loop_on image.now cores room) shown.0 shown.1.items)
-        (spec.IsPacedStop S.starts S.makes S.view S.waits pace (loop_on image.now cores room)) }
+    ensures { MatchResult result (λ shown. spec.IsPacedText S.starts S.makes S.view S.waits addresses.now pace (loop_on image.now cores room) shown.0 shown.1.items)
+        (spec.IsPacedStop S.starts S.makes S.view S.waits addresses.now pace (loop_on image.now cores room)) }
 {
     match pace {
-        Pace::Even => show_even::<S>(alloc, image, cores, room),
+        Pace::Even => show_even::<S>(alloc, addresses, image, cores, room),
         Pace::Seeded(seed) => show_seeded::<S>(alloc, seed, image, cores, room),
     }
 }
@@ -130,6 +141,7 @@ fn show_paced<S: EpochStore>(
 /// Runs at even speed, and shows what the turns made.
 fn show_even<S: EpochStore>(
     alloc: Global,
+    addresses: &[u32],
     image: &Image,
     cores: u32,
     room: u32,
@@ -137,10 +149,10 @@ fn show_even<S: EpochStore>(
     requires cores { IsCoreCount image.now cores }
     requires least { 16 ≤ room }
     requires most { room ≤ 1048576 }
-    ensures { MatchResult result (λ shown. spec.IsPacedText S.starts S.makes S.view S.waits Pace.Even (loop_on image.now cores room) shown.0 shown.1.items)
-        (spec.IsPacedStop S.starts S.makes S.view S.waits Pace.Even (loop_on image.now cores room)) }
+    ensures { MatchResult result (λ shown. spec.IsPacedText S.starts S.makes S.view S.waits addresses.now Pace.Even (loop_on image.now cores room) shown.0 shown.1.items)
+        (spec.IsPacedStop S.starts S.makes S.view S.waits addresses.now Pace.Even (loop_on image.now cores room)) }
 {
-    match run_evenly::<S>(alloc, image, cores, room) {
+    match run_evenly::<S>(alloc, image, cores, room, addresses) {
         Ok(made) => match print_turns(alloc, image, cores, made.schedule.as_slice(), &made.book) {
             Ok(shown) => Ok(shown),
             Err(AllocError) => Err(CommandStop::NoMemory),
@@ -161,8 +173,8 @@ fn show_seeded<S: EpochStore>(
     requires cores { IsCoreCount image.now cores }
     requires least { 16 ≤ room }
     requires most { room ≤ 1048576 }
-    ensures { MatchResult result (λ shown. spec.IsPacedText S.starts S.makes S.view S.waits (Pace.Seeded seed) (loop_on image.now cores room) shown.0 shown.1.items)
-        (spec.IsPacedStop S.starts S.makes S.view S.waits (Pace.Seeded seed) (loop_on image.now cores room)) }
+    ensures { (addresses : List ℕ) → MatchResult result (λ shown. spec.IsPacedText S.starts S.makes S.view S.waits addresses (Pace.Seeded seed) (loop_on image.now cores room) shown.0 shown.1.items)
+        (spec.IsPacedStop S.starts S.makes S.view S.waits addresses (Pace.Seeded seed) (loop_on image.now cores room)) }
 {
     match run_seeded::<S>(alloc, image, cores, room, seed) {
         Ok(made) => match print_turns(alloc, image, cores, made.schedule.as_slice(), &made.book) {

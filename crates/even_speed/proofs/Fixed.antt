@@ -9,27 +9,37 @@ use Rattle.homefree.specs.declared.fault.TurnFault.{TurnFault}
 use Rattle.homefree.specs.declared.fault.TurnFault.TheVariants.{NoMemory, HistoryFull}
 use Rattle.homefree.specs.Driven.{Driver, TurnedWith}
 use Rattle.homefree.specs.DriveFixed.{AreTwinDrivers}
-use Rattle.homefree.specs.Fixed.{TurnIsFixed}
+use Rattle.homefree.specs.Fixed.{AreTwins, TurnIsFixed}
+use Rattle.homefree.specs.BookView.{BookView}
+use Rattle.spec_history.specs.Replay.{replay}
+use Rattle.rv32_exec.specs.Hart.{HartState}
 use Rattle.homefree.proofs.Fixed.Driving.{IsOneStep, one_step}
-use Rattle.even_speed.specs.declared.clock.Clock.{Clock}
 use Rattle.even_speed.specs.declared.clocks.Turn.{Turn}
 use Rattle.even_speed.specs.declared.run.Ran.{Ran}
-use Rattle.even_speed.specs.Clocks.{IsFirst}
+use Rattle.even_speed.specs.Clocks.{IsFirst, dues, late_clocks, later}
 use Rattle.even_speed.specs.Even.{Pace, Evenly, EndsOrGoes, clocks_after, go_answer, pace_after, ran_at}
-use Rattle.even_speed.specs.Fixed.{IsOneRun, RunIsFixed}
+use Rattle.even_speed.specs.Fixed.{IsDone, IsOneRun, RunIsFixed}
+use Rattle.even_speed.specs.Held.{are_held, held_in}
 
-abbrev turn_at : ℕ → ℕ → Turn
-turn_at core at = record { core = core; at = at }
+abbrev turn_at : ℕ → ℕ → ℕ → Turn
+turn_at core due at = record { core = core; due = due; at = at }
 
 -- one core is due first
-one_first : (clocks : ℕ → Clock) (n : ℕ) (t u : Turn) → IsFirst clocks n t → IsFirst clocks n u → u ≡ t
-one_first clocks n t u one two = λ i. record { core = cores i; at = times i }
+one_first : (now : ℕ) (dues : ℕ → Option ℕ) (n : ℕ) (t u : Turn) → IsFirst now dues n t → IsFirst now dues n u → u ≡ t
+one_first now dues n t u one two = λ i. record { core = cores i; due = times i; at = begins i }
   where
-    times : u.at ≡ t.at
-    times = omega (arith, one.least u.core u.at two.core two.due, two.least t.core t.at one.core one.due)
+    times : u.due ≡ t.due
+    times = omega (arith, one.least u.core u.due two.core two.due, two.least t.core t.due one.core one.due)
 
     cores : u.core ≡ t.core
     cores = omega (arith, one.lowest u.core two.core (two.due ∙ ap Some times), two.lowest t.core one.core (one.due ∙ ap Some (sym times)))
+
+    begins : u.at ≡ t.at
+    begins = two.begins ∙ (ap (later now) times ∙ sym one.begins)
+
+-- and the same cores are held
+one_held : {S : Type 0} (alike : S → S → Type 0) (addresses : List ℕ) (b c : BookView S) (hands : ℕ → Option HartState) → AreTwins alike b c → held_in addresses c hands ≡ held_in addresses b hands
+one_held alike addresses b c hands twins = λ i. are_held addresses (twins.image i) (replay (twins.image i) (twins.cores i) (twins.history i)) hands
 
 -- the answer isn't want of memory, where the run wasn't stopped for that
 fed_so : {S : Type 0} (old mid : Driver S) (p : Pace) (t : Turn) (answer : Result Answer TurnFault) (rest : List ℕ) (result : Result (Option Ran) TurnFault) (new : Driver S) (more : Type 0)
@@ -38,29 +48,29 @@ fed_so old mid p t (Ok a) rest result new more fed ends none = absurd cc
 fed_so old mid p t (Err HistoryFull) rest result new more fed ends none = absurd cc
 fed_so old mid p t (Err NoMemory) rest result new more fed ends none = fed ends.2
 
-module _ {S : Type 0} (makes : S → Call → S → Type 0) (alike : S → S → Type 0) (view : S → StoreView) (waits : S → Waits) (law : TurnIsFixed makes alike view waits) where
+module _ {S : Type 0} (makes : S → Call → S → Type 0) (alike : S → S → Type 0) (view : S → StoreView) (waits : S → Waits) (addresses : List ℕ) (law : TurnIsFixed makes alike view waits) where
   -- the clocks go on as one
   one_clock : (old mid old' mid' : Driver S) (p : Pace) (t : Turn) (a : Answer) → AreTwinDrivers alike old old' → AreTwinDrivers alike mid mid'
-      → clocks_after old' mid' p.clocks t a ≡ clocks_after old mid p.clocks t a
+      → clocks_after old' mid' (late_clocks p.clocks t) t a ≡ clocks_after old mid (late_clocks p.clocks t) t a
   one_clock old mid old' mid' p t a olds mids = λ i.
       clocks_after (record { book = record old.book { image = olds.books.image i; totals = olds.books.totals i }; shares = old.shares })
-      (record { book = record mid.book { totals = mids.books.totals i }; shares = mid.shares }) p.clocks t a
+      (record { book = record mid.book { totals = mids.books.totals i }; shares = mid.shares }) (late_clocks p.clocks t) t a
 
   module _ (old mid old' mid' new new' : Driver S) (p : Pace) (t : Turn) (rest rest' : List ℕ) (result result' : Result (Option Ran) TurnFault) (olds : AreTwinDrivers alike old old')
       (mids : AreTwinDrivers alike mid mid')
-      (more : (a : Answer) → Evenly makes view waits (pace_after old mid p t a) mid rest result new → Evenly makes view waits (pace_after old mid p t a) mid' rest' result' new'
+      (more : (a : Answer) → Evenly makes view waits addresses (pace_after old mid p t a) mid rest result new → Evenly makes view waits addresses (pace_after old mid p t a) mid' rest' result' new'
       → IsOneRun alike rest rest' result result' new new') where
     abbrev pub goes : Answer → Type 0
-    goes a = Evenly makes view waits (pace_after old mid p t a) mid rest result new
+    goes a = Evenly makes view waits addresses (pace_after old mid p t a) mid rest result new
 
     abbrev pub goes' : Answer → Type 0
-    goes' a = Evenly makes view waits (pace_after old' mid' p t a) mid' rest' result' new'
+    goes' a = Evenly makes view waits addresses (pace_after old' mid' p t a) mid' rest' result' new'
 
     one_pace : (a : Answer) → pace_after old' mid' p t a ≡ pace_after old mid p t a
-    one_pace a = λ i. record { held = (pace_after old mid p t a).held; clocks = one_clock old mid old' mid' p t a olds mids i }
+    one_pace a = λ i. record { held = (pace_after old mid p t a).held; clocks = one_clock old mid old' mid' p t a olds mids i; now = t.at }
 
     on : (a : Answer) → goes a → goes' a → IsOneRun alike (t.core ∷ rest) (t.core ∷ rest') result result' new new'
-    on a d d' = let run = more a d (subst (λ q. Evenly makes view waits q mid' rest' result' new') (one_pace a) d') in
+    on a d d' = let run = more a d (subst (λ q. Evenly makes view waits addresses q mid' rest' result' new') (one_pace a) d') in
         record { schedule_is = ap (λ l. t.core ∷ l) run.schedule_is; result_is = run.result_is; twins = run.twins }
 
     last : (r r' : Result (Option Ran) TurnFault) → r' ≡ r → (rest ≡ []) × (new ≡ mid) × (result ≡ r) → (rest' ≡ []) × (new' ≡ mid') × (result' ≡ r')
@@ -71,7 +81,7 @@ module _ {S : Type 0} (makes : S → Call → S → Type 0) (alike : S → S →
       twins = subst (λ d. AreTwinDrivers alike d new') (sym one.1) (subst (AreTwinDrivers alike mid) (sym two.1) mids);
     }
 
-    over_alike : (end : End) → ran_at old'.book.cores (t.at + 1) (clocks_after old' mid' p.clocks t (Over end)) end ≡ ran_at old.book.cores (t.at + 1) (clocks_after old mid p.clocks t (Over end)) end
+    over_alike : (end : End) → ran_at old'.book.cores (t.at + 1) (clocks_after old' mid' (late_clocks p.clocks t) t (Over end)) end ≡ ran_at old.book.cores (t.at + 1) (clocks_after old mid (late_clocks p.clocks t) t (Over end)) end
     over_alike end = λ i. ran_at (olds.books.cores i) (t.at + 1) (one_clock old mid old' mid' p t (Over end) olds mids i) end
 
     pub by_answer : (answer : Result Answer TurnFault) → EndsOrGoes old mid p t answer rest result new (goes (go_answer answer))
@@ -85,29 +95,37 @@ module _ {S : Type 0} (makes : S → Call → S → Type 0) (alike : S → S →
 
   -- the turns below one that was answered so
   abbrev below : Driver S → Driver S → Pace → List ℕ → Result (Option Ran) TurnFault → Driver S → Turn → Answer → Type 0
-  below old mid p rest result new t a = Evenly makes view waits (pace_after old mid p t a) mid rest result new
+  below old mid p rest result new t a = Evenly makes view waits addresses (pace_after old mid p t a) mid rest result new
 
-  pub run_fixed : RunIsFixed makes alike view waits
-  run_fixed p old new old' new' [] schedule' result result' twins one two done done' = absurd (done.ended one.1)
-  run_fixed p old new old' new' (core ∷ rest) [] result result' twins one two done done' = absurd (done'.ended two.1)
-  run_fixed p old new old' new' (core ∷ rest) (core' ∷ rest') result result' twins (at, mid, answer, first, turned, more) (at', mid', answer', first', turned', more') done done' =
+  pub run_fixed_by : (p : Pace) (old new old' new' : Driver S) (schedule schedule' : List ℕ) (result result' : Result (Option Ran) TurnFault)
+      → AreTwinDrivers alike old old' → Evenly makes view waits addresses p old schedule result new → Evenly makes view waits addresses p old' schedule' result' new'
+      → IsDone result → IsDone result' → IsOneRun alike schedule schedule' result result' new new'
+  run_fixed_by p old new old' new' [] schedule' result result' twins one two done done' = absurd (done.ended one.1)
+  run_fixed_by p old new old' new' (core ∷ rest) [] result result' twins one two done done' = absurd (done'.ended two.1)
+  run_fixed_by p old new old' new' (core ∷ rest) (core' ∷ rest') result result' twins (due, at, mid, answer, first, turned, more) (due', at', mid', answer', first', turned', more') done done' =
       subst (λ k. IsOneRun alike (core ∷ rest) (k ∷ rest') result result' new new') (sym (ap (λ (x : Turn). x.core) turn_is))
-      (by_answer old mid old' mid' new new' p (turn_at core at) rest rest' result result' twins step.twins
-      (λ a d d'. run_fixed (pace_after old mid p (turn_at core at) a) mid new mid' new' rest rest' result result' step.twins d d' done done') answer more second_more)
+      (by_answer old mid old' mid' new new' p (turn_at core due at) rest rest' result result' twins step.twins
+      (λ a d d'. run_fixed_by (pace_after old mid p (turn_at core due at) a) mid new mid' new' rest rest' result result' step.twins d d' done done') answer more second_more)
     where
-      turn_is : turn_at core' at' ≡ turn_at core at
-      turn_is = one_first p.clocks old.book.cores (turn_at core at) (turn_at core' at') first (subst (λ n. IsFirst p.clocks n (turn_at core' at')) twins.books.cores first')
+      turn_is : turn_at core' due' at' ≡ turn_at core due at
+      turn_is = one_first p.now (dues (held_in addresses old.book p.held) p.clocks) old.book.cores (turn_at core due at) (turn_at core' due' at') first
+          (subst (λ n. IsFirst p.now (dues (held_in addresses old.book p.held) p.clocks) n (turn_at core' due' at')) twins.books.cores
+          (subst (λ h. IsFirst p.now (dues h p.clocks) old'.book.cores (turn_at core' due' at')) (one_held alike addresses old.book old'.book p.held twins.books) first'))
 
       second : TurnedWith makes view waits old' core (p.held core) answer' mid'
       second = subst (λ (x : Turn). TurnedWith makes view waits old' x.core (p.held x.core) answer' mid') turn_is turned'
 
-      second_ends : EndsOrGoes old' mid' p (turn_at core at) answer' rest' result' new' (below old' mid' p rest' result' new' (turn_at core at) (go_answer answer'))
+      second_ends : EndsOrGoes old' mid' p (turn_at core due at) answer' rest' result' new' (below old' mid' p rest' result' new' (turn_at core due at) (go_answer answer'))
       second_ends = subst (λ (x : Turn). EndsOrGoes old' mid' p x answer' rest' result' new' (below old' mid' p rest' result' new' x (go_answer answer'))) turn_is more'
 
       step : IsOneStep alike answer answer' mid mid'
       step = one_step makes alike view waits law old old' core (p.held core) answer answer' mid mid' twins turned second
-          (fed_so old mid p (turn_at core at) answer rest result new (below old mid p rest result new (turn_at core at) (go_answer answer)) done.fed more)
-          (fed_so old' mid' p (turn_at core at) answer' rest' result' new' (below old' mid' p rest' result' new' (turn_at core at) (go_answer answer')) done'.fed second_ends)
+          (fed_so old mid p (turn_at core due at) answer rest result new (below old mid p rest result new (turn_at core due at) (go_answer answer)) done.fed more)
+          (fed_so old' mid' p (turn_at core due at) answer' rest' result' new' (below old' mid' p rest' result' new' (turn_at core due at) (go_answer answer')) done'.fed second_ends)
 
-      second_more : EndsOrGoes old' mid' p (turn_at core at) answer rest' result' new' (below old' mid' p rest' result' new' (turn_at core at) (go_answer answer))
-      second_more = subst (λ a. EndsOrGoes old' mid' p (turn_at core at) a rest' result' new' (below old' mid' p rest' result' new' (turn_at core at) (go_answer a))) step.answer_is second_ends
+      second_more : EndsOrGoes old' mid' p (turn_at core due at) answer rest' result' new' (below old' mid' p rest' result' new' (turn_at core due at) (go_answer answer))
+      second_more = subst (λ a. EndsOrGoes old' mid' p (turn_at core due at) a rest' result' new' (below old' mid' p rest' result' new' (turn_at core due at) (go_answer a))) step.answer_is second_ends
+
+pub run_fixed : {S : Type 0} (makes : S → Call → S → Type 0) (alike : S → S → Type 0) (view : S → StoreView) (waits : S → Waits) → TurnIsFixed makes alike view waits → RunIsFixed makes alike view waits
+run_fixed makes alike view waits law addresses p old new old' new' schedule schedule' result result' =
+    run_fixed_by makes alike view waits addresses law p old new old' new' schedule schedule' result result'

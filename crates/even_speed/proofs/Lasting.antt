@@ -29,9 +29,10 @@ use Rattle.even_speed.specs.declared.clock.Clock.{Clock}
 use Rattle.even_speed.specs.declared.clock.Next.{Next}
 use Rattle.even_speed.specs.declared.clock.Next.TheVariants.{Due, Waits, Gone}
 use Rattle.even_speed.specs.declared.clocks.Turn.{Turn}
-use Rattle.even_speed.specs.Clocks.{IsFirst, answered, due_of, first_clock, waits_for, woken, woken_from}
+use Rattle.even_speed.specs.Clocks.{answered, due_of, dues, first_clock, late, late_clocks, waits_for, woken, woken_from}
+use Rattle.even_speed.specs.Held.{are_held, epoch_run, held_in, is_held}
 use Rattle.even_speed.specs.Even.{Pace, clocks_after, executed_by, restarts}
-use Rattle.even_speed.specs.Kept.{IsNext}
+use Rattle.even_speed.specs.Kept.{IsNext, IsTurnOf}
 use Rattle.even_speed.specs.Lasting.{IsLasting, IsUnderWay, IsUndue, undue, undue_of}
 use Rattle.even_speed.specs.Timed.{Adds, AreOnTime, Came, GoesTo, IsOnTime, Leads, Leaves, Moves, TakesEpoch, WasTold}
 
@@ -107,18 +108,53 @@ module _ (image : LoadedImage) (cores : ℕ) (s : FlatState) where
   not_all_idle core (Waits since cause) none un below same most left = omega (arith, un.3, below un.1 un.2, same)
   not_all_idle core Gone none un below same most left = left (omega (arith, un.2, same, most))
 
-  pub one_is_due : (history : List Entry) (clocks : ℕ → Clock) → IsImage image → replay image cores history ≡ Some s → 1 ≤ cores → IsUnderWay image cores s clocks
-      → ((k : ℕ) → k < cores → due_of (clocks k).next ≡ None) → ⊥
-  one_is_due history clocks is_image replays some way none =
-      let first = none 0 some in
-      let still = still_by (s.cores 0) (clocks 0).next first (way.undue 0 some) in
+  -- a core that is held runs an epoch, and not the homefree one
+  held_runs : (addresses : List ℕ) (core : Option CoreState) (hand : Option HartState) → is_held addresses image s.homefree (epoch_run core) hand ≡ true → core ≡ None → ⊥
+  held_runs addresses None hand held idle = absurd cc
+  held_runs addresses (Some c) hand held idle = absurd cc
+
+  free_by : (addresses : List ℕ) (hurt : Bool) (epoch : ℕ) (hand : Option HartState) → epoch ≡ s.homefree → is_held addresses image s.homefree (cond hurt None (Some epoch)) hand ≡ false
+  free_by addresses true epoch hand is = refl
+  free_by addresses false epoch None is = refl
+  free_by addresses false epoch (Some hart) is = rw (eq-eqb epoch s.homefree is) refl
+
+  homefree_free : (addresses : List ℕ) (core : Option CoreState) (c : CoreState) (hand : Option HartState) → core ≡ Some c → c.epoch ≡ s.homefree
+      → is_held addresses image s.homefree (epoch_run core) hand ≡ false
+  homefree_free addresses core c hand at is = subst (λ o. is_held addresses image s.homefree (epoch_run o) hand ≡ false) (sym at) (free_by addresses c.hurt c.epoch hand is)
+
+  undue_free : (held : Bool) (due : Option ℕ) → held ≡ false → cond held None due ≡ None → due ≡ None
+  undue_free true due free none = absurd cc
+  undue_free false due free none = none
+
+  -- one that isn't due is held, or isn't due by its clock
+  going_by : (held : Bool) (core : Option CoreState) (next : Next) → cond held None (due_of next) ≡ None → (held ≡ true → core ≡ None → ⊥) → ((c : CoreState) → core ≡ Some c → s.end ≡ None)
+      → IsUndue image s core next → s.end ≡ None
+  going_by true None next none runs going un = absurd (runs refl refl)
+  going_by true (Some c) next none runs going un = going c refl
+  going_by false core next none runs going un = still_by core next none un
+
+  idle_by : (held : Bool) (core : Option CoreState) (next : Next) → cond held None (due_of next) ≡ None → (held ≡ true → core ≡ None → ⊥) → ((c : CoreState) → core ≡ Some c → ⊥)
+      → (core ≡ None) × (due_of next ≡ None)
+  idle_by true None next none runs never = absurd (runs refl refl)
+  idle_by false None next none runs never = (refl, none)
+  idle_by held (Some c) next none runs never = absurd (never c refl)
+
+  pub one_is_due : (history : List Entry) (clocks : ℕ → Clock) (addresses : List ℕ) (hands : ℕ → Option HartState) → IsImage image → replay image cores history ≡ Some s → 1 ≤ cores
+      → IsUnderWay image cores s clocks → ((k : ℕ) → k < cores → dues (are_held addresses image (Some s) hands) clocks k ≡ None) → ⊥
+  one_is_due history clocks addresses hands is_image replays some way none =
+      let held = is_held addresses image s.homefree (epoch_run (s.cores 0)) (hands 0) in
+      let runs = held_runs addresses (s.cores 0) (hands 0) in
+      let still = going_by held (s.cores 0) (clocks 0).next (none 0 some) runs (way.going 0) (way.undue 0 some) in
       let kept = ((replayed image cores history s is_image replays).going still).kept in
       elim (cases_eq s.homefree s.next_epoch) [
-        | inl same ↦ not_all_idle (s.cores 0) (clocks 0).next first (way.undue 0 some) (λ c at. (kept.core 0 c at).below) same kept.started (has_left image cores history s replays still)
+        | inl same ↦
+            let idle = idle_by held (s.cores 0) (clocks 0).next (none 0 some) runs (λ c at. omega (arith, (kept.core 0 c at).from, (kept.core 0 c at).below, same)) in
+            not_all_idle (s.cores 0) (clocks 0).next idle.1 (way.undue 0 some) (λ c at. (kept.core 0 c at).below) same kept.started (has_left image cores history s replays still)
         | inr other ↦
             let r = way.run s.homefree (omega arith) (omega (arith, kept.homefree_started, other)) in
             let there = (kept.core r.0 r.1 r.2).there in
-            not_homefree (s.cores r.0) r.1 (clocks r.0).next (none r.0 there) (way.undue r.0 there) r.2 r.3
+            let due = undue_free _ (due_of (clocks r.0).next) (homefree_free addresses (s.cores r.0) r.1 (hands r.0) r.2 r.3) (none r.0 there) in
+            not_homefree (s.cores r.0) r.1 (clocks r.0).next due (way.undue r.0 there) r.2 r.3
       ]
 
 -- ---- what a turn keeps of that
@@ -273,6 +309,7 @@ module _ {S : Type 0} (image : LoadedImage) (cores : ℕ) (s u : FlatState) (p :
       run = taken_by image cores t.core s u g.others (s.cores t.core) g.now refl g.runs g.epochs g.homefree way.run;
       undue = all_woken image cores t.core s u g.others t.at (λ k. answered t.at (restarts old mid) (executed_by old.book.image (Go hart)) (Go hart) (p.clocks k)) p.clocks
           (t.at + 1 + executed_by old.book.image (Go hart)) (λ k. refl) g.going (more_epochs image cores t.core s u g.others (s.cores t.core) g.now g.epochs) way.undue;
+      going = λ k c at. g.going;
     };
     few = more_entries (after_turn (Go hart)) more;
   }
@@ -283,6 +320,7 @@ module _ {S : Type 0} (image : LoadedImage) (cores : ℕ) (s u : FlatState) (p :
       run = left_by image cores t.core s u l.others l.was l.runs l.epoch l.homefree l.next_epoch way.run;
       undue = all_woken image cores t.core s u l.others t.at (λ k. answered t.at (restarts old mid) (executed_by old.book.image Left) Left (p.clocks k)) p.clocks
           (t.at + 1) (λ k. refl) still (omega (arith, l.next_epoch)) way.undue;
+      going = λ k c at. still;
     };
     few = more_entries (after_turn Left) more;
   }
@@ -308,6 +346,7 @@ module _ {S : Type 0} (image : LoadedImage) (cores : ℕ) (s u : FlatState) (p :
       run = way.run;
       undue = λ k below. by_core k t.core (λ c. IsUndue image s (s.cores k) c.next) (waits_for cause t.at (p.clocks k)) (p.clocks k)
           (λ e. subst (λ j. IsUndue image s (s.cores j) (waits_for cause t.at (p.clocks j)).next) (sym e) own) (λ other. way.undue k below);
+      going = way.going;
     });
     few = one_waits cause none;
   }
@@ -341,22 +380,51 @@ first_lasts b s clocks none replays first =
       under_way = subst (λ x. IsUnderWay b.image b.cores x clocks) is (record {
         run = λ epoch from below. absurd (omega (arith, below));
         undue = λ k below. subst (λ (c : Clock). IsUndue b.image (first_state b.image) None c.next) (sym (first k)) tt;
+        going = λ k c at. absurd cc;
       });
       few = omega arith;
     }
 
 -- the run isn't at its end, so a core is due
-pub never_undue : {S : Type 0} (b : BookView S) (clocks : ℕ → Clock) (taken count : ℕ) (next : Option Turn) → IsImage b.image → 1 ≤ b.cores → count ≡ b.cores → IsLasting b clocks taken
-    → ((t : Turn) → next ≢ Some t) → IsNext clocks count next → ⊥
-never_undue b clocks taken count (Some t) is_image least same l none next = none t refl
-never_undue b clocks taken count None is_image least same l none next =
-    one_is_due b.image b.cores l.state b.history clocks is_image l.replays least l.under_way (λ k below. next k (omega (arith, below, same)))
+pub never_undue : {S : Type 0} (b : BookView S) (addresses : List ℕ) (hands : ℕ → Option HartState) (now : ℕ) (clocks : ℕ → Clock) (taken count : ℕ) (next : Option Turn) → IsImage b.image
+    → 1 ≤ b.cores → count ≡ b.cores → IsLasting b clocks taken → ((t : Turn) → next ≢ Some t) → IsNext now (dues (held_in addresses b hands) clocks) count next → ⊥
+never_undue b addresses hands now clocks taken count (Some t) is_image least same l none next = none t refl
+never_undue b addresses hands now clocks taken count None is_image least same l none next =
+    one_is_due b.image b.cores l.state b.history clocks addresses hands is_image l.replays least l.under_way
+    (λ k below. subst (λ r. dues (are_held addresses b.image r hands) clocks k ≡ None) l.replays (next k (omega (arith, below, same))))
+
+-- the same, as a turn begins that was due before
+all_undue_by : (f g : ℕ → Clock) (n : ℕ) → ((k : ℕ) → k < n → undue (due_of (g k).next) ≡ undue (due_of (f k).next)) → undue_of g n ≡ undue_of f n
+all_undue_by f g zero same = undue_of-none g ∙ sym (undue_of-none f)
+all_undue_by f g (suc n) same =
+    let before = all_undue_by f g n (λ k below. same k (omega (arith, below))) in
+    omega (arith, before, same n (omega arith), undue_of-more g n, undue_of-more f n)
+
+pub late_lasts : {S : Type 0} (b : BookView S) (clocks lates : ℕ → Clock) (taken : ℕ) (t : Turn) → due_of (clocks t.core).next ≡ Some t.due → ((k : ℕ) → lates k ≡ late_clocks clocks t k)
+    → IsLasting b clocks taken → IsLasting b lates taken
+late_lasts b clocks lates taken t due each l = record {
+  state = l.state;
+  replays = l.replays;
+  under_way = record {
+    run = l.under_way.run;
+    undue = λ k below. subst (λ (c : Clock). IsUndue b.image l.state (l.state.cores k) c.next) (sym (each k))
+        (by_core k t.core (λ c. IsUndue b.image l.state (l.state.cores k) c.next) (late t.due t.at (clocks k)) (clocks k) (λ here. tt) (λ other. l.under_way.undue k below));
+    going = l.under_way.going;
+  };
+  few = omega (
+    arith,
+    l.few,
+    all_undue_by clocks lates b.cores (λ k below. ap (λ (c : Clock). undue (due_of c.next)) (each k)
+        ∙ by_core k t.core (λ c. undue (due_of c.next) ≡ undue (due_of (clocks k).next)) (late t.due t.at (clocks k)) (clocks k)
+        (λ here. sym (ap undue (subst (λ j. due_of (clocks j).next ≡ Some t.due) (sym here) due))) (λ other. refl)),
+  );
+}
 
 -- it has taken fewer turns than it may
 pub never_spent : {S : Type 0} (b : BookView S) (clocks : ℕ → Clock) (taken : ℕ) → IsLasting b clocks taken → length b.history ≤ most_room → b.cores ≤ 16 → 17 * most_room + 17 ≤ taken → ⊥
 never_spent b clocks taken l within most spent = omega (arith, l.few, within, most, spent, few_undue clocks b.cores)
 
-module _ {S : Type 0} (old mid : Driver S) (p : Pace) (t : Turn) (same : IsOfSameLoop old.book mid.book) (first : IsFirst p.clocks old.book.cores t) (most : old.book.cores ≤ 16) where
+module _ {S : Type 0} (old mid : Driver S) (p : Pace) (t : Turn) (same : IsOfSameLoop old.book mid.book) (first : IsTurnOf p.clocks old.book.cores t) (most : old.book.cores ≤ 16) where
   pub lasts_on : (answer : Answer) (clocks' : ℕ → Clock) (taken : ℕ) (s : FlatState) → Leads old mid t.core (p.held t.core) (Ok answer) → ((end : End) → answer ≢ Over end)
       → ((cause : StopCause) → answer ≢ Stopped cause) → ((k : ℕ) → clocks' k ≡ clocks_after old mid p.clocks t answer k)
       → replay old.book.image old.book.cores old.book.history ≡ Some s → AreOnTime old.book.image old.book.cores s p → IsLasting old.book p.clocks taken

@@ -1,5 +1,5 @@
 -- What a turn keeps of the steps that attempts have taken.
-use Rattle.std.proofs.Common.{true≢false, ◌*◌, ◌≡◌, ◌≢◌, ◌⊎◌, ℕ, zero, suc, ◌+◌, ◌-◌, ◌<◌, ◌==◌, Bool, true, false, cond, List, [], Option, Some, None, Result, Ok, refl, sym, ap, subst, ◌∙◌, inl, inr, arith, add-one, eq-eqb, ne_eqb}
+use Rattle.std.proofs.Common.{true≢false, ◌*◌, ◌≡◌, ◌≢◌, ◌⊎◌, ℕ, zero, suc, ◌+◌, ◌-◌, ◌<◌, ◌≤◌, ◌==◌, Bool, true, false, cond, List, [], Option, Some, None, Result, Ok, refl, sym, ap, subst, ◌∙◌, inl, inr, arith, add-one, eq-eqb, eqb-true, ne_eqb}
 use Rattle.std.proofs.Math.Path.{fun_ext}
 use Rattle.std.proofs.lemmas.Bool.{cases_eq, cases_Bool}
 use Rattle.std.proofs.lemmas.Option.{same_Some}
@@ -26,10 +26,10 @@ use Rattle.even_speed.specs.declared.clock.Clock.{Clock}
 use Rattle.even_speed.specs.declared.clock.Next.{Next}
 use Rattle.even_speed.specs.declared.clock.Next.TheVariants.{Due, Waits, Gone}
 use Rattle.even_speed.specs.declared.clocks.Turn.{Turn}
-use Rattle.even_speed.specs.Clocks.{IsFirst, account_of, answered, begun, closed, due_of, ended, first_clock, waits_for, woken, woken_by, woken_from}
-use Rattle.even_speed.specs.Even.{Pace, at_first, clocks_after, executed_by, pace_after, restarts}
+use Rattle.even_speed.specs.Clocks.{account_of, answered, begun, closed, due_of, ended, first_clock, late, late_clocks, waits_for, woken, woken_by, woken_from}
+use Rattle.even_speed.specs.Even.{Pace, at_first, clocks_after, executed_by, restarts}
 use Rattle.even_speed.specs.InOrder.{epoch_count, steps_in_order}
-use Rattle.even_speed.specs.Kept.{IsSound, IsWaitBefore, told}
+use Rattle.even_speed.specs.Kept.{IsSound, IsTurnOf, IsWaitBefore, told}
 use Rattle.even_speed.specs.Timed.{AreOnTime, Came, From, GoesTo, IsNextAt, IsOnTime, Leads, IsDueAt, IsNeverIdle, Leaves, Moves, StaysAt, WasOver, useful_of}
 use Rattle.even_speed.proofs.Events.{later_event}
 use Rattle.even_speed.specs.Account.{WastesNone, no_steps, steps_of, sum_of}
@@ -233,7 +233,48 @@ account_useful end clocks (suc n) =
     suc_is : (k : ℕ) → suc k ≡ k + 1
     suc_is k = omega arith
 
+-- ---- as a turn begins
+
+module _ (image : LoadedImage) (due at : ℕ) (c : Clock) (is : c.next ≡ Due due) (before : due ≤ at) where
+  late_time : (core : Option CoreState) (held : Option HartState) → IsOnTime image core held c → IsOnTime image core held (late due at c)
+  late_time None held on = on
+  late_time (Some core) held on = (on.0, λ unhurt. ((on.1 unhurt).0, omega (arith, next_at _ due c.next is (on.1 unhurt).1, before)))
+
+  late_busy : IsNeverIdle c → IsNeverIdle (late due at c)
+  late_busy busy = record { idle = busy.idle; due = λ none. omega (arith, due_now due (told c) c.next is (busy.due none), before) }
+
+module _ (image : LoadedImage) (cores : ℕ) (s : FlatState) (p : Pace) (lates : ℕ → Clock) (t : Turn) (due : due_of (p.clocks t.core).next ≡ Some t.due) (before : t.due ≤ t.at)
+    (each : (k : ℕ) → lates k ≡ late_clocks p.clocks t k) where
+  lates_by : (P : ℕ → Clock → Type 0) → P t.core (late t.due t.at (p.clocks t.core)) → (k : ℕ) → P k (p.clocks k) → P k (lates k)
+  lates_by P own k other = subst (P k) (sym (each k)) (elim (cases_eq k t.core) [
+    | inl e ↦ subst (λ b. P k (cond b (late t.due t.at (p.clocks k)) (p.clocks k))) (sym (eq-eqb k t.core e)) (subst (λ j. P j (late t.due t.at (p.clocks j))) (sym e) own)
+    | inr ne ↦ subst (λ b. P k (cond b (late t.due t.at (p.clocks k)) (p.clocks k))) (sym (ne_eqb k t.core ne)) other
+  ])
+
+  pub late_on_time : t.core < cores → AreOnTime image cores s p → AreOnTime image cores s (record { held = p.held; clocks = lates; now = t.at })
+  late_on_time there on = record {
+    going = on.going;
+    each = λ k below. lates_by (λ j c. IsOnTime image (s.cores j) (p.held j) c)
+        (late_time image t.due t.at (p.clocks t.core) (due_is (p.clocks t.core).next t.due due) before (s.cores t.core) (p.held t.core) (on.each t.core there)) k (on.each k below);
+    useful = all_useful p.clocks lates cores (λ k below. lates_by (λ j c. c.account.useful ≡ (p.clocks j).account.useful) refl k refl) ∙ on.useful;
+  }
+
+  pub late_never_idle : IsNeverIdle (p.clocks 0) → IsNeverIdle (lates 0)
+  late_never_idle busy = subst IsNeverIdle (sym (each 0)) (by_first (0 == t.core) refl)
+    where
+      by_first : (here : Bool) → (0 == t.core) ≡ here → IsNeverIdle (cond here (late t.due t.at (p.clocks 0)) (p.clocks 0))
+      by_first true is = late_busy image t.due t.at (p.clocks 0) (due_is (p.clocks 0).next t.due (subst (λ k. due_of (p.clocks k).next ≡ Some t.due) (sym (eqb-true 0 t.core is)) due)) before busy
+      by_first false is = busy
+
 -- ---- a whole turn
+
+-- what is in hand and the clocks after a turn of a core that was due as it began
+abbrev pub paced : {S : Type 0} → Driver S → Driver S → Pace → Turn → Answer → Pace
+paced old new p t answer = record {
+  held = with_held p.held t.core (held_after answer (p.held t.core));
+  clocks = clocks_after old new p.clocks t answer;
+  now = t.at;
+}
 
 module _ {S : Type 0} (image : LoadedImage) (cores : ℕ) (s u : FlatState) (p : Pace) (old mid : Driver S) (t : Turn) (same_image : old.book.image ≡ image) (there : t.core < cores)
     (due : due_of (p.clocks t.core).next ≡ Some t.at) (on : AreOnTime image cores s p) where
@@ -378,7 +419,7 @@ module _ {S : Type 0} (image : LoadedImage) (cores : ℕ) (s u : FlatState) (p :
 
   pub turn_on_time : (answer : Answer) → ((end : End) → answer ≢ Over end) → ((cause : StopCause) → answer ≢ Stopped cause)
       → Came image s u t.core (p.held t.core) (restarts old mid) answer → ((k : ℕ) → k < cores → IsSound t.at (turned answer k))
-      → AreOnTime image cores u (pace_after old mid p t answer)
+      → AreOnTime image cores u (paced old mid p t answer)
   turn_on_time answer going unstopped came sound =
       let is = comes_by answer going came unstopped in record {
         each = λ k below. woken_each answer k (u.cores k) _ (turned answer) (may_wake t.at (turned answer k) (sound k below)).before (is.each k below);
@@ -479,10 +520,15 @@ start_on_time image cores history s p none replays is = subst (λ q. AreOnTime i
 abbrev pub Timed : {S : Type 0} → BookView S → Pace → Type 0
 Timed b p = (s : FlatState) × (replay b.image b.cores b.history ≡ Some s) × AreOnTime b.image b.cores s p
 
+-- as a turn begins
+pub late_timed : {S : Type 0} (b : BookView S) (p : Pace) (lates : ℕ → Clock) (t : Turn) → due_of (p.clocks t.core).next ≡ Some t.due → t.due ≤ t.at → ((k : ℕ) → lates k ≡ late_clocks p.clocks t k)
+    → t.core < b.cores → Timed b p → Timed b (record { held = p.held; clocks = lates; now = t.at })
+late_timed b p lates t due before each there timed = (timed.0, timed.1, late_on_time b.image b.cores timed.0 p lates t due before each there timed.2)
+
 same_book : {S : Type 0} (old new : BookView S) (s : FlatState) (p : Pace) → IsOfSameLoop old new → AreOnTime old.image old.cores s p → AreOnTime new.image new.cores s p
 same_book old new s p same on = rw (same.image, same.cores) on
 
-module _ {S : Type 0} (old mid : Driver S) (p : Pace) (t : Turn) (same : IsOfSameLoop old.book mid.book) (first : IsFirst p.clocks old.book.cores t) (timed : Timed old.book p) where
+module _ {S : Type 0} (old mid : Driver S) (p : Pace) (t : Turn) (same : IsOfSameLoop old.book mid.book) (first : IsTurnOf p.clocks old.book.cores t) (timed : Timed old.book p) where
   here : (result : Result Answer TurnFault) (l : Leads old mid t.core (p.held t.core) result) → AreOnTime old.book.image old.book.cores l.before p
   here result l =
       subst (λ x. AreOnTime old.book.image old.book.cores x p)
@@ -490,15 +536,15 @@ module _ {S : Type 0} (old mid : Driver S) (p : Pace) (t : Turn) (same : IsOfSam
 
   pub timed_on : (answer : Answer) (p' : Pace) → Leads old mid t.core (p.held t.core) (Ok answer) → ((end : End) → answer ≢ Over end) → ((cause : StopCause) → answer ≢ Stopped cause)
       → ((k : ℕ) → p'.held k ≡ with_held p.held t.core (held_after answer (p.held t.core)) k) → ((k : ℕ) → p'.clocks k ≡ clocks_after old mid p.clocks t answer k)
-      → ((k : ℕ) → k < old.book.cores → IsSound t.at (cond (k == t.core) (answered t.at (restarts old mid) (executed_by old.book.image answer) answer (p.clocks k)) (p.clocks k)))
+      → p'.now ≡ t.at → ((k : ℕ) → k < old.book.cores → IsSound t.at (cond (k == t.core) (answered t.at (restarts old mid) (executed_by old.book.image answer) answer (p.clocks k)) (p.clocks k)))
       → Timed mid.book p'
-  timed_on answer p' l going unstopped held_is clocks_are sound =
+  timed_on answer p' l going unstopped held_is clocks_are now_is sound =
       let held_path = fun_ext held_is in
       let clocks_path = fun_ext clocks_are in
-      let paced : p' ≡ pace_after old mid p t answer = λ i. record { held = held_path i; clocks = clocks_path i } in (
+      let same_pace : p' ≡ paced old mid p t answer = λ i. record { held = held_path i; clocks = clocks_path i; now = now_is i } in (
         l.after,
         l.leads,
-        same_book old.book mid.book l.after p' same (subst (λ q. AreOnTime old.book.image old.book.cores l.after q) (sym paced)
+        same_book old.book mid.book l.after p' same (subst (λ q. AreOnTime old.book.image old.book.cores l.after q) (sym same_pace)
             (turn_on_time old.book.image old.book.cores l.before l.after p old mid t refl first.core first.due (here (Ok answer) l) answer going unstopped l.came sound)),
       )
 
@@ -525,4 +571,4 @@ module _ {S : Type 0} (old mid : Driver S) (p : Pace) (t : Turn) (same : IsOfSam
       let idle = over_busy old.book.image old.book.cores done.before done.after p old mid t refl first.core first.due (here (Ok (Over (Done (suc n)))) done) n clocks' account done.came
       (subst (λ k. IsNeverIdle (p.clocks k)) (sym at_zero) busy) at_zero one (λ k. are k ∙ ap (λ e. clocks_after old mid p.clocks t (Over e) k) is) sum in
       let useful = over_timed end (suc n) clocks' account l is are sum in
-      omega (arith, idle, useful, wastes.lost, wastes.dropped, wastes.waiting, whole)
+      omega (arith, idle, useful, wastes.lost, wastes.dropped, wastes.waiting, wastes.held, whole)

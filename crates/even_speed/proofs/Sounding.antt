@@ -1,5 +1,6 @@
 -- What a turn, a wake and the end of the run keep of a clock.
-use Rattle.std.proofs.Common.{◌≡◌, ℕ, ◌+◌, ◌-◌, ◌*◌, ◌<◌, ◌≤◌, Bool, true, false, cond, ◌==◌, List, length, Some, refl, ap, subst, sym, ◌∙◌, arith, add-one}
+use Rattle.std.proofs.Common.{◌≡◌, ℕ, ◌+◌, ◌-◌, ◌*◌, ◌<◌, ◌≤◌, Bool, true, false, cond, ◌==◌, List, length, Option, Some, None, refl, ap, subst, sym, ◌∙◌, arith, add-one, eq-eqb, eqb-true}
+use Rattle.std.proofs.lemmas.Bool.Decides.{nat_tests}
 use Rattle.std.proofs.lemmas.Option.{same_Some}
 use Rattle.homefree.specs.declared.answer.Answer.{Answer}
 use Rattle.homefree.specs.declared.answer.Answer.TheVariants.{Go, Again, Left, Over, Stopped}
@@ -9,31 +10,31 @@ use Rattle.even_speed.specs.declared.account.Account.{Account}
 use Rattle.even_speed.specs.declared.clock.Clock.{Clock}
 use Rattle.even_speed.specs.declared.clock.Next.{Next}
 use Rattle.even_speed.specs.declared.clock.Next.TheVariants.{Due, Waits, Gone}
-use Rattle.even_speed.specs.Account.{no_steps, steps_of, sum_of, with_waited}
+use Rattle.even_speed.specs.Account.{no_steps, steps_of, sum_of, with_hold, with_waited}
 use Rattle.even_speed.specs.declared.clocks.Turn.{Turn}
-use Rattle.even_speed.specs.Clocks.{IsFirst, account_of, answered, begun, clock_at, closed, dropped, due_of, ended, first_clock, waits_for, woken, woken_from}
-use Rattle.even_speed.specs.Kept.{AreSound, IsWaitBefore, MayWake, IsDueBy, IsSound, IsSoundNext, told}
+use Rattle.even_speed.specs.Clocks.{IsFirst, account_of, answered, begun, clock_at, closed, dropped, due_of, dues, ended, first_clock, late, late_clocks, later, waits_for, woken, woken_from}
+use Rattle.even_speed.specs.Kept.{AreSound, IsWaitBefore, IsTurnOf, MayWake, IsDueBy, IsSound, IsSoundNext, told}
 
 pub first_sound : IsSound 0 first_clock
-first_sound = record { whole = refl; so_far = omega arith; next = (omega arith, omega arith) }
+first_sound = record { whole = refl; so_far = omega arith; next = omega arith }
 
 -- ---- time passes
 
-later_next : (now t told : ℕ) (n : Next) → now ≤ t → ((at : ℕ) → due_of n ≡ Some at → t ≤ at) → IsSoundNext now told n → IsSoundNext t told n
-later_next now t told (Due at) passes least s = (least at refl, s.1)
-later_next now t told (Waits since cause) passes least s = (omega (arith, passes, s.0), s.1)
-later_next now t told Gone passes least s = tt
+later_next : (now t told : ℕ) (n : Next) → now ≤ t → IsSoundNext now told n → IsSoundNext t told n
+later_next now t told (Due at) passes s = s
+later_next now t told (Waits since cause) passes s = (omega (arith, passes, s.0), s.1)
+later_next now t told Gone passes s = tt
 
-pub sound_later : (now t : ℕ) (c : Clock) → now ≤ t → ((at : ℕ) → due_of c.next ≡ Some at → t ≤ at) → IsSound now c → IsSound t c
-sound_later now t c passes least s = record {
+pub sound_later : (now t : ℕ) (c : Clock) → now ≤ t → IsSound now c → IsSound t c
+sound_later now t c passes s = record {
   whole = s.whole;
   so_far = omega (arith, passes, s.so_far);
-  next = later_next now t (told c) c.next passes least s.next;
+  next = later_next now t (told c) c.next passes s.next;
 }
 
 told_by : (t told : ℕ) (n : Next) → due_of n ≡ Some t → IsSoundNext t told n → told ≤ t
-told_by t told (Due at) due s = omega (arith, same_Some at t due, s.1)
-told_by t told (Waits since cause) due s = omega (arith, s.0, s.1)
+told_by t told (Due at) due s = omega (arith, same_Some at t due, s)
+told_by t told (Waits since cause) due s = absurd cc
 told_by t told Gone due s = absurd cc
 
 pub told_due : (t : ℕ) (c : Clock) → due_of c.next ≡ Some t → IsSound t c → told c ≤ t
@@ -53,7 +54,7 @@ woken_next t c (Due at) whole so_far s is = record { whole = whole; so_far = so_
 woken_next t c (Waits since cause) whole so_far s is = record {
   whole = more_waited cause (t - since) c.account ∙ omega (arith, whole, s.0, s.1);
   so_far = omega (arith, so_far, s.0, s.1);
-  next = (omega arith, omega (arith, so_far, s.0, s.1));
+  next = omega (arith, so_far, s.0, s.1);
 }
 woken_next t c Gone whole so_far s is = record { whole = whole; so_far = so_far; next = subst (IsSoundNext t (told c)) (sym is) s }
 
@@ -119,9 +120,9 @@ closed_end end c w d least s is so =
 
 begun_by : (t due : ℕ) (c : Clock) (runs restarted : Bool) → c.runs ≡ runs → steps_of c.account ≡ told c → told c ≤ t → t ≤ due
     → IsSound t (record (begun t restarted c) { next = Due due })
-begun_by t due c true true is whole before later = rw is (record { whole = omega (arith, whole, before); so_far = omega arith; next = (later, omega (arith, later)) })
-begun_by t due c true false is whole before later = rw is (record { whole = whole; so_far = omega (arith, before); next = (later, omega (arith, before, later)) })
-begun_by t due c false restarted is whole before later = rw is (record { whole = omega (arith, whole, before); so_far = omega arith; next = (later, omega (arith, later)) })
+begun_by t due c true true is whole before later = rw is (record { whole = omega (arith, whole, before); so_far = omega arith; next = omega (arith, later) })
+begun_by t due c true false is whole before later = rw is (record { whole = whole; so_far = omega (arith, before); next = omega (arith, before, later) })
+begun_by t due c false restarted is whole before later = rw is (record { whole = omega (arith, whole, before); so_far = omega arith; next = omega (arith, later) })
 
 ended_by : (t : ℕ) (c : Clock) (n : Next) (runs : Bool) → c.runs ≡ runs → steps_of c.account ≡ told c → told c ≤ t → IsSoundNext t (t + 1 + 0) n
     → IsSound t (record (ended (t + 1) c) { next = n })
@@ -139,7 +140,7 @@ pub answered_sound : (t : ℕ) (restarted : Bool) (executed : ℕ) (answer : Ans
     → IsSound t (answered t restarted executed answer c)
 answered_sound t restarted executed (Go hart) c s before = begun_by t (t + 1 + executed) c c.runs restarted refl s.whole before (omega arith)
 answered_sound t restarted executed (Again cause) c s before = waits_by t c cause s.whole before
-answered_sound t restarted executed Left c s before = ended_by t c (Due (t + 1)) c.runs refl s.whole before (omega arith, omega arith)
+answered_sound t restarted executed Left c s before = ended_by t c (Due (t + 1)) c.runs refl s.whole before (omega arith)
 answered_sound t restarted executed (Over end) c s before = ended_by t c Gone c.runs refl s.whole before tt
 answered_sound t restarted executed (Stopped cause) c s before = s
 
@@ -191,36 +192,103 @@ whole_more end n sum more new whole told grown = ap steps_of grown ∙ (steps_of
 one_back : (n : ℕ) → n ≡ n + 1 - 1
 one_back n = omega arith
 
-pub all_first : (cores : ℕ) (clocks : List Clock) → length clocks ≡ cores → cores ≤ 16 → ((k : ℕ) → clock_at clocks k ≡ first_clock) → AreSound 0 cores clocks
+pub all_first : (cores : ℕ) (clocks : List Clock) → length clocks ≡ cores → cores ≤ 16 → ((k : ℕ) → clock_at clocks k ≡ first_clock) → AreSound 0 cores 0 clocks
 all_first cores clocks count few first = record {
   count = count;
   few = few;
-  now = 0;
   each = λ k below. subst (IsSound 0) (sym (first k)) first_sound;
   due = λ k below. subst (λ (c : Clock). IsDueBy (0 * 1000003) c.next) (sym (first k)) (omega arith);
   soon = omega arith;
 }
 
--- where a turn is due first, all are sound at its time
-module _ (taken cores : ℕ) (clocks : List Clock) (a : AreSound taken cores clocks) (t : Turn) (first : IsFirst (clock_at clocks) cores t) where
-  due_by : (bound : ℕ) (n : Next) → due_of n ≡ Some t.at → IsDueBy bound n → t.at ≤ bound
-  due_by bound (Due at) due b = omega (arith, same_Some at t.at due, b)
-  due_by bound (Waits since cause) due b = absurd cc
-  due_by bound Gone due b = absurd cc
+-- ---- as a turn begins
 
+later_least : (now due : ℕ) → (now ≤ later now due) × (due ≤ later now due)
+later_least now due = (grind (arith, nat_tests), grind (arith, nat_tests))
+
+later_bound : (now due bound : ℕ) → now ≤ bound → due ≤ bound → later now due ≤ bound
+later_bound now due bound one two = grind (arith, nat_tests)
+
+pub free_due : (held : Bool) (due : Option ℕ) (at : ℕ) → cond held None due ≡ Some at → due ≡ Some at
+free_due true due at is = absurd cc
+free_due false due at is = is
+
+due_by : (bound at : ℕ) (n : Next) → due_of n ≡ Some at → IsDueBy bound n → at ≤ bound
+due_by bound at (Due due) is b = omega (arith, same_Some due at is, b)
+due_by bound at (Waits since cause) is b = absurd cc
+due_by bound at Gone is b = absurd cc
+
+more_held : (n : ℕ) (a : Account) → steps_of (with_hold n a) ≡ steps_of a + n
+more_held n a = omega arith
+
+told_before : (t told due : ℕ) (n : Next) → due_of n ≡ Some due → IsSoundNext t told n → told ≤ due
+told_before t told due (Due at) is s = omega (arith, same_Some at due is, s)
+told_before t told due (Waits since cause) is s = absurd cc
+told_before t told due Gone is s = absurd cc
+
+late_sound : (t due : ℕ) (c : Clock) → due_of c.next ≡ Some due → due ≤ t → IsSound t c → IsSound t (late due t c)
+late_sound t due c is before s =
+    let told_due = told_before t (told c) due c.next is s.next in record {
+      whole = more_held (t - due) c.account ∙ omega (arith, s.whole, before, told_due);
+      so_far = omega (arith, before, told_due);
+      next = omega (arith, before, told_due);
+    }
+
+module _ (taken cores now : ℕ) (clocks : List Clock) (a : AreSound taken cores now clocks) (held : ℕ → Bool) (t : Turn) (first : IsFirst now (dues held (clock_at clocks)) cores t) where
+  pub was_due : due_of (clock_at clocks t.core).next ≡ Some t.due
+  was_due = free_due (held t.core) (due_of (clock_at clocks t.core).next) t.due first.due
+
+  pub due_before : t.due ≤ t.at
+  due_before = omega (arith, (later_least now t.due).1, first.begins)
+
+  passes : now ≤ t.at
+  passes = omega (arith, (later_least now t.due).0, first.begins)
+
+  pub begins_by : t.at ≤ taken * 1000003
+  begins_by = omega (arith, first.begins, later_bound now t.due (taken * 1000003) a.soon (due_by (taken * 1000003) t.due (clock_at clocks t.core).next was_due (a.due t.core first.core)))
+
+  sound_then : (k : ℕ) → k < cores → IsSound t.at (clock_at clocks k)
+  sound_then k below = sound_later now t.at (clock_at clocks k) passes (a.each k below)
+
+  pub may_be_late : MayWake t.at (clock_at clocks t.core)
+  may_be_late = may_wake t.at (clock_at clocks t.core) (sound_then t.core first.core)
+
+  -- the clocks as it begins
+  module _ (lates : List Clock) (count : length lates ≡ length clocks) (each : (k : ℕ) → clock_at lates k ≡ late_clocks (clock_at clocks) t k) where
+    late_by : (k : ℕ) (here : Bool) → (k == t.core) ≡ here → k < cores → IsSound t.at (cond here (late t.due t.at (clock_at clocks k)) (clock_at clocks k))
+    late_by k true is below =
+        late_sound t.at t.due (clock_at clocks k) (subst (λ j. due_of (clock_at clocks j).next ≡ Some t.due) (sym (eqb-true k t.core is)) was_due) due_before (sound_then k below)
+    late_by k false is below = sound_then k below
+
+    late_due : (k : ℕ) (here : Bool) → k < cores → IsDueBy (taken * 1000003) (cond here (late t.due t.at (clock_at clocks k)) (clock_at clocks k)).next
+    late_due k true below = begins_by
+    late_due k false below = a.due k below
+
+    pub lates_sound : AreSound taken cores t.at lates
+    lates_sound = record {
+      count = count ∙ a.count;
+      few = a.few;
+      each = λ k below. subst (IsSound t.at) (sym (each k)) (late_by k (k == t.core) refl below);
+      due = λ k below. subst (λ (c : Clock). IsDueBy (taken * 1000003) c.next) (sym (each k)) (late_due k (k == t.core) below);
+      soon = begins_by;
+    }
+
+late_is_due : (clocks : ℕ → Clock) (t : Turn) → due_of (late_clocks clocks t t.core).next ≡ Some t.at
+late_is_due clocks t = rw (eq-eqb t.core t.core refl) refl
+
+pub late_turn : (now : ℕ) (due : ℕ → Option ℕ) (clocks lates : ℕ → Clock) (n : ℕ) (t : Turn) → IsFirst now due n t → ((k : ℕ) → lates k ≡ late_clocks clocks t k) → IsTurnOf lates n t
+late_turn now due clocks lates n t first each = record {
+  core = first.core;
+  due = ap (λ (c : Clock). due_of c.next) (each t.core) ∙ late_is_due clocks t;
+}
+
+-- ---- after a turn of a core that is due as it begins
+module _ (taken cores : ℕ) (clocks : List Clock) (t : Turn) (a : AreSound taken cores t.at clocks) (first : IsTurnOf (clock_at clocks) cores t) where
   pub by_bound : t.at ≤ taken * 1000003
-  by_bound = due_by (taken * 1000003) (clock_at clocks t.core).next first.due (a.due t.core first.core)
-
-  now_by : (n : Next) (told : ℕ) → due_of n ≡ Some t.at → IsSoundNext a.now told n → a.now ≤ t.at
-  now_by (Due at) told due s = omega (arith, same_Some at t.at due, s.0)
-  now_by (Waits since cause) told due s = absurd cc
-  now_by Gone told due s = absurd cc
-
-  passes : a.now ≤ t.at
-  passes = now_by (clock_at clocks t.core).next (told (clock_at clocks t.core)) first.due (a.each t.core first.core).next
+  by_bound = a.soon
 
   pub sound_at : (k : ℕ) → k < cores → IsSound t.at (clock_at clocks k)
-  sound_at k below = sound_later a.now t.at (clock_at clocks k) passes (λ at due. first.least k at below due) (a.each k below)
+  sound_at k below = a.each k below
 
   pub told_at : told (clock_at clocks t.core) ≤ t.at
   told_at = told_due t.at (clock_at clocks t.core) first.due (sound_at t.core first.core)
@@ -255,21 +323,19 @@ module _ (taken cores : ℕ) (clocks : List Clock) (a : AreSound taken cores clo
         (due_more (clock_at clocks t.core).next (a.due t.core first.core))
     bound_by k false is below = due_more (clock_at clocks k).next (a.due k below)
 
-    pub turned_sound : AreSound (taken + 1) cores clocks'
+    pub turned_sound : AreSound (taken + 1) cores t.at clocks'
     turned_sound = record {
       count = count ∙ a.count;
       few = a.few;
-      now = t.at;
       each = turned_each;
       due = λ k below. subst (λ (c : Clock). IsDueBy ((taken + 1) * 1000003) c.next) (sym (each k)) (bound_by k (k == t.core) refl below);
       soon = omega (arith, by_bound);
     }
 
-    pub woken_all : (clocks'' : List Clock) → length clocks'' ≡ length clocks' → ((k : ℕ) → clock_at clocks'' k ≡ woken t.at (clock_at clocks' k)) → AreSound (taken + 1) cores clocks''
+    pub woken_all : (clocks'' : List Clock) → length clocks'' ≡ length clocks' → ((k : ℕ) → clock_at clocks'' k ≡ woken t.at (clock_at clocks' k)) → AreSound (taken + 1) cores t.at clocks''
     woken_all clocks'' long are = record {
       count = long ∙ (count ∙ a.count);
       few = a.few;
-      now = t.at;
       each = λ k below. subst (IsSound t.at) (sym (are k)) (woken_sound t.at (clock_at clocks' k) (turned_each k below));
       due = λ k below. subst (λ (c : Clock). IsDueBy ((taken + 1) * 1000003) c.next) (sym (are k))
           (woken_bound ((taken + 1) * 1000003) t.at (clock_at clocks' k) (omega (arith, by_bound)) (turned_sound.due k below));

@@ -6,20 +6,21 @@ use Rattle.homefree.specs.declared.answer.Cause.TheVariants.{NoEpoch, NotHomefre
 use Rattle.even_speed.specs.declared.account.Account.{Account}
 
 abbrev pub no_steps : Account
-no_steps = record { useful = 0; lost = 0; dropped = 0; idle = 0; not_homefree = 0; no_way = 0; orb_full = 0; orb_busy = 0 }
+no_steps = record { useful = 0; lost = 0; dropped = 0; idle = 0; held = 0; not_homefree = 0; no_way = 0; orb_full = 0; orb_busy = 0 }
 
 abbrev pub waiting_of : Account → ℕ
 waiting_of a = a.not_homefree + a.no_way + a.orb_full + a.orb_busy
 
 -- all steps
 abbrev pub steps_of : Account → ℕ
-steps_of a = a.useful + a.lost + a.dropped + waiting_of a + a.idle
+steps_of a = a.useful + a.lost + a.dropped + waiting_of a + a.held + a.idle
 
 -- all went to epochs that committed, or went by without one
 pub record WastesNone (a : Account) : Type 0 where
   pub lost : a.lost ≡ 0
   pub dropped : a.dropped ≡ 0
   pub waiting : waiting_of a ≡ 0
+  pub held : a.held ≡ 0
 
 abbrev pub sum_of : Account → Account → Account
 sum_of a b = record {
@@ -27,6 +28,7 @@ sum_of a b = record {
   lost = a.lost + b.lost;
   dropped = a.dropped + b.dropped;
   idle = a.idle + b.idle;
+  held = a.held + b.held;
   not_homefree = a.not_homefree + b.not_homefree;
   no_way = a.no_way + b.no_way;
   orb_full = a.orb_full + b.orb_full;
@@ -40,6 +42,10 @@ with_waited NotHomefree n a = record a { not_homefree = a.not_homefree + n }
 with_waited NoWay n a = record a { no_way = a.no_way + n }
 with_waited OrbFull n a = record a { orb_full = a.orb_full + n }
 with_waited OrbBusy n a = record a { orb_busy = a.orb_busy + n }
+
+-- so many steps more, held
+abbrev pub with_hold : ℕ → Account → Account
+with_hold n a = record a { held = a.held + n }
 
 abbrev pub with_useful : ℕ → Account → Account
 with_useful n a = record a { useful = a.useful + n }

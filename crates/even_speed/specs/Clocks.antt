@@ -1,7 +1,7 @@
 -- The clock of a core: when its next turn is due, and where its steps went.
 -- Source: this project, after the limit study of Oplinger, Heine and Lam, "In Search of Speculative Thread-Level Parallelism", PACT 1999: each
 -- instruction takes one step, and there is no latency. So do a begin, a restart and a commit.
-use Rattle.std.specs.Prelude.{◌≡◌, ℕ, zero, suc, ◌+◌, ◌-◌, ◌<◌, ◌≤◌, Bool, true, false, List, Option, Some, None, if◌then◌else◌}
+use Rattle.std.specs.Prelude.{◌≡◌, ℕ, zero, suc, ◌+◌, ◌-◌, ◌<◌, ◌≤◌, ◌==◌, nat_le, Bool, true, false, List, Option, Some, None, if◌then◌else◌}
 use Rattle.std.specs.List.{slice_index_or}
 use Rattle.homefree.specs.declared.answer.Answer.{Answer}
 use Rattle.homefree.specs.declared.answer.Answer.TheVariants.{Go, Again, Left, Over, Stopped}
@@ -12,7 +12,7 @@ use Rattle.even_speed.specs.declared.clock.Clock.{Clock}
 use Rattle.even_speed.specs.declared.clock.Next.{Next}
 use Rattle.even_speed.specs.declared.clock.Next.TheVariants.{Due, Waits, Gone}
 use Rattle.even_speed.specs.declared.clocks.Turn.{Turn}
-use Rattle.even_speed.specs.Account.{no_steps, sum_of, with_waited, with_useful, with_lost, with_dropped, with_idle}
+use Rattle.even_speed.specs.Account.{no_steps, sum_of, with_waited, with_hold, with_useful, with_lost, with_dropped, with_idle}
 
 -- at the start each core is due, and has no epoch
 abbrev pub first_clock : Clock
@@ -29,12 +29,30 @@ due_of (Due at) = Some at
 due_of (Waits since cause) = None
 due_of Gone = None
 
--- of the cores 0 to n - 1 it is due at this time, none is due before, and none with a lower number is due at this time
-pub record IsFirst (clocks : ℕ → Clock) (n : ℕ) (t : Turn) : Type 0 where
+-- when each core is due: one that is held isn't
+abbrev pub dues : (ℕ → Bool) → (ℕ → Clock) → ℕ → Option ℕ
+dues held clocks k = if held k then None else due_of (clocks k).next
+
+-- when a turn begins: as soon as it is due, but never before the last one
+abbrev pub later : ℕ → ℕ → ℕ
+later now due = if nat_le now due then due else now
+
+-- of the cores 0 to n - 1 it is due at this time, none is due before, and none with a lower number is due at this time; so none could begin
+-- sooner
+pub record IsFirst (now : ℕ) (dues : ℕ → Option ℕ) (n : ℕ) (t : Turn) : Type 0 where
   pub core : t.core < n
-  pub due : due_of (clocks t.core).next ≡ Some t.at
-  pub least : (k at : ℕ) → k < n → due_of (clocks k).next ≡ Some at → t.at ≤ at
-  pub lowest : (k : ℕ) → k < n → due_of (clocks k).next ≡ Some t.at → t.core ≤ k
+  pub due : dues t.core ≡ Some t.due
+  pub least : (k due : ℕ) → k < n → dues k ≡ Some due → t.due ≤ due
+  pub lowest : (k : ℕ) → k < n → dues k ≡ Some t.due → t.core ≤ k
+  pub begins : t.at ≡ later now t.due
+
+-- a core that was due before its turn begins was held until then
+abbrev pub late : ℕ → ℕ → Clock → Clock
+late due at c = record c { next = Due at; waited = c.waited + (at - due); account = with_hold (at - due) c.account }
+
+-- the clocks as this turn begins
+abbrev pub late_clocks : (ℕ → Clock) → Turn → ℕ → Clock
+late_clocks clocks t k = if k == t.core then late t.due t.at (clocks k) else clocks k
 
 -- ---- an attempt begins and ends
 

@@ -1,4 +1,5 @@
--- The run at even speed: each turn is that of the core which is due first, and of several the one with the lowest number.
+-- The run at even speed: each turn is that of the core which is due first, and of several the one with the lowest number. A core isn't due while it
+-- is held, at a load at one of the addresses of code that are handed in; with none of them no core is held.
 -- Source: this project; Oplinger, Heine and Lam, as the clocks.
 use Rattle.std.specs.Prelude.{◌≡◌, ℕ, suc, ◌+◌, ◌-◌, ◌*◌, ◌^◌, ◌<◌, ◌≤◌, Bool, ◌==◌, not, List, [], ◌∷◌, Option, Some, None, Result, Ok, Err, if◌then◌else◌}
 use Rattle.rv32_image.specs.Image.{LoadedImage}
@@ -19,16 +20,18 @@ use Rattle.even_speed.specs.declared.clocks.Turn.{Turn}
 use Rattle.even_speed.specs.declared.run.Ran.{Ran}
 use Rattle.even_speed.specs.Account.{WastesNone, steps_of}
 use Rattle.even_speed.specs.InOrder.{steps_in_order}
-use Rattle.even_speed.specs.Clocks.{IsFirst, account_of, answered, first_clock, woken_by}
+use Rattle.even_speed.specs.Clocks.{IsFirst, account_of, answered, dues, first_clock, late_clocks, woken_by}
+use Rattle.even_speed.specs.Held.{held_in}
 
--- what each core has in hand, and its clock
+-- what each core has in hand, its clock, and when the last turn began
 pub record Pace : Type 0 where
   pub held : ℕ → Option HartState
   pub clocks : ℕ → Clock
+  pub now : ℕ
 
 -- at the start of the run
 abbrev pub at_first : Pace
-at_first = record { held = λ _. None; clocks = λ _. first_clock }
+at_first = record { held = λ _. None; clocks = λ _. first_clock; now = 0 }
 
 -- how many instructions the core executes from its hart to the next event
 abbrev pub executed_by : LoadedImage → Answer → ℕ
@@ -42,7 +45,7 @@ executed_by image (Stopped cause) = 0
 abbrev pub restarts : {S : Type 0} → Driver S → Driver S → Bool
 restarts old new = not (new.book.totals.restarts == old.book.totals.restarts)
 
--- the clocks after a turn of this core at this time
+-- the clocks after a turn of this core that begins at this time
 abbrev pub clocks_after : {S : Type 0} → Driver S → Driver S → (ℕ → Clock) → Turn → Answer → ℕ → Clock
 clocks_after old new clocks t answer =
     woken_by answer t.at (λ k. if k == t.core then answered t.at (restarts old new) (executed_by old.book.image answer) answer (clocks k) else clocks k)
@@ -51,7 +54,8 @@ clocks_after old new clocks t answer =
 abbrev pub pace_after : {S : Type 0} → Driver S → Driver S → Pace → Turn → Answer → Pace
 pace_after old new p t answer = record {
   held = with_held p.held t.core (held_after answer (p.held t.core));
-  clocks = clocks_after old new p.clocks t answer;
+  clocks = clocks_after old new (late_clocks p.clocks t) t answer;
+  now = t.at;
 }
 
 -- the run that the loop's end ends
@@ -61,7 +65,7 @@ ran_at cores end clocks over = record { end = over; steps = end; account = accou
 -- the turn, below which these follow, ends the run, as the last of its schedule; or the run goes on
 abbrev pub EndsOrGoes : {S : Type 0} → Driver S → Driver S → Pace → Turn → Result Answer TurnFault → List ℕ → Result (Option Ran) TurnFault → Driver S → Type 0 → Type 0
 EndsOrGoes old mid p t (Ok (Over end)) rest result new more =
-    (rest ≡ []) × (new ≡ mid) × (result ≡ Ok (Some (ran_at old.book.cores (t.at + 1) (clocks_after old mid p.clocks t (Over end)) end)))
+    (rest ≡ []) × (new ≡ mid) × (result ≡ Ok (Some (ran_at old.book.cores (t.at + 1) (clocks_after old mid (late_clocks p.clocks t) t (Over end)) end)))
 EndsOrGoes old mid p t (Ok (Stopped cause)) rest result new more = (rest ≡ []) × (new ≡ mid) × (result ≡ Ok None)
 EndsOrGoes old mid p t (Err fault) rest result new more = (rest ≡ []) × (new ≡ mid) × (result ≡ Err fault)
 EndsOrGoes old mid p t (Ok (Go hart)) rest result new more = more
@@ -73,14 +77,14 @@ go_answer (Ok answer) = answer
 go_answer (Err fault) = Left
 
 -- the turns of a schedule, each of the core that is due first, up to the first that ends the run
-abbrev pub Evenly : {S : Type 0} → (S → Call → S → Type 0) → (S → StoreView) → (S → Waits) → Pace → Driver S → List ℕ → Result (Option Ran) TurnFault → Driver S → Type 0
-Evenly makes view waits p old [] result new = (new ≡ old) × (result ≡ Ok None)
-Evenly {S} makes view waits p old (core ∷ rest) result new =
-    (at : ℕ) × (mid : Driver S) × (answer : Result Answer TurnFault)
-    × IsFirst p.clocks old.book.cores (record { core = core; at = at })
+abbrev pub Evenly : {S : Type 0} → (S → Call → S → Type 0) → (S → StoreView) → (S → Waits) → List ℕ → Pace → Driver S → List ℕ → Result (Option Ran) TurnFault → Driver S → Type 0
+Evenly makes view waits addresses p old [] result new = (new ≡ old) × (result ≡ Ok None)
+Evenly {S} makes view waits addresses p old (core ∷ rest) result new =
+    (due at : ℕ) × (mid : Driver S) × (answer : Result Answer TurnFault)
+    × IsFirst p.now (dues (held_in addresses old.book p.held) p.clocks) old.book.cores (record { core = core; due = due; at = at })
     × TurnedWith makes view waits old core (p.held core) answer mid
-    × EndsOrGoes old mid p (record { core = core; at = at }) answer rest result new
-    (Evenly makes view waits (pace_after old mid p (record { core = core; at = at }) (go_answer answer)) mid rest result new)
+    × EndsOrGoes old mid p (record { core = core; due = due; at = at }) answer rest result new
+    (Evenly makes view waits addresses (pace_after old mid p (record { core = core; due = due; at = at }) (go_answer answer)) mid rest result new)
 
 -- unless memory was refused
 abbrev pub UnlessRefused : Result (Option Ran) TurnFault → Type 0 → Type 0
@@ -110,7 +114,7 @@ IsShort ran = (1 ≤ ran.steps) × (ran.steps < 2 ^ 56)
 
 -- what its account says of the loop that began with this book
 pub record AccountsFor {S : Type 0} (b : BookView S) (ran : Ran) : Type 0 where
-  -- on one core nothing is lost, dropped or waited
+  -- on one core nothing is lost, dropped, waited or held
   pub alone : b.cores ≡ 1 → WastesNone ran.account
   -- where the loop is done, the useful steps are those that it takes in order, on any number of cores and over any store
   pub useful : b.history ≡ [] → (n : ℕ) → ran.end ≡ Done n → ran.account.useful ≡ steps_in_order b.image n

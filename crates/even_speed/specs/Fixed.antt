@@ -21,10 +21,10 @@ pub record IsOneRun {S : Type 0} (alike : S → S → Type 0) (schedule schedule
   pub result_is : result' ≡ result
   pub twins : AreTwinDrivers alike new new'
 
--- from two books with the same history, whose stores hold the same, the cores are due in the same order, and the runs come to the same and
+-- from two books with the same history, whose stores hold the same, with the same addresses of loads that wait, the cores are due in the same order, and the runs come to the same and
 -- lead to two such books
 abbrev pub RunIsFixed : {S : Type 0} → (S → Call → S → Type 0) → (S → S → Type 0) → (S → StoreView) → (S → Waits) → Type 0
 RunIsFixed {S} makes alike view waits =
-    (p : Pace) (old new old' new' : Driver S) (schedule schedule' : List ℕ) (result result' : Result (Option Ran) TurnFault)
-    → AreTwinDrivers alike old old' → Evenly makes view waits p old schedule result new → Evenly makes view waits p old' schedule' result' new'
+    (addresses : List ℕ) (p : Pace) (old new old' new' : Driver S) (schedule schedule' : List ℕ) (result result' : Result (Option Ran) TurnFault)
+    → AreTwinDrivers alike old old' → Evenly makes view waits addresses p old schedule result new → Evenly makes view waits addresses p old' schedule' result' new'
     → IsDone result → IsDone result' → IsOneRun alike schedule schedule' result result' new new'

@@ -19,6 +19,8 @@ pub record IsUnderWay (image : LoadedImage) (cores : ℕ) (s : FlatState) (clock
   -- each epoch that has been started and hasn't committed is run by a core
   pub run : (epoch : ℕ) → s.homefree ≤ epoch → epoch < s.next_epoch → (k : ℕ) × (c : CoreState) × (s.cores k ≡ Some c) × (c.epoch ≡ epoch)
   pub undue : (k : ℕ) → k < cores → IsUndue image s (s.cores k) (clocks k).next
+  -- while a core runs one, the loop isn't over
+  pub going : (k : ℕ) (c : CoreState) → s.cores k ≡ Some c → s.end ≡ None
 
 -- one where it isn't due
 abbrev pub undue : Option ℕ → ℕ

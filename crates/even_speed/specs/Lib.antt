@@ -1,11 +1,14 @@
--- Definitions to believe: where steps go, what a core's clock does, the run of turns, how many steps the loop takes in order, and that the
--- run is fixed.
+-- Definitions to believe: where steps go, what a core's clock does, when a core is held, the run of turns, how many steps the loop takes in
+-- order, and that the run is fixed.
 pub mod Account
 pub mod Clocks
+pub mod Held
 pub mod Even
 pub mod InOrder
 pub mod Fixed
--- Words of contracts: what is kept of the clocks along a run, what a turn makes of the cores, and why a run ends.
+-- Words of contracts: what the code keeps of the cores, what is kept of the clocks along a run, what a turn makes of the cores, and why a run
+-- ends.
+pub mod Seats
 pub mod Kept
 pub mod Timed
 pub mod Lasting

@@ -15,6 +15,8 @@ pub struct Account {
     pub dropped: u64,
     /// Without an epoch.
     pub idle: u64,
+    /// At a load that waited until the epoch was the homefree one, or was violated, and until its turn then.
+    pub held: u64,
     /// Waiting at the end or fault of an epoch that wasn't the homefree one.
     pub not_homefree: u64,
     /// Waiting for a way of a line's set.
@@ -34,6 +36,7 @@ pub(crate) fn no_steps() -> Account
         lost: 0,
         dropped: 0,
         idle: 0,
+        held: 0,
         not_homefree: 0,
         no_way: 0,
         orb_full: 0,
@@ -57,7 +60,7 @@ impl Account {
         self
     }
 
-    /// All steps that were waited.
+    /// All steps that were waited, those held aside.
     pub fn waiting(&self) -> u64
         requires { spec.steps_of self.now < 2 ^ 63 }
         ensures { result ≡ spec.waiting_of self.now }
@@ -76,6 +79,7 @@ impl Account {
             lost: self.lost + other.lost,
             dropped: self.dropped + other.dropped,
             idle: self.idle + other.idle,
+            held: self.held + other.held,
             not_homefree: self.not_homefree + other.not_homefree,
             no_way: self.no_way + other.no_way,
             orb_full: self.orb_full + other.orb_full,

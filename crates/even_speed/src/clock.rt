@@ -57,6 +57,24 @@ impl Clock {
         }
     }
 
+    /// Its turn, which was due at this time, begins at that one: it was held between them.
+    pub(crate) fn late(self, due: u64, at: u64) -> Clock
+        requires may { MayWake at self }
+        requires due { due ≤ at }
+        requires at { at < 2 ^ 61 }
+        ensures { result ≡ spec.late due at self }
+    {
+        let mut account = self.account;
+        account.held += at - due;
+        Clock {
+            next: Next::Due(at),
+            runs: self.runs,
+            since: self.since,
+            waited: self.waited + (at - due),
+            account,
+        }
+    }
+
     /// From this time on it runs another attempt, or has no epoch.
     fn parted(self, at: u64, runs: bool, account: Account) -> Clock
         ensures { result ≡ spec.parted at runs account self }

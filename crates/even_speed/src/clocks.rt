@@ -1,20 +1,23 @@
 //! The clocks of all cores.
-ghost use Rattle.std.specs.Prelude.{◌≡◌, ◌≤◌, ◌<◌, ◌-◌, ◌+◌, ◌*◌, ◌^◌, ◌==◌, ℕ, length, IfOk, if◌then◌else◌};
+ghost use Rattle.std.specs.Prelude.{◌≡◌, ◌≤◌, ◌<◌, ◌-◌, ◌+◌, ◌*◌, ◌^◌, ◌==◌, ℕ, length, IfOk, Option, if◌then◌else◌};
 ghost use Rattle.even_speed.specs.Account.{steps_of};
 ghost use Rattle.even_speed.specs.Clocks as spec;
-ghost use Rattle.even_speed.specs.Kept.{IsSound, IsNext};
+ghost use Rattle.even_speed.specs.Kept.{IsSound, IsNext, MayWake, is_held_in};
 
 use crate::account::{Account, no_steps};
 use crate::clock::{Clock, first_clock};
 use rv32_exec::NoMemory;
 use std::alloc::Global;
+use violations::MAX_CORES;
 
 /// Whose turn is next, and when.
 #[derive(Clone, Copy, Debug)]
 pub struct Turn {
     /// The core.
     pub core: u32,
-    /// The time.
+    /// The time at which it was due.
+    pub due: u64,
+    /// The time at which it begins.
     pub at: u64,
 }
 
@@ -49,29 +52,67 @@ pub(crate) fn clock_of(clocks: &Vec<Clock>, core: u32) -> Clock
     clocks[core as usize]
 }
 
-/// The core that is least in time and number among those whose turn is due.
-pub(crate) fn next_turn(clocks: &Vec<Clock>) -> Option<Turn>
+/// The core that is least in time and number among those whose turn is due and that aren't held. Its turn begins at the time of the last
+/// turn, or later, where it is due later.
+pub(crate) fn next_turn(clocks: &Vec<Clock>, held: &[bool; MAX_CORES], now: u64) -> Option<Turn>
     requires { length clocks.now.items ≤ 16 }
-    ensures { IsNext (spec.clock_at clocks.now.items) (length clocks.now.items) result }
+    ensures { IsNext now (spec.dues (is_held_in held.now) (spec.clock_at clocks.now.items)) (length clocks.now.items) result }
 {
     let mut found = None;
     for core in 0..clocks.len() as u32 {
-        found = sooner(found, core, clock_of(clocks, core).due());
+        found = sooner(found, core, due(clocks, held, core), now);
     }
     found
 }
 
-/// The one found so far, or this core, where its turn is due sooner.
-fn sooner(found: Option<Turn>, core: u32, due: Option<u64>) -> Option<Turn>
-    ensures { (clocks : ℕ → Clock) → IsNext clocks core found → spec.due_of (clocks core).next ≡ due → IsNext clocks (core + 1) result }
+/// The time at which a core is due, where it is due and isn't held.
+fn due(clocks: &Vec<Clock>, held: &[bool; MAX_CORES], core: u32) -> Option<u64>
+    requires few { length clocks.now.items ≤ 16 }
+    requires core { core < length clocks.now.items }
+    ensures { result ≡ spec.dues (is_held_in held.now) (spec.clock_at clocks.now.items) core }
 {
-    let Some(at) = due else {
+    if held[core as usize] {
+        None
+    } else {
+        clock_of(clocks, core).due()
+    }
+}
+
+/// The one found so far, or this core, where its turn is due sooner.
+fn sooner(found: Option<Turn>, core: u32, due: Option<u64>, now: u64) -> Option<Turn>
+    ensures { (dues : ℕ → Option ℕ) → IsNext now dues core found → dues core ≡ due → IsNext now dues (core + 1) result }
+{
+    let Some(due) = due else {
         return found;
     };
     match found {
-        Some(old) if old.at <= at => found,
-        _ => Some(Turn { core, at }),
+        Some(old) if old.due <= due => found,
+        _ => Some(Turn {
+            core,
+            due,
+            at: later(now, due),
+        }),
     }
+}
+
+/// When a turn begins that is due at this time, after one that began at that.
+fn later(now: u64, due: u64) -> u64
+    ensures { result ≡ spec.later now due }
+{
+    if now <= due { due } else { now }
+}
+
+/// The core that takes the turn was held from when it was due until the turn begins.
+pub(crate) fn be_late(clocks: &mut Vec<Clock>, turn: Turn)
+    requires core { turn.core < length clocks.old.items }
+    requires may { MayWake turn.at (spec.clock_at clocks.old.items turn.core) }
+    requires due { turn.due ≤ turn.at }
+    requires at { turn.at < 2 ^ 61 }
+    ensures len { length clocks.new.items ≡ length clocks.old.items }
+    ensures each { (k : ℕ) → spec.clock_at clocks.new.items k ≡ spec.late_clocks (spec.clock_at clocks.old.items) turn k }
+{
+    let clock = clock_of(clocks, turn.core).late(turn.due, turn.at);
+    set_clock(clocks, turn.core, clock);
 }
 
 /// Every core that waits is due at this time.

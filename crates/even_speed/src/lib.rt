@@ -6,6 +6,7 @@ mod clock;
 mod clocks;
 mod laws;
 mod run;
+mod seats;
 
 pub use account::Account;
 pub use clock::{Clock, Next};

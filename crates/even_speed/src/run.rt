@@ -1,6 +1,6 @@
 //! The turns of a run at even speed.
-ghost use Rattle.std.specs.Prelude.{◌≡◌, ◌≢◌, ◌≤◌, ◌<◌, ◌-◌, ◌+◌, ◌*◌, ◌^◌, [], ℕ, None, Some, Ok, length, ◌==◌, if◌then◌else◌};
-ghost use Rattle.rv32_image.specs.Image.{IsImage};
+ghost use Rattle.std.specs.Prelude.{◌≡◌, ◌≢◌, ◌≤◌, ◌<◌, ◌-◌, ◌+◌, ◌*◌, ◌^◌, [], ℕ, None, Some, Ok, length, take, option_map, ◌==◌, if◌then◌else◌};
+ghost use Rattle.rv32_image.specs.Image.{IsImage, LoadedImage};
 ghost use Rattle.rv32_exec.specs.Hart.{HartState};
 ghost use Rattle.rv32_exec.specs.NextEvent.{next_event};
 ghost use Rattle.spec_history.specs.FlatState.{FlatState};
@@ -8,16 +8,21 @@ ghost use Rattle.homefree.specs.Acted.{IfArrived};
 ghost use Rattle.homefree.specs.BookView.{IsOfSameLoop, ReplaysTo};
 ghost use Rattle.homefree.specs.Counted.{IsNoMore};
 ghost use Rattle.homefree.specs.Driven.{Driven, IsInOrder, TurnedWith, driver, with_held};
+ghost use Rattle.homefree.specs.Grown.{GrowsBy};
 ghost use Rattle.homefree.specs.Held.{HaveArrived, harts_of, held_at, held_by};
 ghost use Rattle.even_speed.specs.Even as spec;
-ghost use Rattle.even_speed.specs.Kept.{NeverWaits};
+ghost use Rattle.even_speed.specs.Held as held_spec;
+ghost use Rattle.even_speed.specs.Held.{held_in};
+ghost use Rattle.even_speed.specs.Kept.{NeverWaits, is_held_in};
+ghost use Rattle.even_speed.specs.Seats.{epoch_kept, none_seated, seat_at, seats_after};
 ghost use Rattle.even_speed.specs.Timed.{Leads};
 
 use crate::account::Account;
-use crate::clocks::{account_of, clock_of, first_clocks, next_turn, set_clock, wake_all};
+use crate::clocks::{account_of, be_late, clock_of, first_clocks, next_turn, set_clock, wake_all};
+use crate::seats::{Seat, note_all, seat_of};
 use homefree::{Answer, Book, MOST_ROOM, TurnFault};
 use run_ledger::Shares;
-use rv32_exec::{Arrived, End, Image};
+use rv32_exec::{Arrived, End, Image, Stop};
 use std::alloc::Global;
 use violations::{EpochStore, MAX_CORES};
 
@@ -37,7 +42,8 @@ pub struct Ran {
 }
 
 /// Takes turns at even speed, up to the one that ends the loop: each of the core that is due first. It writes whose turns it took
-/// into the schedule, which is empty before.
+/// into the schedule, which is empty before. A core at a load at one of the addresses of code, which are pcs, isn't due until its epoch is
+/// the homefree one, or was violated; with no address no load waits so.
 ///
 /// It answers what the run came to. None: the book was stopped before, or its history wasn't empty; a run from an empty history goes on up to
 /// the end of its loop, unless that fills the history or memory runs out. A fault is that of the last turn, and leaves the book of the
@@ -47,13 +53,14 @@ pub fn drive_evenly<S: EpochStore>(
     book: &mut Book<S>,
     image: &Image,
     cores: u32,
+    addresses: &[u32],
     schedule: &mut Vec<u32>,
     shares: &mut Shares,
 ) -> Result<Option<Ran>, TurnFault>
     requires book { (book.old.image ≡ image.now) × (book.old.cores ≡ cores) }
     requires schedule { schedule.old.items ≡ [] }
     requires shares { IsNoMore shares.old book.old.totals }
-    ensures evenly { spec.UnlessRefused result (spec.Evenly S.makes S.view S.waits spec.at_first (driver book.old shares.old) schedule.new.items result (driver book.new shares.new)) }
+    ensures evenly { spec.UnlessRefused result (spec.Evenly S.makes S.view S.waits addresses.now spec.at_first (driver book.old shares.old) schedule.new.items result (driver book.new shares.new)) }
     ensures driven { spec.UnlessRefused result (Driven S.makes S.view S.waits (λ _. None) (driver book.old shares.old) schedule.new.items (spec.end_in result) (driver book.new shares.new)) }
     ensures same { IsOfSameLoop book.old book.new }
     ensures shares { IsNoMore shares.new book.new.totals }
@@ -68,16 +75,24 @@ pub fn drive_evenly<S: EpochStore>(
     };
     book.look();
     let mut held = [None; MAX_CORES];
+    let mut seats = [None; MAX_CORES];
+    note_from(&mut seats, book, 0);
+    let mut now = 0;
     for _taken in 0..MOST_TURNS {
-        let Some(turn) = next_turn(&clocks) else {
+        let waiting = held_cores(book, &seats, &held, addresses, cores);
+        let Some(turn) = next_turn(&clocks, &waiting, now) else {
             return Ok(None);
         };
         let Ok(()) = schedule.push(turn.core) else {
             return Err(TurnFault::NoMemory);
         };
+        now = turn.at;
+        be_late(&mut clocks, turn);
         let clock = clock_of(&clocks, turn.core);
         let restarts = book.totals().restarts;
+        let place = book.len();
         let answer = step(book, &mut held, turn.core, shares)?;
+        note_from(&mut seats, book, place);
         let restarted = book.totals().restarts != restarts;
         let executed = executed_by(image, &held, turn.core, &answer);
         let clock = clock.answered(turn.at, restarted, executed, &answer);
@@ -118,12 +133,85 @@ fn step<S: EpochStore>(
     ensures held { HaveArrived book.new.image held.new }
     ensures harts { (k : ℕ) → harts_of held.new k ≡ with_held (harts_of held.old) core (held_by result (harts_of held.old core)) k }
     ensures alone { book.old.cores ≡ 1 → (book.new.totals.restarts ≡ 0) × NeverWaits result }
+    ensures grows { GrowsBy core book.old book.new shares.old shares.new }
     ensures leads { Leads (driver book.old shares.old) (driver book.new shares.new) core (harts_of held.old core) result }
 {
     book.look();
     let answer = homefree::step(book, held, core, shares);
     book.look();
     answer
+}
+
+/// Which cores are held, of which the entries of the history tell this, and that have this in hand: those whose next event is a load at one of
+/// these addresses, that weren't violated, and whose epoch isn't the homefree one.
+fn held_cores<S: EpochStore>(
+    book: &Book<S>,
+    seats: &[Option<Seat>; MAX_CORES],
+    held: &[Option<Arrived>; MAX_CORES],
+    addresses: &[u32],
+    cores: u32,
+) -> [bool; MAX_CORES]
+    requires cores { cores ≤ 16 }
+    requires seats { (k : ℕ) → seat_at seats.now k ≡ seats_after none_seated book.now.history k }
+    requires held { HaveArrived book.now.image held.now }
+    ensures { (k : ℕ) → k < cores → is_held_in result k ≡ held_in addresses.now book.now (harts_of held.now) k }
+{
+    let mut waiting = [false; MAX_CORES];
+    if addresses.is_empty() {
+        return waiting;
+    }
+    let first = book.homefree();
+    for core in 0..cores {
+        let seat = seat_of(seats, core);
+        let arrived = held_of(held, core);
+        set_held(
+            &mut waiting,
+            core,
+            is_held(first, seat, &arrived, addresses),
+        );
+    }
+    waiting
+}
+
+/// Sets whether a core is held.
+fn set_held(waiting: &mut [bool; MAX_CORES], core: u32, held: bool)
+    requires { core < 16 }
+    ensures { (k : ℕ) → is_held_in waiting.new k ≡ (if k == core then held else is_held_in waiting.old k) }
+{
+    waiting[core as usize] = held;
+}
+
+/// Whether a core is held that runs this, and has this in hand.
+fn is_held(homefree: u32, seat: Option<Seat>, arrived: &Option<Arrived>, addresses: &[u32]) -> bool
+    ensures { (image : LoadedImage) → IfArrived image arrived.now
+        → result ≡ held_spec.is_held addresses.now image homefree (epoch_kept seat) (option_map (λ a. a.base) arrived.now) }
+{
+    match (seat, arrived) {
+        (Some(seat), Some(arrived)) => {
+            !seat.hurt && seat.epoch != homefree && loads_at(addresses, arrived)
+        }
+        _ => false,
+    }
+}
+
+/// Whether the next event is a load at one of these addresses of code.
+fn loads_at(addresses: &[u32], arrived: &Arrived) -> bool
+    ensures { result ≡ held_spec.loads_at addresses.now arrived.entry.now }
+{
+    match arrived.at() {
+        Stop::Load { .. } => addresses.contains(&arrived.now().pc()),
+        _ => false,
+    }
+}
+
+/// Notes the entries of the history from this place on.
+fn note_from<S: EpochStore>(seats: &mut [Option<Seat>; MAX_CORES], book: &Book<S>, place: usize)
+    requires place { place ≤ length book.now.history }
+    requires seats { (k : ℕ) → seat_at seats.old k ≡ seats_after none_seated (take place book.now.history) k }
+    ensures { (k : ℕ) → seat_at seats.new k ≡ seats_after none_seated book.now.history k }
+{
+    book.look();
+    note_all(seats, &book.history()[place..]);
 }
 
 /// What a core has in hand.

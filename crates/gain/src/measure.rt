@@ -40,7 +40,7 @@ pub fn measure<S: EpochStore>(
     ensures is { IfOk result (spec.IsMeasured S.starts S.makes S.view S.waits (loop_on image.now cores room)) }
     ensures few { IfOk result (λ told. IfSome told spec.HasFewSteps) }
 {
-    let run: EvenRun<S> = match run_evenly(alloc, image, cores, room) {
+    let run: EvenRun<S> = match run_evenly(alloc, image, cores, room, &[]) {
         Ok(run) => run,
         Err(TurnFault::HistoryFull) => return Ok(None),
         Err(TurnFault::NoMemory) => return Err(AllocError),

@@ -28,4 +28,4 @@ returns-in-Ok-print_turns g c =
 pub returns-in-Err-HistoryFull : goal.returns-in-Err-HistoryFull
 returns-in-Err-HistoryFull g c =
     let is : c.in-Err-HistoryFull.field-0 ≡ fault.HistoryFull = search rules in
-    subst (λ (f : TurnFault). IsEvenFault g.S.EpochStore.starts g.S.EpochStore.makes g.S.EpochStore.view g.S.EpochStore.waits (loop_on c.args.image.now c.args.cores c.args.room) f) is c.in-Err-HistoryFull.ensures.fault
+    subst (λ (f : TurnFault). IsEvenFault g.S.EpochStore.starts g.S.EpochStore.makes g.S.EpochStore.view g.S.EpochStore.waits c.args.addresses.now (loop_on c.args.image.now c.args.cores c.args.room) f) is c.in-Err-HistoryFull.ensures.fault

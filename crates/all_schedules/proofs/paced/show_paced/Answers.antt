@@ -11,7 +11,7 @@ returns-in-Even g c =
     let view = g.S.EpochStore.view in
     let waits = g.S.EpochStore.waits in
     let l = loop_on c.args.image.now c.args.cores c.args.room in
-    subst (λ (pace : Pace). MatchResult c.show_even.result (λ shown. IsPacedText starts makes view waits pace l shown.0 shown.1.items) (IsPacedStop starts makes view waits pace l))
+    subst (λ (pace : Pace). MatchResult c.show_even.result (λ shown. IsPacedText starts makes view waits c.args.addresses.now pace l shown.0 shown.1.items) (IsPacedStop starts makes view waits c.args.addresses.now pace l))
     (sym c.in-Even.is) c.show_even.ensures
 
 pub returns-in-Seeded : goal.returns-in-Seeded
@@ -21,5 +21,5 @@ returns-in-Seeded g c =
     let view = g.S.EpochStore.view in
     let waits = g.S.EpochStore.waits in
     let l = loop_on c.args.image.now c.args.cores c.args.room in
-    subst (λ (pace : Pace). MatchResult c.show_seeded.result (λ shown. IsPacedText starts makes view waits pace l shown.0 shown.1.items) (IsPacedStop starts makes view waits pace l))
-    (sym c.in-Seeded.is) c.show_seeded.ensures
+    subst (λ (pace : Pace). MatchResult c.show_seeded.result (λ shown. IsPacedText starts makes view waits c.args.addresses.now pace l shown.0 shown.1.items) (IsPacedStop starts makes view waits c.args.addresses.now pace l))
+    (sym c.in-Seeded.is) (c.show_seeded.ensures c.args.addresses.now)

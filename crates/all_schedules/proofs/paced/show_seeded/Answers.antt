@@ -14,7 +14,7 @@ pub print_turns-requires-clause-cores : goal.print_turns-requires-clause-cores
 print_turns-requires-clause-cores g c κs within = ap (λ (l : Loop). l.cores) c.in-Ok.ensures.made.loop
 
 pub returns-in-Ok-print_turns : goal.returns-in-Ok-print_turns
-returns-in-Ok-print_turns g c =
+returns-in-Ok-print_turns g c addresses =
     let made = c.in-Ok.ensures.made in
     let shown = c.in-Ok-print_turns.ensures in record {
       schedule = c.in-Ok.made.schedule.items;
@@ -26,6 +26,6 @@ returns-in-Ok-print_turns g c =
     }
 
 pub returns-in-Err-HistoryFull : goal.returns-in-Err-HistoryFull
-returns-in-Err-HistoryFull g c =
+returns-in-Err-HistoryFull g c addresses =
     let is : c.in-Err-HistoryFull.field-0 ≡ fault.HistoryFull = search rules in
     subst (λ (f : TurnFault). IsDrawnFault g.S.EpochStore.starts g.S.EpochStore.makes g.S.EpochStore.view g.S.EpochStore.waits (loop_on c.args.image.now c.args.cores c.args.room) c.args.seed f) is c.in-Err-HistoryFull.ensures.fault

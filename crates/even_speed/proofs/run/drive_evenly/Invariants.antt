@@ -12,6 +12,7 @@ use Rattle.even_speed.specs.Clocks.{clock_at}
 use Rattle.even_speed.specs.Even.{Evenly, at_first}
 use Rattle.even_speed.specs.Kept.{AreSound, IsAloneClock}
 use Rattle.even_speed.specs.Lasting.{IsLasting}
+use Rattle.even_speed.specs.Seats.{none_seated, seat_at, seats_after}
 use Rattle.even_speed.specs.Timed.{AreOnTime, IsNeverIdle}
 use Rattle.even_speed.proofs.run.drive_evenly.Given as goal
 
@@ -20,15 +21,16 @@ invariant-loop-taken g l = record {
   same : IsOfSameLoop l.initial.book l.book;
   held : HaveArrived l.book.image l.held;
   shares : IsNoMore l.shares l.book.totals;
-  sound : AreSound l._taken l.book.cores l.clocks.items;
+  sound : AreSound l._taken l.book.cores l.now l.clocks.items;
+  seats : (k : ℕ) → seat_at l.seats k ≡ seats_after none_seated l.book.history k;
   drives : (rest : List ℕ) (result : Result (Option Ran) TurnFault) (new : Driver g.row.S.Denot)
-      → Evenly g.S.EpochStore.makes g.S.EpochStore.view g.S.EpochStore.waits (record { held = harts_of l.held; clocks = clock_at l.clocks.items }) (driver l.book l.shares) rest result new
-      → Evenly g.S.EpochStore.makes g.S.EpochStore.view g.S.EpochStore.waits at_first (driver l.initial.book l.initial.shares) (l.schedule.items ++ rest) result new;
+      → Evenly g.S.EpochStore.makes g.S.EpochStore.view g.S.EpochStore.waits l.addresses (record { held = harts_of l.held; clocks = clock_at l.clocks.items; now = l.now }) (driver l.book l.shares) rest result new
+      → Evenly g.S.EpochStore.makes g.S.EpochStore.view g.S.EpochStore.waits l.addresses at_first (driver l.initial.book l.initial.shares) (l.schedule.items ++ rest) result new;
   timed : l.initial.book.history ≡ [] → (s : FlatState) × (replay l.book.image l.book.cores l.book.history ≡ Some s)
-      × AreOnTime l.book.image l.book.cores s (record { held = harts_of l.held; clocks = clock_at l.clocks.items });
+      × AreOnTime l.book.image l.book.cores s (record { held = harts_of l.held; clocks = clock_at l.clocks.items; now = l.now });
   lasting : l.initial.book.history ≡ [] → IsLasting l.book (clock_at l.clocks.items) l._taken;
   few : length l.book.history ≤ most_room;
   stopped : l.book.stopped ≡ l.initial.book.stopped;
   busy : l.initial.book.history ≡ [] → l.book.cores ≡ 1 → IsNeverIdle (clock_at l.clocks.items 0);
-  alone : l.book.cores ≡ 1 → (l.book.totals.restarts ≡ 0) × IsAloneClock (clock_at l.clocks.items 0);
+  alone : l.book.cores ≡ 1 → (l.book.totals.restarts ≡ 0) × IsAloneClock l.now (clock_at l.clocks.items 0);
 }
