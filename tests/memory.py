@@ -115,6 +115,9 @@ CRATES = ROOT / "crates"
 OTHERS: list[tuple[str, str, list[str], str, Outcome]] = [
     ("why of a worked history", "why", [], (CRATES / "why" / "stdin").read_text(),
      ((CRATES / "why" / "stdout").read_text(), "", 0)),
+    ("why of an attempt", "why", ["--attempts"], image("67800000") + "trace 1\n0 start 0\n0 commit\n",
+     ("attempt 0 epoch 0 try 1 core 0 done 1 committed 1 by 0 core 0\ntotal epochs 1 committed 1 useful 1 rollbacks 0 "
+      "lost 0 cancelled 0 dropped 0 open 0 unsettled 0\n", "", 0)),
     ("a worked schedule", "replay", ["caches", "2"], (CRATES / "replay" / "stdin").read_text(),
      ((CRATES / "replay" / "stdout").read_text(), "", 0)),
     # A start, a load, an addition, a store, a return and a commit. The second core has no epoch.
