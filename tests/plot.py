@@ -150,6 +150,9 @@ def tables(words: list[str], folder: str) -> Iterator[Check]:
     yield "a row", None if found == wanted else f"{found}"
     full = rows[-2]
     yield "a full run", None if (full["full"], full["steps"], rows[-1]["gain"]) == ("1", "", "") else f"{full}"
+    held = plot("--csv", text=text_of(LINES["own_counters"]).replace("waiting 0", "waiting 0 held 7"))[0]
+    yield "held steps, where runs have them", None if [row["held"] for row in csv.DictReader(io.StringIO(held))] == [
+        "7"] * 4 else held
     named = plot("--csv", f"{folder}/queens.txt")[0].splitlines()[1].split(",")[0]
     yield "named after the file", None if named == "queens" else named
     for name, text, said in (("another line", "end done 3\n", "is no line of gain"),
@@ -183,6 +186,23 @@ def many(folder: str) -> Iterator[Check]:
     letters = max(len(line) for line in ("".join(part.itertext()) for part in [*longest, longest]))
     # A letter of the note, which is 6.5 points high, is at least 3.1 wide on an average.
     yield "each line of the note fits", None if 3.1 * letters <= wide else f"{letters} letters in {wide} points"
+
+
+def held(folder: str) -> Iterator[Check]:
+    """The steps that a core was held at a load that waits are a part of the bar."""
+    path = Path(folder, "held.txt")
+    rows = "caches 1 10 1.00 10 0 0 0 0 0 0 0 0 0 0 0 0 0\ncaches 2 8 1.25 10 0 0 0 2 0 0 0 0 0 0 0 0 0"
+    path.write_text(text_of(rows).replace("waiting 0 idle 2", "waiting 0 held 4 idle 2"))
+    out, errors, status = plot(f"held={path}")
+    if "is not installed" in errors:
+        return
+    yield "a plot with held steps", None if (errors, status) == ("", 0) else f"{errors!r}, {status}"
+    parts = bars(xml.fromstring(out))["held-caches-2"]
+    whole = sum(high - low for _, low, high in parts)
+    yield "the parts of a bar with held steps", differs({part: round(1000 * (high - low) / whole) for part, low, high
+                                                         in parts}, {"useful": 625, "held": 250, "idle": 125})
+    texts = ["".join(text.itertext()).strip() for text in xml.fromstring(out).iter(f"{SVG}text")]
+    yield "held steps are explained", None if "held at a load that waits" in texts else f"{texts}"
 
 
 # Of own_counters the limits of 1 and of 4 cores
@@ -262,7 +282,7 @@ def main() -> int:
     with tempfile.TemporaryDirectory() as folder:
         words = list(files(folder))
         script.run(partial(plots, words), partial(tables, words, folder), partial(many, folder),
-                   partial(times, folder), partial(depends, folder))
+                   partial(held, folder), partial(times, folder), partial(depends, folder))
     return script.ended()
 
 

@@ -16,7 +16,7 @@ from collections.abc import Iterator
 from functools import partial
 from pathlib import Path
 
-from common import ROOT, Check, Script, beside, called, left_out
+from common import ROOT, Check, Script, beside, called, differs, left_out
 
 # What a check is of, and what is wrong or None
 Results = Iterator[Check]
@@ -41,6 +41,9 @@ TWO = ("store {} cores 2 steps 10 gain 1.20 useful 12 lost 4 dropped 0 waiting 0
 LARGE = "caches:line=16,sets=64,ways=4,buffer=16"
 GAIN = "".join(line.format(store) for store in ("caches", LARGE, "plain") for line in (ONE, TWO))
 CACHES = "The caches have 4 sets of 2 ways with lines of 16 bytes, and buffers of 4 lines."
+# What `gain` prints where the load at 4 waits, and what is told then.
+HELD = TWO.replace("steps 10 gain 1.20", "steps 9 gain 1.33").replace("waiting 0 idle 4", "waiting 0 held 2 idle 0")
+WAITS = " Where one load waits until its epoch is the first, it gains 1.33 at waits.c:7."
 # What `gain --limits` prints below that on two cores, and what is told then.
 LIMITS = "limit cores 1 forward 12 commit 12\nlimit cores 2 forward {} commit {}\n"
 ALLOWED = [
@@ -54,7 +57,8 @@ ALLOWED = [
 LARGER = " With 64 sets of 4 ways with lines of 16 bytes, and buffers of 16 lines, it gains {}"
 SAID = ("waits gains 1.20 on 2 cores at even speed: 10 steps in place of 12. Over a plain store of bytes it gains "
         f"1.20. {CACHES} Of all steps 60 % are useful, 20 % are lost and "
-        "20 % are idle. What holds it back over a plain store already: 1 rollback by true sharing lost 3 instructions. "
+        f"20 % are idle.{WAITS} What holds it back over a plain store already: 1 rollback by true sharing lost 3 "
+        "instructions. "
         "3 instructions where the store at waits.c:4 hits the "
         "load at waits.c:7 at flag: it usually helps to wait for flag, or let each epoch keep its own and put them "
         "together at the end. In 20 % of the steps cores have no "
@@ -173,11 +177,21 @@ def verdict(folder: Path | str, image: Path, *words: str | Path) -> tuple[str, s
     return " ".join(done.stdout.split()), done.stderr, done.returncode
 
 
+def stub_gain(folder: Path | str, output: str, held: str = ONE + HELD) -> None:
+    """A `gain` that prints one of these, the second where it is asked for the load at 4 alone, over caches, to wait."""
+    path = Path(folder, "gain")
+    path.write_text("#!/bin/sh\ncat >/dev/null\n[ \"$*\" != '2 caches --wait 00000004' ] || { cat <<'END'\n"
+                    f"{held.format('caches', 'caches')}END\nexit 0; }}\ncase \"$*\" in *--wait*) exit 9 ;; esac\n"
+                    f"cat <<'END'\n{output}END\n")
+    path.chmod(0o755)
+
+
 def by_hand(folder: Path | str) -> Results:
     """(what it shows, what is wrong or None)"""
     image = Path(folder, "waits.image")
     image.write_text(IMAGE)
-    for name, output in (("gain", GAIN), ("replay", RUN), ("why", WHY)):
+    stub_gain(folder, GAIN)
+    for name, output in (("replay", RUN), ("why", WHY)):
         stub(folder, name, output)
     Path(folder, "replay").write_text("#!/bin/sh\n[ \"$2\" != plain ] || { echo 'stopped HistoryFull' >&2; exit 3; }\n"
                                       f"cat <<'END'\n{RUN}END\n")
@@ -193,15 +207,24 @@ def by_hand(folder: Path | str) -> Results:
         got = verdict(folder, image, "--cores", "2", *words)
         yield f"the verdict {words}", None if got == (SAID + ending, "", status) else f"got {got}"
     for forward, commit, said in ALLOWED:
-        stub(folder, "gain", GAIN + LIMITS.format(forward, commit))
+        stub_gain(folder, GAIN + LIMITS.format(forward, commit))
         got = verdict(folder, image, "--cores", "2")
         yield (f"what its dependences allow: {forward} and {commit} steps",
                None if got == (SAID.replace(" are idle.", f" are idle.{said}"), "", 0) else f"got {got}")
-    stub(folder, "gain",
-         GAIN.replace(ONE.format("caches"), "store caches cores 1 full\n").replace("gain 1.20", "gain -")
-         + LIMITS.format(8, 10))
+    stub_gain(folder, GAIN.replace(ONE.format("caches"), "store caches cores 1 full\n").replace("gain 1.20", "gain -")
+              + LIMITS.format(8, 10))
     got = verdict(folder, image, "--cores", "2", "--min-gain", "1.5")
     yield "full on one core", None if "so what it gains isn't known" in got[0] and got[2] == 5 else f"got {got}"
+    stub_gain(folder, GAIN, "store {} cores 1 full\nstore {} cores 2 full\n")
+    got = verdict(folder, image, "--cores", "2")
+    yield "full where the load waits", differs(got, (SAID.replace(WAITS, ""), "", 0))
+    stub_gain(folder, GAIN, ONE + HELD.replace("gain 1.33", "gain -"))
+    got = verdict(folder, image, "--cores", "2")
+    yield "what it gains isn't known where the load waits", differs(got, (SAID.replace(WAITS, ""), "", 0))
+    stub_gain(folder, GAIN.replace(TWO.format("caches"), TWO.format("caches").replace("lost 4", "lost 0").replace(
+        "idle 4", "idle 8")), "no line\n")
+    got = verdict(folder, image, "--cores", "2")
+    yield "where nothing is lost no wait is tried", differs((WAITS[:20] in got[0], got[1:]), (False, ("", 0)))
     stub(folder, "gain", GAIN.replace(TWO.format("caches"), "store caches cores 2 full\n"))
     got = verdict(folder, image, "--cores", "2")
     yield "full on these cores", None if got == ("", "stopped HistoryFull\n", 3) else f"got {got}"
@@ -217,7 +240,7 @@ def by_hand(folder: Path | str) -> Results:
                 "isn't told.")
         yield f"a fault {fault}", None if got == (said, "", 6) else f"got {got}"
     stub(folder, "replay", RUN)
-    stub(folder, "gain", GAIN.replace("steps 10 gain 1.20", "steps 15 gain 0.80"))
+    stub_gain(folder, GAIN.replace("steps 10 gain 1.20", "steps 15 gain 0.80"))
     got = verdict(folder, image, "--cores", "2")
     said = ("waits loses on 2 cores at even speed, a gain of 0.80: 15 steps in place of 12. Over a plain store of "
             "bytes it loses, a gain of 0.80.")
@@ -253,7 +276,7 @@ def gain_by_sets(folder: Path | str, gains: dict[int, float]) -> None:
     cases = "".join(f"{'*' * (key[-1] == ',')}{key}{'*' * (key[-1] == ',')}) "
                     f"echo \"{ONE.format('$word')}{line.rstrip()}\" ;;\n" for key, line in lines.items())
     path = Path(folder, "gain")
-    cases += "--limits) ;;\n"
+    cases += "--limits|--wait|00000004) ;;\n"
     path.write_text(f"#!/bin/sh\ncat >/dev/null\nshift\nfor word; do\ncase $word in\n{cases}*) exit 9 ;;\nesac\ndone\n")
     path.chmod(0o755)
 
@@ -285,13 +308,15 @@ def flows(folder: Path | str) -> Results:
     another."""
     image = Path(folder, "waits.image")
     image.write_text(IMAGE)
-    for name, output in (("gain", GAIN), ("replay", RUN), ("why", WHY)):
+    stub_gain(folder, GAIN)
+    for name, output in (("replay", RUN), ("why", WHY)):
         stub(folder, name, output)
     for output, said in FLOWS:
         stub(folder, "depends", output)
         got = verdict(folder, image, "--cores", "2")
+        told = said.replace(" What holds it back", f"{WAITS} What holds it back")
         yield (f"told of {output[:40]!r}",
-               None if f" are idle. {said}" in got[0] and got[1:] == ("", 0) else f"got {got}")
+               None if f" are idle. {told}" in got[0] and got[1:] == ("", 0) else f"got {got}")
     for code, load, distance, said in FORMS:
         image.write_text(WORD.format("".join(code)))
         place = int(load.split()[1], 16) // 4

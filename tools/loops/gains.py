@@ -20,6 +20,7 @@ class Gain:
     lost: int | None = None
     dropped: int | None = None
     waiting: int | None = None
+    held: int | None = None             # none where no load was asked to wait
     idle: int | None = None
     restarts: int | None = None
     true: int | None = None
@@ -35,7 +36,8 @@ class Gain:
         head = f"store {self.store} cores {self.cores}"
         if self.full:
             return head + " full\n"
-        return head + "".join(f" {name} {self.told(name)}" for name in NAMES) + "\n"
+        return head + "".join(f" {name} {self.told(name)}" for name in NAMES
+                              if name != "held" or self.held is not None) + "\n"
 
     def count(self, name: str) -> int:
         """The steps or violations of a name, of a run that isn't full."""
@@ -89,8 +91,9 @@ class Gains:
 
 
 NUMBER, HUNDREDTHS = r"(\d+)", r"(\d+\.\d\d|-)"
-FORM = re.compile(r"store (\S+) cores (\d+) (?:full|"
-                  + " ".join(f"{name} {HUNDREDTHS if name == 'gain' else NUMBER}" for name in NAMES) + ")")
+FORM = re.compile(r"store (\S+) cores (\d+)(?: full|"
+                  + "".join(rf"(?: {name} {NUMBER})?" if name == "held" else
+                            f" {name} {HUNDREDTHS if name == 'gain' else NUMBER}" for name in NAMES) + ")")
 LIMIT = re.compile(r"limit cores (\d+) forward (\d+) commit (\d+)")
 
 

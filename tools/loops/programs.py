@@ -184,10 +184,13 @@ class Programs:
         words = why_words(store, attempts)
         return iter_conflicts(iter_call(self.why_command or self.folder / "why", words, source, (0,)))
 
-    def gain(self, image: Image | str, cores: int, *stores: str, limits: bool = False) -> Gains:
+    def gain(self, image: Image | str, cores: int, *stores: str, limits: bool = False,
+             waits: Sequence[int] = ()) -> Gains:
         """What the loop gains on up to so many cores over these stores; without any over `caches` and `plain`. With
-        `limits` also what its dependences allow."""
+        `limits` also what its dependences allow. The loads at the addresses of `waits` wait until their epoch is the
+        first."""
         words = [str(cores), *stores, *["--limits"] * limits]
+        words += ["--wait", *(f"{pc:08x}" for pc in waits)] if waits else []
         return read_gains(call(self.folder / "gain", words, text_of(image)))
 
     def has_depends(self) -> bool:

@@ -8,13 +8,14 @@ What it gains is what `gain` says, of one instruction a step on each core and no
 waiting for the caches may hide what epochs need of one another. STORE is the caches that it speaks of, those of the
 image's version where it isn't said. Where large caches gain something else it says so, and where the plain store gains
 and they don't, which are the first to gain as much. Where its dependences allow a fifth more than it gains it says so.
-Where `depends` is built it says whether anything can roll back at
-all, on any schedule, and what an epoch needs earliest of another. Where neighbours of an array share lines it proposes
---chunk of the tool that made the image, tools/image-of or tools/loops-of; the words behind `--` are those by which it
-did, and with them it measures what that gains. Limits are of the run over caches: how many hundredths of the steps of
-all cores may be lost, and what the loop has to gain. The status is 0 within the limits, 5 past them, and 6 where the
-loop ends in a fault; where a program refuses the image or is stopped, its line comes on standard error, and its status
-is that of this program. It builds no program unless `--build` says so.
+Where it loses steps, it says what it gains where one of the loads that lost most waits until its epoch is the first.
+Where `depends` is built it says whether anything can roll back at all, on any schedule, and what an epoch needs
+earliest of another. Where neighbours of an array share lines it proposes --chunk of the tool that made the image,
+tools/image-of or tools/loops-of; the words behind `--` are those by which it did, and with them it measures what that
+gains. Limits are of the run over caches: how many hundredths of the steps of all cores may be lost, and what the loop
+has to gain. The status is 0 within the limits, 5 past them, and 6 where the loop ends in a fault; where a program
+refuses the image or is stopped, its line comes on standard error, and its status is that of this program. It builds no
+program unless `--build` says so.
 """
 
 import argparse
@@ -36,7 +37,8 @@ from loops.texts import shown, text_in
 from loops.verdicts.chunks import Measured, maker_of, proposal
 from loops.verdicts.losses import Losses
 from loops.verdicts.sizes import Sized, Sizes, enough, larger_than
-from loops.verdicts.words import Findings, caches_cost, faulted, paragraph, past
+from loops.verdicts.waits import Waited, waited
+from loops.verdicts.words import LEAST, Findings, caches_cost, faulted, paragraph, past, percent
 from loops.version import add_version
 
 PAST, FAULT = 5, 6
@@ -94,6 +96,14 @@ def sizes_of(programs: Programs, text: str, machine: Machine, large: Sized, cach
     return Sizes(large, True, enough(machine, large, plain, tried))
 
 
+def waits_of(programs: Programs, text: str, store: Store, run: Gain, losses: Losses) -> list[Waited]:
+    """What the loop gains where one load waits, of those that lost most; none where little is lost."""
+    def tried(load: int) -> Gain:
+        return there(programs.gain(text, run.cores, store.word, waits=[load]).of(store.word, run.cores))
+
+    return waited(losses, tried) if percent(run.count("lost"), run) >= LEAST else []
+
+
 def findings(programs: Programs, given: argparse.Namespace, words: list[str]) -> Findings | str:
     """What the programs say of the loop, or what is told where it ends in a fault."""
     text, cores = text_in(given.image.read_bytes()), given.cores
@@ -120,7 +130,7 @@ def findings(programs: Programs, given: argparse.Namespace, words: list[str]) ->
     sized = Sized(large, there(gains.of(large.word, cores))) if large else None
     sizes = sizes_of(programs, text, store.machine, sized, caches, plain) if sized else None
     return Findings(shown(given.image.stem), store, one, caches, plain, over_caches.losses, over_plain, chunk, tried,
-                    flow, sizes, gains.allowed(cores))
+                    flow, sizes, gains.allowed(cores), waits_of(programs, text, store, caches, over_caches.losses))
 
 
 def options_of(words: list[str]) -> tuple[argparse.Namespace, list[str]]:

@@ -22,12 +22,14 @@ KINDS = [
     Part("false", "lost, false sharing", "#fbd3a0", "xxxx"),
     Part("buffer", "lost, full buffers", "#c9ced3", "++++"),
 ]
+HELD = Part("held", "held at a load that waits", "#cbe9ee", "**")
 REST = [
     Part("dropped", "dropped: attempts that an exit cancelled, or the end cut off", "#e3e3e3", "...."),
     Part("nothomefree", "waiting to be the first epoch", "#eef3c4", "----"),
     Part("noway", "waiting for a way in a full set", "#d9ecc0", "||||"),
     Part("orbfull", "waiting for room in the own buffer", "#cfe8dc", "oo"),
     Part("orbbusy", "waiting for another's buffer", "#c3dff0", "OO"),
+    HELD,
     Part("idle", "idle: without an epoch", "#ffffff", "\\"),
 ]
 PARTS = [USEFUL, *KINDS, *REST]
@@ -36,7 +38,8 @@ PARTS = [USEFUL, *KINDS, *REST]
 def amounts(run: Gain) -> dict[Part, float]:
     """The steps of each part; those of all parts are cores x steps."""
     violations = sum(run.count(part.name) for part in KINDS)
-    found = {part: float(run.count(part.name)) for part in (USEFUL, *REST)}
+    counted = (part for part in (USEFUL, *REST) if part is not HELD or run.held is not None)
+    found = {part: float(run.count(part.name)) for part in counted}
     lost = run.count("lost")
     found |= {part: lost * run.count(part.name) / violations if violations else 0.0 for part in KINDS}
     return found
@@ -45,4 +48,4 @@ def amounts(run: Gain) -> dict[Part, float]:
 def shares(run: Gain) -> list[tuple[Part, float]]:
     """The parts that occur, from below, each as its share of all steps."""
     found, whole = amounts(run), run.cores * run.count("steps")
-    return [(part, found[part] / whole) for part in PARTS if found[part]]
+    return [(part, found[part] / whole) for part in PARTS if found.get(part)]

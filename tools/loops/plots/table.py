@@ -20,11 +20,14 @@ def word_of(run: Gain, name: str) -> str:
 
 
 def table(named: list[tuple[str, Gains]]) -> str:
-    """The rows, below a row of names. What a run hasn't is empty; full is 0 or 1."""
+    """The rows, below a row of names. What a run hasn't is empty; full is 0 or 1. `held` is there where some run has
+    it."""
+    holds = any(run.held is not None for _, gains in named for run in gains.runs)
+    names = [name for name in NAMES if holds or name != "held"]
     made = io.StringIO()
     rows = csv.writer(made, lineterminator="\n")
-    rows.writerow(["loop", *NAMES])
-    rows.writerows([name, *(word_of(run, field) for field in NAMES)] for name, gains in named for run in gains.runs)
+    rows.writerow(["loop", *names])
+    rows.writerows([name, *(word_of(run, field) for field in names)] for name, gains in named for run in gains.runs)
     return made.getvalue()
 
 

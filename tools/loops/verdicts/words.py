@@ -1,6 +1,6 @@
 """The sentences of a verdict."""
 
-from dataclasses import dataclass
+from dataclasses import dataclass, field
 
 from loops import Dependences, Report, Violation
 from loops.gains import Gain
@@ -13,6 +13,7 @@ from .chunks import Chunk, Measured, maker_of
 from .flow import earliest, flow
 from .losses import Losses
 from .sizes import ALIKE, Sizes, are_alike
+from .waits import Waited
 
 MOST_PAIRS = 3
 # What dependences allow is told where it is so many times what the loop gains.
@@ -47,6 +48,7 @@ class Findings:
     sizes: Sizes | None = None          # none where the caches are large
     # what its dependences allow, where loads wait for commits, and where for stores
     allowed: tuple[float, float] | None = None
+    waits: list[Waited] = field(default_factory=list)       # over these caches, a load each
 
 
 def percent(part: int, run: Gain) -> float:
@@ -148,6 +150,13 @@ def allowed_words(found: Findings) -> str:
         return f"{told}."
     return (f"{told} where a load waits for the commit of the epoch that it depends on, and {forward:.2f} where it "
             "gets the value as soon as it is stored.")
+
+
+def wait_words(found: Findings) -> str:
+    """What the loop gains where one of the loads that were hit waits until its epoch is the first."""
+    told = [f"{one.run.gain:.2f} at {at(found.over_caches, one.load)}" for one in found.waits
+            if one.run.gain is not None]
+    return f" Where one load waits until its epoch is the first, it gains {listed(told)}." if told else ""
 
 
 # --- What holds it back ------------------------------------------------------
@@ -271,7 +280,7 @@ def paragraph(found: Findings) -> str:
     caches = holding(found.caches, found.over_caches, before, chunk_words(found))
     head = gained(found) + ("" if found.flow is None
                             else f" {flow(found.over_caches.image, found.flow, found.caches.cores)}")
-    head += allowed_words(found)
+    head += allowed_words(found) + wait_words(found)
     if not plain and not caches:
         return f"{head} Nothing holds it back."
     told = [f"What holds it back over a plain store already: {' '.join(plain)}"] if plain else []
