@@ -1,5 +1,5 @@
 -- That what a schedule makes is fixed, from that its turns are.
-use Rattle.std.proofs.Common.{◌≡◌, ◌≢◌, ◌⊎◌, ℕ, ◌<◌, List, length, None, Some, Option, Result, Ok, Err, refl, sym, ap, subst, ◌∙◌, inl, inr, arith}
+use Rattle.std.proofs.Common.{◌≡◌, ◌≢◌, ◌⊎◌, ℕ, ◌<◌, List, length, slice_get, None, Some, Option, Result, Ok, Err, refl, sym, ap, subst, ◌∙◌, inl, inr, arith}
 use native.Mathlib.Decide.{dec_lt}
 use Rattle.rv32_image.specs.Image.{LoadedImage}
 use Rattle.rv32_exec.specs.declared.sequential.End.{End}
@@ -7,7 +7,10 @@ use Rattle.run_ledger.specs.Counts.{no_counts}
 use Rattle.violations.specs.View.{StoreView, Waits}
 use Rattle.violations.specs.Calls.{Call}
 use Rattle.homefree.specs.declared.book.Loop.{Loop}
+use Rattle.spec_history.specs.declared.entry.Entry.{Entry}
 use Rattle.homefree.specs.BookView.{BookView}
+use Rattle.homefree.specs.InStep.{InStep}
+use Rattle.homefree.specs.LockView.{loop_of}
 use Rattle.homefree.specs.declared.fault.TurnFault.{TurnFault}
 use Rattle.homefree.specs.declared.fault.TurnFault.TheVariants.{NoMemory}
 use Rattle.homefree.specs.Driven.{Driver, Driven, driver}
@@ -16,7 +19,8 @@ use Rattle.even_speed.specs.Even.{at_first}
 use Rattle.even_speed.specs.Fixed.{RunIsFixed}
 use Rattle.all_schedules.specs.Drawn.{DrivesDrawn, drawn, most_turns}
 use Rattle.all_schedules.specs.Fixed.{DrawnHistoryIsFixed, EvenHistoryIsFixed, HistoryIsFixed, TextIsFixed}
-use Rattle.all_schedules.specs.Made.{IsNew}
+use Rattle.homefree.specs.Retraced.{IsNew, IsRetraced, book_over, turns_of}
+use Rattle.all_schedules.specs.Traced.{IsMadeAgain, Parts}
 use Rattle.turn_steps.specs.Fixed.{StepsAreFixed}
 
 -- a run ends, or goes to the most turns
@@ -99,3 +103,29 @@ module _ {S : Type 0} (starts : LoadedImage → ℕ → S → Type 0) (makes : S
         schedule_is = two.drives.is_drawn ∙ (ap (drawn l.cores seed) count ∙ sym one.drives.is_drawn);
         history_is = sym two.makes.history_is ∙ (run.twins.books.history ∙ one.makes.history_is);
       }
+
+-- ---- the turns that a history shows
+
+pub made_again : {S : Type 0} (starts : LoadedImage → ℕ → S → Type 0) (makes : S → Call → S → Type 0) (view : S → StoreView) (waits : S → Waits) (b : BookView S) → InStep view b
+    → IsRetraced starts makes view waits b → IsMadeAgain starts makes view waits (loop_of b) b.history
+made_again starts makes view waits b i r = (
+  r.result,
+  record {
+    first = r.first;
+    last = driver (book_over b r.store) r.shares;
+    is_new = r.is_new;
+    driven = r.drives;
+    history_is = refl;
+    of_turns = record { caused = i.caused; kinds = i.kinds; starts = i.starts; passes = i.passes; within = i.within };
+  },
+)
+
+-- what is fixed is no other history
+pub never_another : {S : Type 0} (starts : LoadedImage → ℕ → S → Type 0) (makes : S → Call → S → Type 0) (alike : S → S → Type 0) (view : S → StoreView) (waits : S → Waits) (l : Loop) (history : List Entry)
+    → HistoryIsFixed starts makes alike view waits → IsMadeAgain starts makes view waits l history → (place : ℕ) → Parts starts makes view waits l history place → ⊥
+never_another starts makes alike view waits l history law again place parts =
+    let one = law l (turns_of l.cores history) (Ok again.0) (Ok parts.result) history parts.history (not_refused again.0) (not_refused parts.result) again.1 parts.makes in
+    parts.part.other (ap (λ xs. slice_get xs place) one.history_is)
+  where
+    not_refused : (end : Option End) → (let result : Result (Option End) TurnFault = Ok end in result ≢ Err NoMemory)
+    not_refused end is = cc

@@ -28,7 +28,8 @@ use Rattle.all_schedules.specs.Shown.{IsShown}
 use Rattle.all_schedules.specs.Replay.{IsFullOutcome, IsLinesOutcome, IsNoReplay, IsPrinted, IsReplay, IsTurnsOutcome, IsUnprinted, IsUnreadOutcome, HasBegunOn, OfText, cause_of}
 use Rattle.all_schedules.specs.Fixed.{HistoryIsFixed}
 use Rattle.all_schedules.specs.Told.{Comes, HasBegun, IsBelow, IsShownBelow, IsShownMade, Leaves}
-use Rattle.all_schedules.specs.Traced.{IsNoRetrace, IsNotRetraced, IsNotSame, IsRetraceOutcome, IsRetraced, IsTraceOutcome, OfTrace, is_other, turns_of}
+use Rattle.all_schedules.specs.Traced.{IsNoRetrace, IsNotRetraced, IsNotSame, IsRetraceOutcome, IsRetraced, IsTraceOutcome, OfTrace, is_other}
+use Rattle.homefree.specs.Retraced.{turns_of}
 use Rattle.all_schedules.specs.Turns.{image_part, schedule_text}
 use Rattle.all_schedules.proofs.Coming.{comes_by}
 use Rattle.all_schedules.proofs.Outcomes.{by_image, by_text}

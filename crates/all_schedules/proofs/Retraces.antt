@@ -16,7 +16,7 @@ use Rattle.trace_text.specs.declared.fault.TraceFault.{TraceFault}
 use Rattle.trace_text.specs.declared.fault.TraceFaultKind.TheVariants.{Head, TooLong}
 use Rattle.trace_text.specs.TraceText.{◌>>=◌, Trace, cores_in, is_core_count, lines_read, longest_trace_text, number, of_cores, or_fault, trace_at, trace_prefix, trace_text}
 use Rattle.trace_commands.specs.Audit.{IsTracedBy}
-use Rattle.all_schedules.specs.Traced.{is_of_own, turn_of, turns_of}
+use Rattle.homefree.specs.Retraced.{is_of_own, turn_of, turns_of}
 
 -- ---- the cores of a trace are as many as the version allows
 

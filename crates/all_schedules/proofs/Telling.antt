@@ -20,7 +20,8 @@ use Rattle.turn_steps.specs.Writing.{AppendsFirst}
 use Rattle.turn_steps.specs.Writing as turns
 use Rattle.turn_steps.proofs.Written.{no_more_written}
 use Rattle.all_schedules.specs.declared.detail.Detail.TheVariants.{Steps}
-use Rattle.all_schedules.specs.Made.{IsFault, IsNew, Makes}
+use Rattle.homefree.specs.Retraced.{IsNew}
+use Rattle.all_schedules.specs.Made.{IsFault, Makes}
 use Rattle.all_schedules.specs.Told.{HasBegun, IsHead}
 
 module _ {S : Type 0} (makes : S → Call → S → Type 0) (view : S → StoreView) (waits : S → Waits) (changes : ℕ → S → S → List ℕ) where

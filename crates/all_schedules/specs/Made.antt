@@ -7,7 +7,6 @@ use Rattle.run_ledger.specs.Counts.{no_counts}
 use Rattle.spec_history.specs.declared.entry.Entry.{Entry}
 use Rattle.violations.specs.View.{StoreView, Waits}
 use Rattle.violations.specs.Calls.{Call}
-use Rattle.violations.specs.Rule.{IsFresh}
 use Rattle.homefree.specs.declared.book.Loop.{Loop}
 use Rattle.homefree.specs.declared.fault.TurnFault.{TurnFault}
 use Rattle.homefree.specs.declared.fault.TurnFault.TheVariants.{HistoryFull, NoMemory}
@@ -17,18 +16,10 @@ use Rattle.homefree.specs.Driven.{Driven, Driver, driver}
 use Rattle.homefree.specs.Ending.{NoneStartsAfterCancel}
 use Rattle.homefree.specs.LockView.{loop_of}
 use Rattle.homefree.specs.Missed.{PassesOverNone, IsOfCaches}
+use Rattle.homefree.specs.Retraced.{IsNew}
 
 abbrev pub loop_on : LoadedImage → ℕ → ℕ → Loop
 loop_on image cores room = record { image = image; cores = cores; room = room }
-
--- an empty history of the loop, over a fresh store
-pub record IsNew {S : Type 0} (starts : LoadedImage → ℕ → S → Type 0) (view : S → StoreView) (l : Loop) (b : BookView S) : Type 0 where
-  pub loop : loop_of b ≡ l
-  pub history : b.history ≡ []
-  pub totals : b.totals ≡ no_counts
-  pub store : IsFresh l.image l.cores (view b.store)
-  pub started : starts l.image l.cores b.store
-  pub stopped : b.stopped ≡ None
 
 -- a history that turns over a store make: each violation has its cause and is of a kind, no epoch starts once one has been cancelled, over
 -- caches no entry passes over a later epoch that has read in a line which it writes, further stores aside, and the entries are within the room

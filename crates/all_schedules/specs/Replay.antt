@@ -23,7 +23,8 @@ use Rattle.all_schedules.specs.Settings.{RunsWith, loop_with}
 use Rattle.all_schedules.specs.Made.{IsFull, Makes}
 use Rattle.all_schedules.specs.Shown.{IsShown}
 use Rattle.all_schedules.specs.Told.{Comes, HasBegun}
-use Rattle.all_schedules.specs.Traced.{IsNoRetrace, IsRetraced, OfTrace, has_trace, turns_of}
+use Rattle.homefree.specs.Retraced.{turns_of}
+use Rattle.all_schedules.specs.Traced.{IsNoRetrace, IsRetraced, OfTrace, has_trace}
 use Rattle.all_schedules.specs.Turns.{image_part, schedule_text}
 
 -- ---- of a schedule

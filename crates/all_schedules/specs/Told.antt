@@ -19,7 +19,7 @@ use Rattle.turn_steps.specs.Stepped.{Stepped}
 use Rattle.turn_steps.specs.Writing.{AppendsFirst, IsWrittenBut}
 use Rattle.all_schedules.specs.declared.detail.Detail.{Detail}
 use Rattle.all_schedules.specs.declared.detail.Detail.TheVariants.{Whole, Steps}
-use Rattle.all_schedules.specs.Made.{IsNew}
+use Rattle.homefree.specs.Retraced.{IsNew}
 use Rattle.all_schedules.specs.Shown.{IsShown}
 
 -- the schedule's turns, one for each of its cores, in order, make this history, and the text tells each of them

@@ -1,15 +1,13 @@
 -- What the replay of a trace comes to: the schedule that the trace shows, driven again.
 -- Source: this project.
 use Rattle.std.specs.Prelude.{◌≡◌, ◌≢◌, ◌⊎◌, ℕ, Bool, true, false, not, nat_lt, ◌==◌, ◌&&◌, List, [], ◌∷◌, ◌++◌, length, take, slice_get, Option, Some, None, Ok, if◌then◌else◌}
-use Rattle.std.specs.List.{flat_map}
 use Rattle.rv32_image.specs.Image.{LoadedImage}
 use Rattle.rv32_exec.specs.declared.sequential.End.{End}
 use Rattle.spec_history.specs.declared.entry.Entry.{Entry}
-use Rattle.spec_history.specs.declared.entry.What.{What}
-use Rattle.spec_history.specs.declared.entry.What.TheVariants.{Hurt, Cancel, Publish}
 use Rattle.violations.specs.View.{StoreView, Waits}
 use Rattle.violations.specs.Calls.{Call}
 use Rattle.homefree.specs.declared.book.Loop.{Loop}
+use Rattle.homefree.specs.Retraced.{turns_of}
 use Rattle.trace_text.specs.TraceText.{image_part}
 use Rattle.trace_commands.specs.declared.outcome.Outcome.{Outcome}
 use Rattle.trace_commands.specs.declared.outcome.Outcome.TheVariants.{Differs, Stopped, Usage}
@@ -21,27 +19,13 @@ use Rattle.all_schedules.specs.Made.{IsFull, Makes}
 use Rattle.all_schedules.specs.Shown.{IsShown}
 use Rattle.all_schedules.specs.Told.{Comes, HasBegun}
 
--- ---- the schedule of a trace
+-- ---- a history that is made again
 
--- the entry stands for a turn: violations, cancellations and publications are of the turn whose entry stands below them
-abbrev pub is_of_own : What → Bool
-is_of_own (Hurt epoch) = false
-is_of_own (Cancel epoch) = false
-is_of_own Publish = false
-is_of_own what = true
+-- the turns that the history shows, over a fresh store, make it again
+abbrev pub IsMadeAgain : {S : Type 0} → (LoadedImage → ℕ → S → Type 0) → (S → Call → S → Type 0) → (S → StoreView) → (S → Waits) → Loop → List Entry → Type 0
+IsMadeAgain starts makes view waits l history = (end : Option End) × Makes starts makes view waits l (turns_of l.cores history) (Ok end) history
 
--- of a core that is there
-abbrev pub takes_turn : ℕ → Entry → Bool
-takes_turn cores entry = nat_lt entry.by cores && is_of_own entry.what
-
-abbrev pub turn_of : ℕ → Entry → List ℕ
-turn_of cores entry = if takes_turn cores entry then entry.by ∷ [] else []
-
--- whose turns the entries are, in order
-abbrev pub turns_of : ℕ → List Entry → List ℕ
-turns_of cores entries = flat_map (turn_of cores) entries
-
--- ---- its replay
+-- ---- the replay of a trace
 
 -- two histories part at this place, counted from 0: up to it they are the same, and at it they aren't
 pub record PartAt (made given : List Entry) (place : ℕ) : Type 0 where

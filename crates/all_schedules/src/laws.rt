@@ -1,8 +1,11 @@
 //! The laws of histories: the functions do nothing of their own, and their contracts are the laws.
+ghost use Rattle.std.specs.Prelude.{ℕ};
+ghost use Rattle.homefree.specs.LockView.{loop_of};
 ghost use Rattle.all_schedules.specs.Fixed.{DrawnHistoryIsFixed, EvenHistoryIsFixed, HistoryIsFixed, TextIsFixed};
+ghost use Rattle.all_schedules.specs.Traced.{IsMadeAgain, Parts};
 
 use even_speed::run_is_fixed;
-use homefree::drive_is_fixed;
+use homefree::{Book, drive_is_fixed};
 use turn_steps::{ShownStore, steps_are_fixed};
 use violations::EpochStore;
 
@@ -13,6 +16,17 @@ pub fn history_is_fixed<S: EpochStore>()
 {
     S::calls_are_fixed();
     drive_is_fixed::<S>();
+}
+
+/// The turns that the history of a book shows, taken in order over a fresh store, make that very history again, and so never another
+/// one. So it is of each book that a run on threads gives back, however its threads went.
+pub fn trace_is_made_again<S: EpochStore>(book: &Book<S>)
+    ensures again { IsMadeAgain S.starts S.makes S.view S.waits (loop_of book.now) book.now.history }
+    ensures never { (place : ℕ) → Parts S.starts S.makes S.view S.waits (loop_of book.now) book.now.history place → ⊥ }
+{
+    history_is_fixed::<S>();
+    book.look();
+    book.look_back();
 }
 
 /// What `replay steps` tells of each turn of a schedule over a fresh store, with all that it changed of the store, is the same each time.

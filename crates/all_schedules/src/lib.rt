@@ -28,7 +28,10 @@ pub use commands::work;
 pub use detail::Detail;
 pub use driving::drive_schedule;
 pub use even::{EvenRun, run_evenly};
-pub use laws::{drawn_history_is_fixed, even_history_is_fixed, history_is_fixed, text_is_fixed};
+pub use laws::{
+    drawn_history_is_fixed, even_history_is_fixed, history_is_fixed, text_is_fixed,
+    trace_is_made_again,
+};
 pub use paced::do_paced;
 pub use replay::do_replay;
 pub use schedules::every_schedule;

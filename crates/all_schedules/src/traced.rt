@@ -6,6 +6,7 @@ ghost use Rattle.rv32_exec.specs.declared.sequential.End.{End};
 ghost use Rattle.all_schedules.specs.Made.{IsMade, Makes, loop_on};
 ghost use Rattle.turn_steps.specs.Writing.{IsWrittenBut};
 ghost use Rattle.all_schedules.specs.Told.{IsHead};
+ghost use Rattle.homefree.specs.Retraced as shown;
 ghost use Rattle.all_schedules.specs.Traced as spec;
 
 use crate::detail::Detail;
@@ -124,7 +125,7 @@ fn make_again<S: ShownStore>(
     requires least { 16 ≤ room }
     requires most { room ≤ 1048576 }
     requires schedule { All (λ core. core < cores) turns.now }
-    requires turns { turns.now ≡ spec.turns_of cores entries.now }
+    requires turns { turns.now ≡ shown.turns_of cores entries.now }
     ensures made { IfOk result (λ book. IsMade S.starts S.makes S.view S.waits (loop_on image.now cores room) turns.now book) }
     ensures same { IfOk result (λ book. book.history ≡ entries.now) }
     ensures other { IfErr result (spec.IsNotRetraced S.starts S.makes S.view S.waits (loop_on image.now cores room) entries.now) }
@@ -151,7 +152,7 @@ fn check_trace<S: ShownStore>(
     requires least { 16 ≤ room }
     requires most { room ≤ 1048576 }
     requires schedule { All (λ core. core < cores) turns.now }
-    requires turns { turns.now ≡ spec.turns_of cores entries.now }
+    requires turns { turns.now ≡ shown.turns_of cores entries.now }
     ensures made { IfOk result (λ _. (end : Option End) × Makes S.starts S.makes S.view S.waits (loop_on image.now cores room) turns.now (Ok end) entries.now) }
     ensures other { IfErr result (spec.IsNotRetraced S.starts S.makes S.view S.waits (loop_on image.now cores room) entries.now) }
 {
@@ -174,7 +175,7 @@ fn is_same<S: EpochStore>(book: &Book<S>, entries: &[Entry]) -> Result<(), Outco
 
 /// The schedule of a trace.
 fn turns_of(alloc: Global, cores: u32, entries: &[Entry]) -> Result<Vec<u32>, AllocError>
-    ensures { IfOk result (λ schedule. schedule.items ≡ spec.turns_of cores entries.now) }
+    ensures { IfOk result (λ schedule. schedule.items ≡ shown.turns_of cores entries.now) }
 {
     let mut schedule = Vec::new(alloc);
     for entry in entries {
@@ -185,7 +186,7 @@ fn turns_of(alloc: Global, cores: u32, entries: &[Entry]) -> Result<Vec<u32>, Al
 
 /// Adds the core of an entry that stands for a turn.
 fn push_turn(schedule: &mut Vec<u32>, cores: u32, entry: Entry) -> Result<(), AllocError>
-    ensures { OnOk result (schedule.new.items ≡ schedule.old.items ++ spec.turn_of cores entry) }
+    ensures { OnOk result (schedule.new.items ≡ schedule.old.items ++ shown.turn_of cores entry) }
 {
     if entry.by < cores && is_of_own(entry.what) {
         schedule.push(entry.by)?;
@@ -195,7 +196,7 @@ fn push_turn(schedule: &mut Vec<u32>, cores: u32, entry: Entry) -> Result<(), Al
 
 /// Whether an entry stands for a turn.
 fn is_of_own(what: What) -> bool
-    ensures { result ≡ spec.is_of_own what }
+    ensures { result ≡ shown.is_of_own what }
 {
     match what {
         What::Hurt(_) | What::Cancel(_) | What::Publish => false,

@@ -3,7 +3,7 @@ use Rattle.std.proofs.KnownBytes.{Appends-nil}
 use Rattle.all_schedules.specs.declared.detail.Detail.TheVariants.{Steps}
 use Rattle.all_schedules.specs.Made.{Makes, loop_on}
 use Rattle.all_schedules.specs.Told.{IsHead, IsShownMade}
-use Rattle.all_schedules.specs.Traced.{turns_of}
+use Rattle.homefree.specs.Retraced.{turns_of}
 use Rattle.all_schedules.proofs.Replays.{told_trace_comes, whole_comes}
 use Rattle.all_schedules.proofs.Retraces.{are_turns}
 use Rattle.all_schedules.proofs.traced.drive_trace.Goals as goal

@@ -1,5 +1,5 @@
 use Rattle.std.proofs.Common.{◌≡◌, take}
-use Rattle.all_schedules.specs.Traced.{turns_of}
+use Rattle.homefree.specs.Retraced.{turns_of}
 use Rattle.all_schedules.proofs.traced.turns_of.Given as goal
 
 -- the turns so far
