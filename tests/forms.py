@@ -106,7 +106,7 @@ TEXTS = [
     ("conflicts", HURT + "open epoch 2 try 1 core 2 done 0\n" + ATTEMPTS + "epoch 1 rollbacks 1 lost 2\n" + TOTAL),
     ("conflicts", ATTEMPTS + TOTAL),
     ("gains", GAIN + "store caches cores 1 full\n" + GAIN.replace("gain 4.00", "gain -")),
-    ("gains", GAIN + LIMITS),
+    ("gains", GAIN + LIMITS), ("gains", GAIN.replace("waiting 0", "waiting 0 held 3") + "store plain cores 8 full\n"),
     ("gains", "".join(GAIN.replace("plain", word)
                       for word in ("caches:sets=64,ways=4,buffer=16", "caches:line=64", "caches"))),
     ("dependences", DEPENDS.replace("caches", "caches:line=64,buffer=1").replace("never plain", "never caches:sets=1")),
@@ -130,6 +130,7 @@ REFUSED = [
     ("conflicts", ATTEMPTS.replace("faulted 6", "open 6") + TOTAL),
     ("conflicts", ATTEMPTS.replace(" open", " open 9 by 0 core 0") + TOTAL), ("gains", "store caches cores 2 fast\n"),
     ("gains", GAIN + LIMITS.replace("forward 3", "forward -")), ("gains", GAIN + LIMITS + GAIN),
+    ("gains", GAIN.replace("waiting 0", "held 3 waiting 0")), ("gains", GAIN.replace("waiting 0", "waiting 0 held -")),
     *(("gains", GAIN.replace("plain", word))
       for word in ("plane", "caches:", "caches:sets=3", "caches:sets=4,sets=4", "plain:ways=2")),
     ("dependences", "never caches:ways=17 4\n"),

@@ -46,18 +46,19 @@ def lines_of(text: str) -> list[dict[str, str]]:
 
 
 def check_sums(name: str, rows: list[dict[str, str]]) -> Iterator[Row]:
-    """Each step of each core is counted once; one core loses and waits nothing."""
+    """Each step of each core is counted once; one core loses and waits nothing, and isn't held."""
     first = {row["store"]: int(row["steps"]) for row in rows if row["cores"] == "1"}
     for row in rows:
         n = {key: int(row[key]) for key in [*FIGURES, *CAUSES]}
+        held = int(row.get("held", "0"))
         at = f"{name} {row['store']} {row['cores']}"
-        yield (f"{at}: the sum", n["useful"] + n["lost"] + n["dropped"] + n["waiting"] + n["idle"],
+        yield (f"{at}: the sum", n["useful"] + n["lost"] + n["dropped"] + n["waiting"] + held + n["idle"],
                int(row["cores"]) * n["steps"])
         yield (f"{at}: waiting", sum(n[cause] for cause in CAUSES), n["waiting"])
         hundredths = first[row["store"]] * 100 // n["steps"]
         yield (f"{at}: gain", row["gain"], f"{hundredths // 100}.{hundredths % 100:02}")
         if row["cores"] == "1":
-            yield (f"{at}: one core", (n["lost"], n["dropped"], n["waiting"]), (0, 0, 0))
+            yield (f"{at}: one core", (n["lost"], n["dropped"], n["waiting"], held), (0, 0, 0, 0))
 
 
 @comparing
@@ -134,6 +135,44 @@ def check_limit_words(program: list[str]) -> Iterator[Row]:
     with open("/dev/full", "w", encoding="ascii") as full:
         done = called([*program, "2", "--limits"], COUNTER, stdout=full)
     yield ("limits: a write that fails", (done.stderr, done.returncode), ("stopped Write\n", 3))
+
+
+@comparing
+def check_waits(program: list[str]) -> Iterator[Row]:
+    """Loads that wait. Of the counter an epoch takes six steps, and its load is the second. It waits for the turn that
+    commits the epoch before, and comes in the step of that turn: so each epoch commits four steps after the one
+    before it, and with two cores that is no different. Where no load stands, nothing waits. `recurrence` takes the
+    steps that another program counted."""
+    for store in ("plain", "caches"):
+        rows = lines_of(run(program, ["4", store, "--wait", "00000000"], COUNTER)[0])
+        yield (f"waits: {store}", [[row[key] for key in ("cores", *FIGURES, "held")] for row in rows],
+               [["1", "24", "24", "0", "0", "0", "0", "0", "0"], ["2", "18", "24", "0", "0", "0", "4", "0", "8"],
+                ["4", "18", "24", "0", "0", "0", "24", "0", "24"]])
+        yield from check_sums("waits", rows)
+        rows = lines_of(run(program, ["4", store, "--wait", "00000004", "00000008", "fffffffc"], COUNTER)[0])
+        yield (f"waits: {store}, where no load stands", [row.pop("held") for row in rows], ["0"] * 3)
+        yield (f"waits: {store}, as without", rows, lines_of(run(program, ["4", store], COUNTER)[0]))
+    text = (ROOT / "examples/recurrence.image").read_bytes()
+    output, errors, status = run(program, ["4", "caches", "--wait", "00000018", "--limits"], text)
+    runs, told = without_limits(output)
+    rows = lines_of(runs)
+    yield ("waits: recurrence", (rows[-1]["steps"], errors, status), ("120", "", 0))
+    yield ("waits: and limits", told, without_limits(run(program, ["4", "--limits"], text)[0])[1])
+    yield from check_sums("recurrence", rows)
+
+
+@comparing
+def check_wait_words(program: list[str]) -> Iterator[Row]:
+    """`--wait` stands behind the stores, and behind it an address at least, in eight lower-case digits each."""
+    for words in (["--wait", "00000000"], ["4", "--wait"], ["4", "--wait", "0"], ["4", "--wait", "0000000A"],
+                  ["4", "--wait", "000000000"], ["4", "--wait", "0000000g"], ["4", "--wait", "00000000", "plain"],
+                  ["4", "--limits", "--wait", "00000000"], ["4", "--wait", "--limits"], ["4", "--waits", "00000000"],
+                  ["4", "--wait", "00000000", "--wait", "00000004"], ["17", "--wait", "00000000"]):
+        yield (f"words {words}", run(program, words, COUNTER), ("", "usage\n", 2))
+    yield ("an image that is refused, and waits", run(program, ["2", "--wait", "00000000"], "size 1\n"),
+           ("", "image 1 Range\n", 2))
+    output, errors, status = run(program, ["1", "plain", "--wait", *["00000000"] * 30_000], COUNTER)
+    yield ("30,000 addresses", (lines_of(output)[0]["steps"], errors, status), ("24", "", 0))
 
 
 @comparing
@@ -228,7 +267,8 @@ def check_runs(gain: list[str], replay: list[str], count: int) -> Iterator[Row]:
         yield (f"replay {words}", run(replay, words, COUNTER), ("", "usage\n", 2))
 
 
-PARTS = (check_words, check_limit_words, check_limits, check_many_stores, check_examples, check_long, check_write)
+PARTS = (check_words, check_limit_words, check_limits, check_waits, check_wait_words, check_many_stores,
+         check_examples, check_long, check_write)
 
 
 def main() -> int:

@@ -1,5 +1,5 @@
 -- What the program answers, from what its parts do.
-use Rattle.std.proofs.Common.{◌≡◌, ℕ, ◌+◌, List, Option, Some, None, Result, Ok, Err, MatchResult, refl, sym, subst, inr}
+use Rattle.std.proofs.Common.{◌≡◌, ℕ, ◌+◌, List, [], Option, Some, None, Result, Ok, Err, MatchResult, refl, sym, subst, inr, arith}
 use Rattle.rv32_image.specs.declared.fault.ImageFault.{ImageFault}
 use Rattle.rv32_image.specs.declared.fault.ImageFaultKind.{ImageFaultKind}
 use Rattle.rv32_image.specs.declared.fault.ImageFaultKind.TheVariants as kind
@@ -21,42 +21,54 @@ use Rattle.gain.specs.Work.{AskedAnswers, WorkAnswers}
 
 -- ---- of an image
 
-module _ (study : Study) (stores : List (List ℕ)) (text : List ℕ) (image : LoadedImage) (old new : Option (List ℕ)) (said : image_text text ≡ Ok image) where
+module _ (study : Study) (addresses : List ℕ) (stores : List (List ℕ)) (text : List ℕ) (image : LoadedImage) (old new : Option (List ℕ)) (said : image_text text ≡ Ok image) where
   by_image : (P : LoadedImage → Type 0) → P image → MatchResult (image_text text) P (λ fault. ⊥)
   by_image P is = subst (λ (r : Result LoadedImage ImageFault). MatchResult r P (λ fault. ⊥)) (sym said) is
 
-  unwritten_of : (outcome : Outcome) → IsUnwrittenOf image study stores old new outcome → IsUnwritten study stores text old new outcome
+  unwritten_of : (outcome : Outcome) → IsUnwrittenOf image study addresses stores old new outcome → IsUnwritten study addresses stores text old new outcome
   unwritten_of (BadImage fault) is = absurd is
   unwritten_of (Stopped NoMemory) is = is
-  unwritten_of outcome is = by_image (λ i. IsUnwrittenOf i study stores old new outcome) is
+  unwritten_of outcome is = by_image (λ i. IsUnwrittenOf i study addresses stores old new outcome) is
 
   pub of_image : {A : Type 0} (result : Result A Outcome)
-      → MatchResult result (λ _. IsWrittenOf image study stores old new) (IsUnwrittenOf image study stores old new)
-      → MatchResult result (λ _. IsWritten study stores text old new) (IsUnwritten study stores text old new)
-  of_image (Ok done) is = by_image (λ i. IsWrittenOf i study stores old new) is
+      → MatchResult result (λ _. IsWrittenOf image study addresses stores old new) (IsUnwrittenOf image study addresses stores old new)
+      → MatchResult result (λ _. IsWritten study addresses stores text old new) (IsUnwritten study addresses stores text old new)
+  of_image (Ok done) is = by_image (λ i. IsWrittenOf i study addresses stores old new) is
   of_image (Err outcome) is = unwritten_of outcome is
 
 -- the image is refused
-pub refused : (study : Study) (stores : List (List ℕ)) (text : List ℕ) (output : Option (List ℕ)) (line : ℕ) (kind : ImageFaultKind)
+pub refused : (study : Study) (addresses : List ℕ) (stores : List (List ℕ)) (text : List ℕ) (output : Option (List ℕ)) (line : ℕ) (kind : ImageFaultKind)
     → IsReadFaultOf kind (record { line = line; kind = kind }) (image_text text)
-    → IsUnwritten study stores text output output (outcome_of_fault kind (record { line = line; kind = kind }))
-refused study stores text output line kind.NoMemory is = keeps_itself output
-refused study stores text output line other is = (is, keeps_itself output)
+    → IsUnwritten study addresses stores text output output (outcome_of_fault kind (record { line = line; kind = kind }))
+refused study addresses stores text output line kind.NoMemory is = keeps_itself output
+refused study addresses stores text output line other is = (is, keeps_itself output)
 
-pub unwritten_answers : (study : Study) (stores : List (List ℕ)) (output errors : Stream) (text : List ℕ) (outcome : Outcome) (status : ℕ) → status ≡ status_of outcome
-    → AppendsPrefix errors.old errors.new (error_line outcome) → IsUnwritten study stores text output.old output.new outcome
-    → GainAnswers study stores text output errors status
-unwritten_answers study stores output errors text outcome status is line so = inr (record { outcome = outcome; output = so; status = is; line = line })
+pub unwritten_answers : (study : Study) (addresses : List ℕ) (stores : List (List ℕ)) (output errors : Stream) (text : List ℕ) (outcome : Outcome) (status : ℕ) → status ≡ status_of outcome
+    → AppendsPrefix errors.old errors.new (error_line outcome) → IsUnwritten study addresses stores text output.old output.new outcome
+    → GainAnswers study addresses stores text output errors status
+unwritten_answers study addresses stores output errors text outcome status is line so = inr (record { outcome = outcome; output = so; status = is; line = line })
+
+-- memory ran out before the input was read
+pub no_memory : (study : Study) (addresses : List ℕ) (stores : List (List ℕ)) (input output : Option (List ℕ)) (errors : Stream) (status : ℕ) → status ≡ status_of (Stopped NoMemory)
+    → AppendsPrefix errors.old errors.new (error_line (Stopped NoMemory)) → ForText input (λ text. GainAnswers study addresses stores text (kept output) errors status)
+no_memory study addresses stores None output errors status is line =
+    ([], unwritten_answers study addresses stores (kept output) errors [] (Stopped NoMemory) status is line (keeps_itself output))
+no_memory study addresses stores (Some text) output errors status is line =
+    unwritten_answers study addresses stores (kept output) errors text (Stopped NoMemory) status is line (keeps_itself output)
+
+pub none_taken : (known : Option (List ℕ)) → TakesAtMost known known (longest_image_text + 1)
+none_taken None = ([], tt, omega arith)
+none_taken (Some text) = ([], refl, omega arith)
 
 -- ---- of the words
 
 -- they ask for cores and stores
-pub gain_answers : (words : List (List ℕ)) (study : Study) (stores : List (List ℕ)) (room : ℕ) (input output errors : Stream) (status : ℕ)
-    → gain_asked_in words ≡ Some (record { cores = study.cores; stores = stores; limits = study.limits }) → study.room ≡ room
+pub gain_answers : (words : List (List ℕ)) (study : Study) (addresses : List ℕ) (stores : List (List ℕ)) (room : ℕ) (input output errors : Stream) (status : ℕ)
+    → gain_asked_in words ≡ Some (record { cores = study.cores; stores = stores; addresses = addresses; limits = study.limits }) → study.room ≡ room
     → TakesAtMost input.old input.new (longest_image_text + 1)
-    → ForText input.old (λ text. GainAnswers study stores text output errors status) → ForText input.old (λ text. WorkAnswers words room text input output errors status)
-gain_answers words study stores room input output errors status asked with_room taken =
-    for_each (λ text. GainAnswers study stores text output errors status) (λ text. WorkAnswers words room text input output errors status) input.old
+    → ForText input.old (λ text. GainAnswers study addresses stores text output errors status) → ForText input.old (λ text. WorkAnswers words room text input output errors status)
+gain_answers words study addresses stores room input output errors status asked with_room taken =
+    for_each (λ text. GainAnswers study addresses stores text output errors status) (λ text. WorkAnswers words room text input output errors status) input.old
     (λ text answers. subst (λ r. WorkAnswers words r text input output errors status) with_room
     (subst (λ (o : Option GainAsked). AskedAnswers o study.room text input output errors status) (sym asked) (answers, taken)))
 

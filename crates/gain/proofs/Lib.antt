@@ -1,3 +1,4 @@
 pub mod Adds
 pub mod Answering
 pub mod Words
+pub mod Waiting

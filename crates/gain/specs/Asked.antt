@@ -1,14 +1,20 @@
--- What the words of a command line ask for: `PROGRAM CORES` or `PROGRAM CORES STORE ..`, and with `--limits` behind that the limits.
+-- What the words of a command line ask for: `PROGRAM CORES` or `PROGRAM CORES STORE ..`, behind that with `--wait PC ..` which loads wait, and with
+-- `--limits` at the end the limits.
 -- Source: this project.
-use Rattle.std.specs.Prelude.{ℕ, ◌-◌, Bool, false, List, [], ◌∷◌, length, take, Option, option_map, codes, if◌then◌else◌}
+use Rattle.std.specs.Prelude.{ℕ, ◌-◌, Bool, false, List, [], ◌∷◌, length, take, drop, Option, Some, None, option_map, not, codes, if◌then◌else◌}
+use Rattle.std.specs.List.{prefix_len}
 use Rattle.std.specs.Str.{bytes_eq}
 use Rattle.trace_commands.specs.Stores.{StoresAsked, stores_asked_in}
+use Rattle.gain.specs.Addresses.{addresses_of, are_addresses}
 
--- so many cores, stores by the words that name them, and whether limits are printed
+-- so many cores, stores by the words that name them, the addresses of the loads that wait, and whether limits are printed
 pub record GainAsked : Type 0 where
   pub cores : ℕ
   pub stores : List (List ℕ)
+  pub addresses : List ℕ
   pub limits : Bool
+
+-- ---- limits
 
 -- is the last word `--limits`?
 abbrev pub asks_limits : List (List ℕ) → Bool
@@ -20,9 +26,29 @@ asks_limits (word ∷ words) = asks_limits words
 abbrev pub without_limits : List (List ℕ) → List (List ℕ)
 without_limits words = if asks_limits words then take (length words - 1) words else words
 
-abbrev pub with_limits : Bool → StoresAsked → GainAsked
-with_limits limits asked = record { cores = asked.cores; stores = asked.stores; limits = limits }
+-- ---- loads that wait
+
+-- how many words stand before the first `--wait`
+abbrev pub wait_place : List (List ℕ) → ℕ
+wait_place words = prefix_len (λ word. not (bytes_eq word (codes "--wait"))) words
+
+-- the addresses that it and the words behind it say: no word says none, and it is followed by one at least
+abbrev pub waits_in : List (List ℕ) → Option (List ℕ)
+waits_in [] = Some []
+waits_in (wait ∷ words) = if are_addresses words then Some (addresses_of words) else None
+
+-- ---- all words
+
+abbrev pub asked_with : Bool → List ℕ → StoresAsked → GainAsked
+asked_with limits addresses asked = record { cores = asked.cores; stores = asked.stores; addresses = addresses; limits = limits }
+
+abbrev pub asked_where : Bool → Option (List ℕ) → Option StoresAsked → Option GainAsked
+asked_where limits (Some addresses) stores = option_map (asked_with limits addresses) stores
+asked_where limits None stores = None
+
+unfoldable pub asked_before_limits : Bool → List (List ℕ) → Option GainAsked
+asked_before_limits limits words = asked_where limits (waits_in (drop (wait_place words) words)) (stores_asked_in (take (wait_place words) words))
 
 -- any other words ask for nothing
 unfoldable pub gain_asked_in : List (List ℕ) → Option GainAsked
-gain_asked_in words = option_map (with_limits (asks_limits words)) (stores_asked_in (without_limits words))
+gain_asked_in words = asked_before_limits (asks_limits words) (without_limits words)

@@ -23,53 +23,53 @@ use Rattle.gain.specs.Limits.{AddLimitsIf}
 
 -- ---- of an image
 
--- to a text, the lines of this store
-abbrev pub AddLinesOf : LoadedImage → Store → ℕ → ℕ → List ℕ → List ℕ → List ℕ → Type 0
-AddLinesOf image (Caches asked) cores room word old new = AddLines cache.Starts cache.Makes caches.store_view caches.waits image room word cores old new
-AddLinesOf image Plain cores room word old new = AddLines plain.Starts plain.Makes plain.store_view (λ _. never_waits) image room word cores old new
+-- to a text, the lines of this store, where loads at these addresses wait
+abbrev pub AddLinesOf : List ℕ → LoadedImage → Store → ℕ → ℕ → List ℕ → List ℕ → List ℕ → Type 0
+AddLinesOf addresses image (Caches asked) cores room word old new = AddLines cache.Starts cache.Makes caches.store_view caches.waits addresses image room word cores old new
+AddLinesOf addresses image Plain cores room word old new = AddLines plain.Starts plain.Makes plain.store_view (λ _. never_waits) addresses image room word cores old new
 
 -- so of the loop on the machine that the store asks for
-abbrev pub AddStore : LoadedImage → ℕ → ℕ → List ℕ → Option Store → List ℕ → List ℕ → Type 0
-AddStore image cores room word (Some store) old new = AddLinesOf (on_store store image) store cores room word old new
-AddStore image cores room word None old new = ⊥
+abbrev pub AddStore : List ℕ → LoadedImage → ℕ → ℕ → List ℕ → Option Store → List ℕ → List ℕ → Type 0
+AddStore addresses image cores room word (Some store) old new = AddLinesOf addresses (on_store store image) store cores room word old new
+AddStore addresses image cores room word None old new = ⊥
 
 -- those of each store, one after another
-abbrev pub AddStores : LoadedImage → ℕ → ℕ → List (List ℕ) → List ℕ → List ℕ → Type 0
-AddStores image cores room [] old new = new ≡ old
-AddStores image cores room (word ∷ words) old new =
-    (mid : List ℕ) × AddStore image cores room word (store_named word) old mid × AddStores image cores room words mid new
+abbrev pub AddStores : List ℕ → LoadedImage → ℕ → ℕ → List (List ℕ) → List ℕ → List ℕ → Type 0
+AddStores addresses image cores room [] old new = new ≡ old
+AddStores addresses image cores room (word ∷ words) old new =
+    (mid : List ℕ) × AddStore addresses image cores room word (store_named word) old mid × AddStores addresses image cores room words mid new
 
 -- the lines of all stores, and below them those of the limits, where they are asked for
-pub record IsText (image : LoadedImage) (study : Study) (stores : List (List ℕ)) (text : List ℕ) : Type 0 where
+pub record IsText (image : LoadedImage) (study : Study) (addresses : List ℕ) (stores : List (List ℕ)) (text : List ℕ) : Type 0 where
   pub lines : List ℕ
-  pub runs : AddStores image study.cores study.room stores [] lines
+  pub runs : AddStores addresses image study.cores study.room stores [] lines
   pub limits : AddLimitsIf study.limits image study.cores lines text
 
 -- they were written: each store's machine can run the image on so many cores
-abbrev pub IsWrittenOf : LoadedImage → Study → List (List ℕ) → Option (List ℕ) → Option (List ℕ) → Type 0
-IsWrittenOf image study stores old new =
-    RunsOnAll image study.cores stores × (text : List ℕ) × IsText image study stores text × Appends old new text
+abbrev pub IsWrittenOf : LoadedImage → Study → List ℕ → List (List ℕ) → Option (List ℕ) → Option (List ℕ) → Type 0
+IsWrittenOf image study addresses stores old new =
+    RunsOnAll image study.cores stores × (text : List ℕ) × IsText image study addresses stores text × Appends old new text
 
 -- they weren't: a machine or the number of cores is refused, memory ran out or a write failed
-abbrev pub IsUnwrittenOf : LoadedImage → Study → List (List ℕ) → Option (List ℕ) → Option (List ℕ) → Outcome → Type 0
-IsUnwrittenOf image study stores old new Usage = HasRefused image study.cores stores × Keeps old new
-IsUnwrittenOf image study stores old new (Stopped Write) =
-    RunsOnAll image study.cores stores × (text : List ℕ) × IsText image study stores text × AppendsPrefix old new text
-IsUnwrittenOf image study stores old new (Stopped NoMemory) = Keeps old new
-IsUnwrittenOf image study stores old new outcome = ⊥
+abbrev pub IsUnwrittenOf : LoadedImage → Study → List ℕ → List (List ℕ) → Option (List ℕ) → Option (List ℕ) → Outcome → Type 0
+IsUnwrittenOf image study addresses stores old new Usage = HasRefused image study.cores stores × Keeps old new
+IsUnwrittenOf image study addresses stores old new (Stopped Write) =
+    RunsOnAll image study.cores stores × (text : List ℕ) × IsText image study addresses stores text × AppendsPrefix old new text
+IsUnwrittenOf image study addresses stores old new (Stopped NoMemory) = Keeps old new
+IsUnwrittenOf image study addresses stores old new outcome = ⊥
 
 -- ---- of a text
 
-abbrev pub IsWritten : Study → List (List ℕ) → List ℕ → Option (List ℕ) → Option (List ℕ) → Type 0
-IsWritten study stores text old new = MatchResult (image_text text) (λ image. IsWrittenOf image study stores old new) (λ fault. ⊥)
+abbrev pub IsWritten : Study → List ℕ → List (List ℕ) → List ℕ → Option (List ℕ) → Option (List ℕ) → Type 0
+IsWritten study addresses stores text old new = MatchResult (image_text text) (λ image. IsWrittenOf image study addresses stores old new) (λ fault. ⊥)
 
-abbrev pub IsUnwritten : Study → List (List ℕ) → List ℕ → Option (List ℕ) → Option (List ℕ) → Outcome → Type 0
-IsUnwritten study stores text old new (BadImage fault) = IsRefusal fault.kind fault (image_text text) × Keeps old new
-IsUnwritten study stores text old new (Stopped NoMemory) = Keeps old new
-IsUnwritten study stores text old new outcome = MatchResult (image_text text) (λ image. IsUnwrittenOf image study stores old new outcome) (λ fault. ⊥)
+abbrev pub IsUnwritten : Study → List ℕ → List (List ℕ) → List ℕ → Option (List ℕ) → Option (List ℕ) → Outcome → Type 0
+IsUnwritten study addresses stores text old new (BadImage fault) = IsRefusal fault.kind fault (image_text text) × Keeps old new
+IsUnwritten study addresses stores text old new (Stopped NoMemory) = Keeps old new
+IsUnwritten study addresses stores text old new outcome = MatchResult (image_text text) (λ image. IsUnwrittenOf image study addresses stores old new outcome) (λ fault. ⊥)
 
 -- they were written, and the status is 0; or the program concludes with what kept them from being written
-abbrev pub GainAnswers : Study → List (List ℕ) → List ℕ → Stream → Stream → ℕ → Type 0
-GainAnswers study stores text output errors status =
-    ((status ≡ 0) × IsWritten study stores text output.old output.new × Keeps errors.old errors.new)
-    ⊎ Conclusion (IsUnwritten study stores text output.old output.new) errors.old errors.new status
+abbrev pub GainAnswers : Study → List ℕ → List (List ℕ) → List ℕ → Stream → Stream → ℕ → Type 0
+GainAnswers study addresses stores text output errors status =
+    ((status ≡ 0) × IsWritten study addresses stores text output.old output.new × Keeps errors.old errors.new)
+    ⊎ Conclusion (IsUnwritten study addresses stores text output.old output.new) errors.old errors.new status

@@ -1,6 +1,6 @@
 -- What is measured of a run.
 -- Source: this project.
-use Rattle.std.specs.Prelude.{◌≡◌, ℕ, ◌<◌, ◌^◌, List, [], Option, Some, None, Ok}
+use Rattle.std.specs.Prelude.{◌≡◌, ℕ, ◌<◌, ◌^◌, List, Option, Some, None, Ok}
 use Rattle.rv32_image.specs.Image.{LoadedImage}
 use Rattle.spec_history.specs.declared.entry.Entry.{Entry}
 use Rattle.violations.specs.View.{StoreView, Waits}
@@ -14,21 +14,21 @@ use Rattle.all_schedules.specs.Evenly.{IsEvenFault, MakesEvenly}
 use Rattle.gain.specs.declared.measure.Measured.{Measured}
 use Rattle.gain.specs.Kinds.{AreKinds}
 
--- of a run at even speed up to the end of its loop: how long it took and where the steps went, and the restarts and violations of its history
-pub record IsOf {S : Type 0} (starts : LoadedImage → ℕ → S → Type 0) (calls : S → Call → S → Type 0) (view : S → StoreView) (waits : S → Waits) (l : Loop) (m : Measured) : Type 0 where
+-- of a run at even speed, where loads at these addresses wait, up to the end of its loop: how long it took and where the steps went, and the restarts and violations of its history
+pub record IsOf {S : Type 0} (starts : LoadedImage → ℕ → S → Type 0) (calls : S → Call → S → Type 0) (view : S → StoreView) (waits : S → Waits) (addresses : List ℕ) (l : Loop) (m : Measured) : Type 0 where
   pub schedule : List ℕ
   pub history : List Entry
-  pub makes : MakesEvenly starts calls view waits [] l schedule (Ok (Some m.ran)) history
+  pub makes : MakesEvenly starts calls view waits addresses l schedule (Ok (Some m.ran)) history
   pub restarts : m.restarts ≡ (counted_in history).restarts
   pub kinds : AreKinds l.image l.cores history m.kinds
 
 -- the run ended before: its history was full
-abbrev pub IsUnfinished : {S : Type 0} → (LoadedImage → ℕ → S → Type 0) → (S → Call → S → Type 0) → (S → StoreView) → (S → Waits) → Loop → Type 0
-IsUnfinished starts makes view waits l = IsEvenFault starts makes view waits [] l HistoryFull
+abbrev pub IsUnfinished : {S : Type 0} → (LoadedImage → ℕ → S → Type 0) → (S → Call → S → Type 0) → (S → StoreView) → (S → Waits) → List ℕ → Loop → Type 0
+IsUnfinished starts makes view waits addresses l = IsEvenFault starts makes view waits addresses l HistoryFull
 
-abbrev pub IsMeasured : {S : Type 0} → (LoadedImage → ℕ → S → Type 0) → (S → Call → S → Type 0) → (S → StoreView) → (S → Waits) → Loop → Option Measured → Type 0
-IsMeasured starts makes view waits l (Some m) = IsOf starts makes view waits l m
-IsMeasured starts makes view waits l None = IsUnfinished starts makes view waits l
+abbrev pub IsMeasured : {S : Type 0} → (LoadedImage → ℕ → S → Type 0) → (S → Call → S → Type 0) → (S → StoreView) → (S → Waits) → List ℕ → Loop → Option Measured → Type 0
+IsMeasured starts makes view waits addresses l (Some m) = IsOf starts makes view waits addresses l m
+IsMeasured starts makes view waits addresses l None = IsUnfinished starts makes view waits addresses l
 
 -- so few that their sums are numbers of 64 bits
 abbrev pub HasFewSteps : Measured → Type 0

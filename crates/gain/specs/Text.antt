@@ -1,6 +1,6 @@
 -- The text of a line.
 -- Source: this project.
-use Rattle.std.specs.Prelude.{ℕ, ◌<◌, ◌*◌, ◌/◌, ◌%◌, ◌^◌, ◌++◌, List, codes, Option, Some, None}
+use Rattle.std.specs.Prelude.{ℕ, ◌<◌, ◌*◌, ◌/◌, ◌%◌, ◌^◌, ◌++◌, Bool, true, false, List, [], ◌∷◌, codes, Option, Some, None}
 use Rattle.std.specs.Fmt.{decimal}
 use Rattle.even_speed.specs.declared.account.Account.{Account}
 use Rattle.even_speed.specs.Account.{steps_of, waiting_of}
@@ -23,10 +23,19 @@ abbrev pub gain_text : Option Measured → ℕ → List ℕ
 gain_text (Some first) steps = hundredths_text (first.ran.steps * 100 / steps)
 gain_text None steps = codes " gain -"
 
-abbrev pub account_text : Account → List ℕ
-account_text a =
+-- where loads wait, how long cores were held is told
+abbrev pub shows_held : List ℕ → Bool
+shows_held [] = false
+shows_held (address ∷ addresses) = true
+
+abbrev pub held_text : Bool → ℕ → List ℕ
+held_text true n = number (codes " held ") n
+held_text false n = []
+
+unfoldable pub account_text : Bool → Account → List ℕ
+account_text held a =
     number (codes " useful ") a.useful ++ number (codes " lost ") a.lost ++ number (codes " dropped ") a.dropped
-    ++ number (codes " waiting ") (waiting_of a) ++ number (codes " idle ") a.idle
+    ++ number (codes " waiting ") (waiting_of a) ++ held_text held a.held ++ number (codes " idle ") a.idle
 
 abbrev pub kinds_text : Kinds → List ℕ
 kinds_text k =
@@ -38,17 +47,17 @@ waits_text a =
     number (codes " nothomefree ") a.not_homefree ++ number (codes " noway ") a.no_way ++ number (codes " orbfull ") a.orb_full
     ++ number (codes " orbbusy ") a.orb_busy
 
-unfoldable pub run_text : Option Measured → Measured → List ℕ
-run_text first m =
-    number (codes " steps ") m.ran.steps ++ gain_text first m.ran.steps ++ account_text m.ran.account
+unfoldable pub run_text : Bool → Option Measured → Measured → List ℕ
+run_text held first m =
+    number (codes " steps ") m.ran.steps ++ gain_text first m.ran.steps ++ account_text held m.ran.account
     ++ number (codes " restarts ") m.restarts ++ kinds_text m.kinds ++ waits_text m.ran.account
 
 -- the history of a run that isn't over is full
-abbrev pub told_text : Option Measured → Option Measured → List ℕ
-told_text first (Some m) = run_text first m
-told_text first None = codes " full"
+abbrev pub told_text : Bool → Option Measured → Option Measured → List ℕ
+told_text held first (Some m) = run_text held first m
+told_text held first None = codes " full"
 
 -- of a run over this store on so many cores, beside the one on one core
-unfoldable pub line_text : List ℕ → ℕ → Option Measured → Option Measured → List ℕ
-line_text store cores first measured =
-    codes "store " ++ store ++ number (codes " cores ") cores ++ told_text first measured ++ codes "\n"
+unfoldable pub line_text : Bool → List ℕ → ℕ → Option Measured → Option Measured → List ℕ
+line_text held store cores first measured =
+    codes "store " ++ store ++ number (codes " cores ") cores ++ told_text held first measured ++ codes "\n"

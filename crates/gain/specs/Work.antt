@@ -16,7 +16,7 @@ study_of asked room = record { cores = asked.cores; room = room; limits = asked.
 -- nothing is, `usage`
 abbrev pub AskedAnswers : Option GainAsked → ℕ → List ℕ → Stream → Stream → Stream → ℕ → Type 0
 AskedAnswers (Some asked) room text input output errors status =
-    GainAnswers (study_of asked room) asked.stores text output errors status × TakesAtMost input.old input.new (longest_image_text + 1)
+    GainAnswers (study_of asked room) asked.addresses asked.stores text output errors status × TakesAtMost input.old input.new (longest_image_text + 1)
 AskedAnswers None room text input output errors status = Conclusion (IsRefused input output) errors.old errors.new status
 
 -- what the program answers for these words and a text, with so much room for a history

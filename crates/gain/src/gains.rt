@@ -30,7 +30,7 @@ pub struct Study {
 }
 
 /// Runs the image that the reader gives at even speed on 1, 2, 4, 8 cores, as far as these are fewer than the cores, and on the cores,
-/// over each of these stores, and writes a line for each run; below them a line of the limits for each number of cores, where they are
+/// over each of these stores, where loads at these addresses of code wait, and writes a line for each run; below them a line of the limits for each number of cores, where they are
 /// asked for. The cores are at least 1, and the room is 16 to `homefree::MOST_ROOM` entries.
 ///
 /// The status is 0 where that was written; 2 where the image, a machine or the number of cores is refused; 3 where memory ran out or a
@@ -39,6 +39,7 @@ pub struct Study {
 pub fn do_gain<S: AsStr, R: Read, W: Write, E: Write>(
     alloc: Global,
     study: Study,
+    addresses: &[u32],
     stores: &[S],
     reader: &mut R,
     writer: &mut W,
@@ -48,11 +49,11 @@ pub fn do_gain<S: AsStr, R: Read, W: Write, E: Write>(
     requires least { 16 ≤ study.room }
     requires most { study.room ≤ most_room }
     requires stores { list_all names_store (map S.text stores.now) ≡ true }
-    ensures outcome { ForText (R.remaining reader.old) (λ text. spec.GainAnswers study (map S.text stores.now) text
+    ensures outcome { ForText (R.remaining reader.old) (λ text. spec.GainAnswers study addresses.now (map S.text stores.now) text
         (record { old = W.contents writer.old; new = W.contents writer.new }) (record { old = E.contents errors.old; new = E.contents errors.new }) result) }
     ensures taken { TakesAtMost (R.remaining reader.old) (R.remaining reader.new) (longest_image_text + 1) }
 {
-    match gains_of_input(alloc, study, stores, reader, writer) {
+    match gains_of_input(alloc, study, addresses, stores, reader, writer) {
         Ok(()) => 0,
         Err(outcome) => outcome.conclude(errors),
     }
@@ -62,6 +63,7 @@ pub fn do_gain<S: AsStr, R: Read, W: Write, E: Write>(
 fn gains_of_input<S: AsStr, R: Read, W: Write>(
     alloc: Global,
     study: Study,
+    addresses: &[u32],
     stores: &[S],
     reader: &mut R,
     writer: &mut W,
@@ -71,12 +73,12 @@ fn gains_of_input<S: AsStr, R: Read, W: Write>(
     requires most { study.room ≤ most_room }
     requires stores { list_all names_store (map S.text stores.now) ≡ true }
     ensures outcome { ForText (R.remaining reader.old) (λ text. MatchResult result
-        (λ _. spec.IsWritten study (map S.text stores.now) text (W.contents writer.old) (W.contents writer.new))
-        (spec.IsUnwritten study (map S.text stores.now) text (W.contents writer.old) (W.contents writer.new))) }
+        (λ _. spec.IsWritten study addresses.now (map S.text stores.now) text (W.contents writer.old) (W.contents writer.new))
+        (spec.IsUnwritten study addresses.now (map S.text stores.now) text (W.contents writer.old) (W.contents writer.new))) }
     ensures taken { TakesAtMost (R.remaining reader.old) (R.remaining reader.new) (longest_image_text + 1) }
 {
     match read_image(alloc, reader) {
-        Ok(image) => gains_of_image(alloc, &image, study, stores, writer),
+        Ok(image) => gains_of_image(alloc, &image, study, addresses, stores, writer),
         Err(fault) => Err(Outcome::of_fault(fault)),
     }
 }
@@ -85,6 +87,7 @@ fn gains_of_image<S: AsStr, W: Write>(
     alloc: Global,
     image: &Image,
     study: Study,
+    addresses: &[u32],
     stores: &[S],
     writer: &mut W,
 ) -> Result<(), Outcome>
@@ -92,11 +95,11 @@ fn gains_of_image<S: AsStr, W: Write>(
     requires least { 16 ≤ study.room }
     requires most { study.room ≤ most_room }
     requires stores { list_all names_store (map S.text stores.now) ≡ true }
-    ensures { MatchResult result (λ _. spec.IsWrittenOf image.now study (map S.text stores.now) (W.contents writer.old) (W.contents writer.new))
-        (spec.IsUnwrittenOf image.now study (map S.text stores.now) (W.contents writer.old) (W.contents writer.new)) }
+    ensures { MatchResult result (λ _. spec.IsWrittenOf image.now study addresses.now (map S.text stores.now) (W.contents writer.old) (W.contents writer.new))
+        (spec.IsUnwrittenOf image.now study addresses.now (map S.text stores.now) (W.contents writer.old) (W.contents writer.new)) }
 {
     check_stores(alloc, image, study.cores, stores)?;
-    let Ok(text) = text_of(alloc, image, study, stores) else {
+    let Ok(text) = text_of(alloc, image, study, addresses, stores) else {
         return Err(Outcome::Stopped(CommandStop::NoMemory));
     };
     if write_whole(writer, text.as_slice()) {
@@ -111,16 +114,25 @@ fn text_of<S: AsStr>(
     alloc: Global,
     image: &Image,
     study: Study,
+    addresses: &[u32],
     stores: &[S],
 ) -> Result<Vec<u8>, AllocError>
     requires cores { 1 ≤ study.cores }
     requires least { 16 ≤ study.room }
     requires most { study.room ≤ most_room }
     requires stores { RunsOnAll image.now study.cores (map S.text stores.now) }
-    ensures { IfOk result (λ text. spec.IsText image.now study (map S.text stores.now) text.items) }
+    ensures { IfOk result (λ text. spec.IsText image.now study addresses.now (map S.text stores.now) text.items) }
 {
     let mut text = Vec::new(alloc);
-    push_stores(alloc, &mut text, image, study.cores, study.room, stores)?;
+    push_stores(
+        alloc,
+        &mut text,
+        image,
+        study.cores,
+        study.room,
+        addresses,
+        stores,
+    )?;
     if study.limits {
         push_limits(alloc, &mut text, image, study.cores)?;
     }

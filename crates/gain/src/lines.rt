@@ -6,12 +6,12 @@ ghost use Rattle.gain.specs.Measured.{HasFewSteps};
 ghost use Rattle.gain.specs.Lines as spec;
 
 use crate::measure::{Measured, measure};
-use crate::text::push_line;
+use crate::text::{push_line, shows_held};
 use rv32_exec::Image;
 use std::alloc::{AllocError, Global};
 use violations::EpochStore;
 
-/// Adds a line for each of 1, 2, 4 and 8 cores that are fewer than these, and one for these. The cores are at least 1, and the room
+/// Adds a line for each of 1, 2, 4 and 8 cores that are fewer than these, and one for these, where loads at these addresses of code wait. The cores are at least 1, and the room
 /// is 16 to `homefree::MOST_ROOM` entries.
 ///
 /// `AllocError`: memory ran out.
@@ -22,16 +22,26 @@ pub fn push_lines<S: EpochStore>(
     image: &Image,
     cores: u32,
     room: u32,
+    addresses: &[u32],
 ) -> Result<(), AllocError>
     requires cores { IsCoreCount image.now cores }
     requires least { 16 ≤ room }
     requires most { room ≤ most_room }
-    ensures { OnOk result (spec.AddLines S.starts S.makes S.view S.waits image.now room store.now cores text.old.items text.new.items) }
+    ensures { OnOk result (spec.AddLines S.starts S.makes S.view S.waits addresses.now image.now room store.now cores text.old.items text.new.items) }
 {
-    let first = measure::<S>(alloc, image, 1, room)?;
-    push_line(text, store, 1, &first, &first)?;
+    let first = measure::<S>(alloc, image, 1, room, addresses)?;
+    push_line(text, shows_held(addresses), store, 1, &first, &first)?;
     let more = more_counts(alloc, cores)?;
-    push_each::<S>(alloc, text, store, image, room, &first, more.as_slice())
+    push_each::<S>(
+        alloc,
+        text,
+        store,
+        image,
+        room,
+        addresses,
+        &first,
+        more.as_slice(),
+    )
 }
 
 /// Adds a line for each of these numbers of cores, beside the run on one core.
@@ -41,6 +51,7 @@ fn push_each<S: EpochStore>(
     store: &[u8],
     image: &Image,
     room: u32,
+    addresses: &[u32],
     first: &Option<Measured>,
     counts: &[u32],
 ) -> Result<(), AllocError>
@@ -48,11 +59,11 @@ fn push_each<S: EpochStore>(
     requires least { 16 ≤ room }
     requires most { room ≤ most_room }
     requires first { IfSome first.now HasFewSteps }
-    ensures { OnOk result (spec.AddEach S.starts S.makes S.view S.waits image.now room store.now first.now counts.now text.old.items text.new.items) }
+    ensures { OnOk result (spec.AddEach S.starts S.makes S.view S.waits addresses.now image.now room store.now first.now counts.now text.old.items text.new.items) }
 {
     for cores in counts {
-        let measured = measure::<S>(alloc, image, *cores, room)?;
-        push_line(text, store, *cores, first, &measured)?;
+        let measured = measure::<S>(alloc, image, *cores, room, addresses)?;
+        push_line(text, shows_held(addresses), store, *cores, first, &measured)?;
     }
     Ok(())
 }

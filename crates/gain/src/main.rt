@@ -1,5 +1,5 @@
 //! What a loop gains on more cores: `gain CORES STORE ..` takes an image on standard input, and prints a line for each store and each number
-//! of cores 1, 2, 4, 8 below CORES, and CORES, of the run at even speed; with `--limits` behind that a line of what its dependences allow, for each number of cores.
+//! of cores 1, 2, 4, 8 below CORES, and CORES, of the run at even speed; with `--wait PC ..` behind that, of one in which the loads at these addresses of code wait; with `--limits` at the end a line of what its dependences allow, for each number of cores.
 #![tactic(auto)]
 
 use homefree::MOST_ROOM;
@@ -8,6 +8,7 @@ use std::process::ExitCode;
 use trace_commands::words_given;
 use work::work;
 
+mod addresses;
 mod gains;
 mod kinds;
 mod limit_lines;

@@ -24,7 +24,7 @@ pub struct Measured {
     pub kinds: Kinds,
 }
 
-/// Runs the loop at even speed over a fresh store, and answers what is told of the run. None: its history was full before the loop
+/// Runs the loop at even speed, where loads at these addresses of code wait, over a fresh store, and answers what is told of the run. None: its history was full before the loop
 /// was over. The cores are at least 1, and the room is 16 to `homefree::MOST_ROOM` entries.
 ///
 /// `AllocError`: memory ran out.
@@ -33,14 +33,15 @@ pub fn measure<S: EpochStore>(
     image: &Image,
     cores: u32,
     room: u32,
+    addresses: &[u32],
 ) -> Result<Option<Measured>, AllocError>
     requires cores { IsCoreCount image.now cores }
     requires least { 16 ≤ room }
     requires most { room ≤ most_room }
-    ensures is { IfOk result (spec.IsMeasured S.starts S.makes S.view S.waits (loop_on image.now cores room)) }
+    ensures is { IfOk result (spec.IsMeasured S.starts S.makes S.view S.waits addresses.now (loop_on image.now cores room)) }
     ensures few { IfOk result (λ told. IfSome told spec.HasFewSteps) }
 {
-    let run: EvenRun<S> = match run_evenly(alloc, image, cores, room, &[]) {
+    let run: EvenRun<S> = match run_evenly(alloc, image, cores, room, addresses) {
         Ok(run) => run,
         Err(TurnFault::HistoryFull) => return Ok(None),
         Err(TurnFault::NoMemory) => return Err(AllocError),

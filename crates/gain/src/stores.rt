@@ -24,15 +24,16 @@ pub fn push_stores<S: AsStr>(
     image: &Image,
     cores: u32,
     room: u32,
+    addresses: &[u32],
     words: &[S],
 ) -> Result<(), AllocError>
     requires stores { RunsOnAll image.now cores (map S.text words.now) }
     requires least { 16 ≤ room }
     requires most { room ≤ most_room }
-    ensures { OnOk result (spec.AddStores image.now cores room (map S.text words.now) text.old.items text.new.items) }
+    ensures { OnOk result (spec.AddStores addresses.now image.now cores room (map S.text words.now) text.old.items text.new.items) }
 {
     for word in words {
-        push_store(alloc, text, image, cores, room, word.as_str())?;
+        push_store(alloc, text, image, cores, room, addresses, word.as_str())?;
     }
     Ok(())
 }
@@ -44,15 +45,25 @@ fn push_store(
     image: &Image,
     cores: u32,
     room: u32,
+    addresses: &[u32],
     word: &str,
 ) -> Result<(), AllocError>
     requires store { RunsOn image.now cores (store_named word.now) }
     requires least { 16 ≤ room }
     requires most { room ≤ most_room }
-    ensures { OnOk result (spec.AddStore image.now cores room word.now (store_named word.now) text.old.items text.new.items) }
+    ensures { OnOk result (spec.AddStore addresses.now image.now cores room word.now (store_named word.now) text.old.items text.new.items) }
 {
     let (store, image) = store_on(alloc, image, cores, word)?;
-    push_lines_of(alloc, text, word.as_bytes(), &image, cores, room, store)
+    push_lines_of(
+        alloc,
+        text,
+        word.as_bytes(),
+        &image,
+        cores,
+        room,
+        addresses,
+        store,
+    )
 }
 
 /// Adds the lines of this store, of the loop on its machine.
@@ -63,15 +74,18 @@ fn push_lines_of(
     image: &Image,
     cores: u32,
     room: u32,
+    addresses: &[u32],
     store: Store,
 ) -> Result<(), AllocError>
     requires cores { IsCoreCount image.now cores }
     requires least { 16 ≤ room }
     requires most { room ≤ most_room }
-    ensures { OnOk result (spec.AddLinesOf image.now store cores room word.now text.old.items text.new.items) }
+    ensures { OnOk result (spec.AddLinesOf addresses.now image.now store cores room word.now text.old.items text.new.items) }
 {
     match store {
-        Store::Caches(_) => push_lines::<CachedBus>(alloc, text, word, image, cores, room),
-        Store::Plain => push_lines::<PlainStore>(alloc, text, word, image, cores, room),
+        Store::Caches(_) => push_lines::<CachedBus>(
+            alloc, text, word, image, cores, room, addresses,
+        ),
+        Store::Plain => push_lines::<PlainStore>(alloc, text, word, image, cores, room, addresses),
     }
 }

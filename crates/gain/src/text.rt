@@ -9,10 +9,11 @@ use even_speed::Account;
 use itoa::Buffer;
 use std::alloc::AllocError;
 
-/// Adds the line of a run on so many cores over the store of this name, beside the run on one core.
+/// Adds the line of a run on so many cores over the store of this name, beside the run on one core, with how long cores were held or without.
 #[tactic(auto, unfolding(crate::specs::Text::line_text))]
 pub fn push_line(
     text: &mut Vec<u8>,
+    held: bool,
     store: &[u8],
     cores: u32,
     first: &Option<Measured>,
@@ -20,39 +21,45 @@ pub fn push_line(
 ) -> Result<(), AllocError>
     requires first { IfSome first.now HasFewSteps }
     requires measured { IfSome measured.now HasFewSteps }
-    ensures { OnOk result (text.new.items ≡ text.old.items ++ spec.line_text store.now cores first.now measured.now) }
+    ensures { OnOk result (text.new.items ≡ text.old.items ++ spec.line_text held store.now cores first.now measured.now) }
 {
     text.extend_from_slice(b"store ")?;
     text.extend_from_slice(store)?;
     push_number(text, b" cores ", cores as u64)?;
-    push_told(text, first, measured)?;
+    push_told(text, held, first, measured)?;
     text.extend_from_slice(b"\n")
 }
 
 fn push_told(
     text: &mut Vec<u8>,
+    held: bool,
     first: &Option<Measured>,
     measured: &Option<Measured>,
 ) -> Result<(), AllocError>
     requires first { IfSome first.now HasFewSteps }
     requires measured { IfSome measured.now HasFewSteps }
-    ensures { OnOk result (text.new.items ≡ text.old.items ++ spec.told_text first.now measured.now) }
+    ensures { OnOk result (text.new.items ≡ text.old.items ++ spec.told_text held first.now measured.now) }
 {
     match measured {
-        Some(run) => push_run(text, first, run),
+        Some(run) => push_run(text, held, first, run),
         None => text.extend_from_slice(b" full"),
     }
 }
 
 #[tactic(auto, unfolding(crate::specs::Text::run_text))]
-fn push_run(text: &mut Vec<u8>, first: &Option<Measured>, run: &Measured) -> Result<(), AllocError>
+fn push_run(
+    text: &mut Vec<u8>,
+    held: bool,
+    first: &Option<Measured>,
+    run: &Measured,
+) -> Result<(), AllocError>
     requires first { IfSome first.now HasFewSteps }
     requires run { HasFewSteps run.now }
-    ensures { OnOk result (text.new.items ≡ text.old.items ++ spec.run_text first.now run.now) }
+    ensures { OnOk result (text.new.items ≡ text.old.items ++ spec.run_text held first.now run.now) }
 {
     push_number(text, b" steps ", run.ran.steps)?;
     push_gain(text, first, run.ran.steps)?;
-    push_account(text, &run.ran.account)?;
+    push_account(text, held, &run.ran.account)?;
     push_number(text, b" restarts ", run.restarts)?;
     push_kinds(text, &run.kinds)?;
     push_waits(text, &run.ran.account)
@@ -78,15 +85,34 @@ fn push_hundredths(text: &mut Vec<u8>, n: u64) -> Result<(), AllocError>
     push_number(text, b"", n % 10)
 }
 
-fn push_account(text: &mut Vec<u8>, account: &Account) -> Result<(), AllocError>
+#[tactic(auto, unfolding(crate::specs::Text::account_text))]
+fn push_account(text: &mut Vec<u8>, held: bool, account: &Account) -> Result<(), AllocError>
     requires { spec.HasFew account.now }
-    ensures { OnOk result (text.new.items ≡ text.old.items ++ spec.account_text account.now) }
+    ensures { OnOk result (text.new.items ≡ text.old.items ++ spec.account_text held account.now) }
 {
     push_number(text, b" useful ", account.useful)?;
     push_number(text, b" lost ", account.lost)?;
     push_number(text, b" dropped ", account.dropped)?;
     push_number(text, b" waiting ", account.waiting())?;
+    push_held(text, held, account.held)?;
     push_number(text, b" idle ", account.idle)
+}
+
+/// How long cores were held, where that is told.
+fn push_held(text: &mut Vec<u8>, held: bool, steps: u64) -> Result<(), AllocError>
+    ensures { OnOk result (text.new.items ≡ text.old.items ++ spec.held_text held steps) }
+{
+    if held {
+        push_number(text, b" held ", steps)?;
+    }
+    Ok(())
+}
+
+/// Whether it is told how long cores were held: where loads at these addresses wait.
+pub fn shows_held(addresses: &[u32]) -> bool
+    ensures { result ≡ spec.shows_held addresses.now }
+{
+    !addresses.is_empty()
 }
 
 fn push_kinds(text: &mut Vec<u8>, kinds: &Kinds) -> Result<(), AllocError>

@@ -1,23 +1,25 @@
-ghost use Rattle.std.specs.Prelude.{◌≡◌, ◌≤◌, ◌+◌, true, Some, None, IfNone, IfSome, map};
+ghost use Rattle.std.specs.Prelude.{◌≡◌, ◌≤◌, ◌+◌, Bool, true, Some, None, IfNone, IfSome, map};
 ghost use Rattle.std.specs.List.{list_all};
 ghost use Rattle.rv32_image.specs.Input.{TakesAtMost};
 ghost use Rattle.rv32_image.specs.ImageText.{longest_image_text};
 ghost use Rattle.rv32_image.specs.Reading.{ForText};
 ghost use Rattle.homefree.specs.Room.{most_room};
 ghost use Rattle.trace_commands.specs.Stores.{names_store, or_both};
-ghost use Rattle.gain.specs.Asked.{asks_limits, gain_asked_in, without_limits};
+ghost use Rattle.gain.specs.Addresses.{addresses_of};
+ghost use Rattle.gain.specs.Asked.{asked_before_limits, asks_limits, gain_asked_in, without_limits};
 ghost use Rattle.gain.specs.Gains.{GainAnswers};
 ghost use Rattle.gain.specs.Work as spec;
 
+use crate::addresses::{addresses_of, wait_place, wait_words};
 use crate::gains::{Study, do_gain};
-use std::alloc::Global;
+use std::alloc::{AllocError, Global};
 use std::convert::AsStr;
 use std::io::{Read, Write};
-use trace_commands::{Outcome, first_word, stores_asked};
+use trace_commands::{CommandStop, Outcome, first_word, stores_asked};
 
 /// The whole program: what the loop gains on as many cores as the words ask for, 1 to 16, over each of the stores that they name,
-/// `gain CORES STORE ..`; over caches and the plain store, where they name none; and what its dependences allow, where the last word is
-/// `--limits`. The first word is the program's name.
+/// `gain CORES STORE ..`; over caches and the plain store, where they name none. Behind these, with `--wait PC ..`, the loads at these addresses of
+/// code wait. Where the last word is `--limits`, also what its dependences allow. The first word is the program's name.
 ///
 /// Any other words are refused as `usage`, with status 2, and nothing is read or written. The room is 16 to `homefree::MOST_ROOM`
 /// entries.
@@ -37,29 +39,46 @@ pub fn work<S: AsStr, R: Read, W: Write, E: Write>(
         (record { old = E.contents errors.old; new = E.contents errors.new }) result) }
 {
     match study_asked(words, room) {
-        Some((study, stores)) => gain_over(alloc, study, stores, reader, writer, errors),
+        Some((study, waits, stores)) => {
+            gain_over(alloc, study, waits, stores, reader, writer, errors)
+        }
         None => Outcome::Usage.conclude(errors),
     }
 }
 
-/// What the words ask for, and the words of stores among them. None: they ask for nothing.
+/// What the words ask for, and the words of addresses and of stores among them. None: they ask for nothing.
 #[tactic(auto, unfolding(crate::specs::Asked::gain_asked_in))]
-fn study_asked<S: AsStr>(words: &[S], room: u32) -> Option<(Study, &[S])>
+fn study_asked<S: AsStr>(words: &[S], room: u32) -> Option<(Study, &[S], &[S])>
     ensures asked { IfSome result (λ found. gain_asked_in (map S.text words.now)
-        ≡ Some (record { cores = found.0.cores; stores = or_both (map S.text found.1.now); limits = found.0.limits })) }
+        ≡ Some (record { cores = found.0.cores; stores = or_both (map S.text found.2.now); addresses = addresses_of (map S.text found.1.now); limits = found.0.limits })) }
     ensures cores { IfSome result (λ found. 1 ≤ found.0.cores) }
     ensures room { IfSome result (λ found. found.0.room ≡ room) }
-    ensures stores { IfSome result (λ found. list_all names_store (map S.text found.1.now) ≡ true) }
+    ensures stores { IfSome result (λ found. list_all names_store (map S.text found.2.now) ≡ true) }
     ensures none { IfNone result (gain_asked_in (map S.text words.now) ≡ None) }
 {
     let (limits, words) = cut_limits(words);
-    let (cores, stores) = stores_asked(words)?;
+    let (cores, waits, stores) = waits_asked(words)?;
     let study = Study {
         cores,
         room,
         limits,
     };
-    Some((study, stores))
+    Some((study, waits, stores))
+}
+
+/// How many cores the words ask for, and the words of addresses and of stores among them, `--limits` aside. None: they ask for nothing.
+#[tactic(auto, using(crate::proofs::Waiting::are_asked, crate::proofs::Waiting::no_waits, crate::proofs::Waiting::no_stores))]
+fn waits_asked<S: AsStr>(words: &[S]) -> Option<(u32, &[S], &[S])>
+    ensures asked { IfSome result (λ found. (limits : Bool) → asked_before_limits limits (map S.text words.now)
+        ≡ Some (record { cores = found.0; stores = or_both (map S.text found.2.now); addresses = addresses_of (map S.text found.1.now); limits = limits })) }
+    ensures cores { IfSome result (λ found. 1 ≤ found.0) }
+    ensures stores { IfSome result (λ found. list_all names_store (map S.text found.2.now) ≡ true) }
+    ensures none { IfNone result ((limits : Bool) → asked_before_limits limits (map S.text words.now) ≡ None) }
+{
+    let (before, behind) = words.split_at(wait_place(words));
+    let waits = wait_words(behind)?;
+    let (cores, stores) = stores_asked(before)?;
+    Some((cores, waits, stores))
 }
 
 /// Whether the last word is `--limits`, and the words without it.
@@ -77,11 +96,12 @@ fn cut_limits<S: AsStr>(words: &[S]) -> (bool, &[S])
     }
 }
 
-/// What `do_gain` does over the stores that these words name; over caches and the plain store, where there are none.
-#[tactic(auto, unfolding(trace_commands::specs::Stores::store_named))]
+/// What `do_gain` does over the stores that these words name, where loads wait at the addresses that those write; over caches and the plain
+/// store, where no word names a store.
 fn gain_over<S: AsStr, R: Read, W: Write, E: Write>(
     alloc: Global,
     study: Study,
+    waits: &[S],
     stores: &[S],
     reader: &mut R,
     writer: &mut W,
@@ -91,15 +111,48 @@ fn gain_over<S: AsStr, R: Read, W: Write, E: Write>(
     requires least { 16 ≤ study.room }
     requires most { study.room ≤ most_room }
     requires stores { list_all names_store (map S.text stores.now) ≡ true }
-    ensures outcome { ForText (R.remaining reader.old) (λ text. GainAnswers study (or_both (map S.text stores.now)) text
+    ensures outcome { ForText (R.remaining reader.old) (λ text. GainAnswers study (addresses_of (map S.text waits.now)) (or_both (map S.text stores.now)) text
+        (record { old = W.contents writer.old; new = W.contents writer.new }) (record { old = E.contents errors.old; new = E.contents errors.new }) result) }
+    ensures taken { TakesAtMost (R.remaining reader.old) (R.remaining reader.new) (longest_image_text + 1) }
+{
+    match addresses_of(alloc, waits) {
+        Ok(addresses) => gain_waiting(
+            alloc,
+            study,
+            addresses.as_slice(),
+            stores,
+            reader,
+            writer,
+            errors,
+        ),
+        Err(AllocError) => Outcome::Stopped(CommandStop::NoMemory).conclude(errors),
+    }
+}
+
+/// What `do_gain` does over the stores that these words name, where loads at these addresses wait; over caches and the plain store, where there are none.
+#[tactic(auto, unfolding(trace_commands::specs::Stores::store_named))]
+fn gain_waiting<S: AsStr, R: Read, W: Write, E: Write>(
+    alloc: Global,
+    study: Study,
+    addresses: &[u32],
+    stores: &[S],
+    reader: &mut R,
+    writer: &mut W,
+    errors: &mut E,
+) -> u8
+    requires cores { 1 ≤ study.cores }
+    requires least { 16 ≤ study.room }
+    requires most { study.room ≤ most_room }
+    requires stores { list_all names_store (map S.text stores.now) ≡ true }
+    ensures outcome { ForText (R.remaining reader.old) (λ text. GainAnswers study addresses.now (or_both (map S.text stores.now)) text
         (record { old = W.contents writer.old; new = W.contents writer.new }) (record { old = E.contents errors.old; new = E.contents errors.new }) result) }
     ensures taken { TakesAtMost (R.remaining reader.old) (R.remaining reader.new) (longest_image_text + 1) }
 {
     match first_word(stores) {
-        Some(_) => do_gain(alloc, study, stores, reader, writer, errors),
+        Some(_) => do_gain(alloc, study, addresses, stores, reader, writer, errors),
         None => {
             let both = ["caches", "plain"];
-            do_gain(alloc, study, &both, reader, writer, errors)
+            do_gain(alloc, study, addresses, &both, reader, writer, errors)
         }
     }
 }

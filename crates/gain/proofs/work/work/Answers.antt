@@ -1,11 +1,12 @@
 use Rattle.std.proofs.Common.{map, sym}
 use Rattle.trace_commands.specs.Stores.{or_both}
+use Rattle.gain.specs.Addresses.{addresses_of}
 use Rattle.gain.proofs.Answering.{gain_answers, refused_answers}
 use Rattle.gain.proofs.work.work.Goals as goal
 
 pub returns-in-Some : goal.returns-in-Some
 returns-in-Some g c =
-    gain_answers (map g.S.AsStr.text c.args.words.now) c.in-Some.study (or_both (map g.S.AsStr.text c.in-Some.stores.now)) c.args.room
+    gain_answers (map g.S.AsStr.text c.args.words.now) c.in-Some.study (addresses_of (map g.S.AsStr.text c.in-Some.waits.now)) (or_both (map g.S.AsStr.text c.in-Some.stores.now)) c.args.room
     (record { old = g.R.Read.remaining c.args.reader.now; new = g.R.Read.remaining c.gain_over.new.reader })
     (record { old = g.W.Write.contents c.args.writer.now; new = g.W.Write.contents c.gain_over.new.writer })
     (record { old = g.E.Write.contents c.args.errors.now; new = g.E.Write.contents c.gain_over.new.errors })
