@@ -49,6 +49,8 @@ FIVE_STORES_FIRST = image("630e0500832200048322000583220006832200078322000867800
                           + "02320a0042328a0042320a0062328a0062320a00867800000", epochs=2)
 # Each of two epochs adds 1 to the word at 64, and then faults.
 CALL = image("83220004938212002320500473000000", epochs=2, limit=50)
+# Each of four epochs adds 1 to the word at 64; its first instruction loads it.
+COUNTER = image("83220004938212002320500467800000", epochs=4, limit=50)
 # Nothing is to be run.
 NOTHING = image("67800000", epochs=0, limit=50)
 # A byte longer than an image may be.
@@ -228,6 +230,34 @@ TRACES = [
     ("caches", FIVE_LOADS_FIRST, WAITED, 0), ("plain", FIVE_LOADS_FIRST, NOT_WAITED, 0),
 ]
 
+# On two cores at even speed, where the loads of COUNTER wait: an epoch executes its load in the step in which the one
+# before commits, its store two steps later, and its end two later. It was due in the step after its start. Core 0 looks
+# for a fifth epoch once.
+HELD = """\
+turns 0 1 0 0 0 1 0 1 1 0 1 0 0 1 0 1 1
+end done 4
+at 00000040 04000000000000000000000000000000
+counts 4 4 0 4
+trace 2
+0 start 0
+1 start 1
+0 load 00000040 4 00000000
+0 store 00000040 4 00000001
+0 commit
+1 load 00000040 4 00000001
+0 start 2
+1 store 00000040 4 00000002
+1 commit
+0 load 00000040 4 00000002
+1 start 3
+0 store 00000040 4 00000003
+0 commit
+1 load 00000040 4 00000003
+1 store 00000040 4 00000004
+1 commit
+"""
+EVEN, WAIT = ["even", "plain", "2"], ["--wait", "00000000"]
+
 
 def trace_of(printed: str) -> str:
     """The trace in what was printed."""
@@ -300,6 +330,18 @@ ROWS: list[tuple[Sequence[str | bytes], str, str, int, str, str]] = [
     (["caches", "1"], SIGNAL, "trace 2\n", 2, "", "usage\n"),
     (["caches"], SIGNAL, "", 2, "", "usage\n"),
     (["bus"], SIGNAL, "trace 2\n", 2, "", "usage\n"),
+    # loads that wait: of the run at even speed alone, behind all its words, by addresses of eight lower-case digits
+    *[(["even", store, "2", *WAIT, *more], COUNTER, "", 0, HELD, "")
+      for store in ("plain", "caches") for more in (list[str](), ["0000000c", "fffffffc"])],
+    *[([*EVEN, "--wait", *words], COUNTER, "", 2, "", "usage\n")
+      for words in (list[str](), ["0"], ["0000000A"], ["000000000"], ["0000000g"], ["00000000", "plain"],
+                    ["00000000", "--wait", "00000004"])],
+    *[(words, COUNTER, "", 2, "", "usage\n")
+      for words in ([*EVEN, "--waits", "00000000"], [*WAIT, *EVEN], ["even", *WAIT, "plain", "2"], [*EVEN[:2], *WAIT],
+                    ["even", "plain", "9", *WAIT], ["even", "plain", "17", *WAIT], ["seeded", "1", *PLAIN, *WAIT],
+                    [*PLAIN, *WAIT], ["steps", *PLAIN, *WAIT], ["threads", *PLAIN, *WAIT], ["all", *PLAIN, "2", *WAIT],
+                    WAIT)],
+    ([*EVEN, *WAIT], "size 1\n", "", 2, "", "image 1 Range\n"),
     # words that are no UTF-8
     ([b"plain\xff", "2"], SIGNAL, "turns 0\n", 2, "", "usage\n"),
     (["plain", b"2\xc3"], SIGNAL, "turns 0\n", 2, "", "usage\n"),
@@ -417,6 +459,21 @@ def seeded(program: Path, command: list[str]) -> Iterator[Row]:
 
 
 @comparing
+def waits(program: Path, command: list[str]) -> Iterator[Row]:
+    """Loads that wait: `replay` makes the same of the turns, and the one load of `recurrence` that reads too early
+    without reads nothing early."""
+    text, words = (ROOT / "examples/recurrence.image").read_text(), ["caches", "4"]
+    output, errors, status = run([str(program)], ["even", *words, "--wait", "00000018"], text)
+    line, _, below = output.partition("\n")
+    yield "waits, replayed", run([str(program)], words, f"{text}{line}\n"), (below, errors, status)
+    report, _, counts = below.partition("counts ")
+    yield "waits, in order", (report, errors, status), run(command, [], text)
+    yield "waits: restarts", counts.split()[2], "0"
+    without = run([str(program)], ["even", *words], text)[0]
+    yield "restarts where none waits", without.partition("counts ")[2].split()[2] == "0", False
+
+
+@comparing
 def traced(program: Path, command: list[str]) -> Iterator[Row]:
     """Runs on threads: the schedule of their traces makes the same bytes, and that of a trace
     with another value differs there."""
@@ -457,7 +514,7 @@ def summed_up(program: Path) -> Iterator[Row]:
     """Steps: below the line `end` is what is printed without them, which the entries and the
     committed bytes above it come to."""
     for words, text, below, status, output, errors in ROWS:
-        if words[0] in ("all", "seeded"):
+        if words[0] in ("all", "seeded", "even"):
             continue
         name = f"steps {words} on {len(text)} bytes and {below!r}"
         printed, *others = run([str(program)], ["steps", *words], text + below)
@@ -576,7 +633,7 @@ def main() -> int:
         script.run(partial(rows, program),
                    *[partial(part, program) for part in (stepped, summed_up, full_history, longest)],
                    partial(streams, program, shim), partial(seeded, program, command),
-                   partial(traced, program, command))
+                   partial(waits, program, command), partial(traced, program, command))
     return script.ended("rows")
 
 

@@ -1,17 +1,19 @@
 -- What a run of a text by a pace comes to, from what it comes to for its image.
-use Rattle.std.proofs.Common.{◌≡◌, ℕ, List, Option, Result, Ok, MatchResult, sym, subst}
+use Rattle.std.proofs.Common.{◌≡◌, ℕ, ◌+◌, List, [], Option, Some, None, Result, Ok, MatchResult, refl, sym, subst, arith}
 use Rattle.rv32_image.specs.declared.fault.ImageFault.{ImageFault}
 use Rattle.rv32_image.specs.declared.fault.ImageFaultKind.{ImageFaultKind}
 use Rattle.rv32_image.specs.declared.fault.ImageFaultKind.TheVariants as kind
 use Rattle.rv32_image.specs.Image.{LoadedImage}
-use Rattle.rv32_image.specs.ImageText.{image_text}
-use Rattle.rv32_image.specs.Reading.{IsReadFaultOf}
+use Rattle.rv32_image.specs.ImageText.{image_text, longest_image_text}
+use Rattle.rv32_image.specs.Input.{TakesAtMost}
+use Rattle.rv32_image.specs.Reading.{ForText, IsReadFaultOf}
 use Rattle.violations.specs.View.{StoreView, Waits}
 use Rattle.violations.specs.Calls.{Call}
 use Rattle.trace_commands.specs.declared.outcome.Outcome.{Outcome}
 use Rattle.trace_commands.specs.declared.outcome.Outcome.TheVariants.{BadImage, Stopped}
 use Rattle.trace_commands.specs.declared.outcome.CommandStop.TheVariants as cause
-use Rattle.trace_commands.specs.Outcome.{outcome_of_fault}
+use Rattle.trace_commands.specs.Outcome.{AppendsPrefix, Conclusion, error_line, outcome_of_fault, status_of}
+use Rattle.trace_commands.specs.Program.{Stream}
 use Rattle.trace_commands.proofs.Audits.{keeps_itself}
 use Rattle.all_schedules.specs.declared.settings.Settings.{Settings}
 use Rattle.all_schedules.specs.Settings.{loop_with}
@@ -31,3 +33,21 @@ module _ {S : Type 0} (starts : LoadedImage → ℕ → S → Type 0) (makes : S
       → IsPacedOutcome starts makes view waits addresses pace cores settings text output output (outcome_of_fault kind (record { line = line; kind = kind }))
   paced_refused output line kind.NoMemory is = keeps_itself output
   paced_refused output line other is = (is, keeps_itself output)
+
+-- ---- memory ran out before the input was read
+
+pub none_taken : (known : Option (List ℕ)) → TakesAtMost known known (longest_image_text + 1)
+none_taken None = ([], tt, omega arith)
+none_taken (Some text) = ([], refl, omega arith)
+
+module _ {S : Type 0} (starts : LoadedImage → ℕ → S → Type 0) (makes : S → Call → S → Type 0) (view : S → StoreView) (waits : S → Waits) (addresses : List ℕ) (pace : Pace) (cores : ℕ) (settings : Settings)
+  where
+    stopped : (text : List ℕ) (output : Option (List ℕ)) (errors : Stream) (status : ℕ) → status ≡ status_of (Stopped cause.NoMemory) → AppendsPrefix errors.old errors.new (error_line (Stopped cause.NoMemory))
+        → Conclusion (IsPacedOutcome starts makes view waits addresses pace cores settings text output output) errors.old errors.new status
+    stopped text output errors status is line = record { outcome = Stopped cause.NoMemory; output = keeps_itself output; status = is; line = line }
+
+    pub no_memory : (input output : Option (List ℕ)) (errors : Stream) (status : ℕ) → status ≡ status_of (Stopped cause.NoMemory)
+        → AppendsPrefix errors.old errors.new (error_line (Stopped cause.NoMemory))
+        → ForText input (λ text. Conclusion (IsPacedOutcome starts makes view waits addresses pace cores settings text output output) errors.old errors.new status)
+    no_memory None output errors status is line = ([], stopped [] output errors status is line)
+    no_memory (Some text) output errors status is line = stopped text output errors status is line

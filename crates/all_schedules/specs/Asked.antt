@@ -1,12 +1,13 @@
 -- What the words of a command line ask of the program; the first is the program's name. None: they ask for nothing.
 -- Source: this project.
-use Rattle.std.specs.Prelude.{ℕ, ◌^◌, Bool, not, nat_lt, nat_le, ◌==◌, ◌&&◌, ◌||◌, List, [], ◌∷◌, length, slice_index, codes, Option, Some, None, if◌then◌else◌}
+use Rattle.std.specs.Prelude.{ℕ, ◌^◌, Bool, true, false, not, nat_lt, nat_le, ◌==◌, ◌&&◌, ◌||◌, List, [], ◌∷◌, length, take, drop, slice_index, codes, Option, Some, None, if◌then◌else◌}
 use Rattle.std.specs.Char.{is_ascii_digit}
 use Rattle.std.specs.List.{list_all}
 use Rattle.std.specs.Str.{bytes_eq}
 use Rattle.std.specs.Str.Parse.{digits_value}
 use Rattle.trace_text.specs.TraceText.{◌>>=◌}
 use Rattle.trace_commands.specs.Program.{number_up_to_16, only_up_to_16}
+use Rattle.all_schedules.specs.Addresses.{wait_place, waits_in}
 use Rattle.all_schedules.specs.declared.detail.Detail.{Detail}
 use Rattle.all_schedules.specs.declared.detail.Detail.TheVariants.{Whole, Steps}
 use Rattle.all_schedules.specs.declared.paced.Pace.{Pace}
@@ -96,3 +97,29 @@ command word words =
 unfoldable pub request_in : List (List ℕ) → Option Request
 request_in (program ∷ word ∷ words) = command word words
 request_in words = None
+
+-- ---- loads that wait
+
+-- a request, and the addresses of code of the loads that wait
+pub record Asked : Type 0 where
+  pub request : Request
+  pub addresses : List ℕ
+
+abbrev pub is_even : Turns → Bool
+is_even (Given detail cores) = false
+is_even (Every cores turns) = false
+is_even (Paced Even cores) = true
+is_even (Paced (Seeded seed) cores) = false
+is_even (Threaded cores) = false
+
+-- only the run at even speed has such loads
+abbrev pub asked_with : List ℕ → Request → Option Asked
+asked_with [] request = Some (record { request = request; addresses = [] })
+asked_with (address ∷ addresses) request = if is_even request.turns then Some (record { request = request; addresses = address ∷ addresses }) else None
+
+-- the command, with `--wait PC ..` behind it or without
+unfoldable pub asked_in : List (List ℕ) → Option Asked
+asked_in words = do
+  addresses ← waits_in (drop (wait_place words) words)
+  request ← request_in (take (wait_place words) words)
+  asked_with addresses request

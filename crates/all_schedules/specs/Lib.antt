@@ -18,6 +18,7 @@ pub mod Replay
 pub mod AllSchedules
 pub mod Paced
 -- What the words of a command line ask for, and what the program answers them.
+pub mod Addresses
 pub mod Asked
 pub mod Work
 -- What the code finds.

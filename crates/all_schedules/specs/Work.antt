@@ -1,5 +1,5 @@
 -- What the program answers.
-use Rattle.std.specs.Prelude.{ℕ, ◌+◌, ◌^◌, ◌≤◌, true, List, [], Option, Some, None, IfSome}
+use Rattle.std.specs.Prelude.{ℕ, ◌+◌, ◌^◌, ◌≤◌, true, List, Option, Some, None, IfSome}
 use Rattle.rv32_image.specs.ImageText.{longest_image_text}
 use Rattle.rv32_image.specs.Input.{TakesAtMost}
 use Rattle.rv32_image.specs.Image.{LoadedImage}
@@ -21,8 +21,7 @@ use Rattle.run_command.specs.Threads.{IsThreadsOutcome}
 use Rattle.all_schedules.specs.declared.settings.Settings.{Settings}
 use Rattle.all_schedules.specs.declared.words.Turns.{Turns}
 use Rattle.all_schedules.specs.declared.words.Turns.TheVariants.{Given, Every, Paced, Threaded}
-use Rattle.all_schedules.specs.declared.words.Request.{Request}
-use Rattle.all_schedules.specs.Asked.{request_in}
+use Rattle.all_schedules.specs.Asked.{Asked, asked_in}
 use Rattle.all_schedules.specs.AllSchedules.{AllAnswers}
 use Rattle.all_schedules.specs.Paced.{IsPacedOutcome}
 use Rattle.all_schedules.specs.Replay.{IsReplayOutcome}
@@ -63,11 +62,11 @@ abbrev pub StoreAnswers : Store → List ℕ → ℕ → Turns → List ℕ → 
 StoreAnswers (Caches asked) addresses room turns text input output errors status = TurnsAnswer cache.Starts cache.Makes caches.store_view caches.waits cached_changes addresses (settings_of (Caches asked) room) turns text input output errors status
 StoreAnswers Plain addresses room turns text input output errors status = TurnsAnswer plain.Starts plain.Makes plain.store_view (λ _. never_waits) plain_changes addresses (settings_of Plain room) turns text input output errors status
 
--- a request was answered; or, where the words ask for nothing, `usage`
-abbrev pub RequestAnswers : Option Request → ℕ → List ℕ → Stream → Stream → Stream → ℕ → Type 0
-RequestAnswers (Some request) room text input output errors status = StoreAnswers request.store [] room request.turns text input output errors status
-RequestAnswers None room text input output errors status = Conclusion (IsRefused input output) errors.old errors.new status
+-- a request was answered, where the loads at these addresses wait; or, where the words ask for nothing, `usage`
+abbrev pub AskedAnswers : Option Asked → ℕ → List ℕ → Stream → Stream → Stream → ℕ → Type 0
+AskedAnswers (Some asked) room text input output errors status = StoreAnswers asked.request.store asked.addresses room asked.request.turns text input output errors status
+AskedAnswers None room text input output errors status = Conclusion (IsRefused input output) errors.old errors.new status
 
 -- what the program answers for these words and a text, with so much room for a history
 abbrev pub WorkAnswers : List (List ℕ) → ℕ → List ℕ → Stream → Stream → Stream → ℕ → Type 0
-WorkAnswers words room text input output errors status = RequestAnswers (request_in words) room text input output errors status
+WorkAnswers words room text input output errors status = AskedAnswers (asked_in words) room text input output errors status

@@ -1,27 +1,33 @@
-ghost use Rattle.std.specs.Prelude.{◌≤◌, map};
+ghost use Rattle.std.specs.Prelude.{◌≤◌, ◌+◌, map};
+ghost use Rattle.rv32_image.specs.ImageText.{longest_image_text};
+ghost use Rattle.rv32_image.specs.Input.{TakesAtMost};
 ghost use Rattle.rv32_image.specs.Reading.{ForText};
+ghost use Rattle.trace_commands.specs.Outcome.{Conclusion};
+ghost use Rattle.all_schedules.specs.Addresses.{addresses_of};
+ghost use Rattle.all_schedules.specs.Paced.{IsPacedOutcome};
 ghost use Rattle.all_schedules.specs.Work as spec;
 
+use crate::addresses::addresses_of;
 use crate::all::do_all;
-use crate::paced::do_paced;
+use crate::paced::{Pace, do_paced};
 use crate::replay::do_replay;
 use crate::settings::Settings;
-use crate::words::{Turns, request_of};
+use crate::words::{Turns, asked_of};
 use core_threads::Gate;
 use run_command::{RunOptions, do_threads};
 use spec_bus::CachedBus;
-use std::alloc::Global;
+use std::alloc::{AllocError, Global};
 use std::convert::AsStr;
 use std::io::{Read, Write};
 use std::sync::Wait;
 use std::thread::Threads;
-use trace_commands::{MachineAsked, Outcome, Store};
+use trace_commands::{CommandStop, MachineAsked, Outcome, Store};
 use turn_steps::ShownStore;
 use violations::PlainStore;
 
 /// The whole program: replays over the store that the words ask for, the first of which is the program's name, or
 /// drives every schedule of so many turns, or runs by a pace or on threads, whose turns pass this gate, and answers its status: what
-/// `request_in` of `specs/Asked.antt` says.
+/// `asked_in` of `specs/Asked.antt` says.
 ///
 /// Any other words are refused as `usage`, with status 2, and nothing is read or written. The room is 16 to 1,048,576 entries.
 pub fn work<S: AsStr, G: Gate, T: Threads + Wait + Sync, R: Read, W: Write, E: Write>(
@@ -41,14 +47,14 @@ pub fn work<S: AsStr, G: Gate, T: Threads + Wait + Sync, R: Read, W: Write, E: W
         (record { old = W.contents writer.old; new = W.contents writer.new })
         (record { old = E.contents errors.old; new = E.contents errors.new }) result) }
 {
-    match request_of(words) {
-        Some(request) => match request.store {
+    match asked_of(words) {
+        Some((request, waits)) => match request.store {
             Store::Caches(asked) => {
                 let settings = Settings { asked, room };
-                answer::<CachedBus, G, T, R, W, E>(
+                answer::<CachedBus, S, G, T, R, W, E>(
                     rt,
                     alloc,
-                    &[],
+                    waits,
                     request.turns,
                     settings,
                     gate,
@@ -60,10 +66,10 @@ pub fn work<S: AsStr, G: Gate, T: Threads + Wait + Sync, R: Read, W: Write, E: W
             Store::Plain => {
                 let asked = MachineAsked::NOTHING;
                 let settings = Settings { asked, room };
-                answer::<PlainStore, G, T, R, W, E>(
+                answer::<PlainStore, S, G, T, R, W, E>(
                     rt,
                     alloc,
-                    &[],
+                    waits,
                     request.turns,
                     settings,
                     gate,
@@ -78,10 +84,10 @@ pub fn work<S: AsStr, G: Gate, T: Threads + Wait + Sync, R: Read, W: Write, E: W
 }
 
 /// Takes these turns over this store.
-fn answer<S: ShownStore, G: Gate, T: Threads + Wait + Sync, R: Read, W: Write, E: Write>(
+fn answer<S: ShownStore, A: AsStr, G: Gate, T: Threads + Wait + Sync, R: Read, W: Write, E: Write>(
     rt: &T,
     alloc: Global,
-    addresses: &[u32],
+    waits: &[A],
     turns: Turns,
     settings: Settings,
     gate: &G,
@@ -92,7 +98,7 @@ fn answer<S: ShownStore, G: Gate, T: Threads + Wait + Sync, R: Read, W: Write, E
     requires turns { spec.AreTurns turns }
     requires least { 16 ≤ settings.room }
     requires most { settings.room ≤ 1048576 }
-    ensures { ForText (R.remaining reader.old) (λ text. spec.TurnsAnswer S.starts S.makes S.view S.waits S.changes addresses.now settings turns text
+    ensures { ForText (R.remaining reader.old) (λ text. spec.TurnsAnswer S.starts S.makes S.view S.waits S.changes (addresses_of (map A.text waits.now)) settings turns text
         (record { old = R.remaining reader.old; new = R.remaining reader.new })
         (record { old = W.contents writer.old; new = W.contents writer.new })
         (record { old = E.contents errors.old; new = E.contents errors.new }) result) }
@@ -105,8 +111,8 @@ fn answer<S: ShownStore, G: Gate, T: Threads + Wait + Sync, R: Read, W: Write, E
             do_all::<S, R, W, E>(alloc, cores, settings, turns, reader, writer, errors)
         }
         Turns::Paced { pace, cores } => {
-            do_paced::<S, R, W, E>(
-                alloc, addresses, pace, cores, settings, reader, writer, errors,
+            pace_waiting::<S, A, R, W, E>(
+                alloc, waits, pace, cores, settings, reader, writer, errors,
             )
         }
         Turns::Threaded { cores } => {
@@ -118,5 +124,38 @@ fn answer<S: ShownStore, G: Gate, T: Threads + Wait + Sync, R: Read, W: Write, E
             };
             do_threads::<S, G, T, R, W, E>(rt, alloc, asked, options, gate, reader, writer, errors)
         }
+    }
+}
+
+/// What `do_paced` does where loads wait at the addresses that these words write.
+fn pace_waiting<S: ShownStore, A: AsStr, R: Read, W: Write, E: Write>(
+    alloc: Global,
+    waits: &[A],
+    pace: Pace,
+    cores: u32,
+    settings: Settings,
+    reader: &mut R,
+    writer: &mut W,
+    errors: &mut E,
+) -> u8
+    requires cores { 1 ≤ cores }
+    requires least { 16 ≤ settings.room }
+    requires most { settings.room ≤ 1048576 }
+    ensures outcome { ForText (R.remaining reader.old) (λ text.
+        Conclusion (IsPacedOutcome S.starts S.makes S.view S.waits (addresses_of (map A.text waits.now)) pace cores settings text (W.contents writer.old) (W.contents writer.new)) (E.contents errors.old) (E.contents errors.new) result) }
+    ensures taken { TakesAtMost (R.remaining reader.old) (R.remaining reader.new) (longest_image_text + 1) }
+{
+    match addresses_of(alloc, waits) {
+        Ok(addresses) => do_paced::<S, R, W, E>(
+            alloc,
+            addresses.as_slice(),
+            pace,
+            cores,
+            settings,
+            reader,
+            writer,
+            errors,
+        ),
+        Err(AllocError) => Outcome::Stopped(CommandStop::NoMemory).conclude(errors),
     }
 }

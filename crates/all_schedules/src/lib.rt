@@ -2,6 +2,7 @@
 //! what the turns make that a seed draws; and the commands of `replay`, over any reader and writers.
 #![tactic(auto)]
 
+mod addresses;
 mod all;
 mod commands;
 mod detail;
@@ -23,6 +24,7 @@ mod traced;
 mod turns;
 mod words;
 
+pub use addresses::{addresses_of, wait_place, wait_words};
 pub use all::do_all;
 pub use commands::work;
 pub use detail::Detail;

@@ -1,9 +1,11 @@
-ghost use Rattle.std.specs.Prelude.{◌≡◌, true, IfSome, map};
+ghost use Rattle.std.specs.Prelude.{◌≡◌, ◌==◌, ◌||◌, true, None, Some, IfNone, IfSome, length, map};
 ghost use Rattle.std.specs.List.{list_all};
 ghost use Rattle.std.specs.Char.{is_ascii_digit};
+ghost use Rattle.all_schedules.specs.Addresses.{addresses_of};
 ghost use Rattle.all_schedules.specs.Asked as spec;
 ghost use Rattle.all_schedules.specs.Work.{AreTurns};
 
+use crate::addresses::{wait_place, wait_words};
 use crate::detail::Detail;
 use crate::paced::Pace;
 use std::convert::AsStr;
@@ -29,9 +31,47 @@ pub struct Request {
     pub turns: Turns,
 }
 
+/// What these words ask for, and the words of addresses at which loads wait; the first is the program's name. None: they are no command of
+/// the program.
+pub fn asked_of<S: AsStr>(words: &[S]) -> Option<(Request, &[S])>
+    ensures asked { IfSome result (λ found. spec.asked_in (map S.text words.now)
+        ≡ Some (record { request = found.0; addresses = addresses_of (map S.text found.1.now) })) }
+    ensures turns { IfSome result (λ found. AreTurns found.0.turns) }
+    ensures none { IfNone result (spec.asked_in (map S.text words.now) ≡ None) }
+{
+    let (before, behind) = words.split_at(wait_place(words));
+    let waits = wait_words(behind)?;
+    let request = request_of(before)?;
+    if may_wait(waits, request.turns) {
+        Some((request, waits))
+    } else {
+        None
+    }
+}
+
+/// Whether the loads at these addresses may wait in a run by these turns: where there are any, in that at even speed alone.
+fn may_wait<S: AsStr>(waits: &[S], turns: Turns) -> bool
+    ensures { result ≡ (length waits.now == 0 || spec.is_even turns) }
+{
+    waits.is_empty() || is_even(turns)
+}
+
+/// Whether these are the turns of the run at even speed.
+fn is_even(turns: Turns) -> bool
+    ensures { result ≡ spec.is_even turns }
+{
+    match turns {
+        Turns::Paced { pace, cores: _ } => match pace {
+            Pace::Even => true,
+            Pace::Seeded(_) => false,
+        },
+        Turns::Given { .. } | Turns::Every { .. } | Turns::Threaded { .. } => false,
+    }
+}
+
 /// What these words ask for; the first is the program's name. None: they are no command of the program.
 #[tactic(auto, unfolding(crate::specs::Asked::request_in))]
-pub fn request_of<S: AsStr>(words: &[S]) -> Option<Request>
+fn request_of<S: AsStr>(words: &[S]) -> Option<Request>
     ensures asked { result ≡ spec.request_in (map S.text words.now) }
     ensures turns { IfSome result (λ request. AreTurns request.turns) }
 {

@@ -2,7 +2,8 @@
 use Rattle.std.proofs.Common.{◌≡◌, ℕ, Bool, List, take, drop, map, Option, Some, None, sym, ap, refl, ◌∙◌}
 use Rattle.std.specs.List.{drop-map, take-map}
 use Rattle.trace_commands.specs.Stores.{stores_asked_in}
-use Rattle.gain.specs.Asked.{asked_before_limits, asked_where, wait_place, waits_in}
+use Rattle.all_schedules.specs.Addresses.{wait_place, waits_in}
+use Rattle.gain.specs.Asked.{asked_before_limits, asked_where}
 
 asked_by : (limits : Bool) (words : List (List ℕ)) → asked_before_limits limits words
     ≡ asked_where limits (waits_in (drop (wait_place words) words)) (stores_asked_in (take (wait_place words) words))

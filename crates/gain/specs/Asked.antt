@@ -1,11 +1,10 @@
 -- What the words of a command line ask for: `PROGRAM CORES` or `PROGRAM CORES STORE ..`, behind that with `--wait PC ..` which loads wait, and with
 -- `--limits` at the end the limits.
 -- Source: this project.
-use Rattle.std.specs.Prelude.{ℕ, ◌-◌, Bool, false, List, [], ◌∷◌, length, take, drop, Option, Some, None, option_map, not, codes, if◌then◌else◌}
-use Rattle.std.specs.List.{prefix_len}
+use Rattle.std.specs.Prelude.{ℕ, ◌-◌, Bool, false, List, [], ◌∷◌, length, take, drop, Option, Some, None, option_map, codes, if◌then◌else◌}
 use Rattle.std.specs.Str.{bytes_eq}
 use Rattle.trace_commands.specs.Stores.{StoresAsked, stores_asked_in}
-use Rattle.gain.specs.Addresses.{addresses_of, are_addresses}
+use Rattle.all_schedules.specs.Addresses.{wait_place, waits_in}
 
 -- so many cores, stores by the words that name them, the addresses of the loads that wait, and whether limits are printed
 pub record GainAsked : Type 0 where
@@ -25,17 +24,6 @@ asks_limits (word ∷ words) = asks_limits words
 -- the words without it
 abbrev pub without_limits : List (List ℕ) → List (List ℕ)
 without_limits words = if asks_limits words then take (length words - 1) words else words
-
--- ---- loads that wait
-
--- how many words stand before the first `--wait`
-abbrev pub wait_place : List (List ℕ) → ℕ
-wait_place words = prefix_len (λ word. not (bytes_eq word (codes "--wait"))) words
-
--- the addresses that it and the words behind it say: no word says none, and it is followed by one at least
-abbrev pub waits_in : List (List ℕ) → Option (List ℕ)
-waits_in [] = Some []
-waits_in (wait ∷ words) = if are_addresses words then Some (addresses_of words) else None
 
 -- ---- all words
 

@@ -6,6 +6,5 @@ pub mod Lines
 pub mod Limits
 pub mod Gains
 -- What the words of a command line ask for, and what the program answers them.
-pub mod Addresses
 pub mod Asked
 pub mod Work

@@ -8,7 +8,6 @@ use std::process::ExitCode;
 use trace_commands::words_given;
 use work::work;
 
-mod addresses;
 mod gains;
 mod kinds;
 mod limit_lines;

@@ -5,13 +5,13 @@ ghost use Rattle.rv32_image.specs.ImageText.{longest_image_text};
 ghost use Rattle.rv32_image.specs.Reading.{ForText};
 ghost use Rattle.homefree.specs.Room.{most_room};
 ghost use Rattle.trace_commands.specs.Stores.{names_store, or_both};
-ghost use Rattle.gain.specs.Addresses.{addresses_of};
+ghost use Rattle.all_schedules.specs.Addresses.{addresses_of};
 ghost use Rattle.gain.specs.Asked.{asked_before_limits, asks_limits, gain_asked_in, without_limits};
 ghost use Rattle.gain.specs.Gains.{GainAnswers};
 ghost use Rattle.gain.specs.Work as spec;
 
-use crate::addresses::{addresses_of, wait_place, wait_words};
 use crate::gains::{Study, do_gain};
+use all_schedules::{addresses_of, wait_place, wait_words};
 use std::alloc::{AllocError, Global};
 use std::convert::AsStr;
 use std::io::{Read, Write};

@@ -1,4 +1,4 @@
-use Rattle.std.proofs.Common.{[], map, sym, subst}
+use Rattle.std.proofs.Common.{map, sym, subst}
 use Rattle.violations.specs.View.{never_waits}
 use Rattle.violations.specs.Plain as plain
 use Rattle.spec_bus.specs.Cached as caches
@@ -9,6 +9,7 @@ use Rattle.run_command.proofs.Outcomes.{for_text}
 use Rattle.trace_commands.specs.declared.store.Store.{Store}
 use Rattle.trace_commands.specs.declared.store.Store.TheVariants.{Caches, Plain}
 use Rattle.trace_commands.specs.Program.{Stream}
+use Rattle.all_schedules.specs.Addresses.{addresses_of}
 use Rattle.all_schedules.specs.Work.{StoreAnswers, TurnsAnswer, WorkAnswers, settings_of}
 use Rattle.all_schedules.proofs.Works.{refused_answers, request_answers}
 use Rattle.all_schedules.proofs.commands.work.Goals as goal
@@ -21,10 +22,10 @@ returns-in-Caches g c =
     let output : Stream = record { old = g.W.Write.contents c.args.writer.now; new = g.W.Write.contents c.answer.new.writer } in
     let errors : Stream = record { old = g.E.Write.contents c.args.errors.now; new = g.E.Write.contents c.answer.new.errors } in
     for_text (g.R.Read.remaining c.args.reader.now)
-    (λ text. TurnsAnswer cache.Starts cache.Makes caches.store_view caches.waits cached_changes [] (settings_of (Caches c.in-Caches.asked) c.args.room) request.turns text input output errors c.answer.result)
+    (λ text. TurnsAnswer cache.Starts cache.Makes caches.store_view caches.waits cached_changes (addresses_of (map g.S.AsStr.text c.in-Some.waits.now)) (settings_of (Caches c.in-Caches.asked) c.args.room) request.turns text input output errors c.answer.result)
     (λ text. WorkAnswers words c.args.room text input output errors c.answer.result)
-    (λ text so. request_answers words request c.args.room text input output errors c.answer.result c.in-Some.ensures.asked
-    (subst (λ (s : Store). StoreAnswers s [] c.args.room request.turns text input output errors c.answer.result) (sym c.in-Caches.is) so)) c.answer.ensures
+    (λ text so. request_answers words request (addresses_of (map g.S.AsStr.text c.in-Some.waits.now)) c.args.room text input output errors c.answer.result c.in-Some.ensures.asked
+    (subst (λ (s : Store). StoreAnswers s (addresses_of (map g.S.AsStr.text c.in-Some.waits.now)) c.args.room request.turns text input output errors c.answer.result) (sym c.in-Caches.is) so)) c.answer.ensures
 
 pub returns-in-Plain : goal.returns-in-Plain
 returns-in-Plain g c =
@@ -34,13 +35,13 @@ returns-in-Plain g c =
     let output : Stream = record { old = g.W.Write.contents c.args.writer.now; new = g.W.Write.contents c.answer-in-Plain.new.writer } in
     let errors : Stream = record { old = g.E.Write.contents c.args.errors.now; new = g.E.Write.contents c.answer-in-Plain.new.errors } in
     for_text (g.R.Read.remaining c.args.reader.now)
-    (λ text. TurnsAnswer plain.Starts plain.Makes plain.store_view (λ _. never_waits) plain_changes [] (settings_of Plain c.args.room) request.turns text input output errors c.answer-in-Plain.result)
+    (λ text. TurnsAnswer plain.Starts plain.Makes plain.store_view (λ _. never_waits) plain_changes (addresses_of (map g.S.AsStr.text c.in-Some.waits.now)) (settings_of Plain c.args.room) request.turns text input output errors c.answer-in-Plain.result)
     (λ text. WorkAnswers words c.args.room text input output errors c.answer-in-Plain.result)
-    (λ text so. request_answers words request c.args.room text input output errors c.answer-in-Plain.result c.in-Some.ensures.asked
-    (subst (λ (s : Store). StoreAnswers s [] c.args.room request.turns text input output errors c.answer-in-Plain.result) (sym c.in-Plain.is) so)) c.answer-in-Plain.ensures
+    (λ text so. request_answers words request (addresses_of (map g.S.AsStr.text c.in-Some.waits.now)) c.args.room text input output errors c.answer-in-Plain.result c.in-Some.ensures.asked
+    (subst (λ (s : Store). StoreAnswers s (addresses_of (map g.S.AsStr.text c.in-Some.waits.now)) c.args.room request.turns text input output errors c.answer-in-Plain.result) (sym c.in-Plain.is) so)) c.answer-in-Plain.ensures
 
 pub returns-in-None : goal.returns-in-None
 returns-in-None g c =
     refused_answers (map g.S.AsStr.text c.args.words.now) c.args.room (g.R.Read.remaining c.args.reader.now) (g.W.Write.contents c.args.writer.now)
     (record { old = g.E.Write.contents c.args.errors.now; new = g.E.Write.contents c.conclude.new.errors })
-    c.conclude.result c.in-None.ensures.asked c.conclude.ensures.status c.conclude.ensures.line
+    c.conclude.result c.in-None.ensures.none c.conclude.ensures.status c.conclude.ensures.line

@@ -1,6 +1,6 @@
 use Rattle.std.proofs.Common.{◌≡◌, map, take}
-use Rattle.gain.specs.Addresses.{addresses_of}
-use Rattle.gain.proofs.addresses.addresses_of.Given as goal
+use Rattle.all_schedules.specs.Addresses.{addresses_of}
+use Rattle.all_schedules.proofs.addresses.addresses_of.Given as goal
 
 -- those of the words so far
 abbrev pub invariant-loop-word : goal.invariant-loop-word

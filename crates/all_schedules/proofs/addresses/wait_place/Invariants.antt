@@ -1,6 +1,6 @@
 use Rattle.std.proofs.Common.{◌≡◌, ◌+◌, map, drop}
-use Rattle.gain.specs.Asked.{wait_place}
-use Rattle.gain.proofs.addresses.wait_place.Given as goal
+use Rattle.all_schedules.specs.Addresses.{wait_place}
+use Rattle.all_schedules.proofs.addresses.wait_place.Given as goal
 
 -- none so far is the word
 abbrev pub invariant-loop-word : goal.invariant-loop-word

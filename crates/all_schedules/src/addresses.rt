@@ -1,8 +1,8 @@
 //! Addresses of code, as words of a command line write them.
 ghost use Rattle.std.specs.Prelude.{◌≡◌, ◌≤◌, IfOk, IfSome, IfNone, Some, None, length, map, unwrap_or};
 ghost use Rattle.std.specs.List.{list_all};
-ghost use Rattle.gain.specs.Addresses as spec;
-ghost use Rattle.gain.specs.Asked.{wait_place, waits_in};
+ghost use Rattle.all_schedules.specs.Addresses as spec;
+ghost use Rattle.all_schedules.specs.Addresses.{wait_place, waits_in};
 
 use rv32_image::word_in;
 use std::alloc::{AllocError, Global};

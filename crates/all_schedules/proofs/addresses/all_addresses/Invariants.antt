@@ -1,7 +1,7 @@
 use Rattle.std.proofs.Common.{◌≡◌, map, drop}
 use Rattle.std.specs.List.{list_all}
-use Rattle.gain.specs.Addresses.{is_address}
-use Rattle.gain.proofs.addresses.all_addresses.Given as goal
+use Rattle.all_schedules.specs.Addresses.{is_address}
+use Rattle.all_schedules.proofs.addresses.all_addresses.Given as goal
 
 -- all are, if the others are
 abbrev pub invariant-loop-word : goal.invariant-loop-word
